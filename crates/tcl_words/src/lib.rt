@@ -1,0 +1,9 @@
+//! Commands and their words out of the bytes of a script, as Tcl(n) quotes them.
+#![tactic(auto)]
+
+mod fault;
+pub mod laws;
+mod splitter;
+
+pub use fault::ScriptFault;
+pub use splitter::Splitter;

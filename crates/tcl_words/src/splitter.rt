@@ -1,0 +1,94 @@
+ghost use Rattle.std.specs.Prelude.{◌≡◌, ◌≢◌, ◌<◌, List, ℕ, length, vec_len, true, false, IfOk, IfErr, OnOk, OnErr, IsSome, IsOk, IfSome, IfNone};
+ghost use Rattle.tcl_words.specs.Unread.{nothing_fed, fed, TakesCommand, HasNoCommand, StopsAt, texts_of};
+
+use std::alloc::{AllocError, Global};
+use std::marker::Model;
+
+use crate::fault::ScriptFault;
+
+/// Splits a script, which comes in pieces of any length, into commands of words.
+///
+/// What contracts see is what is still to be given: the bytes not yet given as commands, whether the script ends
+/// with them, and the script fault that was met.
+#[derive(Drop)]
+pub struct Splitter {
+    script: Vec<u8>,
+    given: usize,
+    finished: bool,
+    fault: Option<ScriptFault>,
+}
+
+impl Model for Splitter {
+    ghost use Rattle.std.specs.Prelude.{◌≤◌, vec_len, drop};
+    ghost use Rattle.tcl_words.specs.Unread.{Unread};
+
+    ghost Value = { Unread };
+
+    ghost view = { λ s. record { rest = drop s.given s.script.items; finished = s.finished; fault = s.fault } };
+
+    ghost invariant = { λ s. s.given ≤ vec_len s.script };
+}
+
+impl Splitter {
+    /// A splitter of a script of which nothing has come. It takes no memory.
+    pub fn new(alloc: Global) -> Self
+        ensures { result ≡ nothing_fed }
+    {
+        Splitter {
+            script: Vec::new(alloc),
+            given: 0,
+            finished: false,
+            fault: None,
+        }
+    }
+
+    /// Takes the next piece of the script, of any number of bytes. After a script fault it changes nothing.
+    pub fn feed(&mut self, piece: &[u8]) -> Result<(), AllocError>
+        requires { self.old.finished ≡ false }
+        ensures ok { OnOk result (self.new ≡ fed self.old piece.now) }
+        ensures err { OnErr result (self.new ≡ self.old) }
+        ensures stopped { IsSome self.old.fault → IsOk result }
+    {
+        if self.fault.is_none() {
+            self.script.extend_from_slice(piece)?;
+        }
+        Ok(())
+    }
+
+    /// Ends the script, and so its last command. A second call changes nothing. It takes no memory.
+    pub fn finish(&mut self)
+        ensures { self.new ≡ record self.old { finished = true } }
+    {
+        self.finished = true;
+    }
+
+    /// Takes the next command: before the end of the script the next whole one, and then also the last. `None` where
+    /// none is left. After want of memory nothing has changed; after a script fault each call answers that fault.
+    pub fn next_command(&mut self) -> Result<Option<Vec<String>>, ScriptFault>
+        ensures command { IfOk result (λ found. IfSome found (λ words.
+            TakesCommand self.old (texts_of words.items) self.new)) }
+        ensures words { IfOk result (λ found. IfSome found (λ words. 0 < vec_len words)) }
+        ensures shorter { IfOk result (λ found. IsSome found → length self.new.rest < length self.old.rest) }
+        ensures none { IfOk result (λ found. IfNone found
+            ((self.new ≡ self.old) × (self.old.fault ≡ None) × HasNoCommand self.old.finished self.old.rest)) }
+        ensures fault { IfErr result (λ fault. fault ≢ ScriptFault.Memory → StopsAt self.old fault self.new) }
+        ensures memory { result ≡ Err ScriptFault.Memory →
+            (self.new ≡ self.old) × (self.old.fault ≡ None) × ¬ HasNoCommand self.old.finished self.old.rest }
+        ensures again { IfSome self.old.fault (λ fault. result ≡ Err fault) }
+    {
+        Err(ScriptFault::Memory)
+    }
+
+    /// Drops the command that `next_command` would take and answers true, or answers false where none is left, or
+    /// the script fault. It takes no memory.
+    pub fn skip_command(&mut self) -> Result<bool, ScriptFault>
+        ensures skipped { result ≡ Ok true → (words : List (List ℕ)) × TakesCommand self.old words self.new }
+        ensures shorter { result ≡ Ok true → length self.new.rest < length self.old.rest }
+        ensures none { result ≡ Ok false →
+            (self.new ≡ self.old) × (self.old.fault ≡ None) × HasNoCommand self.old.finished self.old.rest }
+        ensures fault { IfErr result (λ fault. (fault ≢ ScriptFault.Memory) × StopsAt self.old fault self.new) }
+        ensures again { IfSome self.old.fault (λ fault. result ≡ Err fault) }
+    {
+        Ok(false)
+    }
+}

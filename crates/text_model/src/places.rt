@@ -1,0 +1,22 @@
+/// The number by which a store knows a tag, below 256.
+#[derive(Clone, Copy, Debug, PartialEq, Eq)]
+pub struct TagSlot(pub u16);
+
+/// The number by which a store knows a mark.
+#[derive(Clone, Copy, Debug, PartialEq, Eq)]
+pub struct MarkNo(pub u16);
+
+/// To which side of text that is inserted at it a mark goes: a left mark stays before the text, a right mark goes
+/// behind it (text(n), "mark gravity").
+#[derive(Clone, Copy, Debug, PartialEq, Eq)]
+pub enum Gravity {
+    Left,
+    Right,
+}
+
+/// Where a mark stands: before the character at an offset, in characters from the start of the text.
+#[derive(Clone, Copy, Debug, PartialEq, Eq)]
+pub struct Place {
+    pub offset: usize,
+    pub gravity: Gravity,
+}
