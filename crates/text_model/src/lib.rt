@@ -1,8 +1,20 @@
 //! Text as a list of tagged characters with marks as positions: what a text store keeps, and its plain form.
 #![tactic(auto)]
 
+mod cells;
+mod edits;
+mod limits;
 mod places;
+mod plain_store;
+mod store;
 mod tag_set;
+mod texts;
 
+pub use cells::Cell;
+pub use edits::{Edit, Step, Steps};
+pub use limits::Limits;
 pub use places::{Gravity, MarkNo, Place, TagSlot};
+pub use plain_store::PlainStore;
+pub use store::TextStore;
 pub use tag_set::TagSet;
+pub use texts::Text;

@@ -1,3 +1,5 @@
+ghost use Rattle.std.specs.Prelude.{◌≡◌, ◌+◌, ◌^◌, ◌<◌};
+
 /// The number by which a store knows a tag, below 256.
 #[derive(Clone, Copy, Debug, PartialEq, Eq)]
 pub struct TagSlot(pub u16);
@@ -19,4 +21,23 @@ pub enum Gravity {
 pub struct Place {
     pub offset: usize,
     pub gravity: Gravity,
+}
+
+impl Place {
+    ghost use Rattle.text_model.specs.Splices.{moved};
+
+    /// Where the mark stands after so many characters are inserted at an offset.
+    pub fn moved(self, at: usize, count: usize) -> Place
+        requires { self.offset + count < 2 ^ 64 }
+        ensures { result ≡ moved at count self }
+    {
+        let behind = at < self.offset || (self.offset == at && self.gravity == Gravity::Right);
+        if !behind {
+            return self;
+        }
+        Place {
+            offset: self.offset + count,
+            gravity: self.gravity,
+        }
+    }
 }

@@ -1,0 +1,5 @@
+pub mod LineLaws
+pub mod PlaceLaws
+pub mod PlainLaws
+pub mod SpliceLaws
+pub mod TextLaws

@@ -1,0 +1,8 @@
+use Rattle.std.proofs.Common.{◌≡◌, ◌+◌, drop}
+use Rattle.text_model.specs.Content.{characters}
+use Rattle.text_model.specs.Lines.{line_start}
+use Rattle.text_model.proofs.plain_store.find_line.Given as goal
+
+abbrev pub invariant-loop-offset : goal.invariant-loop-offset
+invariant-loop-offset l =
+    line_start l.fn.line (characters l.cells) ≡ l.offset + line_start l.left (drop l.offset (characters l.cells))

@@ -1,0 +1,32 @@
+-- What a text store keeps: cells, each a character with a set of tag slots, and marks by their numbers.
+use Rattle.std.specs.Prelude.{◌≡◌, ℕ, List, [], ◌∷◌, ◌++◌, map}
+use Rattle.std.specs.FinSet as set
+use Rattle.std.specs.FinMap as finite
+use Rattle.std.specs.Ordering.{nat_cmp}
+use Rattle.text_model.specs.declared.cells.Cell.{Cell}
+use Rattle.text_model.specs.declared.places.Place.{Place}
+
+abbrev pub Slots : Type 0
+Slots = set.FinSet nat_cmp
+
+abbrev pub Marks : Type 0
+Marks = finite.FinMap nat_cmp Place
+
+pub record Content : Type 0 where
+  pub cells : List Cell
+  pub marks : Marks
+
+abbrev pub characters : List Cell → List ℕ
+characters cells = map (λ (cell : Cell). cell.character) cells
+
+-- a new text: one newline, and no marks
+abbrev pub new_content : Content
+new_content = record { cells = record { character = 10; tags = set.empty } ∷ []; marks = finite.empty }
+
+-- a document's last cell is a newline
+abbrev pub IsDocument : List Cell → Type 0
+IsDocument cells = (front : List Cell) × (last : Cell) × (cells ≡ front ++ last ∷ []) × (last.character ≡ 10)
+
+-- each mark where a function puts it
+abbrev pub map_marks : (Place → Place) → Marks → Marks
+map_marks f marks = finite.from_entries (map (λ entry. (entry.0, f entry.1)) (finite.entries marks))

@@ -1,0 +1,6 @@
+pub mod Content
+pub mod LimitTable
+pub mod Lines
+pub mod Plain
+pub mod Splices
+pub mod Steps

@@ -1,0 +1,20 @@
+-- The lines of a text, which is a list of characters: each ends with its newline.
+use Rattle.std.specs.Prelude.{ℕ, zero, suc, ◌+◌, Bool, List, [], ◌∷◌, ◌==◌, take, count_by, if◌then◌else◌}
+
+abbrev pub is_newline : ℕ → Bool
+is_newline character = character == 10
+
+-- how many lines there are
+abbrev pub lines : List ℕ → ℕ
+lines text = count_by is_newline text
+
+-- the number of the line that an offset stands in, from 0: the newlines before it
+abbrev pub line_of : List ℕ → ℕ → ℕ
+line_of text offset = lines (take offset text)
+
+-- the offset at which a line begins, counted from 0: after as many newlines
+abbrev pub line_start : ℕ → List ℕ → ℕ
+line_start zero text = 0
+line_start (suc line) [] = 0
+line_start (suc line) (character ∷ text) =
+    1 + line_start (if is_newline character then line else suc line) text
