@@ -1,0 +1,2 @@
+pub mod TagBitLaws
+pub mod TagBits
