@@ -10,6 +10,7 @@ use Rattle.std.specs.Int.{bit_at}
 use Rattle.std.specs.Ordering.{nat_cmp}
 use Rattle.text_model.specs.TagBits.{AreWords, has_bit, slots_below, slots_of, word_below, words_of}
 
+-- what an inserted slot adds, in the words of a test of numbers
 pub contains_inserted : (slots : set.FinSet nat_cmp) (k q : ℕ) → set.contains (set.insert slots k) q ≡ (q == k || set.contains slots q)
 contains_inserted slots k q = set.contains-insert nat_cmp_total slots k q ∙ ap (λ b. b || set.contains slots q) (unsigned_tied q k)
 
@@ -27,6 +28,7 @@ as_digit : (b : Bool) (t : ℕ) → t < 2 → b ≡ (t == 1) → cond b 1 0 ≡ 
 as_digit true t small is = grind (arith, nat_tests)
 as_digit false t small is = grind (arith, nat_tests)
 
+-- where bit i of a word says whether slot from + i is in the set, the set gives the word back
 word_of_bits : (n : ℕ) (slots : set.FinSet nat_cmp) (from word : ℕ) → ((i : ℕ) → i < n → set.contains slots (from + i) ≡ (bit_at word i == 1)) → word_below n slots from ≡ word % 2 ^ n
 unfolding word_below
 word_of_bits zero slots from word bits = omega arith
