@@ -3,3 +3,4 @@ pub mod PlaceLaws
 pub mod PlainLaws
 pub mod SpliceLaws
 pub mod TextLaws
+pub mod TagSteps

@@ -4,3 +4,5 @@ pub mod Lines
 pub mod Plain
 pub mod Splices
 pub mod Steps
+pub mod TagBitLaws
+pub mod TagBits

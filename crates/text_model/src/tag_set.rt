@@ -1,30 +1,98 @@
-ghost use Rattle.std.specs.Prelude.{◌≡◌};
+ghost use Rattle.std.specs.Prelude.{◌≡◌, ◌<◌};
 ghost use Rattle.std.specs.FinSet as set;
+ghost use Rattle.std.specs.Ordering.{nat_cmp};
 
+use crate::places::TagSlot;
 use std::marker::Model;
 
-/// stub
+/// A set of tag slots, below 256. It takes no memory of its own.
 #[derive(Clone, Copy)]
-pub struct TagSet {}
+pub struct TagSet {
+    words: [u64; 4],
+}
 
 impl Model for TagSet {
     ghost use Rattle.std.specs.Ordering.{nat_cmp};
     ghost use Rattle.std.specs.FinSet as set;
     ghost use Rattle.std.specs.Coded.{coded_ℕ};
+    ghost use Rattle.text_model.specs.TagBits.{AreWords, slots_of, words_of};
+    ghost use Rattle.text_model.specs.TagBitLaws.{words_of-slots_of};
+    ghost use Rattle.std.proofs.Common.{ap};
 
     ghost Value = { set.FinSet nat_cmp };
 
     ghost coded = { set.code coded_ℕ };
 
-    ghost view = { λ a. set.empty };
+    ghost view = { λ a. slots_of a.words };
 
-    ghost inverse = { λ s. record {} };
+    ghost invariant = { λ a. AreWords a.words };
+
+    ghost inverse = { λ s. record { words = words_of s } };
+
+    ghost inverse_ok = { λ a are. ap (λ words. record { words = words }) (words_of-slots_of a.words are) };
 }
 
 impl TagSet {
+    /// The set without slots.
     pub fn empty() -> TagSet
         ensures { result ≡ set.empty }
     {
-        TagSet {}
+        TagSet { words: [0; 4] }
+    }
+
+    /// This set with one slot more.
+    pub fn with(self, slot: TagSlot) -> TagSet
+        requires { slot.0 < 256 }
+        ensures { result ≡ set.insert self slot.0 }
+    {
+        let mut words = self.words;
+        words[slot.0 as usize / 64] |= 1 << (slot.0 % 64);
+        TagSet { words }
+    }
+
+    /// Whether the slot is in the set.
+    pub fn has(&self, slot: TagSlot) -> bool
+        requires { slot.0 < 256 }
+        ensures { result ≡ set.contains self.now slot.0 }
+    {
+        self.words[slot.0 as usize / 64] >> (slot.0 % 64) & 1 == 1
+    }
+
+    /// The slots that stand in both sets.
+    pub fn common(&self, other: &TagSet) -> TagSet
+        ensures { result ≡ set.intersection self.now other.now }
+    {
+        TagSet {
+            words: [
+                self.words[0] & other.words[0],
+                self.words[1] & other.words[1],
+                self.words[2] & other.words[2],
+                self.words[3] & other.words[3],
+            ],
+        }
+    }
+}
+
+#[cfg(test)]
+mod tests {
+    use super::*;
+
+    #[test]
+    fn slots_of_sets(rt: HostRuntime) {
+        let none = TagSet::empty();
+        let ends = none
+            .with(TagSlot(0))
+            .with(TagSlot(63))
+            .with(TagSlot(64))
+            .with(TagSlot(255));
+        for number in 0..256u16 {
+            let is_end = number == 0 || number == 63 || number == 64 || number == 255;
+            assert_eq!(rt; none.has(TagSlot(number)), false);
+            assert_eq!(rt; ends.has(TagSlot(number)), is_end);
+        }
+        let both = ends.common(&none.with(TagSlot(64)).with(TagSlot(65)));
+        assert!(rt; both.has(TagSlot(64)));
+        assert!(rt; !both.has(TagSlot(65)));
+        assert!(rt; !both.has(TagSlot(0)));
     }
 }
