@@ -1,0 +1,10 @@
+pub mod Command
+pub mod History
+pub mod Index
+pub mod Keys
+pub mod Position
+pub mod Step
+pub mod View
+pub mod WellFormed
+pub mod Words
+pub mod World

@@ -1,0 +1,71 @@
+-- One command of a script: the new world and an answer, or the first fault and the same world.
+use Rattle.std.specs.Prelude.{ℕ, suc, nat_lt, ◌==◌, Bool, false, not, List, [], ◌∷◌, Option, None, Some, Result, Ok, Err, find, if◌then◌else◌}
+use Rattle.std.specs.FinSet as set
+use Rattle.peers.specs.declared.answers.Answer.{Answer}
+use Rattle.peers.specs.declared.answers.Answer.TheVariants.{Word}
+use Rattle.peers.specs.declared.answers.Fault.{Fault}
+use Rattle.peers.specs.declared.answers.Fault.TheVariants.{BadOption, WrongArguments, InvalidCommandName, WindowExists, DocumentExists, TooManyWidgets}
+use Rattle.peers.specs.World.{World, Document, Widget, document_of}
+use Rattle.peers.specs.Words.{is_same, literal}
+use Rattle.peers.specs.Command.{Change, command}
+
+-- the answer or the fault, and the world after the command
+pub record Outcome : Type 0 where
+  pub reply : Result Answer Fault
+  pub world : World
+
+abbrev pub refuses : World → Fault → Outcome
+refuses world fault = record { reply = Err fault; world = world }
+
+-- a dot and at least one more character
+abbrev pub is_window_name : List ℕ → Bool
+is_window_name [] = false
+is_window_name (character ∷ []) = false
+is_window_name (character ∷ other ∷ others) = character == 46
+
+abbrev pub widget_named : List ℕ → Document → Option Widget
+widget_named name document = find (λ (widget : Widget). is_same widget.name name) document.widgets
+
+-- a document of one newline without tags, shown by one widget
+abbrev pub new_document : List ℕ → Document
+new_document name = document_of name (record { character = 10; keys = set.empty } ∷ [])
+
+-- the world with one document, where there may be a widget
+abbrev pub create_first : World → List ℕ → Outcome
+create_first world name =
+    if nat_lt 0 world.limits.widgets then record { reply = Ok (Word 1); world = record world { documents = new_document name ∷ [] } }
+    else refuses world TooManyWidgets
+
+-- a widget of that name is there, or another document is
+abbrev pub create_beside : World → Option Widget → Outcome
+create_beside world (Some widget) = refuses world (WindowExists 1)
+create_beside world None = refuses world DocumentExists
+
+abbrev pub create_named : World → List ℕ → List Document → Outcome
+create_named world name [] = create_first world name
+create_named world name (document ∷ others) = create_beside world (widget_named name document)
+
+-- `text W`; each further word would be an option
+abbrev pub create : World → List (List ℕ) → Outcome
+create world [] = refuses world WrongArguments
+create world (name ∷ []) = if is_window_name name then create_named world name world.documents else refuses world (InvalidCommandName 1)
+create world (name ∷ option ∷ others) = refuses world (BadOption 2)
+
+-- the world with a document changed
+abbrev pub changed : World → List Document → Change → Outcome
+changed world others change = record { reply = change.reply; world = record world { documents = change.document ∷ others } }
+
+abbrev pub on_found : World → Document → List Document → List (List ℕ) → Option Widget → Outcome
+on_found world document others arguments None = refuses world (InvalidCommandName 0)
+on_found world document others arguments (Some widget) = changed world others (command world.limits document widget arguments)
+
+-- a command of the widget of that name
+abbrev pub on_widget : World → List ℕ → List (List ℕ) → List Document → Outcome
+on_widget world name arguments [] = refuses world (InvalidCommandName 0)
+on_widget world name arguments (document ∷ others) = on_found world document others arguments (widget_named name document)
+
+-- a command, of one word at least
+abbrev pub step : World → List (List ℕ) → Outcome
+step world [] = refuses world WrongArguments
+step world (name ∷ arguments) =
+    if is_same name (literal "text") then create world arguments else on_widget world name arguments world.documents

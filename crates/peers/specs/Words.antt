@@ -1,0 +1,11 @@
+-- The words of a command, as lists of characters.
+use Rattle.std.specs.Prelude.{ℕ, Bool, List, chars, codes, bytes_eq}
+use Prim.Native.String.{String}
+
+-- two words are the same
+abbrev pub is_same : List ℕ → List ℕ → Bool
+is_same a b = bytes_eq a b
+
+-- a word that the program knows
+abbrev pub literal : String → List ℕ
+literal text = chars (codes text)

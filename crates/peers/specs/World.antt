@@ -1,0 +1,91 @@
+-- All that a session of commands can see later.
+use Rattle.std.specs.Prelude.{ℕ, ℤ, pos, Bool, true, false, List, [], ◌∷◌, Option, None, Some, map, chars, codes}
+use Rattle.text_model.specs.declared.cells.Cell.{Cell}
+use Rattle.text_model.specs.declared.places.Gravity.TheVariants.{Right}
+use Rattle.text_model.specs.declared.places.Place.{Place}
+use Rattle.text_model.specs.LimitTable.{LimitTable}
+use Rattle.peers.specs.Keys.{Key, Keys, keys_of}
+
+-- a character with a finite set of keys
+pub record KeyedCell : Type 0 where
+  pub character : ℕ
+  pub keys : Keys
+
+-- a widget, which shows the document from its start anchor, if it has one, to its end anchor
+pub record Widget : Type 0 where
+  pub name : List ℕ
+  pub start : Option ℕ
+  pub end : Option ℕ
+  pub disabled : Bool
+  pub insert : Place
+  pub current : Place
+
+pub record SharedMark : Type 0 where
+  pub name : List ℕ
+  pub place : Place
+
+-- a text that was put in at an offset, or taken out there
+pub record Action : Type 0 where
+  pub inserts : Bool
+  pub at : ℕ
+  pub text : List ℕ
+
+pub data EditKind : Type 0 where
+  Inserts : EditKind
+  Deletes : EditKind
+  Replaces : EditKind
+
+-- groups of actions, whether the last group takes more, the kind of the last edit, and the groups undone
+pub record History : Type 0 where
+  pub groups : List (List Action)
+  pub takes_more : Bool
+  pub last : Option EditKind
+  pub undone : List (List Action)
+
+pub record Modified : Type 0 where
+  pub count : ℤ
+  pub fixed : Bool
+
+-- A document: its cells, its widgets in the order of their creation, its shared marks in that order, its tags
+-- from the lowest, its history, whether it is modified, and the options that its widgets share.
+pub record Document : Type 0 where
+  pub cells : List KeyedCell
+  pub widgets : List Widget
+  pub marks : List SharedMark
+  pub tags : List (List ℕ)
+  pub history : History
+  pub modified : Modified
+  pub undo : Bool
+  pub most_undo : ℤ
+  pub separators : Bool
+
+pub record World : Type 0 where
+  pub limits : LimitTable
+  pub documents : List Document
+
+-- a text of the program, as its characters
+abbrev pub sel : List ℕ
+sel = chars (codes "sel")
+
+-- a widget of the whole document, whose own marks stand at its start
+abbrev pub new_widget : List ℕ → Widget
+new_widget name = record {
+    name = name; start = None; end = None; disabled = false;
+    insert = record { offset = 0; gravity = Right }; current = record { offset = 0; gravity = Right }
+  }
+
+-- a document of these cells, with one widget and nothing else
+abbrev pub document_of : List ℕ → List KeyedCell → Document
+document_of name cells = record {
+    cells = cells; widgets = new_widget name ∷ []; marks = []; tags = sel ∷ [];
+    history = record { groups = []; takes_more = false; last = None; undone = [] };
+    modified = record { count = pos 0; fixed = false };
+    undo = false; most_undo = pos 0; separators = true
+  }
+
+-- the cells of a store, with the keys that the pairs of a slot and a key give their slots
+abbrev pub keyed : List (ℕ × Key) → List Cell → List KeyedCell
+keyed pairs cells = map (λ (cell : Cell). record { character = cell.character; keys = keys_of pairs cell.tags }) cells
+
+abbrev pub characters : List KeyedCell → List ℕ
+characters cells = map (λ (cell : KeyedCell). cell.character) cells

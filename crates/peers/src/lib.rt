@@ -1,0 +1,8 @@
+//! The widgets of a session and the commands that they carry out.
+#![tactic(auto)]
+
+mod answers;
+mod world;
+
+pub use answers::{Answer, Fault};
+pub use world::World;

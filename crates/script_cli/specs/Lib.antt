@@ -1,0 +1,4 @@
+pub mod Devices
+pub mod Pieces
+pub mod Run
+pub mod Status

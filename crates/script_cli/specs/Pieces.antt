@@ -1,0 +1,48 @@
+-- What is printed for a command, as characters.
+use Rattle.std.specs.Prelude.{ℕ, Bool, true, false, List, [], ◌∷◌, ◌++◌, chars, codes, slice_index_or, Result, Ok, Err}
+use Rattle.peers.specs.declared.answers.Answer.{Answer}
+use Rattle.peers.specs.declared.answers.Answer.TheVariants.{Empty, Word, Flag, Text}
+use Rattle.peers.specs.declared.answers.Fault.{Fault}
+use Rattle.peers.specs.declared.answers.Fault.TheVariants.{BadIndex, BadOption, WrongArguments, InvalidCommandName, WindowExists, DocumentExists, TooManyWidgets, TextTooLong, Memory}
+use Rattle.tcl_words.specs.declared.fault.ScriptFault.{ScriptFault}
+use Rattle.tcl_words.specs.declared.fault.ScriptFault.TheVariants as script
+use Rattle.peers.specs.Words.{literal}
+
+-- the word of a command at a position
+abbrev pub word_at : List (List ℕ) → ℕ → List ℕ
+word_at words position = slice_index_or words position []
+
+abbrev pub answer_text : List (List ℕ) → Answer → List ℕ
+answer_text words Empty = []
+answer_text words (Word position) = word_at words position
+answer_text words (Flag true) = literal "1"
+answer_text words (Flag false) = literal "0"
+answer_text words (Text text) = text
+
+-- a word in quotes
+abbrev pub quoted : List ℕ → List ℕ
+quoted word = 34 ∷ word ++ 34 ∷ []
+
+abbrev pub fault_text : List (List ℕ) → Fault → List ℕ
+fault_text words (BadIndex position) = literal "bad text index " ++ quoted (word_at words position)
+fault_text words (BadOption position) = literal "bad option " ++ quoted (word_at words position)
+fault_text words WrongArguments = literal "wrong # args"
+fault_text words (InvalidCommandName position) = literal "invalid command name " ++ quoted (word_at words position)
+fault_text words (WindowExists position) = literal "window name " ++ quoted (word_at words position) ++ literal " already exists"
+fault_text words DocumentExists = literal "a document exists"
+fault_text words TooManyWidgets = literal "too many widgets"
+fault_text words TextTooLong = literal "text is too long"
+fault_text words Memory = literal "out of memory"
+
+abbrev pub script_fault_text : ScriptFault → List ℕ
+script_fault_text script.Substitution = literal "substitution isn't supported"
+script_fault_text script.NotUtf8 = literal "script isn't UTF-8"
+script_fault_text script.Memory = literal "out of memory"
+
+abbrev pub error_line : List ℕ → List ℕ
+error_line text = literal "error: " ++ text ++ 10 ∷ []
+
+-- the piece of a command: its answer or its fault, and a newline
+abbrev pub piece : List (List ℕ) → Result Answer Fault → List ℕ
+piece words (Ok answer) = answer_text words answer ++ 10 ∷ []
+piece words (Err fault) = error_line (fault_text words fault)

@@ -1,0 +1,10 @@
+//! A whole run: the commands of a script, read from a device, and their answers, written to one.
+#![tactic(auto)]
+
+mod devices;
+mod running;
+mod summary;
+
+pub use devices::{ByteSink, ByteSource};
+pub use running::run;
+pub use summary::{RunFault, RunSummary, outcome};
