@@ -11,7 +11,7 @@ use Rattle.peers.specs.Keys.{Keys}
 use Rattle.peers.specs.World.{Document, Widget, KeyedCell}
 use Rattle.peers.specs.View.{view_start, shown}
 use Rattle.peers.specs.Words.{is_same, literal}
-use Rattle.peers.specs.Index.{Index, index_of, index_value}
+use Rattle.peers.specs.Index.{index_of, index_value}
 use Rattle.peers.specs.Position.{position_text}
 
 -- the answer or the fault, and the document after the command

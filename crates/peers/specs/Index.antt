@@ -3,13 +3,9 @@ use Rattle.std.specs.Prelude.{ℕ, suc, ◌+◌, ◌-◌, ◌*◌, min, nat_lt, 
 use Rattle.std.specs.List.{list_all}
 use Rattle.std.specs.Char.{is_ascii_digit}
 use Rattle.text_model.specs.Lines.{lines, line_start}
+use Rattle.peers.specs.declared.indices.Index.{Index}
+use Rattle.peers.specs.declared.indices.Index.TheVariants.{At, LineEnd, End}
 use Rattle.peers.specs.Words.{is_same, literal}
-
--- a place by its line and character, the newline of a line, or the end
-pub data Index : Type 0 where
-  At : ℕ → ℕ → Index
-  LineEnd : ℕ → Index
-  End : Index
 
 -- the number that one or more digits spell
 abbrev pub number_of : List ℕ → Option ℕ
@@ -21,13 +17,16 @@ number_of (digit ∷ digits) =
 abbrev pub in_line : ℕ → List ℕ → Option Index
 in_line line text = if is_same text (literal "end") then Some (LineEnd line) else option_map (At line) (number_of text)
 
+abbrev pub is_dot : ℕ → Bool
+is_dot character = character == 46
+
 abbrev pub around_dot : List ℕ → Option ℕ → Option Index
 around_dot text None = None
 around_dot text (Some dot) = option_and_then (λ line. in_line line (drop (suc dot) text)) (number_of (take dot text))
 
 -- `line.char`, `line.end` or `end`, and nothing else
 abbrev pub index_of : List ℕ → Option Index
-index_of text = if is_same text (literal "end") then Some End else around_dot text (position (λ c. c == 46) text)
+index_of text = if is_same text (literal "end") then Some End else around_dot text (position is_dot text)
 
 -- Where a line begins, and its newline. Lines count from 1.
 abbrev pub first_of : ℕ → List ℕ → ℕ
@@ -40,8 +39,19 @@ newline_of line text = line_start line text - 1
 abbrev pub on_line : ℕ → List ℕ → ℕ → ℕ
 on_line line text place = if line == 0 then 0 else (if nat_lt (lines text) line then length text else place)
 
+-- a character of a line, or its newline where the line is shorter; and without a number its newline
+abbrev pub in_line_at : ℕ → List ℕ → Option ℕ → ℕ
+in_line_at line text (Some character) = min (first_of line text + character) (newline_of line text)
+in_line_at line text None = newline_of line text
+
 -- the place that an index stands for, counted from the start of the view
 abbrev pub index_value : List ℕ → Index → ℕ
-index_value text (At line character) = on_line line text (min (first_of line text + character) (newline_of line text))
-index_value text (LineEnd line) = on_line line text (newline_of line text)
+index_value text (At line character) = on_line line text (in_line_at line text (Some character))
+index_value text (LineEnd line) = on_line line text (in_line_at line text None)
 index_value text End = length text
+
+-- an index whose numbers are at most the greatest that a machine has
+abbrev pub saturated : Index → Index
+saturated (At line character) = At (min 18446744073709551615 line) (min 18446744073709551615 character)
+saturated (LineEnd line) = LineEnd (min 18446744073709551615 line)
+saturated End = End

@@ -2,6 +2,8 @@
 #![tactic(auto)]
 
 mod answers;
+mod indices;
+mod words;
 mod world;
 
 pub use answers::{Answer, Fault};

@@ -1,8 +1,9 @@
 -- Where the lines of a text begin.
-use Rattle.std.proofs.Common.{◌≡◌, ◌≢◌, ℕ, zero, suc, ◌+◌, ◌-◌, ◌<◌, ◌≤◌, Bool, true, false, List, [], ◌∷◌, length, take, drop, get_or, refl, sym, ap, ◌∙◌, arith, map, add_assoc}
+use Rattle.std.proofs.Common.{◌≡◌, ◌≢◌, ℕ, zero, suc, ◌+◌, ◌-◌, ◌<◌, ◌≤◌, Bool, true, false, cond, List, [], ◌∷◌, length, take, drop, get_or, refl, sym, ap, ◌∙◌, arith, map, add_assoc}
 use Rattle.std.specs.Prelude.{if◌then◌else◌}
 use Rattle.std.proofs.lemmas.Grind.{common_steps}
 use Rattle.std.proofs.lemmas.List.{drop_more, get_or-map, length-map}
+use Rattle.std.proofs.lemmas.List.Sums.{sum_by-cons, count_by-le-length}
 use Rattle.std.proofs.lemmas.Bool.Decides.{nat_tests}
 use Rattle.text_model.specs.declared.cells.Cell.{Cell}
 use Rattle.text_model.specs.Content.{characters}
@@ -24,3 +25,36 @@ line_start-next cells whole at (suc left) cell within is some whole_is =
     let step = line_start-drop (characters cells) at left cell.character here same in
     let minus : suc left - 1 ≡ left = omega arith in
     rw minus (whole_is ∙ ap (λ n. at + n) step ∙ sym (add_assoc at 1 _))
+
+-- the lines of a text with one character in front
+pub lines-cons : (c : ℕ) (text : List ℕ) → lines (c ∷ text) ≡ cond (is_newline c) 1 0 + lines text
+lines-cons c text = sum_by-cons (λ x. cond (is_newline x) 1 0) c text
+
+-- each line begins behind the one before it
+pub line_start-rises : (text : List ℕ) (line : ℕ) → line < lines text → line_start line text < line_start (suc line) text
+line_start-rises [] line within = absurd (omega arith)
+line_start-rises (c ∷ text) zero within = omega arith
+line_start-rises (c ∷ text) (suc line) within =
+    elim (is_newline c) as (λ b. lines (c ∷ text) ≡ cond b 1 0 + lines text → 1 + line_start (if b then line else suc line) text < 1 + line_start (if b then suc line else suc (suc line)) text) [
+      | true ↦ λ more. let below : line < lines text = omega arith in omega (arith, line_start-rises text line below)
+      | false ↦ λ more. let below : suc line < lines text = omega arith in omega (arith, line_start-rises text (suc line) below)
+    ] (lines-cons c text)
+
+-- a line begins within the text, and the one behind the last at its end
+pub line_start-le : (text : List ℕ) (line : ℕ) → line_start line text ≤ length text
+line_start-le [] zero = omega arith
+line_start-le [] (suc line) = omega arith
+line_start-le (c ∷ text) zero = omega arith
+line_start-le (c ∷ text) (suc line) =
+    elim (is_newline c) as (λ b. 1 + line_start (if b then line else suc line) text ≤ suc (length text)) [
+      | true ↦ omega (arith, line_start-le text line)
+      | false ↦ omega (arith, line_start-le text (suc line))
+    ]
+
+-- there are no more lines than characters
+pub lines-le-length : (text : List ℕ) → lines text ≤ length text
+lines-le-length text = count_by-le-length is_newline text
+
+pub line_start-before : (text : List ℕ) (line : ℕ) → 0 < line → line ≤ lines text → line_start (line - 1) text < line_start line text
+line_start-before text zero some within = absurd (omega arith)
+line_start-before text (suc line) some within = let same : suc line - 1 ≡ line = omega arith in rw same (line_start-rises text line within)

@@ -1,0 +1,4 @@
+pub mod IndexLaws
+pub mod NumberLaws
+pub mod ValueLaws
+pub mod WordLaws

@@ -1,0 +1,13 @@
+-- Two texts are the same exactly where their characters are.
+use Rattle.std.proofs.Common.{◌≡◌, ℕ, Bool, List, sym, ap, ◌∙◌, Decides}
+use Rattle.std.specs.Prelude.{chars, bytes_eq, IsUtf8, encode_utf8_all}
+use Rattle.std.proofs.lemmas.Bool.Decides.{same_from_decides}
+use Rattle.std.proofs.lemmas.Slice.Eq.{bytes_eq-Decides}
+use Rattle.std.proofs.lemmas.Str.{encodes-chars}
+
+pub bytes_eq-chars : (a b : List ℕ) → IsUtf8 a → IsUtf8 b → bytes_eq a b ≡ bytes_eq (chars a) (chars b)
+bytes_eq-chars a b text other =
+    let bytes = bytes_eq-Decides a b in
+    let characters = bytes_eq-Decides (chars a) (chars b) in
+    let back : chars a ≡ chars b → a ≡ b = λ same. sym (encodes-chars a text) ∙ ap encode_utf8_all same ∙ encodes-chars b other in
+    same_from_decides _ _ bytes (λ same. back (characters.0 same), λ same. characters.1 (ap chars same))
