@@ -34,13 +34,13 @@ pub marks_of-map : (f : Place → Place) (places : List (Option Place)) (number 
 marks_of-map f places number =
     ap (finite.from_entries {R = nat_cmp}) (places_from-map f places number)
     ∙ finite.same_map nat_cmp_total nat_cmp-IsAntisymmetric _ _ (λ at.
-      let entries = places_from number places in
-      let m : Marks = finite.from_entries entries in
-      finite.get-from_entries nat_cmp_total (map (entry_at f) entries) at
-      ∙ find-map f entries at
-      ∙ ap (option_map f) (sym (finite.get-from_entries nat_cmp_total entries at) ∙ finite.get-entries m at)
-      ∙ sym (find-map f (finite.entries m) at)
-      ∙ sym (finite.get-from_entries nat_cmp_total (map (entry_at f) (finite.entries m)) at))
+    let entries = places_from number places in
+    let m : Marks = finite.from_entries entries in
+    finite.get-from_entries nat_cmp_total (map (entry_at f) entries) at
+    ∙ find-map f entries at
+    ∙ ap (option_map f) (sym (finite.get-from_entries nat_cmp_total entries at) ∙ finite.get-entries m at)
+    ∙ sym (find-map f (finite.entries m) at)
+    ∙ sym (finite.get-from_entries nat_cmp_total (map (entry_at f) (finite.entries m)) at))
 
 moved_le : (at count end : ℕ) (place : Place) → place.offset ≤ end → (moved at count place).offset ≤ end + count
 moved_le at count end place within =

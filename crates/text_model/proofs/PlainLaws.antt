@@ -20,5 +20,5 @@ plain_content-inserted cells found places placed at count text slots within foun
     let count_is : count ≡ length text = omega (arith, longer, long) in
     let marks : Marks = finite.from_entries (places_from 0 places) in
     let marks_are : finite.from_entries {R = nat_cmp} (places_from 0 placed) ≡ map_marks (moved at (length text)) marks =
-      ap (λ ps. finite.from_entries {R = nat_cmp} (places_from 0 ps)) placed_is ∙ marks_of-map (moved at count) places 0 ∙ ap (λ n. map_marks (moved at n) marks) count_is in
+    ap (λ ps. finite.from_entries {R = nat_cmp} (places_from 0 ps)) placed_is ∙ marks_of-map (moved at count) places 0 ∙ ap (λ n. map_marks (moved at n) marks) count_is in
     λ i. record { cells = found_is i; marks = marks_are i }

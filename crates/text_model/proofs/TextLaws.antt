@@ -9,4 +9,4 @@ pub chars-push : (bytes : List ℕ) (c : ℕ) → IsUtf8 bytes → IsScalar c �
 chars-push bytes c text scalar =
     chars-append bytes (encode_utf8 c) text
     ∙ ap (λ cs. chars bytes ++ cs)
-      (chars_past_char (encode_utf8 c) [] c (IsUtf8-encode c scalar) (sym (append-nil _)) ∙ ap (λ cs. c ∷ cs) chars-nil)
+    (chars_past_char (encode_utf8 c) [] c (IsUtf8-encode c scalar) (sym (append-nil _)) ∙ ap (λ cs. c ∷ cs) chars-nil)

@@ -17,9 +17,9 @@ StepFits (Insert at text slots) content = at < length content.cells
 -- a text is put in before the cell at an offset, and each mark moves with it
 abbrev pub after_insertion : ℕ → List ℕ → Slots → Content → Content
 after_insertion at text slots content = record {
-    cells = inserted at (cells_of text slots) content.cells;
-    marks = map_marks (moved at (length text)) content.marks
-  }
+  cells = inserted at (cells_of text slots) content.cells;
+  marks = map_marks (moved at (length text)) content.marks;
+}
 
 abbrev pub after_step : Step → Content → Content
 after_step (Insert at text slots) content = after_insertion at text slots content

@@ -1,10 +1,9 @@
-ghost use Rattle.std.specs.Prelude.{◌≡◌, ◌∷◌, [], ◌++◌, IfOk, OnOk, OnErr};
-
-use std::alloc::{AllocError, Global};
-use std::marker::Model;
+ghost use Rattle.std.specs.Prelude.{◌≡◌, ◌∷◌, [], ◌++◌, OnOk, OnErr};
 
 use crate::tag_set::TagSet;
 use crate::texts::Text;
+use std::alloc::{AllocError, Global};
+use std::marker::Model;
 
 /// A step of an edit.
 #[derive(Drop)]
@@ -22,7 +21,6 @@ pub struct Steps {
 impl Model for Steps {
     ghost use Rattle.std.specs.Prelude.{List};
     ghost use Rattle.text_model.specs.declared.edits.Step.{Step};
-
     ghost use Rattle.text_model.specs.contracts.tag_set.TagSet as tag_set;
     ghost use Rattle.std.specs.Coded.{codes};
 
@@ -63,4 +61,29 @@ impl Steps {
 #[derive(Drop)]
 pub struct Edit {
     pub steps: Steps,
+}
+
+#[cfg(test)]
+mod tests {
+    use super::*;
+    use crate::places::TagSlot;
+    use std::test::Fail;
+
+    #[test]
+    fn steps_stand_in_order(rt: HostRuntime) -> Result<(), Fail> {
+        let alloc = rt.alloc();
+        let mut steps = Steps::new(alloc);
+        assert!(rt; steps.as_slice().is_empty());
+        for (at, text) in [(7, "a"), (0, "bc")] {
+            let text = Text::new(String::from_str(alloc, text)?);
+            steps.push(Step::Insert(at, text, TagSet::empty().with(TagSlot(9))))?;
+        }
+        let [Step::Insert(7, first, _), Step::Insert(0, second, tags)] = steps.as_slice() else {
+            return Err("two steps".into());
+        };
+        assert_eq!(rt; first.as_str(), "a");
+        assert_eq!(rt; second.as_str(), "bc");
+        assert!(rt; tags.has(TagSlot(9)));
+        Ok(())
+    }
 }

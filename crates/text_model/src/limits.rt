@@ -1,4 +1,4 @@
-ghost use Rattle.std.specs.Prelude.{◌≡◌, ◌<◌, ◌≤◌, ◌↔◌, IsSome, IfSome};
+ghost use Rattle.std.specs.Prelude.{◌≡◌, ◌↔◌, IsSome, IfSome};
 ghost use Rattle.text_model.specs.LimitTable.{AreLimits};
 
 use std::marker::Model;
@@ -96,5 +96,42 @@ impl Limits {
         ensures { result ≡ self.now.reads }
     {
         self.reads
+    }
+}
+
+#[cfg(test)]
+mod tests {
+    use super::*;
+    use std::test::Fail;
+
+    #[test]
+    fn readers_give_the_numbers(rt: HostRuntime) -> Result<(), Fail> {
+        let limits = Limits::new(100, 3, 5, 7, 11).ok_or("small numbers")?;
+        assert_eq!(rt; limits.chars(), 100);
+        assert_eq!(rt; limits.tags(), 3);
+        assert_eq!(rt; limits.marks(), 5);
+        assert_eq!(rt; limits.widgets(), 7);
+        assert_eq!(rt; limits.reads(), 11);
+        Ok(())
+    }
+
+    #[test]
+    fn numbers_have_bounds(rt: HostRuntime) {
+        for (chars, tags, marks, widgets, is_known) in [
+            (1, 0, 0, 0, true),
+            (0, 0, 0, 0, false),
+            (16_777_216, 192, 4_096, 64, true),
+            (16_777_217, 192, 4_096, 64, false),
+            (16_777_216, 193, 4_096, 64, false),
+            (16_777_216, 192, 4_097, 64, false),
+            (16_777_216, 192, 4_096, 65, false),
+        ] {
+            let limits = Limits::new(chars, tags, marks, widgets, u32::MAX);
+            assert_eq!(rt;
+                limits.is_some(),
+                is_known,
+                "{chars} {tags} {marks} {widgets}"
+            );
+        }
     }
 }

@@ -41,3 +41,26 @@ impl Place {
         }
     }
 }
+
+#[cfg(test)]
+mod tests {
+    use super::*;
+
+    #[test]
+    fn marks_move(rt: HostRuntime) {
+        for (offset, gravity, moved) in [
+            (1, Gravity::Right, 1),
+            (2, Gravity::Left, 2),
+            (2, Gravity::Right, 5),
+            (3, Gravity::Left, 6),
+        ] {
+            let place = Place { offset, gravity };
+            assert!(rt; place.offset < 10);
+            let want = Place {
+                offset: moved,
+                gravity,
+            };
+            assert_eq!(rt; place.moved(2, 3), want, "a mark at {offset}");
+        }
+    }
+}

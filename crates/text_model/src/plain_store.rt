@@ -1,11 +1,9 @@
-ghost use Rattle.std.specs.Prelude.{◌≡◌, ◌+◌, ◌++◌, ◌∷◌, [], ◌^◌, ◌<◌, ◌≤◌, ⊤, map, take, vec_len, length, OnOk, IfOk, chars, string_bytes, option_map};
+ghost use Rattle.std.specs.Prelude.{◌≡◌, ◌+◌, ◌++◌, ◌∷◌, [], ◌^◌, ◌<◌, ◌≤◌, ⊤, map, vec_len, length, OnOk, IfOk, chars, string_bytes, option_map};
 ghost use Rattle.text_model.specs.Content.{characters};
-ghost use Rattle.text_model.specs.Lines.{is_newline, lines, line_start};
+ghost use Rattle.text_model.specs.Lines.{lines, line_start};
 ghost use Rattle.text_model.specs.Steps.{cells_of, StepFits, after_step, after_insertion};
 ghost use Rattle.text_model.specs.Splices.{inserted, moved};
 ghost use Rattle.text_model.specs.Plain.{plain_content, StandWithin};
-
-use std::alloc::{AllocError, Global};
 
 use crate::cells::Cell;
 use crate::edits::{Edit, Step};
@@ -13,6 +11,7 @@ use crate::places::Place;
 use crate::store::TextStore;
 use crate::tag_set::TagSet;
 use crate::texts::Text;
+use std::alloc::{AllocError, Global};
 
 /// The plain form of a text: a list of its cells, and of the places of its marks by their numbers. The other stores
 /// are judged by it.
@@ -109,7 +108,12 @@ fn find_line(cells: &[Cell], line: usize) -> usize
 
 impl PlainStore {
     /// The store after a text is put in before the cell at an offset.
-    fn after_insertion(&self, at: usize, text: &Text, tags: TagSet) -> Result<PlainStore, AllocError>
+    fn after_insertion(
+        &self,
+        at: usize,
+        text: &Text,
+        tags: TagSet,
+    ) -> Result<PlainStore, AllocError>
         requires { at < vec_len self.now.cells }
         ensures { IfOk result (λ store. plain_content store.cells.items store.places.items
             ≡ after_insertion at text.now tags (plain_content self.now.cells.items self.now.places.items)) }
@@ -210,5 +214,90 @@ impl TextStore for PlainStore {
 
     fn commit(&mut self, prepared: PlainStore) {
         *self = prepared;
+    }
+}
+
+#[cfg(test)]
+mod tests {
+    use super::*;
+    use crate::edits::Steps;
+    use std::process::Abort;
+    use std::test::Fail;
+
+    /// Puts a text without tags into a store.
+    fn insert<S: TextStore>(
+        rt: &impl Abort,
+        alloc: Global,
+        store: &mut S,
+        at: usize,
+        text: &str,
+    ) -> Result<(), AllocError> {
+        assert!(rt; at < store.len());
+        let mut steps = Steps::new(alloc);
+        let text = Text::new(String::from_str(alloc, text)?);
+        steps.push(Step::Insert(at, text, TagSet::empty()))?;
+        let prepared = store.prepare(&Edit { steps })?;
+        store.commit(prepared);
+        Ok(())
+    }
+
+    fn check_insertions<S: TextStore>(rt: &impl Abort, alloc: Global) -> Result<(), AllocError> {
+        let mut store = S::new(alloc)?;
+        insert(rt, alloc, &mut store, 0, "ab")?;
+        assert!(rt; store.len() == 3);
+        assert_eq!(rt; store.copy_text(0, 3)?.as_str(), "ab\n");
+        insert(rt, alloc, &mut store, 1, "é")?;
+        assert!(rt; store.len() == 4);
+        assert_eq!(rt; store.copy_text(0, 3)?.as_str(), "aéb");
+        Ok(())
+    }
+
+    fn check_two_steps<S: TextStore>(rt: &impl Abort, alloc: Global) -> Result<(), AllocError> {
+        let mut store = S::new(alloc)?;
+        assert!(rt; store.len() == 1);
+        let mut steps = Steps::new(alloc);
+        let last = Text::new(String::from_str(alloc, "b")?);
+        steps.push(Step::Insert(0, last, TagSet::empty()))?;
+        let first = Text::new(String::from_str(alloc, "a")?);
+        steps.push(Step::Insert(0, first, TagSet::empty()))?;
+        let prepared = store.prepare(&Edit { steps })?;
+        assert_eq!(rt; store.len(), 1);
+        store.commit(prepared);
+        assert!(rt; store.len() == 3);
+        assert_eq!(rt; store.copy_text(0, 3)?.as_str(), "ab\n");
+        Ok(())
+    }
+
+    fn check_queries<S: TextStore>(rt: &impl Abort, alloc: Global) -> Result<(), AllocError> {
+        let mut store = S::new(alloc)?;
+        insert(rt, alloc, &mut store, 0, "é\nb\n")?;
+        assert_eq!(rt; store.len(), 5);
+        assert_eq!(rt; store.lines(), 3);
+        for (line, start) in [(0, 0), (1, 2), (2, 4), (3, 5)] {
+            assert!(rt; line <= store.lines());
+            assert_eq!(rt; store.line_start(line), start, "of line {line}");
+        }
+        for (offset, line) in [(0, 0), (1, 0), (2, 1), (3, 1), (4, 2), (5, 3)] {
+            assert!(rt; offset <= store.len());
+            assert_eq!(rt; store.line_of(offset), line, "at {offset}");
+        }
+        for (offset, character) in [(0, 'é'), (1, '\n'), (2, 'b'), (3, '\n'), (4, '\n')] {
+            assert!(rt; offset < store.len());
+            assert_eq!(rt; store.char_at(offset), character, "at {offset}");
+        }
+        Ok(())
+    }
+
+    #[test]
+    fn keeps_what_is_put_in(rt: HostRuntime) -> Result<(), Fail> {
+        check_insertions::<PlainStore>(&rt, rt.alloc())?;
+        check_two_steps::<PlainStore>(&rt, rt.alloc())?;
+        Ok(())
+    }
+
+    #[test]
+    fn answers_queries(rt: HostRuntime) -> Result<(), Fail> {
+        check_queries::<PlainStore>(&rt, rt.alloc())?;
+        Ok(())
     }
 }

@@ -3,9 +3,8 @@ ghost use Rattle.text_model.specs.Content.{Content, characters, new_content};
 ghost use Rattle.text_model.specs.Lines.{lines, line_of, line_start};
 ghost use Rattle.text_model.specs.Steps.{Fits, after};
 
-use std::alloc::{AllocError, Global};
-
 use crate::edits::Edit;
+use std::alloc::{AllocError, Global};
 
 /// What keeps a text: tagged characters, of which the last is a newline, and marks as positions.
 ///
