@@ -130,6 +130,11 @@ def time_script(program, commands, repeat, folder):
     return Timing(len(commands), min(times))
 
 
+def per_command(timing):
+    """The microseconds for each command, as a text."""
+    return "" if timing.commands == 0 else f"{timing.seconds / timing.commands * 1e6:.2f}"
+
+
 def growth(before, now):
     """How many times as long the next size takes, as a text."""
     return "" if before is None else f"{now.seconds / before.seconds:.2f}"
@@ -145,9 +150,8 @@ HEADER = [
 
 def table_row(name, size, timing, before):
     """One row of the table."""
-    per_command = timing.seconds / max(timing.commands, 1) * 1e6
     return (
-        f"{name:<26}{size:>8}{timing.commands:>10}{timing.seconds:>10.4f}{per_command:>12.2f}"
+        f"{name:<26}{size:>8}{timing.commands:>10}{timing.seconds:>10.4f}{per_command(timing):>12}"
         f"{growth(before, timing):>8}"
     )
 

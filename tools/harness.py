@@ -14,14 +14,12 @@ class Result(NamedTuple):
     errors: bytes
 
 
-def run_program(program, script, environment=None):
+def run_program(program, script, environment=None, timeout=TIMEOUT_SECONDS):
     """Runs the program once on a script."""
     try:
-        done = subprocess.run(
-            [program], input=script, capture_output=True, timeout=TIMEOUT_SECONDS, env=environment
-        )
+        done = subprocess.run([program], input=script, capture_output=True, timeout=timeout, env=environment)
     except subprocess.TimeoutExpired as expired:
-        return Result(expired.stdout or b"", f"no end after {TIMEOUT_SECONDS} s", expired.stderr or b"")
+        return Result(expired.stdout or b"", f"no end after {timeout} s", expired.stderr or b"")
     status = done.returncode if done.returncode >= 0 else f"signal {-done.returncode}"
     return Result(done.stdout, status, done.stderr)
 

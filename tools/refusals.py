@@ -28,8 +28,10 @@ from harness import Tally, run_program
 
 RUN_FAULT_ERRORS = b"out of memory\n"
 
-# After this many failures of one script the rest of its growths isn't run.
+# After this many failures of one script the rest of its growths isn't run; after this many in all, the
+# rest of the scripts.
 ENOUGH_FAILURES = 3
+ENOUGH_FAILURES_IN_ALL = 20
 
 
 class Preloaded:
@@ -143,6 +145,9 @@ def main():
         program = Preloaded(options.program, options.shim, os.path.join(folder, "growths"))
         for name, script in scripts:
             growths += check_script(program, name, script, tally, kinds)
+            if tally.failures >= ENOUGH_FAILURES_IN_ALL:
+                print("the other scripts are left out")
+                break
     tally.check(growths > 0, "no growth was counted: the shim doesn't reach the program")
     print(f"{len(scripts)} scripts, {growths} growths, {sum(kinds.values())} runs with a growth refused:")
     print(f"  {kinds['command refused']} refused one command, {kinds['run ended']} ended the run")

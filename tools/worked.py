@@ -134,7 +134,8 @@ def command_faults():
         ),
         Row(
             "bytes that are no blanks and begin no command",
-            "\ufefftext .t; text .t; .t get\x001.0; .t\u00a0get 1.0; .t get\u20281.0; .t\u0085; .t get 1.0".encode("utf-8"),
+            "\ufefftext .t; text .t; .t get\x001.0; .t\u00a0get 1.0; .t get\u20281.0; .t\u0085; "
+            ".t get 1.0".encode("utf-8"),
             lines('error: invalid command name "\ufefftext"', ".t", 'error: bad option "get\x001.0"',
                   'error: invalid command name ".t\u00a0get"', 'error: bad option "get\u20281.0"',
                   'error: invalid command name ".t\u0085"', "\n"),
