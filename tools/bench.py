@@ -1,0 +1,208 @@
+#!/usr/bin/env python3
+"""Times the program on generated scripts of growing size.
+
+    python3 tools/bench.py --program PATH --out FILE [--sizes 5000,10000,20000] [--repeat 3]
+
+Prints a table and writes it to FILE, so that the next change can be compared with it. Each time is the
+least of several runs of the whole program, from its start to its end. The exit status is 1 if a run
+didn't answer as it has to, or if appending 20,000 words takes five seconds or more.
+"""
+
+import argparse
+import os
+import subprocess
+import sys
+import tempfile
+import threading
+import time
+from typing import NamedTuple
+
+GOAL_COMMANDS = 20_000
+GOAL_SECONDS = 5.0
+TIMEOUT_SECONDS = 300
+
+
+class Kind(NamedTuple):
+    """A kind of script: its name in the table, and the commands of a size."""
+
+    name: str
+    commands: callable
+
+
+def appends(size):
+    """A text made of words that are put in at its end."""
+    return ["text .t"] + [".t insert end x"] * size
+
+
+def middle_inserts(size):
+    """A text of `size` characters, into which further ones are put at places all over it."""
+    text = ["text .t", ".t insert end " + "a" * size]
+    return text + [f".t insert 1.{place} x" for place in spread_places(size)]
+
+
+def index_queries(size):
+    """A text of `size` characters, asked for the places of positions all over it."""
+    text = ["text .t", ".t insert end " + "a" * size]
+    return text + [f".t index 1.{place}" for place in spread_places(size)]
+
+
+def line_queries(size):
+    """A text of `size` characters, asked for lines by their number, that of a line past the last too."""
+    text = ["text .t", ".t insert end " + "a" * size]
+    return text + [f".t index {number % 3}.end" for number in range(size)]
+
+
+def character_queries(size):
+    """A text of `size` characters, asked for the characters at positions all over it."""
+    text = ["text .t", ".t insert end " + "a" * size]
+    return text + [f".t get 1.{place}" for place in spread_places(size)]
+
+
+def refused_commands(size):
+    """Commands that are refused for a bad index."""
+    return ["text .t"] + [".t index zz"] * size
+
+
+def long_words(size):
+    """A few insertions of words of `size` characters: the time is that of reading the script."""
+    return ["text .t"] + [".t insert end " + "a" * size] * 20
+
+
+def spread_places(size):
+    """`size` places from 0 to `size`, not in order."""
+    return [number * 7_919 % size for number in range(size)]
+
+
+KINDS = [
+    Kind("append a word at the end", appends),
+    Kind("insert in the middle", middle_inserts),
+    Kind("index by position", index_queries),
+    Kind("index by line number", line_queries),
+    Kind("get one character", character_queries),
+    Kind("a refused command", refused_commands),
+    Kind("20 words of that length", long_words),
+]
+
+
+class Timing(NamedTuple):
+    """The time of one script."""
+
+    commands: int
+    seconds: float
+
+
+def run_once(program, script_path, output_path):
+    """The seconds that one run takes, from a file to a file; and its exit status."""
+    with open(script_path, "rb") as script, open(output_path, "wb") as output:
+        begin = time.perf_counter()
+        process = subprocess.Popen([program], stdin=script, stdout=output)
+        # A wait with a timeout of its own looks only now and then, which would blur the time.
+        stop = threading.Timer(TIMEOUT_SECONDS, process.kill)
+        stop.start()
+        status = process.wait()
+        seconds = time.perf_counter() - begin
+        stop.cancel()
+    return seconds, status
+
+
+def count_pieces(path):
+    """The number of newlines that a run wrote."""
+    with open(path, "rb") as file:
+        return file.read().count(b"\n")
+
+
+def time_script(program, commands, repeat, folder):
+    """The least time of several runs of these commands. Each has to answer every command.
+
+    Answers without newlines in them are asked for alone, so there is one line for each command.
+    """
+    script_path = os.path.join(folder, "script.tcl")
+    output_path = os.path.join(folder, "output")
+    with open(script_path, "w", encoding="utf-8") as file:
+        file.write("".join(command + "\n" for command in commands))
+    times = []
+    for _ in range(repeat):
+        seconds, status = run_once(program, script_path, output_path)
+        lines = count_pieces(output_path)
+        if status not in (0, 1) or lines != len(commands):
+            sys.exit(f"status {status} and {lines} lines for {len(commands)} commands: this isn't timed")
+        times.append(seconds)
+    return Timing(len(commands), min(times))
+
+
+def per_command(timing):
+    """The microseconds for each command, as a text."""
+    return "" if timing.commands == 0 else f"{timing.seconds / timing.commands * 1e6:.2f}"
+
+
+def growth(before, now):
+    """How many times as long the next size takes, as a text."""
+    return "" if before is None else f"{now.seconds / before.seconds:.2f}"
+
+
+HEADER = [
+    "Time of the program on generated scripts: the least of several whole runs, its start included.",
+    "`growth` is the time over that of the size before: 2 where both the size and the time double.",
+    "",
+    f"{'script':<26}{'size':>8}{'commands':>10}{'seconds':>10}{'us/command':>12}{'growth':>8}",
+]
+
+
+def table_row(name, size, timing, before):
+    """One row of the table."""
+    return (
+        f"{name:<26}{size:>8}{timing.commands:>10}{timing.seconds:>10.4f}{per_command(timing):>12}"
+        f"{growth(before, timing):>8}"
+    )
+
+
+def emit(lines, line):
+    """Prints a line of the table, and keeps it for the file."""
+    print(line, flush=True)
+    lines.append(line)
+
+
+def measure(program, sizes, repeat, folder):
+    """The table's lines, and whether the goal is met."""
+    lines = []
+    for line in HEADER:
+        emit(lines, line)
+    emit(lines, table_row("an empty script", 0, time_script(program, [], repeat, folder), None))
+    for kind in KINDS:
+        before = None
+        for size in sizes:
+            timing = time_script(program, kind.commands(size), repeat, folder)
+            emit(lines, table_row(kind.name, size, timing, before))
+            before = timing
+    goal = time_script(program, appends(GOAL_COMMANDS), repeat, folder)
+    is_met = goal.seconds < GOAL_SECONDS
+    emit(lines, "")
+    emit(
+        lines,
+        f"{GOAL_COMMANDS} commands `.t insert end x`: {goal.seconds:.3f} s "
+        f"(goal: under {GOAL_SECONDS:.0f} s, {'met' if is_met else 'MISSED'})",
+    )
+    return lines, is_met
+
+
+def sizes_of(text):
+    """The sizes as numbers."""
+    return [int(size) for size in text.split(",")]
+
+
+def main():
+    parser = argparse.ArgumentParser(description="times the program on generated scripts")
+    parser.add_argument("--program", required=True)
+    parser.add_argument("--out", required=True)
+    parser.add_argument("--sizes", type=sizes_of, default=[5_000, 10_000, 20_000])
+    parser.add_argument("--repeat", type=int, default=3)
+    options = parser.parse_args()
+    with tempfile.TemporaryDirectory() as folder:
+        lines, is_met = measure(options.program, options.sizes, options.repeat, folder)
+    with open(options.out, "w", encoding="utf-8") as file:
+        file.write("".join(line.rstrip() + "\n" for line in lines))
+    return 0 if is_met else 1
+
+
+if __name__ == "__main__":
+    sys.exit(main())

@@ -1,0 +1,78 @@
+#!/usr/bin/env python3
+"""With ample memory no command ever answers out of memory.
+
+    python3 tools/idle.py --program PATH
+
+Runs each form of each command that exists: each optional word left out and given, each base of an index
+at each place of an index. No line of the output is `error: out of memory`, and the status is never 2.
+
+Ends in a line `N passed, M failed`; the exit status is 1 if anything failed.
+"""
+
+import argparse
+import itertools
+import sys
+from typing import NamedTuple
+
+from harness import Tally, run_program
+
+OUT_OF_MEMORY = b"error: out of memory"
+
+# One word for each base of an index.
+INDICES = ["1.1", "1.end", "end"]
+
+# Texts of characters of one byte and of several, short and longer than one read of the program.
+TEXTS = ["x", "é€😀", "abcdefghij" * 500]
+
+WORLD = ["text .t", ".t insert 1.0 ab"]
+
+
+class Form(NamedTuple):
+    """A command: the commands before it, its first words, and the choices of words at each further place.
+
+    A place that may be left out has the choice None; so may no place before one that is given.
+    """
+
+    before: list
+    words: list
+    places: list
+
+
+FORMS = [
+    Form([], ["text"], [[".t", ".window"]]),
+    Form(WORLD, [".t", "insert"], [INDICES, TEXTS]),
+    Form(WORLD, [".t", "get"], [INDICES, [None, *INDICES]]),
+    Form(WORLD, [".t", "index"], [INDICES]),
+]
+
+
+def scripts_of(form):
+    """A script for each choice of the words of a form."""
+    for choice in itertools.product(*form.places):
+        words = form.words + [word for word in choice if word is not None]
+        yield "\n".join(form.before + [" ".join(words)]).encode("utf-8")
+
+
+def check_script(program, script, tally):
+    """One run: no line is out of memory, and neither a script fault nor the run's own error ended it."""
+    result = run_program(program, script)
+    is_right = OUT_OF_MEMORY not in result.output.split(b"\n") and result.status in (0, 1)
+    tally.check(
+        is_right,
+        f"{script[:200]!r}: status {result.status}, standard error {result.errors!r}, output {result.output[:200]!r}",
+    )
+
+
+def main():
+    parser = argparse.ArgumentParser(description="looks for want of memory where memory is ample")
+    parser.add_argument("--program", required=True)
+    options = parser.parse_args()
+    tally = Tally()
+    for form in FORMS:
+        for script in scripts_of(form):
+            check_script(options.program, script, tally)
+    return tally.close()
+
+
+if __name__ == "__main__":
+    sys.exit(main())

@@ -1,0 +1,625 @@
+"""A plain model of what tktext answers.
+
+Sources: the manual pages text(n) and Tcl(n) of Tcl/Tk 8.6.  Where they are silent the model follows
+docs/model.md of this repository, and each function below states its rule.  The model was written
+without a look at the program's code, so that the two can be compared.
+
+A document is a list of cells, each a character with a set of keys (the tags on it).  Marks and anchors
+are positions: the number of cells before them.  Nothing here is changed in place: a command makes a new
+world out of the old one, so a refused command leaves the old one as it was.
+
+One function stands for one definition.  A new command gets a function of its own and a line in
+SUBCOMMANDS; a new form of index gets a case in `reads_index` and one in `index_value`.
+"""
+
+import re
+import sys
+from dataclasses import dataclass, replace
+from typing import NamedTuple, Optional
+
+# Numbers in indices are of any length; Python stops at some thousand digits unless told not to.
+sys.set_int_max_str_digits(0)
+
+
+# ---------------------------------------------------------------------------------------------------
+# Limits
+
+
+class Limits(NamedTuple):
+    """The greatest numbers that a world may hold.  `characters` counts the last newline too."""
+
+    characters: int = 16_777_216
+    tags: int = 192
+    marks: int = 4_096
+    widgets: int = 64
+
+
+PROGRAM_LIMITS = Limits()
+
+
+# ---------------------------------------------------------------------------------------------------
+# The script grammar: which bytes are which commands, or which script fault
+
+BLANKS = frozenset(" \t\r\v\f")
+COMMAND_ENDS = frozenset("\n;")
+LETTERS = frozenset("abcdefghijklmnopqrstuvwxyzABCDEFGHIJKLMNOPQRSTUVWXYZ")
+DIGITS = frozenset("0123456789")
+
+SUBSTITUTION = "substitution isn't supported"
+NOT_UTF8 = "script isn't UTF-8"
+
+
+class ScriptFault(Exception):
+    """What ends a script where it stands: no later command is read, and the one begun isn't run."""
+
+    def __init__(self, text):
+        super().__init__(text)
+        self.text = text
+
+
+class Source:
+    """The characters of a script, up to its end or to the first bytes that aren't UTF-8."""
+
+    def __init__(self, script):
+        try:
+            self.characters = script.decode("utf-8")
+            self.breaks_off = False
+        except UnicodeDecodeError as error:
+            self.characters = script[: error.start].decode("utf-8")
+            self.breaks_off = True
+
+    def at(self, place):
+        """The character at `place`, or the empty text at the end.
+
+        To ask what stands where the bytes aren't UTF-8 is to meet the fault.
+        """
+        if place < len(self.characters):
+            return self.characters[place]
+        if self.breaks_off:
+            raise ScriptFault(NOT_UTF8)
+        return ""
+
+
+def dollar_substitutes(source, place):
+    """Whether a dollar sign just before `place` asks for a variable, and doesn't stand for itself.
+
+    It does before an ASCII letter, an ASCII digit, an underscore, `{`, `(` and two colons.
+    """
+    following = source.at(place)
+    if following == ":":
+        return source.at(place + 1) == ":"
+    return following in LETTERS or following in DIGITS or following in frozenset("_{(")
+
+
+def is_substitution(source, place):
+    """Whether the character at `place`, anywhere in a word, asks for what isn't supported."""
+    character = source.at(place)
+    if character == "$":
+        return dollar_substitutes(source, place + 1)
+    return character in frozenset("[\\")
+
+
+def begins_substitution(source, place, is_first_word):
+    """Whether a word that begins at `place` begins with what isn't supported (yet).
+
+    Comments, braced words and quoted words aren't read in this stage.
+    """
+    character = source.at(place)
+    if character == "#" and is_first_word:
+        return True
+    return character in frozenset('{"')
+
+
+def after_blanks(source, place):
+    """The first place at or after `place` where no blank stands."""
+    while source.at(place) in BLANKS:
+        place += 1
+    return place
+
+
+def bare_word(source, place):
+    """The word from `place` to the next blank, newline, semicolon or the end; and the place after it."""
+    begin = place
+    while True:
+        character = source.at(place)
+        if character == "" or character in BLANKS or character in COMMAND_ENDS:
+            return source.characters[begin:place], place
+        if is_substitution(source, place):
+            raise ScriptFault(SUBSTITUTION)
+        place += 1
+
+
+def command_at(source, place):
+    """The words of the command at `place`, perhaps none, and the place after its end."""
+    words = []
+    while True:
+        place = after_blanks(source, place)
+        character = source.at(place)
+        if character == "":
+            return words, place
+        if character in COMMAND_ENDS:
+            return words, place + 1
+        if begins_substitution(source, place, is_first_word=not words):
+            raise ScriptFault(SUBSTITUTION)
+        word, place = bare_word(source, place)
+        words.append(word)
+
+
+def reads_script(script):
+    """The commands of a script, each of at least one word, and its script fault's text, or None."""
+    source = Source(script)
+    commands = []
+    place = 0
+    try:
+        while source.at(place) != "":
+            words, place = command_at(source, place)
+            if words:
+                commands.append(words)
+    except ScriptFault as fault:
+        return commands, fault.text
+    return commands, None
+
+
+# ---------------------------------------------------------------------------------------------------
+# Documents, widgets, worlds
+
+
+class Cell(NamedTuple):
+    """A character with its keys.  A key is a tag's name, or the pair of `sel` and a widget's name."""
+
+    character: str
+    keys: frozenset = frozenset()
+
+
+class Mark(NamedTuple):
+    """A place between cells; text inserted at a right mark goes to its left."""
+
+    offset: int
+    gravity: str = "right"
+
+
+@dataclass(frozen=True)
+class Widget:
+    """A widget: its name, its part of the document, and the two marks of its own."""
+
+    name: str
+    start: Optional[int] = None
+    end: Optional[int] = None
+    disabled: bool = False
+    insert: Mark = Mark(0)
+    current: Mark = Mark(0)
+
+
+@dataclass(frozen=True)
+class History:
+    """Undo groups, whether the last one takes further actions, the last kind of edit, undone groups."""
+
+    groups: tuple = ()
+    is_open: bool = False
+    kind: Optional[str] = None
+    undone: tuple = ()
+
+
+class Modified(NamedTuple):
+    """The modified flag: a signed count of actions, and whether the flag is fixed."""
+
+    count: int = 0
+    fixed: bool = False
+
+
+@dataclass(frozen=True)
+class Document:
+    """The cells, the last a newline, and all that the widgets of one document share."""
+
+    cells: tuple = (Cell("\n"),)
+    widgets: tuple = ()
+    marks: tuple = ()
+    tags: tuple = ("sel",)
+    history: History = History()
+    modified: Modified = Modified()
+    undo: bool = False
+    max_undo: int = 0
+    auto_separators: bool = True
+
+
+@dataclass(frozen=True)
+class World:
+    """Everything that a later command can see.  There is at most one document in this stage."""
+
+    limits: Limits = PROGRAM_LIMITS
+    documents: tuple = ()
+
+
+class View(NamedTuple):
+    """The part of a document that a widget shows: its characters, and the offset of the first."""
+
+    start: int
+    characters: tuple
+
+
+def view(document, widget):
+    """What the widget shows, from its start anchor (else 0) to its end anchor (else the length)."""
+    start = 0 if widget.start is None else widget.start
+    end = len(document.cells) if widget.end is None else widget.end
+    return View(start, tuple(cell.character for cell in document.cells[start:end]))
+
+
+# ---------------------------------------------------------------------------------------------------
+# Faults of commands
+
+
+class Fault(Exception):
+    """Why a command is refused.  The world stays as it was."""
+
+    def __init__(self, text):
+        super().__init__(text)
+        self.text = text
+
+
+def bad_index(word):
+    return Fault(f'bad text index "{word}"')
+
+
+def bad_option(word):
+    return Fault(f'bad option "{word}"')
+
+
+def wrong_arguments():
+    return Fault("wrong # args")
+
+
+def invalid_command_name(word):
+    return Fault(f'invalid command name "{word}"')
+
+
+def window_exists(word):
+    return Fault(f'window name "{word}" already exists')
+
+
+def document_exists():
+    return Fault("a document exists")
+
+
+def too_many_widgets():
+    return Fault("too many widgets")
+
+
+def text_too_long():
+    return Fault("text is too long")
+
+
+def memory():
+    return Fault("out of memory")
+
+
+# ---------------------------------------------------------------------------------------------------
+# The index grammar: which texts are which index
+
+
+class LineCharacter(NamedTuple):
+    """The base `line.char`."""
+
+    line: int
+    character: int
+
+
+class LineEnd(NamedTuple):
+    """The base `line.end`."""
+
+    line: int
+
+
+class End(NamedTuple):
+    """The base `end`."""
+
+
+class Index(NamedTuple):
+    """A base and the modifiers after it, from left to right.  There are no modifiers in this stage."""
+
+    base: NamedTuple
+    modifiers: tuple = ()
+
+
+LINE_FORM = re.compile(r"([0-9]+)\.([0-9]+|end)")
+
+
+def reads_index(text):
+    """The index that a text spells, or None."""
+    if text == "end":
+        return Index(End())
+    match = LINE_FORM.fullmatch(text)
+    if match is None:
+        return None
+    line, place = match.groups()
+    if place == "end":
+        return Index(LineEnd(int(line)))
+    return Index(LineCharacter(int(line), int(place)))
+
+
+# ---------------------------------------------------------------------------------------------------
+# The value of an index, and a place as text
+
+
+def newlines(characters):
+    """The places of the newlines, the first one first."""
+    return [place for place, character in enumerate(characters) if character == "\n"]
+
+
+def line_place(line, character, characters):
+    """The place of a character of a line; of the line's newline where `character` is None.
+
+    Line 0 stands for the first place, a line past the last one for the end, and a character past the
+    newline for the newline.
+    """
+    newline_places = newlines(characters)
+    if line == 0:
+        return 0
+    if line > len(newline_places):
+        return len(characters)
+    begin = 0 if line == 1 else newline_places[line - 2] + 1
+    newline = newline_places[line - 1]
+    return newline if character is None else min(begin + character, newline)
+
+
+def base_value(base, characters):
+    """The place that a base stands for, among the characters of a view."""
+    if isinstance(base, LineCharacter):
+        return line_place(base.line, base.character, characters)
+    if isinstance(base, LineEnd):
+        return line_place(base.line, None, characters)
+    return len(characters)
+
+
+def index_value(index, shown):
+    """The place that an index stands for, from 0 to the number of characters of the view."""
+    return base_value(index.base, shown.characters)
+
+
+def position_text(place, shown):
+    """A place of a view as `line.char`: 1 more than the newlines before it, and the cells since."""
+    before = newlines(shown.characters[:place])
+    line_begin = before[-1] + 1 if before else 0
+    return f"{len(before) + 1}.{place - line_begin}"
+
+
+def argument_place(word, shown):
+    """The place that an argument word stands for, or the fault that it isn't an index."""
+    index = reads_index(word)
+    if index is None:
+        raise bad_index(word)
+    return index_value(index, shown)
+
+
+# ---------------------------------------------------------------------------------------------------
+# Insertion
+
+
+def shared_keys(cells, offset):
+    """The keys that stand on both neighbours of an offset; none at the text's beginning."""
+    if offset == 0:
+        return frozenset()
+    return cells[offset - 1].keys & cells[offset].keys
+
+
+def inserted_cells(cells, offset, new_cells):
+    """The cells with the new ones put in before the cell at `offset`."""
+    return cells[:offset] + new_cells + cells[offset:]
+
+
+def moved_mark(mark, offset, count):
+    """A mark after `count` cells came in at `offset`: it moves if it is above, or there and right."""
+    if mark.offset > offset or (mark.offset == offset and mark.gravity == "right"):
+        return mark._replace(offset=mark.offset + count)
+    return mark
+
+
+def moved_anchor(anchor, offset, count):
+    """An anchor after `count` cells came in at `offset`: it moves only if it is above."""
+    if anchor is not None and anchor > offset:
+        return anchor + count
+    return anchor
+
+
+def moved_widget(widget, offset, count):
+    """A widget after `count` cells came in at `offset`."""
+    return replace(
+        widget,
+        start=moved_anchor(widget.start, offset, count),
+        end=moved_anchor(widget.end, offset, count),
+        insert=moved_mark(widget.insert, offset, count),
+        current=moved_mark(widget.current, offset, count),
+    )
+
+
+def inserted(document, offset, text):
+    """The document after a text without a tag list went in at an offset."""
+    if text == "":
+        return document
+    keys = shared_keys(document.cells, offset)
+    new_cells = tuple(Cell(character, keys) for character in text)
+    count = len(text)
+    return replace(
+        document,
+        cells=inserted_cells(document.cells, offset, new_cells),
+        widgets=tuple(moved_widget(widget, offset, count) for widget in document.widgets),
+        marks=tuple((name, moved_mark(mark, offset, count)) for name, mark in document.marks),
+    )
+
+
+def insertion_place(place, shown):
+    """Where an insertion at a place goes: at the end, just before the view's last newline."""
+    return min(place, len(shown.characters) - 1)
+
+
+# ---------------------------------------------------------------------------------------------------
+# One command.  Faults are decided in this order: the first word; the subcommand or option words; the
+# number of words; the arguments from left to right; a name that is taken; the limits.
+
+
+def find_widget(world, name):
+    """The document and the widget of a name, or None."""
+    for document in world.documents:
+        for widget in document.widgets:
+            if widget.name == name:
+                return document, widget
+    return None
+
+
+def with_document(world, old, new):
+    """The world with one document exchanged."""
+    return replace(
+        world,
+        documents=tuple(new if document is old else document for document in world.documents),
+    )
+
+
+def is_window_name(word):
+    """A window's name is a dot and at least one more character."""
+    return len(word) >= 2 and word[0] == "."
+
+
+def text_command(world, words):
+    """`text W`: a new document with one widget.  The answer is W."""
+    option_words = words[2::2]
+    if option_words:
+        raise bad_option(option_words[0])
+    if len(words) != 2:
+        raise wrong_arguments()
+    name = words[1]
+    if not is_window_name(name):
+        raise invalid_command_name(name)
+    if find_widget(world, name) is not None:
+        raise window_exists(name)
+    if world.documents:
+        raise document_exists()
+    if world.limits.widgets < 1:
+        raise too_many_widgets()
+    document = Document(widgets=(Widget(name),))
+    return replace(world, documents=world.documents + (document,)), name
+
+
+def insert_command(world, document, widget, arguments):
+    """`W insert I chars`: puts the text in at I.  The answer is empty."""
+    shown = view(document, widget)
+    place = argument_place(arguments[0], shown)
+    text = arguments[1]
+    if len(document.cells) + len(text) > world.limits.characters:
+        raise text_too_long()
+    offset = shown.start + insertion_place(place, shown)
+    return with_document(world, document, inserted(document, offset, text)), ""
+
+
+def got(first, last, shown):
+    """The characters from one place to another; none if the second isn't after the first."""
+    return "".join(shown.characters[first:last])
+
+
+def get_command(world, document, widget, arguments):
+    """`W get I ?I?`: the text from the first place to the second, which is one on if left out."""
+    shown = view(document, widget)
+    places = [argument_place(word, shown) for word in arguments]
+    first = places[0]
+    last = places[1] if len(places) == 2 else first + 1
+    return world, got(first, last, shown)
+
+
+def index_command(world, document, widget, arguments):
+    """`W index I`: the place as `line.char`."""
+    shown = view(document, widget)
+    return world, position_text(argument_place(arguments[0], shown), shown)
+
+
+class Subcommand(NamedTuple):
+    """A widget's subcommand: what it does, and the least and greatest number of its arguments."""
+
+    body: callable
+    least: int
+    greatest: int
+
+
+SUBCOMMANDS = {
+    "insert": Subcommand(insert_command, 2, 2),
+    "get": Subcommand(get_command, 1, 2),
+    "index": Subcommand(index_command, 1, 1),
+}
+
+
+def widget_command(world, document, widget, words):
+    """`W subcommand ?argument ..?`."""
+    if len(words) == 1:
+        raise wrong_arguments()
+    subcommand = SUBCOMMANDS.get(words[1])
+    if subcommand is None:
+        raise bad_option(words[1])
+    arguments = words[2:]
+    if not subcommand.least <= len(arguments) <= subcommand.greatest:
+        raise wrong_arguments()
+    return subcommand.body(world, document, widget, arguments)
+
+
+def step(world, words):
+    """One command of at least one word: the new world and the answer.  A refused one raises Fault."""
+    if words[0] == "text":
+        return text_command(world, words)
+    found = find_widget(world, words[0])
+    if found is None:
+        raise invalid_command_name(words[0])
+    document, widget = found
+    return widget_command(world, document, widget, words)
+
+
+# ---------------------------------------------------------------------------------------------------
+# A whole run
+
+
+class Run(NamedTuple):
+    """What a run writes, and the exit status of the program."""
+
+    output: bytes
+    status: int
+
+
+def error_piece(text):
+    """What is written for a fault."""
+    return f"error: {text}\n"
+
+
+def piece(world, words, is_refused):
+    """One command's new world, what is written for it, and whether it was refused.
+
+    `is_refused` says that a growth of memory is refused here: the world stays as it was.
+    """
+    try:
+        if is_refused:
+            raise memory()
+        new_world, answer = step(world, words)
+    except Fault as fault:
+        return world, error_piece(fault.text), True
+    return new_world, answer + "\n", False
+
+
+def exit_status(was_refused, script_fault):
+    """2 where a script fault ended the run, else 1 where a command was refused, else 0."""
+    if script_fault is not None:
+        return 2
+    return 1 if was_refused else 0
+
+
+def run_with_refusals(script, limits, refused):
+    """The run of a script in which the commands of the numbers `refused` find no memory."""
+    commands, script_fault = reads_script(script)
+    world = World(limits)
+    pieces = []
+    was_refused = False
+    for number, words in enumerate(commands):
+        world, written, is_refused = piece(world, words, number in refused)
+        pieces.append(written)
+        was_refused = was_refused or is_refused
+    if script_fault is not None:
+        pieces.append(error_piece(script_fault))
+    return Run("".join(pieces).encode("utf-8"), exit_status(was_refused, script_fault))
+
+
+def run_output(script, limits=PROGRAM_LIMITS):
+    """The run of a script with ample memory."""
+    return run_with_refusals(script, limits, refused=frozenset())

@@ -1,0 +1,158 @@
+#!/usr/bin/env python3
+"""Runs the program on each worked script once for each growth of memory, with that growth refused.
+
+    python3 tools/refusals.py --program PATH --shim PATH
+
+The shim is tools/refuse.c, built.  With one growth refused a run may end in two ways alone:
+
+- the output is that of the script in which one command finds no memory: `error: out of memory` stands in
+  the place of that command's piece, and all other commands answer as if it had not been given.  (Where
+  that command proves to hold a script fault, the fault is its piece, so the output is the plain one.)
+- the run ends with status 2, `out of memory` on standard error, and the front of the plain output.
+
+Anything else is a failure: another output, a crash, a run that doesn't end, a refusal that left no
+trace.  So is a run that answers out of memory though nothing was refused.
+
+Ends in a line `N passed, M failed`; the exit status is 1 if anything failed.
+"""
+
+import argparse
+import os
+import sys
+import tempfile
+from collections import Counter
+
+import model
+import worked
+from harness import Tally, run_program
+
+RUN_FAULT_ERRORS = b"out of memory\n"
+
+# After this many failures of one script the rest of its growths isn't run; after this many in all, the
+# rest of the scripts.
+ENOUGH_FAILURES = 3
+ENOUGH_FAILURES_IN_ALL = 20
+
+
+class Preloaded:
+    """The program under the shim."""
+
+    def __init__(self, program, shim, report):
+        self.program = program
+        self.shim = os.path.abspath(shim)
+        self.report = report
+
+    def run(self, script, refused_growth):
+        """One run with one growth refused (none for 0): its result, and how many growths there were."""
+        if os.path.exists(self.report):
+            os.remove(self.report)
+        environment = dict(os.environ, LD_PRELOAD=self.shim, GROWTH_REPORT=self.report)
+        environment["REFUSE_GROWTH"] = str(refused_growth)
+        result = run_program(self.program, script, environment)
+        return result, read_count(self.report)
+
+
+def read_count(report):
+    """The number in the shim's report; 0 where there is none, as the shim never saw main begin."""
+    try:
+        with open(report, encoding="ascii") as file:
+            return int(file.read() or "0")
+    except FileNotFoundError:
+        return 0
+
+
+def runs_with_one_refusal(script):
+    """Every (output, status) that the script may give where one command finds no memory."""
+    commands, script_fault = model.reads_script(script)
+    runs = set()
+    for number in range(len(commands)):
+        runs.add(model.run_with_refusals(script, model.PROGRAM_LIMITS, {number}))
+    if script_fault is not None:
+        runs.add(model.run_output(script))
+    return runs
+
+
+def ends_for_memory(result, plain):
+    """Whether the run ended by its own want of memory, with the front of the plain output written."""
+    return (
+        result.status == 2
+        and result.errors == RUN_FAULT_ERRORS
+        and plain.output.startswith(result.output)
+    )
+
+
+def kind_of_end(result, plain, one_refusal):
+    """How a run with one refused growth ended: one of the two ways that are right, or None."""
+    if ends_for_memory(result, plain):
+        return "run ended"
+    if result.errors == b"" and model.Run(result.output, result.status) in one_refusal:
+        return "command refused"
+    return None
+
+
+def describe(result):
+    return f"status {result.status}, standard error {result.errors!r}, output {shortened(result.output)}"
+
+
+def shortened(output):
+    """An output as it is shown in a message."""
+    return repr(output) if len(output) <= 600 else f"{output[:400]!r} .. {output[-200:]!r}"
+
+
+def check_plain_run(program, name, script, plain, tally):
+    """The run with nothing refused is the model's.  Gives its number of growths, or None if it failed."""
+    result, growths = program.run(script, 0)
+    wanted = (plain.output, plain.status, b"")
+    if (result.output, result.status, result.errors) != wanted:
+        tally.failed(
+            f"{name!r}, nothing refused: {describe(result)}\n"
+            f"  wanted status {plain.status}, output {shortened(plain.output)}"
+        )
+        return None
+    tally.passed()
+    return growths
+
+
+def check_script(program, name, script, tally, kinds):
+    """One run for each growth of the script.  Gives the number of growths."""
+    plain = model.run_output(script)
+    growths = check_plain_run(program, name, script, plain, tally)
+    if growths is None:
+        return 0
+    one_refusal = runs_with_one_refusal(script)
+    failures_before = tally.failures
+    for number in range(1, growths + 1):
+        result, _ = program.run(script, number)
+        kind = kind_of_end(result, plain, one_refusal)
+        tally.check(kind is not None, f"{name!r}, growth {number} of {growths} refused: {describe(result)}")
+        kinds[kind] += 1
+        if tally.failures - failures_before >= ENOUGH_FAILURES:
+            print(f"the other growths of {name!r} are left out")
+            break
+    return growths
+
+
+def main():
+    parser = argparse.ArgumentParser(description="refuses each growth of each worked script in turn")
+    parser.add_argument("--program", required=True)
+    parser.add_argument("--shim", required=True)
+    options = parser.parse_args()
+    tally = Tally()
+    kinds = Counter()
+    growths = 0
+    scripts = worked.program_scripts()
+    with tempfile.TemporaryDirectory() as folder:
+        program = Preloaded(options.program, options.shim, os.path.join(folder, "growths"))
+        for name, script in scripts:
+            growths += check_script(program, name, script, tally, kinds)
+            if tally.failures >= ENOUGH_FAILURES_IN_ALL:
+                print("the other scripts are left out")
+                break
+    tally.check(growths > 0, "no growth was counted: the shim doesn't reach the program")
+    print(f"{len(scripts)} scripts, {growths} growths, {sum(kinds.values())} runs with a growth refused:")
+    print(f"  {kinds['command refused']} refused one command, {kinds['run ended']} ended the run")
+    return tally.close()
+
+
+if __name__ == "__main__":
+    sys.exit(main())

@@ -1,0 +1,405 @@
+#!/usr/bin/env python3
+"""Random scripts over the commands that exist, valid and invalid.
+
+    python3 tools/scripts.py SEED      writes the script of a seed on standard output
+
+One function makes each kind of word, command or fault; all randomness comes from the generator handed
+in, so a seed gives the same script each time.  A new command gets a function of its own and a line in
+COMMANDS; a new form of index gets a line in INDICES.
+"""
+
+import random
+import sys
+
+# ---------------------------------------------------------------------------------------------------
+# Numbers and texts
+
+CHARACTERS = "abcXYZ019_-+=.,:!?*/()<>%&|~^'`@"
+MULTI_BYTE = "éßñ€→あ漢😀𝄞\u00a0\u0085\u2028\u0301\ufeff\U0010ffff"
+CONTROLS = "\x00\x01\x07\x08\x1b\x7f"
+# Characters that are special elsewhere in Tcl, but stand for themselves inside a bare word.
+INNER = '{}"]#'
+
+
+def small_number(chance):
+    """A number that often lies inside a small text."""
+    return str(chance.choice([0, 0, 1, 1, 2, 3, 4, 5, 7, 9, 12, 20, 40, 99]))
+
+
+def padded_number(chance):
+    """A small number with zeros before it."""
+    return "0" * chance.randrange(1, 30) + small_number(chance)
+
+
+def huge_number(chance):
+    """A number at or above the edges of machine words, or of very many digits."""
+    edge = chance.choice([2**31, 2**32, 2**63, 2**64, 2**128, 10**20])
+    if chance.random() < 0.2:
+        return "9" * chance.choice([20, 39, 100, 1_000, 5_000])
+    return str(edge + chance.choice([-1, 0, 1]))
+
+
+def number(chance):
+    """A number of any of these forms."""
+    return chance.choices([small_number, padded_number, huge_number], [8, 1, 1])[0](chance)
+
+
+def line_number(chance):
+    """A line's number: mostly 1, since texts are one line long in this stage."""
+    return "1" if chance.random() < 0.7 else number(chance)
+
+
+def plain_text(chance):
+    """A few ordinary characters."""
+    return "".join(chance.choices(CHARACTERS, k=chance.randrange(1, 8)))
+
+
+def multi_byte_text(chance):
+    """Characters of two, three and four bytes among ordinary ones."""
+    return "".join(chance.choices(CHARACTERS + MULTI_BYTE * 2, k=chance.randrange(1, 8)))
+
+
+def control_text(chance):
+    """Control characters that are no blanks."""
+    return "".join(chance.choices(CONTROLS + CHARACTERS, k=chance.randrange(1, 4)))
+
+
+def inner_text(chance):
+    """Braces, quotes, `]` and `#` after an ordinary character."""
+    return chance.choice(CHARACTERS) + "".join(chance.choices(INNER + "ab", k=chance.randrange(1, 6)))
+
+
+def lone_dollar_text(chance):
+    """A dollar sign that stands for itself, at a word's beginning, inside or at its end."""
+    after = chance.choice([
+        "", ".", "-", "$", "$-", "]", "}", ")", '"', ":", ":a", ":.:", "é", "٣", "２", "%", "#", "\x01",
+    ])
+    return chance.choice(["", "a", "a.b"]) + "$" + after
+
+
+def long_text(chance):
+    """A word of many characters, longer than one read of the program now and then."""
+    alphabet = chance.choice(["ab", CHARACTERS, "aé€😀"])
+    return "".join(chance.choices(alphabet, k=chance.choice([50, 300, 1_000, 4_090, 4_096, 9_000])))
+
+
+TEXTS = [
+    (plain_text, 10),
+    (multi_byte_text, 5),
+    (control_text, 1),
+    (inner_text, 2),
+    (lone_dollar_text, 2),
+    (long_text, 0.3),
+]
+
+
+def pick(chance, weighted):
+    """Calls one of the functions of a weighted list."""
+    functions, weights = zip(*weighted)
+    return chance.choices(functions, weights)[0](chance)
+
+
+def text(chance):
+    """The characters to be inserted, as one bare word."""
+    return pick(chance, TEXTS)
+
+
+# ---------------------------------------------------------------------------------------------------
+# Indices
+
+
+def line_character(chance):
+    return line_number(chance) + "." + number(chance)
+
+
+def line_end(chance):
+    return line_number(chance) + ".end"
+
+
+def end(chance):
+    return "end"
+
+
+INDICES = [(line_character, 6), (line_end, 2), (end, 2)]
+
+# Words near the forms of an index that are none, among them forms that come in a later stage.
+NEAR_INDICES = [
+    "1", ".", "1.", ".1", "1.e", "1.en", "1.ends", "e", "en", "ends", "END", "End", "1.End", "-1.0", "+1.0",
+    "1.-1", "1.+1", "1..0", "1.0.0", "1,0", "0x1.0", "1.0x", "1e.0", "１.０", "1.٣", "end.0", "end.end",
+    "1.0+1c", "1.0-1c", "end-1c", "end+1l", "1.end-1c", "end-", "1.0lineend", "insert", "current", "sel.first",
+    "sel.last", "x.first", "@0,0", "1.0\x00", "\x001.0", "é", "1.é", "$", "1.$", "end]", "1.0}", "1.0#",
+]
+
+
+def near_index(chance):
+    return chance.choice(NEAR_INDICES)
+
+
+def index(chance):
+    """An index that is one."""
+    return pick(chance, INDICES)
+
+
+def argument_index(chance):
+    """A word where an index is wanted: mostly one."""
+    return pick(chance, [(index, 8), (near_index, 1), (text, 0.3)])
+
+
+# ---------------------------------------------------------------------------------------------------
+# Commands, each a list of words
+
+WIDGETS = [".t", ".u", "..", ".t.u", ".é", ".$", ".1"]
+NO_WINDOW_NAMES = ["t", ".", "a.b", "é.", "$", "-undo", "1.0", "text"]
+NO_COMMANDS = ["foo", "puts", "destroy", "pack", "Text", "TEXT", "texts", "tex", "insert", "$", "]", "end", "\x00"]
+NO_SUBCOMMANDS = [
+    "foo", "ins", "Insert", "inserts", "ge", "gets", "ind", "indexes", "delete", "replace", "mark", "tag", "edit",
+    "peer", "configure", "cget", "search", "count", "dump", "compare", "-undo", "$", "]", "#", ".t", "text", "é",
+]
+
+
+def widget(chance):
+    """A widget's name: mostly the one that exists."""
+    return ".t" if chance.random() < 0.95 else chance.choice(WIDGETS)
+
+
+def text_command(chance):
+    """`text W`: mostly one widget name, so that a name can be taken."""
+    return ["text", chance.choice([".t", ".t", ".t", *WIDGETS])]
+
+
+def text_with_bad_name(chance):
+    return ["text", chance.choice(NO_WINDOW_NAMES)]
+
+
+def text_with_options(chance):
+    """`text` with words after the name, of any number: each option is a bad one in this stage."""
+    name = chance.choice(WIDGETS + NO_WINDOW_NAMES)
+    options = ["-undo", "1", "-maxundo", "-state", "disabled", "foo", "", "é"]
+    return ["text", name] + [word or "0" for word in chance.choices(options, k=chance.randrange(1, 5))]
+
+
+def insert_command(chance):
+    return [widget(chance), "insert", argument_index(chance), text(chance)]
+
+
+def get_command(chance):
+    return [widget(chance), "get"] + [argument_index(chance) for _ in range(chance.choice([1, 2, 2]))]
+
+
+def index_command(chance):
+    return [widget(chance), "index", argument_index(chance)]
+
+
+def wrong_count_command(chance):
+    """A command of too few words or too many, whose other words may be wrong too."""
+    subcommand, counts = chance.choice([
+        ("insert", [0, 1, 3, 4, 5]),
+        ("get", [0, 3, 4, 9]),
+        ("index", [0, 2, 3]),
+        (None, [0]),
+    ])
+    arguments = [argument_index(chance) for _ in range(chance.choice(counts))]
+    return [widget(chance)] + ([] if subcommand is None else [subcommand] + arguments)
+
+
+def text_alone(chance):
+    return ["text"]
+
+
+def bad_option_command(chance):
+    """A widget with a subcommand that it doesn't have, and any words after it."""
+    arguments = [argument_index(chance) for _ in range(chance.randrange(0, 4))]
+    return [widget(chance), chance.choice(NO_SUBCOMMANDS)] + arguments
+
+
+def unknown_command(chance):
+    """A first word that is no command, and any words after it."""
+    first = chance.choice(NO_COMMANDS + WIDGETS[1:])
+    return [first] + [chance.choice(["insert", "get", "1.0", ".t", "a"]) for _ in range(chance.randrange(0, 4))]
+
+
+def any_words(chance):
+    """Words of any kind in any order."""
+    words = ["text", ".t", "insert", "get", "index", "1.0", "end"]
+    return [chance.choice(words) if chance.random() < 0.8 else text(chance) for _ in range(chance.randrange(1, 7))]
+
+
+COMMANDS = [
+    (insert_command, 12),
+    (get_command, 7),
+    (index_command, 5),
+    (text_command, 1),
+    (text_with_bad_name, 0.4),
+    (text_with_options, 0.5),
+    (text_alone, 0.1),
+    (wrong_count_command, 1),
+    (bad_option_command, 1),
+    (unknown_command, 0.7),
+    (any_words, 0.7),
+]
+
+# ---------------------------------------------------------------------------------------------------
+# From words to bytes
+
+
+def blanks(chance):
+    """One blank or more, of every kind."""
+    if chance.random() < 0.7:
+        return " "
+    return "".join(chance.choices(" \t\r\v\f", k=chance.randrange(1, 5)))
+
+
+def optional_blanks(chance):
+    return blanks(chance) if chance.random() < 0.2 else ""
+
+
+def command_end(chance):
+    """A newline or a semicolon, perhaps with commands without words around it."""
+    ending = chance.choice("\n;")
+    while chance.random() < 0.1:
+        ending += optional_blanks(chance) + chance.choice("\n;")
+    return ending
+
+
+def command(chance):
+    """One command as characters, without its end.
+
+    A `#` begins no command here, and `{` and a quote begin no word: these are faults, made below.
+    """
+    words = pick(chance, COMMANDS)
+    safe = [words[0].lstrip('#{"') or "a"] + [word.lstrip('{"') or "a" for word in words[1:]]
+    spelled = safe[0] + "".join(blanks(chance) + word for word in safe[1:])
+    return optional_blanks(chance) + spelled + optional_blanks(chance)
+
+
+# ---------------------------------------------------------------------------------------------------
+# Script faults, as bytes that are put somewhere into a script
+
+
+def dollar_fault(chance):
+    """A dollar sign that asks for a variable, alone or after one that stands for itself."""
+    letter = chance.choice([b"a", b"z", b"A", b"Z"])
+    digit = chance.choice([b"0", b"5", b"9"])
+    name = chance.choice([letter, digit, b"_", b"{", b"(", b"::"])
+    return chance.choice([b"$", b"a$", b"$$", b"$:$"]) + name + chance.choice([b"", b"a", b"}", b"\xff"])
+
+
+def bracket_fault(chance):
+    return chance.choice([b"[", b"[foo]", b"[["])
+
+
+def backslash_fault(chance):
+    return chance.choice([b"\\", b"\\n", b"\\\n", b"\\\\", b"\\x41", b"\\\xff", b"\\ "])
+
+
+def comment_fault(chance):
+    return chance.choice([b";#", b"\n#", b"; # comment", b";\t#\xff", b"\n\n #\n"])
+
+
+def braced_word_fault(chance):
+    return chance.choice([b" {", b" {a}", b" {}", b" {*}", b"\t{\xff"])
+
+
+def quoted_word_fault(chance):
+    return chance.choice([b' "', b' "a"', b' ""', b'\r"\xff'])
+
+
+NOT_UTF8 = [
+    b"\x80", b"\xbf", b"\xc0\xaf", b"\xc1\xbf", b"\xc3", b"\xe2\x82", b"\xe0\x80\x80",
+    b"\xed\xa0\x80", b"\xed\xbf\xbf", b"\xf0\x9f\x98", b"\xf0\x80\x80\x80", b"\xf4\x90\x80\x80",
+    b"\xf5\x80\x80\x80", b"\xfe", b"\xff", b"\xf8\x88\x80\x80\x80",
+]
+
+
+def not_utf8_fault(chance):
+    """Bytes that aren't UTF-8, perhaps where a rule asks what stands after a dollar sign."""
+    return chance.choice([b"", b"", b"$", b"$:", b" ", b";", b"\n", b" $$"]) + chance.choice(NOT_UTF8)
+
+
+FAULTS = [
+    (dollar_fault, 6),
+    (bracket_fault, 1),
+    (backslash_fault, 2),
+    (comment_fault, 1),
+    (braced_word_fault, 1),
+    (quoted_word_fault, 1),
+    (not_utf8_fault, 4),
+]
+
+READ_BYTES = 4_096
+
+
+def with_fault(chance, script_bytes):
+    """The script with a fault put in at a random place, at its beginning or at its end.
+
+    The place may lie inside a character of several bytes, which is a fault by itself.
+    """
+    place = chance.choice([0, len(script_bytes), chance.randrange(0, len(script_bytes) + 1)])
+    return script_bytes[:place] + pick(chance, FAULTS) + script_bytes[place:]
+
+
+def cut_short(chance, script_bytes):
+    """The script without its last bytes, so that it may end inside a character or a word."""
+    return script_bytes[: chance.randrange(0, len(script_bytes) + 1)]
+
+
+def stretched(chance, script_bytes):
+    """The script after so many blanks that a random place of it lies where one read of the program ends."""
+    place = chance.randrange(0, len(script_bytes) + 1)
+    return b" " * (chance.choice([1, 2]) * READ_BYTES - place % READ_BYTES) + script_bytes
+
+
+# ---------------------------------------------------------------------------------------------------
+# Whole scripts
+
+
+def commands(chance):
+    """The characters of a script without faults.  Most begin with the widget that the others name."""
+    count = chance.choice([0, 1, 3, 10, 20, 30])
+    if chance.random() < 0.05:
+        count = 300
+    beginning = "text .t" + command_end(chance) if chance.random() < 0.9 else ""
+    if chance.random() < 0.02:
+        beginning = "\ufeff" + beginning
+    ending = chance.choice(["", "", command_end(chance), optional_blanks(chance)])
+    parts = [command(chance) for _ in range(count)]
+    return beginning + "".join(part + command_end(chance) for part in parts[:-1]) + "".join(parts[-1:]) + ending
+
+
+def valid_commands(chance):
+    """The characters of a script in which no command is refused."""
+    words = [["text", ".t"]]
+    for _ in range(chance.randrange(0, 40)):
+        words.append(chance.choice([
+            lambda: [".t", "insert", index(chance), text(chance)],
+            lambda: [".t", "get", index(chance)],
+            lambda: [".t", "get", index(chance), index(chance)],
+            lambda: [".t", "index", index(chance)],
+        ])())
+    return "".join(blanks(chance).join(each) + command_end(chance) for each in words)
+
+
+def script(seed):
+    """The script of a seed, as bytes."""
+    chance = random.Random(seed)
+    if chance.random() < 0.15:
+        return valid_commands(chance).encode("utf-8")
+    made = commands(chance).encode("utf-8")
+    kind = chance.random()
+    if kind < 0.4:
+        made = with_fault(chance, made)
+    elif kind < 0.5:
+        made = cut_short(chance, made)
+    if chance.random() < 0.05:
+        made = stretched(chance, made)
+    return made
+
+
+def main():
+    if len(sys.argv) != 2:
+        sys.exit("usage: scripts.py SEED")
+    sys.stdout.buffer.write(script(int(sys.argv[1])))
+
+
+if __name__ == "__main__":
+    main()
