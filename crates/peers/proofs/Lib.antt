@@ -1,4 +1,5 @@
 pub mod IndexLaws
 pub mod NumberLaws
+pub mod PositionLaws
 pub mod ValueLaws
 pub mod WordLaws

@@ -3,6 +3,7 @@ use Rattle.std.specs.Prelude.{ℕ, ℤ, pos, Bool, true, false, List, [], ◌∷
 use Rattle.text_model.specs.declared.cells.Cell.{Cell}
 use Rattle.text_model.specs.declared.places.Gravity.TheVariants.{Right}
 use Rattle.text_model.specs.declared.places.Place.{Place}
+use Rattle.text_model.specs.Content.{Content}
 use Rattle.text_model.specs.LimitTable.{LimitTable}
 use Rattle.peers.specs.Keys.{Key, Keys, keys_of}
 
@@ -86,6 +87,10 @@ document_of name cells = record {
 -- the cells of a store, with the keys that the pairs of a slot and a key give their slots
 abbrev pub keyed : List (ℕ × Key) → List Cell → List KeyedCell
 keyed pairs cells = map (λ (cell : Cell). record { character = cell.character; keys = keys_of pairs cell.tags }) cells
+
+-- the document of a store whose slots stand for no keys, and its widget
+abbrev pub lone_document : List ℕ → Content → Document
+lone_document name content = document_of name (keyed [] content.cells)
 
 abbrev pub characters : List KeyedCell → List ℕ
 characters cells = map (λ (cell : KeyedCell). cell.character) cells

@@ -2,7 +2,9 @@
 #![tactic(auto)]
 
 mod answers;
+mod commands;
 mod indices;
+mod positions;
 mod words;
 mod world;
 
