@@ -1,5 +1,9 @@
 pub mod IndexLaws
+pub mod InsertLaws
+pub mod KeyLaws
 pub mod NumberLaws
 pub mod PositionLaws
 pub mod ValueLaws
+pub mod ViewLaws
+pub mod WellFormedLaws
 pub mod WordLaws

@@ -1,6 +1,7 @@
 pub mod Command
 pub mod History
 pub mod Index
+pub mod Kept
 pub mod Keys
 pub mod Position
 pub mod Step

@@ -7,6 +7,7 @@ use Rattle.peers.specs.declared.answers.Fault.{Fault}
 use Rattle.peers.specs.declared.answers.Fault.TheVariants.{BadOption, WrongArguments, InvalidCommandName, WindowExists, DocumentExists, TooManyWidgets}
 use Rattle.peers.specs.World.{World, Document, Widget, document_of}
 use Rattle.peers.specs.Words.{is_same, literal}
+use Rattle.peers.specs.Kept.{is_window_name}
 use Rattle.peers.specs.Command.{Change, command}
 
 -- the answer or the fault, and the world after the command
@@ -16,12 +17,6 @@ pub record Outcome : Type 0 where
 
 abbrev pub refuses : World → Fault → Outcome
 refuses world fault = record { reply = Err fault; world = world }
-
--- a dot and at least one more character
-abbrev pub is_window_name : List ℕ → Bool
-is_window_name [] = false
-is_window_name (character ∷ []) = false
-is_window_name (character ∷ other ∷ others) = character == 46
 
 abbrev pub widget_named : List ℕ → Document → Option Widget
 widget_named name document = find (λ (widget : Widget). is_same widget.name name) document.widgets

@@ -9,14 +9,8 @@ use Rattle.peers.specs.Keys.{Key}
 use Rattle.peers.specs.World.{World, Document, Widget, SharedMark, KeyedCell, characters, sel}
 use Rattle.peers.specs.View.{view_start, view_end}
 use Rattle.peers.specs.Words.{is_same}
-use Rattle.peers.specs.Step.{is_window_name}
+use Rattle.peers.specs.Kept.{is_window_name, ends_in_newline}
 use Rattle.peers.specs.History.{FitsText}
-
--- the last character is a newline
-abbrev pub ends_in_newline : List ℕ → Bool
-ends_in_newline [] = false
-ends_in_newline (character ∷ []) = character == 10
-ends_in_newline (character ∷ next ∷ others) = ends_in_newline (next ∷ others)
 
 abbrev pub is_among : List ℕ → List (List ℕ) → Bool
 is_among name names = list_any (is_same name) names

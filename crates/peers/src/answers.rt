@@ -1,3 +1,8 @@
+ghost use Rattle.std.specs.Prelude.{◌≡◌};
+ghost use Rattle.peers.specs.declared.answers.Fault.TheVariants.{Memory};
+
+use std::alloc::AllocError;
+
 use text_model::Text;
 use thiserror::Error;
 
@@ -45,4 +50,12 @@ pub enum Fault {
     /// Memory was refused. Nothing has changed.
     #[error("out of memory")]
     Memory,
+}
+
+impl From<AllocError> for Fault {
+    ghost from_gives = { λ _ fault. fault ≡ Memory };
+
+    fn from(_refused: AllocError) -> Fault {
+        Fault::Memory
+    }
 }

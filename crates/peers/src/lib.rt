@@ -2,8 +2,9 @@
 #![tactic(auto)]
 
 mod answers;
-mod commands;
+mod documents;
 mod indices;
+mod insertions;
 mod positions;
 mod words;
 mod world;
