@@ -1,7 +1,8 @@
-ghost use Rattle.std.specs.Prelude.{◌≡◌, ◌≢◌, false, ◌∷◌, ◌+◌, ◌-◌, ◌<◌, ◌≤◌, [], nat_lt, length, chars, string_bytes, IfErr, IfOk, IfSome};
+ghost use Rattle.std.specs.Prelude.{◌≡◌, ◌≢◌, true, false, Some, is_some, ◌∷◌, ◌+◌, ◌-◌, ◌<◌, ◌≤◌, [], nat_lt, length, chars, string_bytes, IfErr, IfOk, IfSome};
 ghost use Rattle.tcl_words.specs.Unread.{texts_of};
 ghost use Rattle.peers.specs.World.{lone_widget};
 ghost use Rattle.peers.specs.View.{shown};
+ghost use Rattle.peers.specs.Step.{widget_named};
 ghost use Rattle.peers.specs.WellFormed.{IsWellFormedDocument};
 ghost use Rattle.peers.specs.Command.{place_of, insert_at, insert_place, insert, text_between, get_one, get_range, get, show_place, index, command};
 
@@ -54,6 +55,14 @@ fn is_too_long(limits: &Limits, len: usize, text: &str) -> bool
 }
 
 impl<S: TextStore> Document<S> {
+    /// Whether its widget has a name.
+    pub fn is_named(&self, name: &str) -> bool
+        ensures value { result ≡ is_some (widget_named (chars name.now) self.now) }
+        ensures widget { result ≡ true → widget_named (chars name.now) self.now ≡ Some (lone_widget self.now) }
+    {
+        is_word(self.name.as_str(), name)
+    }
+
     /// The place of the index that a word is, if it is one.
     fn place(&self, word: &str) -> Option<usize>
         ensures value { result ≡ place_of self.now (lone_widget self.now) (chars word.now) }
@@ -79,6 +88,7 @@ impl<S: TextStore> Document<S> {
         ensures document { result ≢ Err Fault.Memory → self.new ≡ (insert_at limits.now self.old at (chars text.now)).document }
         ensures refused { IfErr result (λ _. self.new ≡ self.old) }
         ensures well_formed { IsWellFormedDocument limits.now self.old → IsWellFormedDocument limits.now self.new }
+        ensures widgets { length self.new.widgets ≡ length self.old.widgets }
     {
         if is_too_long(limits, self.store.len(), text) {
             return Err(Fault::TextTooLong);
@@ -96,6 +106,7 @@ impl<S: TextStore> Document<S> {
             self.new ≡ (insert_place limits.now self.old (lone_widget self.old) (chars text.now) place).document }
         ensures refused { IfErr result (λ _. self.new ≡ self.old) }
         ensures well_formed { IsWellFormedDocument limits.now self.old → IsWellFormedDocument limits.now self.new }
+        ensures widgets { length self.new.widgets ≡ length self.old.widgets }
     {
         match place {
             None => Err(Fault::BadIndex(2)),
@@ -114,6 +125,7 @@ impl<S: TextStore> Document<S> {
             self.new ≡ (insert limits.now self.old (lone_widget self.old) (texts_of arguments.now)).document }
         ensures refused { IfErr result (λ _. self.new ≡ self.old) }
         ensures well_formed { IsWellFormedDocument limits.now self.old → IsWellFormedDocument limits.now self.new }
+        ensures widgets { length self.new.widgets ≡ length self.old.widgets }
     {
         match arguments {
             [index, text] => {
@@ -165,7 +177,8 @@ impl<S: TextStore> Document<S> {
     /// The text of a place.
     fn show_place(&self, place: Option<usize>) -> Result<Answer, Fault>
         requires { IfSome place (λ place. place ≤ length self.now.cells) }
-        ensures { result ≢ Err Fault.Memory → result ≡ (show_place self.now (lone_widget self.now) place).reply }
+        ensures reply { result ≢ Err Fault.Memory → result ≡ (show_place self.now (lone_widget self.now) place).reply }
+        ensures document { self.now ≡ (show_place self.now (lone_widget self.now) place).document }
     {
         match place {
             None => Err(Fault::BadIndex(2)),
@@ -178,7 +191,8 @@ impl<S: TextStore> Document<S> {
 
     /// `W index I`.
     fn index(&self, arguments: &[String]) -> Result<Answer, Fault>
-        ensures { result ≢ Err Fault.Memory → result ≡ (index self.now (lone_widget self.now) (texts_of arguments.now)).reply }
+        ensures reply { result ≢ Err Fault.Memory → result ≡ (index self.now (lone_widget self.now) (texts_of arguments.now)).reply }
+        ensures document { self.now ≡ (index self.now (lone_widget self.now) (texts_of arguments.now)).document }
     {
         match arguments {
             [index] => self.show_place(self.place(index.as_str())),
@@ -194,6 +208,7 @@ impl<S: TextStore> Document<S> {
             self.new ≡ (command limits.now self.old (lone_widget self.old) (texts_of words.now)).document }
         ensures refused { IfErr result (λ _. self.new ≡ self.old) }
         ensures well_formed { IsWellFormedDocument limits.now self.old → IsWellFormedDocument limits.now self.new }
+        ensures widgets { length self.new.widgets ≡ length self.old.widgets }
     {
         let [name, arguments @ ..] = words else {
             return Err(Fault::WrongArguments);
