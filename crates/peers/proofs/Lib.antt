@@ -1,6 +1,7 @@
 pub mod IndexLaws
 pub mod InsertLaws
 pub mod KeyLaws
+pub mod NameLaws
 pub mod NumberLaws
 pub mod PositionLaws
 pub mod ValueLaws

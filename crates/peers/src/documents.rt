@@ -2,7 +2,9 @@ ghost use Rattle.std.specs.Prelude.{◌≡◌, ◌≢◌, true, false, Some, is_
 ghost use Rattle.tcl_words.specs.Unread.{texts_of};
 ghost use Rattle.peers.specs.World.{lone_widget};
 ghost use Rattle.peers.specs.View.{shown};
-ghost use Rattle.peers.specs.Step.{widget_named};
+ghost use Rattle.peers.specs.Step.{widget_named, new_document};
+ghost use Rattle.peers.specs.Kept.{is_window_name};
+ghost use Rattle.text_model.specs.LimitTable.{LimitTable, AreLimits};
 ghost use Rattle.peers.specs.WellFormed.{IsWellFormedDocument};
 ghost use Rattle.peers.specs.Command.{place_of, insert_at, insert_place, insert, text_between, get_one, get_range, get, show_place, index, command};
 
@@ -55,6 +57,20 @@ fn is_too_long(limits: &Limits, len: usize, text: &str) -> bool
 }
 
 impl<S: TextStore> Document<S> {
+    /// A document of one newline, whose widget has a name.
+    pub fn new(alloc: Global, name: &str) -> Result<Document<S>, AllocError>
+        requires { is_window_name (chars name.now) ≡ true }
+        ensures value { IfOk result (λ document. document ≡ new_document (chars name.now)) }
+        ensures well_formed { IfOk result (λ document.
+            (limits : LimitTable) → AreLimits limits → IsWellFormedDocument limits document) }
+    {
+        Ok(Document {
+            alloc,
+            name: String::from_str(alloc, name)?,
+            store: S::new(alloc)?,
+        })
+    }
+
     /// Whether its widget has a name.
     pub fn is_named(&self, name: &str) -> bool
         ensures value { result ≡ is_some (widget_named (chars name.now) self.now) }

@@ -1,4 +1,5 @@
 ghost use Rattle.std.specs.Prelude.{◌≡◌, chars};
+ghost use Rattle.peers.specs.Kept.{is_window_name};
 ghost use Rattle.peers.specs.Words.{is_same};
 
 /// Whether a word is one that the program knows.
@@ -6,4 +7,14 @@ pub fn is_word(word: &str, known: &str) -> bool
     ensures { result ≡ is_same (chars word.now) (chars known.now) }
 {
     word == known
+}
+
+/// Whether a word may name a widget: a dot and at least one more character.
+pub fn is_window_name(word: &str) -> bool
+    ensures { result ≡ is_window_name (chars word.now) }
+{
+    match word.as_bytes() {
+        [first, _, ..] => *first == b'.',
+        _ => false,
+    }
 }

@@ -1,6 +1,7 @@
-ghost use Rattle.std.specs.Prelude.{◌≡◌, ◌≢◌, ◌<◌, [], length, chars, string_bytes, IfErr};
+ghost use Rattle.std.specs.Prelude.{◌≡◌, ◌≢◌, ◌<◌, [], true, length, chars, string_bytes, IfErr};
 ghost use Rattle.tcl_words.specs.Unread.{texts_of};
-ghost use Rattle.peers.specs.Step.{create, on_widget, step};
+ghost use Rattle.peers.specs.Step.{create_first, create, on_widget, step};
+ghost use Rattle.peers.specs.Kept.{is_window_name};
 ghost use Rattle.peers.specs.WellFormed.{IsWellFormed};
 
 use std::alloc::Global;
@@ -10,7 +11,7 @@ use text_model::{Limits, TextStore};
 
 use crate::answers::{Answer, Fault};
 use crate::documents::Document;
-use crate::words::is_word;
+use crate::words::{is_window_name, is_word};
 
 /// All that a session of commands can see later: the limits, and the document with its widget, if there is one.
 #[derive(Drop)]
@@ -51,6 +52,23 @@ impl<S: TextStore> World<S> {
         }
     }
 
+    /// Makes the first document, with a widget of a name.
+    fn create_first(&mut self, name: &str) -> Result<Answer, Fault>
+        requires named { is_window_name (chars name.now) ≡ true }
+        requires empty { self.old.documents ≡ [] }
+        ensures reply { result ≢ Err Fault.Memory → result ≡ (create_first self.old (chars name.now)).reply }
+        ensures world { result ≢ Err Fault.Memory → self.new ≡ (create_first self.old (chars name.now)).world }
+        ensures refused { IfErr result (λ _. self.new ≡ self.old) }
+        ensures well_formed { IsWellFormed self.new }
+    {
+        if self.limits.widgets() == 0 {
+            return Err(Fault::TooManyWidgets);
+        }
+        let document = Document::new(self.alloc, name)?;
+        self.document = Some(document);
+        Ok(Answer::Word(1))
+    }
+
     /// `text W`.
     fn create(&mut self, arguments: &[String]) -> Result<Answer, Fault>
         ensures reply { result ≢ Err Fault.Memory → result ≡ (create self.old (texts_of arguments.now)).reply }
@@ -58,8 +76,21 @@ impl<S: TextStore> World<S> {
         ensures refused { IfErr result (λ _. self.new ≡ self.old) }
         ensures well_formed { IsWellFormed self.new }
     {
-        let _limits = &self.limits;
-        Err(Fault::Memory)
+        let document = &self.document;
+        let [name, options @ ..] = arguments else {
+            return Err(Fault::WrongArguments);
+        };
+        if !options.is_empty() {
+            return Err(Fault::BadOption(2));
+        }
+        if !is_window_name(name.as_str()) {
+            return Err(Fault::InvalidCommandName(1));
+        }
+        match document {
+            None => self.create_first(name.as_str()),
+            Some(document) if document.is_named(name.as_str()) => Err(Fault::WindowExists(1)),
+            Some(_) => Err(Fault::DocumentExists),
+        }
     }
 
     /// A command of the widget of a name.
