@@ -1,8 +1,12 @@
 //! Commands and their words out of the bytes of a script, as Tcl(n) quotes them.
 #![tactic(auto)]
 
+mod encoding;
 mod fault;
 pub mod laws;
+mod pieces;
+mod progress;
+mod scanner;
 mod splitter;
 
 pub use fault::ScriptFault;

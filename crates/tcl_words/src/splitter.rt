@@ -5,6 +5,8 @@ use std::alloc::{AllocError, Global};
 use std::marker::Model;
 
 use crate::fault::ScriptFault;
+use crate::pieces::words_of;
+use crate::progress::{NextCommand, Progress};
 
 /// Splits a script, which comes in pieces of any length, into commands of words.
 ///
@@ -14,19 +16,22 @@ use crate::fault::ScriptFault;
 pub struct Splitter {
     script: Vec<u8>,
     given: usize,
+    progress: Progress,
     finished: bool,
     fault: Option<ScriptFault>,
 }
 
 impl Model for Splitter {
-    ghost use Rattle.std.specs.Prelude.{◌≤◌, vec_len, drop};
+    ghost use Rattle.std.specs.Prelude.{◌≡◌, ◌≤◌, ◌≢◌, Some, vec_len, drop};
     ghost use Rattle.tcl_words.specs.Unread.{Unread};
+    ghost use Rattle.tcl_words.specs.Progression.{IsProgress};
+    ghost use Rattle.tcl_words.specs.declared.fault.ScriptFault.TheVariants.{Memory};
 
     ghost Value = { Unread };
 
     ghost view = { λ s. record { rest = drop s.given s.script.items; finished = s.finished; fault = s.fault } };
 
-    ghost invariant = { λ s. s.given ≤ vec_len s.script };
+    ghost invariant = { λ s. (s.given ≤ vec_len s.script) × (s.fault ≢ Some Memory) × IsProgress (drop s.given s.script.items) s.progress };
 }
 
 impl Splitter {
@@ -37,6 +42,7 @@ impl Splitter {
         Splitter {
             script: Vec::new(alloc),
             given: 0,
+            progress: Progress::starting(0),
             finished: false,
             fault: None,
         }
@@ -76,7 +82,23 @@ impl Splitter {
             (self.new ≡ self.old) × (self.old.fault ≡ None) × ¬ HasNoCommand self.old.finished self.old.rest }
         ensures again { IfSome self.old.fault (λ fault. result ≡ Err fault) }
     {
-        Err(ScriptFault::Memory)
+        if let Some(fault) = self.fault {
+            return Err(fault);
+        }
+        let rest = &self.script[self.given..];
+        match self.progress.find_command(rest, self.finished) {
+            NextCommand::OfLength(len) => {
+                let words = words_of(*self.script.allocator(), &rest[..len])?;
+                self.given += len;
+                self.progress = Progress::starting(self.progress.valid - len);
+                Ok(Some(words))
+            }
+            NextCommand::Missing => Ok(None),
+            NextCommand::Stopped(fault) => {
+                self.fault = Some(fault);
+                Err(fault)
+            }
+        }
     }
 
     /// Drops the command that `next_command` would take and answers true, or answers false where none is left, or
@@ -89,6 +111,21 @@ impl Splitter {
         ensures fault { IfErr result (λ fault. (fault ≢ ScriptFault.Memory) × StopsAt self.old fault self.new) }
         ensures again { IfSome self.old.fault (λ fault. result ≡ Err fault) }
     {
-        Ok(false)
+        if let Some(fault) = self.fault {
+            return Err(fault);
+        }
+        let rest = &self.script[self.given..];
+        match self.progress.find_command(rest, self.finished) {
+            NextCommand::OfLength(len) => {
+                self.given += len;
+                self.progress = Progress::starting(self.progress.valid - len);
+                Ok(true)
+            }
+            NextCommand::Missing => Ok(false),
+            NextCommand::Stopped(fault) => {
+                self.fault = Some(fault);
+                Err(fault)
+            }
+        }
     }
 }
