@@ -1,3 +1,4 @@
 pub mod Stages
 pub mod Spelling
 pub mod Readings
+pub mod Broken

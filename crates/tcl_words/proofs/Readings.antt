@@ -1,7 +1,8 @@
 -- A script is read in one way.
 use Rattle.std.proofs.Common.{◌≡◌, ◌≢◌, ℕ, zero, suc, ◌+◌, ◌-◌, ◌<◌, ◌≤◌, ◌⊎◌, inl, inr, ⊎_elim, Bool, true, false, List, [], ◌∷◌, ◌++◌, length, take, drop, Option, Some, None, encode_utf8, encode_utf8_all, IsUtf8, refl, sym, ap, ◌∙◌, arith, subst, append_assoc, append-nil, true≢false, length-append, length-take, length-drop, take-append-drop}
 use Rattle.std.specs.Str.{all_scalars, StartsWithNoChar, is_utf8}
-use Rattle.std.proofs.lemmas.Str.{encodes-append, IsUtf8-from_is_utf8, is_utf8-from_IsUtf8, IsUtf8-append, IsUtf8-encode, IsUtf8-nil}
+use Rattle.std.proofs.lemmas.Str.{encodes-append, IsUtf8-from_is_utf8, is_utf8-from_IsUtf8, IsUtf8-append, IsUtf8-encode, IsUtf8-nil, length-le-encodes}
+use Rattle.std.proofs.lemmas.Bool.Decides.{leb_tells}
 use Rattle.std.proofs.lemmas.List.{take_at, take-take}
 use Rattle.tcl_words.specs.ScriptGrammar.{Ending, Ends, Breaks, Continues, First, Command, Nothing, Fault, Open, first, Follows, Spells, MeetsFault, HoldsNothing, IsWholeCommand, IsLastCommand, IsCommandBefore, ReadsScript, HoldsFault, ReadsFront, HoldsNoWhole}
 use Rattle.tcl_words.specs.Scanning.{scanned, pieces_from}
@@ -216,3 +217,120 @@ front_fault (words ∷ commands) front more all met fault f r =
     let here = whole_first all words f.0 (f.1 ++ more) fault f.3 (subst (λ l. ReadsScript l all fault) split r) in
     let rest = front_fault commands f.1 more here.0 met fault f.4 here.2 in
     (here.1 ∙ ap (λ l. words ∷ l) rest.0, rest.1)
+
+-- The longest front that is UTF-8.
+pub record Longest (bytes : List ℕ) (most : ℕ) : Type 0 where
+  pub len : ℕ
+  pub within : len ≤ most
+  pub text : IsUtf8 (take len bytes)
+  pub longest : (k : ℕ) → len < k → k ≤ most → ¬ IsUtf8 (take k bytes)
+
+longest_step : (bytes : List ℕ) (most : ℕ) (test : Bool) → is_utf8 (take (suc most) bytes) ≡ test → Longest bytes most → Longest bytes (suc most)
+longest_step bytes most true h l = record {
+  len = suc most;
+  within = omega arith;
+  text = IsUtf8-from_is_utf8 (take (suc most) bytes) h;
+  longest = λ k p q. absurd (omega arith);
+}
+longest_step bytes most false h l = record {
+  len = l.len;
+  within = let w = l.within in omega arith;
+  text = l.text;
+  longest = λ k p q u. ⊎_elim (λ below. l.longest k p below.1 u)
+      (λ above. let last : k ≡ suc most = omega arith in
+      true≢false (sym (is_utf8-from_IsUtf8 (take (suc most) bytes) (subst (λ n. IsUtf8 (take n bytes)) last u)) ∙ h))
+      (leb_tells k most);
+}
+
+pub longest_front : (bytes : List ℕ) (most : ℕ) → Longest bytes most
+longest_front bytes zero = record {
+  len = 0;
+  within = omega arith;
+  text = IsUtf8-nil;
+  longest = λ k p q. absurd (omega arith);
+}
+longest_front bytes (suc most) = longest_step bytes most (is_utf8 (take (suc most) bytes)) refl (longest_front bytes most)
+
+-- After the longest front begins no character.
+pub no_char_after : (bytes : List ℕ) (n : ℕ) → n ≤ length bytes → IsUtf8 (take n bytes)
+    → ((k : ℕ) → n < k → k ≤ length bytes → ¬ IsUtf8 (take k bytes)) → StartsWithNoChar (drop n bytes)
+no_char_after bytes n within text longest c rest s h =
+    let some = encode_some c [] in
+    let split : bytes ≡ (take n bytes ++ encode_utf8 c) ++ rest = sym (take-append-drop n bytes) ∙ ap (λ l. take n bytes ++ l) h ∙ sym (append_assoc (take n bytes) (encode_utf8 c) rest) in
+    let k = length (take n bytes ++ encode_utf8 c) in
+    let cut : take k bytes ≡ take n bytes ++ encode_utf8 c = ap (take k) split ∙ take_at (take n bytes ++ encode_utf8 c) rest k refl in
+    let long = ap length split ∙ length-append (take n bytes ++ encode_utf8 c) rest in
+    longest k (omega (arith, length-append (take n bytes) (encode_utf8 c), length-append (encode_utf8 c) [], length-take n bytes)) (omega arith)
+    (subst IsUtf8 (sym cut) (IsUtf8-append (take n bytes) (encode_utf8 c) text (IsUtf8-encode c s)))
+
+-- The characters at the front, and whether the bytes end with them.
+pub record FrontOf (bytes : List ℕ) : Type 0 where
+  pub characters : List ℕ
+  pub back : List ℕ
+  pub ending : Ending
+  pub split : bytes ≡ encode_utf8_all characters ++ back
+  pub scalars : all_scalars characters ≡ true
+  pub follows : Follows ending back
+  pub sure : (ending ≡ Ends) ⊎ (ending ≡ Breaks)
+
+front_by : (bytes characters back : List ℕ) → bytes ≡ encode_utf8_all characters ++ back → all_scalars characters ≡ true → StartsWithNoChar back → FrontOf bytes
+front_by bytes characters [] e s h = record { characters = characters; back = []; ending = Ends; split = e; scalars = s; follows = refl; sure = inl refl }
+front_by bytes characters (b ∷ back) e s h = record { characters = characters; back = b ∷ back; ending = Breaks; split = e; scalars = s; follows = (omega arith, h); sure = inr refl }
+
+pub front_of : (bytes : List ℕ) → FrontOf bytes
+front_of bytes =
+    let l = longest_front bytes (length bytes) in
+    front_by bytes l.text.0 (drop l.len bytes) (sym (take-append-drop l.len bytes) ∙ ap (λ t. t ++ drop l.len bytes) (sym l.text.1.1)) l.text.1.0
+    (no_char_after bytes l.len l.within l.text l.longest)
+
+-- a command that the characters hold whole
+pub whole_at : (n : ℕ) (cs : List ℕ) → all_scalars cs ≡ true → Verdict (EndsAt n) BeforeCommand cs
+    → IsWholeCommand (pieces_from (take n cs) (place_of BeforeCommand)) (encode_utf8_all (take n cs))
+whole_at n cs s v = (take n cs,
+    ((scalars_split (take n cs) (drop n cs) (ap all_scalars (take-append-drop n cs) ∙ s)).0, refl),
+    ap (first Continues) (sym (append-nil (take n cs))) ∙ v.2 Continues [])
+
+abbrev pub Reading : List ℕ → Type 0
+Reading bytes = (commands : List (List (List ℕ))) × (fault : Option ScriptFault) × ReadsScript bytes commands fault
+
+nothing_left : HoldsNothing []
+unfolding first
+nothing_left = ([], (refl, refl), refl)
+
+reading_at_end : (last : Stage) (bytes cs : List ℕ) (words : List (List ℕ)) → bytes ≡ encode_utf8_all cs → all_scalars cs ≡ true → first Ends cs ≡ at_end last words → Reading bytes
+reading_at_end BeforeCommand bytes cs words e s h = ([], None, (cs, (s, sym e), h))
+reading_at_end AfterBlank bytes cs words e s h = (words ∷ [], None, (bytes, [], sym (append-nil bytes), inr (refl, (cs, (s, sym e), h)), nothing_left))
+reading_at_end InWord bytes cs words e s h = (words ∷ [], None, (bytes, [], sym (append-nil bytes), inr (refl, (cs, (s, sym e), h)), nothing_left))
+reading_at_end AfterDollar bytes cs words e s h = (words ∷ [], None, (bytes, [], sym (append-nil bytes), inr (refl, (cs, (s, sym e), h)), nothing_left))
+reading_at_end AfterColon bytes cs words e s h = (words ∷ [], None, (bytes, [], sym (append-nil bytes), inr (refl, (cs, (s, sym e), h)), nothing_left))
+
+reading_step : (scan : Scan) (bytes : List ℕ) (f : FrontOf bytes) → Verdict scan BeforeCommand f.characters
+    → ((rest : List ℕ) → length rest < length bytes → Reading rest) → Reading bytes
+reading_step (EndsAt n) bytes f v smaller =
+    let used = encode_utf8_all (take n f.characters) in
+    let rest = encode_utf8_all (drop n f.characters) ++ f.back in
+    let split : bytes ≡ used ++ rest = f.split ∙ ap (λ l. encode_utf8_all l ++ f.back) (sym (take-append-drop n f.characters))
+        ∙ ap (λ l. l ++ f.back) (encodes-append (take n f.characters) (drop n f.characters))
+        ∙ append_assoc used (encode_utf8_all (drop n f.characters)) f.back in
+    let some = v.1 in
+    let long = v.0 in
+    let after = smaller rest (omega (arith, ap length split, length-append used rest, length-le-encodes (take n f.characters), length-take n f.characters)) in
+    (pieces_from (take n f.characters) (place_of BeforeCommand) ∷ after.0, after.1, (used, rest, split, inl (whole_at n f.characters f.scalars v), after.2))
+reading_step Refused bytes f v smaller =
+    ([], Some Substitution, (encode_utf8_all f.characters, f.back, f.characters, f.ending, f.split, (f.scalars, refl), f.follows, ap (first f.ending) (sym (append-nil f.characters)) ∙ v f.ending []))
+reading_step (Reaches last) bytes f v smaller = ⊎_elim
+    (λ ends.
+    let none : f.back ≡ [] = subst (λ e. Follows e f.back) ends f.follows in
+    reading_at_end last bytes f.characters (pieces_from f.characters (place_of BeforeCommand)) (f.split ∙ ap (λ l. encode_utf8_all f.characters ++ l) none ∙ append-nil (encode_utf8_all f.characters)) f.scalars v.2)
+    (λ breaks. ([], Some NotUtf8, (encode_utf8_all f.characters, f.back, f.characters, Breaks, f.split, (f.scalars, refl), subst (λ e. Follows e f.back) breaks f.follows, v.1)))
+    f.sure
+
+reading_within : (most : ℕ) (bytes : List ℕ) → length bytes < most → Reading bytes
+reading_within zero bytes h = absurd (omega arith)
+reading_within (suc most) bytes h =
+    let f = front_of bytes in
+    reading_step (scanned f.characters BeforeCommand) bytes f (verdict f.characters BeforeCommand) (λ rest k. reading_within most rest (omega arith))
+
+-- Each script has a reading.
+pub a_reading : (bytes : List ℕ) → Reading bytes
+a_reading bytes = reading_within (suc (length bytes)) bytes (omega arith)
