@@ -2,3 +2,5 @@ pub mod Stages
 pub mod Spelling
 pub mod Readings
 pub mod Broken
+pub mod Scans
+pub mod Finding

@@ -88,3 +88,8 @@ pieces_from [] place = end_piece place []
 pieces_from (c ∷ cs) place =
     if is_separator c then end_piece place (pieces_from cs Between)
     else onto_piece c (pieces_from cs Inside)
+
+-- the word of these bytes, if there are any
+abbrev pub some_piece : List ℕ → List (List ℕ)
+some_piece [] = []
+some_piece (c ∷ cs) = (c ∷ cs) ∷ []
