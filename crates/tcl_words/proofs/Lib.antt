@@ -4,3 +4,4 @@ pub mod Readings
 pub mod Broken
 pub mod Scans
 pub mod Finding
+pub mod Splitting
