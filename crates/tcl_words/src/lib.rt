@@ -8,6 +8,8 @@ mod pieces;
 mod progress;
 mod scanner;
 mod splitter;
+#[cfg(test)]
+mod tests;
 
 pub use fault::ScriptFault;
 pub use splitter::Splitter;
