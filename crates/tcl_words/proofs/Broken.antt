@@ -1,5 +1,5 @@
 -- Bytes at fault stay at fault, however they go on.
-use Rattle.std.proofs.Common.{◌≡◌, ℕ, zero, suc, ◌+◌, ◌-◌, ◌/◌, ◌%◌, ◌<◌, ◌≤◌, ◌⊎◌, inl, inr, ⊎_elim, Bool, true, false, cond, ltb, List, [], ◌∷◌, ◌++◌, length, Option, Some, None, refl, sym, ap, ◌∙◌, arith, length-append}
+use Rattle.std.proofs.Common.{◌≡◌, ℕ, ◌+◌, ◌/◌, ◌%◌, ◌<◌, ◌≤◌, ◌⊎◌, inl, inr, ⊎_elim, true, false, ltb, List, [], ◌∷◌, ◌++◌, Some, None, refl, sym, ap, ◌∙◌, arith}
 use Rattle.std.specs.Str.{StartsWithNoChar}
 use Rattle.std.specs.Str.Lossy.{utf8_error_len, second_byte_min, second_byte_max}
 use Rattle.std.specs.Int.{is_in_range}
@@ -126,12 +126,12 @@ below_limit c (inr h) = h.1
 cut_char : (c : ℕ) (bytes : List ℕ) (b : ℕ) (t : List ℕ) → IsScalar c → encode c ≡ bytes ++ b ∷ t → utf8_error_len bytes ≡ None
 cut_char c bytes b t s h = ⊎_elim
     (λ high. ⊎_elim
-        (λ three. ⊎_elim
-            (λ four. cut_of_four c bytes b t four.1 (below_limit c (scalar_cases c s)) h)
-            (λ below. cut_of_three c bytes b t three.1 below.1 (not_surrogate c (scalar_cases c s)) h)
-            (leb_tells 65536 c))
-        (λ below. cut_of_two c bytes b t high.1 below.1 h)
-        (leb_tells 2048 c))
+    (λ three. ⊎_elim
+    (λ four. cut_of_four c bytes b t four.1 (below_limit c (scalar_cases c s)) h)
+    (λ below. cut_of_three c bytes b t three.1 below.1 (not_surrogate c (scalar_cases c s)) h)
+    (leb_tells 65536 c))
+    (λ below. cut_of_two c bytes b t high.1 below.1 h)
+    (leb_tells 2048 c))
     (λ low. cut_one c bytes b t (sym (encode_one c low.1) ∙ h))
     (leb_tells 128 c)
 

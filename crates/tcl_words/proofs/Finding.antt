@@ -1,15 +1,15 @@
 -- What the bytes not yet given hold next, by a scan of their text.
-use Rattle.std.proofs.Common.{◌≡◌, ◌≢◌, ℕ, zero, suc, ◌+◌, ◌-◌, ◌<◌, ◌≤◌, ◌⊎◌, inl, inr, ⊎_elim, Bool, true, false, List, [], ◌∷◌, ◌++◌, map, length, take, drop, encode_utf8, encode_utf8_all, IsUtf8, refl, sym, ap, ◌∙◌, arith, subst, append_assoc, append-nil, length-append, length-take, length-drop, take-append-drop, take-add}
+use Rattle.std.proofs.Common.{◌≡◌, ◌≢◌, ℕ, zero, suc, ◌+◌, ◌-◌, ◌<◌, ◌≤◌, inl, inr, ⊎_elim, Bool, true, false, List, [], ◌∷◌, ◌++◌, map, length, take, drop, encode_utf8_all, IsUtf8, Ok, refl, sym, ap, ◌∙◌, arith, subst, append_assoc, append-nil, length-append, length-take, length-drop, take-append-drop, take-add}
 use Rattle.std.specs.Str.{all_scalars, StartsWithNoChar}
-use Rattle.std.proofs.lemmas.Str.{encodes-append, IsUtf8-append, IsUtf8-nil}
-use Rattle.std.proofs.lemmas.List.{take-take, drop-take, drop-drop, append_cancel_right, take_all}
-use Rattle.tcl_words.specs.ScriptGrammar.{Ending, Ends, Breaks, Continues, First, Command, Nothing, Fault, Open, Between, first, Follows, MeetsFault, HoldsNothing, HoldsNoWhole, IsWholeCommand, IsLastCommand}
+use Rattle.std.proofs.lemmas.Str.{encodes-append, IsUtf8-append}
+use Rattle.std.proofs.lemmas.List.{take-take, drop-drop, append_cancel_right}
+use Rattle.tcl_words.specs.ScriptGrammar.{Ending, Ends, Breaks, Continues, First, Command, Nothing, Fault, Open, Between, first, MeetsFault, HoldsNoWhole, IsWholeCommand}
 use Rattle.tcl_words.specs.Scanning.{scanned, later, pieces_from}
 use Rattle.tcl_words.specs.Encoding.{StopsAs, BeginsNoChar}
-use Rattle.tcl_words.specs.Unread.{IsNextCommand, HasNoCommand, HasFault}
-use Rattle.tcl_words.specs.Progression.{IsProgress, IsCommandOf, IsNext, at_text_end, last_command}
+use Rattle.tcl_words.specs.Unread.{IsNextCommand, HasFault}
+use Rattle.tcl_words.specs.Progression.{IsProgress, IsCommandOf, IsNext, text_end, last_command}
 use Rattle.tcl_words.specs.declared.fault.ScriptFault.{ScriptFault}
-use Rattle.tcl_words.specs.declared.fault.ScriptFault.TheVariants.{Substitution, NotUtf8, Memory}
+use Rattle.tcl_words.specs.declared.fault.ScriptFault.TheVariants.{Substitution, NotUtf8}
 use Rattle.tcl_words.specs.declared.progress.Progress.{Progress}
 use Rattle.tcl_words.specs.declared.encoding.TextStop.{TextStop}
 use Rattle.tcl_words.specs.declared.encoding.TextStop.TheVariants.{AtEnd, WithinCharacter, Broken}
@@ -17,7 +17,7 @@ use Rattle.tcl_words.specs.declared.scanner.Stage.{Stage}
 use Rattle.tcl_words.specs.declared.scanner.Stage.TheVariants.{BeforeCommand, AfterBlank, InWord, AfterDollar, AfterColon}
 use Rattle.tcl_words.specs.declared.scanner.Scan.{Scan}
 use Rattle.tcl_words.specs.declared.scanner.Scan.TheVariants.{EndsAt, Refused, Reaches}
-use Rattle.tcl_words.proofs.Stages.{scanned-nil, from, place_of, at_end, Verdict, verdict}
+use Rattle.tcl_words.proofs.Stages.{scanned-nil, at_end, Verdict, verdict}
 use Rattle.tcl_words.proofs.Spelling.{spelled, from_spelled, one_goes_on, no_char_nil, scalars_split, encode_not_nil}
 use Rattle.tcl_words.proofs.Readings.{extended, stays, whole_at}
 use Rattle.tcl_words.proofs.Scans.{scanned-append}
@@ -41,7 +41,7 @@ whole_front_by (EndsAt m) text cs n scalars is v w found =
     let words : pieces_from (take n text) Between ≡ map encode_utf8_all (pieces_from (take m cs) Between) = cc in
     let rest : drop n text ≡ encode_utf8_all (drop m cs) = cc in
     let whole : encode_utf8_all (take m cs) ++ encode_utf8_all (drop m cs) ≡ take n text ++ encode_utf8_all (drop m cs) =
-        sym (encodes-append (take m cs) (drop m cs)) ∙ ap encode_utf8_all (take-append-drop m cs) ∙ is ∙ sym (take-append-drop n text) ∙ ap (λ l. take n text ++ l) rest in
+    sym (encodes-append (take m cs) (drop m cs)) ∙ ap encode_utf8_all (take-append-drop m cs) ∙ is ∙ sym (take-append-drop n text) ∙ ap (λ l. take n text ++ l) rest in
     let front : encode_utf8_all (take m cs) ≡ take n text = append_cancel_right (encode_utf8_all (take m cs)) (take n text) (encode_utf8_all (drop m cs)) whole in
     let both = scalars_split (take m cs) (drop m cs) (ap all_scalars (take-append-drop m cs) ∙ scalars) in
     record {
@@ -147,22 +147,19 @@ next_whole : (finished : Bool) (rest : List ℕ) (words : List (List ℕ)) (byte
 next_whole true rest words bytes w = inl w
 next_whole false rest words bytes w = w
 
-pub command_of : (finished : Bool) (rest : List ℕ) (valid n : ℕ) → valid ≤ length rest → IsUtf8 (take valid rest) → scanned (take valid rest) BeforeCommand ≡ EndsAt n → IsCommandOf finished rest valid n
+pub command_of : (finished : Bool) (rest : List ℕ) (valid n : ℕ) → valid ≤ length rest → IsUtf8 (take valid rest) → scanned (take valid rest) BeforeCommand ≡ EndsAt n → IsCommandOf finished rest n
 command_of finished rest valid n within text h =
     let w = whole_front (take valid rest) n text h in
     let fits = w.within in
     let low : n ≤ valid = omega (arith, length-take valid rest) in
     let cut : take n (take valid rest) ≡ take n rest = take-take n valid rest low in
-    let sum : n + (valid - n) ≡ valid = omega arith in
-    let left : drop n (take valid rest) ≡ take (valid - n) (drop n rest) = ap (λ m. drop n (take m rest)) (sym sum) ∙ drop-take n (valid - n) rest in
     record {
       some = w.some;
-      within = low;
+      within = omega arith;
       words = w.words;
       is = next_whole finished (drop n rest) w.words (take n rest) (subst (IsWholeCommand w.words) cut w.is);
       spelled = ap (λ l. pieces_from l Between) (sym cut) ∙ w.spelled;
       text = subst IsUtf8 cut w.front;
-      after = subst IsUtf8 left w.back;
     }
 
 split_at : (valid : ℕ) (rest more : List ℕ) → rest ++ more ≡ take valid rest ++ (drop valid rest ++ more)
@@ -190,42 +187,40 @@ no_scan : (valid : ℕ) (rest : List ℕ) (last : Stage) → scanned (take valid
 no_scan zero rest last h other = absurd (other (let e = sym (scanned-nil BeforeCommand) ∙ h in cc))
 no_scan (suc valid) rest last h other = omega arith
 
-last_of : (rest : List ℕ) (valid : ℕ) (last : Stage) → IsUtf8 (take valid rest) → scanned (take valid rest) BeforeCommand ≡ Reaches last → drop valid rest ≡ [] → last ≢ BeforeCommand
-    → at_end last (pieces_from (take valid rest) Between) ≡ Command (pieces_from (take valid rest) Between) [] → IsCommandOf true rest valid valid
-last_of rest valid last text h none other ends =
+last_of : (rest : List ℕ) (valid : ℕ) (last : Stage) → valid ≤ length rest → IsUtf8 (take valid rest) → scanned (take valid rest) BeforeCommand ≡ Reaches last → drop valid rest ≡ []
+    → last ≢ BeforeCommand → at_end last (pieces_from (take valid rest) Between) ≡ Command (pieces_from (take valid rest) Between) [] → IsCommandOf true rest valid
+last_of rest valid last within text h none other ends =
     let v : Verdict (Reaches last) BeforeCommand (take valid rest) = subst (λ s. Verdict s BeforeCommand (take valid rest)) h (verdict (take valid rest) BeforeCommand) in
     let found = spelled_command (first Ends text.0) (pieces_from (take valid rest) Between) (found_in (take valid rest) Ends (Command (pieces_from (take valid rest) Between) []) text (v.2 ∙ ends)) in
-    let zero_left : valid - valid ≡ 0 = omega arith in
     record {
       some = no_scan valid rest last h other;
-      within = omega arith;
+      within = within;
       words = found.0;
       is = inr (none, (text.0, text.1, found.1));
       spelled = found.2;
       text = text;
-      after = subst (λ n. IsUtf8 (take n (drop valid rest))) (sym zero_left) IsUtf8-nil;
     }
 
-finished_of : (rest : List ℕ) (valid : ℕ) (last : Stage) → IsUtf8 (take valid rest) → scanned (take valid rest) BeforeCommand ≡ Reaches last → drop valid rest ≡ []
-    → IsNext true rest valid (last_command last valid)
-finished_of rest valid BeforeCommand text h none =
+finished_of : (rest : List ℕ) (valid : ℕ) (last : Stage) → valid ≤ length rest → IsUtf8 (take valid rest) → scanned (take valid rest) BeforeCommand ≡ Reaches last → drop valid rest ≡ []
+    → IsNext true rest (Ok (last_command last valid))
+finished_of rest valid BeforeCommand within text h none =
     let v : Verdict (Reaches BeforeCommand) BeforeCommand (take valid rest) = subst (λ s. Verdict s BeforeCommand (take valid rest)) h (verdict (take valid rest) BeforeCommand) in
     (text.0, (text.1.0, text.1.1 ∙ all_taken valid rest none), spelled_nothing (first Ends text.0) (found_in (take valid rest) Ends Nothing text v.2))
-finished_of rest valid AfterBlank text h none = last_of rest valid AfterBlank text h none (λ e. cc) refl
-finished_of rest valid InWord text h none = last_of rest valid InWord text h none (λ e. cc) refl
-finished_of rest valid AfterDollar text h none = last_of rest valid AfterDollar text h none (λ e. cc) refl
-finished_of rest valid AfterColon text h none = last_of rest valid AfterColon text h none (λ e. cc) refl
+finished_of rest valid AfterBlank within text h none = last_of rest valid AfterBlank within text h none (λ e. cc) refl
+finished_of rest valid InWord within text h none = last_of rest valid InWord within text h none (λ e. cc) refl
+finished_of rest valid AfterDollar within text h none = last_of rest valid AfterDollar within text h none (λ e. cc) refl
+finished_of rest valid AfterColon within text h none = last_of rest valid AfterColon within text h none (λ e. cc) refl
 
-pub reached_of : (stop : TextStop) (finished : Bool) (rest : List ℕ) (valid : ℕ) (last : Stage) → IsUtf8 (take valid rest) → scanned (take valid rest) BeforeCommand ≡ Reaches last
-    → StopsAs stop (drop valid rest) → IsNext finished rest valid (at_text_end stop finished last valid)
-reached_of AtEnd true rest valid last text h stops = finished_of rest valid last text h stops
-reached_of AtEnd false rest valid last text h stops =
+pub reached_of : (stop : TextStop) (finished : Bool) (rest : List ℕ) (valid : ℕ) (last : Stage) → valid ≤ length rest → IsUtf8 (take valid rest) → scanned (take valid rest) BeforeCommand ≡ Reaches last
+    → StopsAs stop (drop valid rest) → IsNext finished rest (text_end stop finished last valid)
+reached_of AtEnd true rest valid last within text h stops = finished_of rest valid last within text h stops
+reached_of AtEnd false rest valid last within text h stops =
     no_whole (take valid rest) (drop valid rest) rest last text h (sym (take-append-drop valid rest)) (nil_no_char (drop valid rest) stops)
-reached_of WithinCharacter true rest valid last text h stops =
+reached_of WithinCharacter true rest valid last within text h stops =
     ((λ e. cc), broken_fault (take valid rest) (drop valid rest) rest last text h (sym (take-append-drop valid rest)) stops.0 stops.1)
-reached_of WithinCharacter false rest valid last text h stops =
+reached_of WithinCharacter false rest valid last within text h stops =
     no_whole (take valid rest) (drop valid rest) rest last text h (sym (take-append-drop valid rest)) stops.1
-reached_of Broken finished rest valid last text h stops = ((λ e. cc), broken_of finished rest valid last text h stops)
+reached_of Broken finished rest valid last within text h stops = ((λ e. cc), broken_of finished rest valid last text h stops)
 
 -- the steps of the search for the next command
 

@@ -1,13 +1,13 @@
 -- A script is read in one way.
-use Rattle.std.proofs.Common.{◌≡◌, ◌≢◌, ℕ, zero, suc, ◌+◌, ◌-◌, ◌<◌, ◌≤◌, ◌⊎◌, inl, inr, ⊎_elim, Bool, true, false, List, [], ◌∷◌, ◌++◌, length, take, drop, Option, Some, None, is_some, encode_utf8, encode_utf8_all, IsUtf8, refl, sym, ap, ◌∙◌, arith, subst, append_assoc, append-nil, true≢false, length-append, length-take, length-drop, take-append-drop}
+use Rattle.std.proofs.Common.{◌≡◌, ◌≢◌, ℕ, zero, suc, ◌<◌, ◌≤◌, ◌⊎◌, inl, inr, ⊎_elim, Bool, true, false, List, [], ◌∷◌, ◌++◌, length, take, drop, Option, Some, None, is_some, encode_utf8, encode_utf8_all, IsUtf8, refl, sym, ap, ◌∙◌, arith, subst, append_assoc, append-nil, true≢false, length-append, length-take, length-drop, take-append-drop}
 use Rattle.std.specs.Str.{all_scalars, StartsWithNoChar, IsValidUpTo, is_utf8}
 use Rattle.std.specs.Str.Lossy.{utf8_error_len}
 use Rattle.tcl_words.specs.Encoding.{BeginsNoChar}
 use Rattle.tcl_words.proofs.Broken.{stays_broken}
 use Rattle.std.proofs.lemmas.Str.{encodes-append, IsUtf8-from_is_utf8, is_utf8-from_IsUtf8, IsUtf8-append, IsUtf8-encode, IsUtf8-nil, length-le-encodes}
 use Rattle.std.proofs.lemmas.Bool.Decides.{leb_tells}
-use Rattle.std.proofs.lemmas.List.{take_at, take-take}
-use Rattle.tcl_words.specs.ScriptGrammar.{Ending, Ends, Breaks, Continues, First, Command, Nothing, Fault, Open, first, Follows, Spells, MeetsFault, HoldsNothing, IsWholeCommand, IsLastCommand, IsCommandBefore, ReadsScript, HoldsFault, ReadsFront, HoldsNoWhole}
+use Rattle.std.proofs.lemmas.List.{take_at}
+use Rattle.tcl_words.specs.ScriptGrammar.{Ending, Ends, Breaks, Continues, First, Command, Nothing, Fault, Open, first, Follows, MeetsFault, HoldsNothing, IsWholeCommand, IsCommandBefore, ReadsScript, ReadsFront}
 use Rattle.tcl_words.specs.Scanning.{scanned, pieces_from}
 use Rattle.tcl_words.specs.declared.fault.ScriptFault.{ScriptFault}
 use Rattle.tcl_words.specs.declared.fault.ScriptFault.TheVariants.{Substitution, NotUtf8}
@@ -15,8 +15,8 @@ use Rattle.tcl_words.specs.declared.scanner.Stage.{Stage}
 use Rattle.tcl_words.specs.declared.scanner.Stage.TheVariants.{BeforeCommand, AfterBlank, InWord, AfterDollar, AfterColon}
 use Rattle.tcl_words.specs.declared.scanner.Scan.{Scan}
 use Rattle.tcl_words.specs.declared.scanner.Scan.TheVariants.{EndsAt, Refused, Reaches}
-use Rattle.tcl_words.proofs.Stages.{from, place_of, at_end, Verdict, verdict}
-use Rattle.tcl_words.proofs.Spelling.{GoesOn, one_goes_on, no_char_nil, scalars_split, encode_not_nil, encode_some}
+use Rattle.tcl_words.proofs.Stages.{place_of, at_end, Verdict, verdict}
+use Rattle.tcl_words.proofs.Spelling.{one_goes_on, no_char_nil, scalars_split, encode_not_nil, encode_some}
 
 -- what is found, with more characters after it
 abbrev pub extended : First → List ℕ → First
@@ -289,9 +289,11 @@ front_of bytes =
 -- a command that the characters hold whole
 pub whole_at : (n : ℕ) (cs : List ℕ) → all_scalars cs ≡ true → Verdict (EndsAt n) BeforeCommand cs
     → IsWholeCommand (pieces_from (take n cs) (place_of BeforeCommand)) (encode_utf8_all (take n cs))
-whole_at n cs s v = (take n cs,
-    ((scalars_split (take n cs) (drop n cs) (ap all_scalars (take-append-drop n cs) ∙ s)).0, refl),
-    ap (first Continues) (sym (append-nil (take n cs))) ∙ v.2 Continues [])
+whole_at n cs s v = (
+  take n cs,
+  ((scalars_split (take n cs) (drop n cs) (ap all_scalars (take-append-drop n cs) ∙ s)).0, refl),
+  ap (first Continues) (sym (append-nil (take n cs))) ∙ v.2 Continues [],
+)
 
 abbrev pub Reading : List ℕ → Type 0
 Reading bytes = (commands : List (List (List ℕ))) × (fault : Option ScriptFault) × ReadsScript bytes commands fault
@@ -313,8 +315,8 @@ reading_step (EndsAt n) bytes f v smaller =
     let used = encode_utf8_all (take n f.characters) in
     let rest = encode_utf8_all (drop n f.characters) ++ f.back in
     let split : bytes ≡ used ++ rest = f.split ∙ ap (λ l. encode_utf8_all l ++ f.back) (sym (take-append-drop n f.characters))
-        ∙ ap (λ l. l ++ f.back) (encodes-append (take n f.characters) (drop n f.characters))
-        ∙ append_assoc used (encode_utf8_all (drop n f.characters)) f.back in
+    ∙ ap (λ l. l ++ f.back) (encodes-append (take n f.characters) (drop n f.characters))
+    ∙ append_assoc used (encode_utf8_all (drop n f.characters)) f.back in
     let some = v.1 in
     let long = v.0 in
     let after = smaller rest (omega (arith, ap length split, length-append used rest, length-le-encodes (take n f.characters), length-take n f.characters)) in

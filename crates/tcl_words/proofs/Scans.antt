@@ -1,8 +1,8 @@
 -- Steps of the loops that scan a command and cut it into words.
 use Rattle.std.proofs.lemmas.Str.{IsCharBoundary-start, IsCharBoundary-after_ascii, IsCharBoundary-before_ascii, IsUtf8-between}
-use Rattle.std.proofs.Common.{◌≡◌, ℕ, zero, suc, ◌+◌, ◌-◌, ◌<◌, ◌≤◌, Bool, true, false, cond, IsUtf8, IsCharBoundary, List, [], ◌∷◌, ◌++◌, map, length, take, drop, get_or, refl, sym, ap, ◌∙◌, ⊎_elim, arith, add_assoc, append_assoc, append-nil, true≢false, length-drop, length-take, take-append-drop, get_or-drop}
+use Rattle.std.proofs.Common.{◌≡◌, ℕ, zero, suc, ◌+◌, ◌-◌, ◌<◌, ◌≤◌, true, false, IsUtf8, IsCharBoundary, List, [], ◌∷◌, ◌++◌, length, take, drop, get_or, refl, sym, ap, ◌∙◌, ⊎_elim, arith, add_assoc, append_assoc, append-nil, length-drop, length-take, take-append-drop, get_or-drop}
 use Rattle.std.specs.Bool.{⊤}
-use Rattle.std.proofs.lemmas.List.{drop_more, drop_all, drop-drop, map-append, take_all}
+use Rattle.std.proofs.lemmas.List.{drop_more, drop_all, drop-drop, take_all}
 use Rattle.std.proofs.lemmas.Bool.Decides.{nat_tests, leb_tells}
 use Rattle.tcl_words.specs.ScriptGrammar.{Place, Between, Inside}
 use Rattle.tcl_words.specs.Scanning.{is_separator, later, scan_step, scanned, step_of, onto_piece, pieces_from, some_piece}

@@ -1,15 +1,14 @@
 -- Characters and their bytes in UTF-8.
-use Rattle.std.proofs.Common.{◌≡◌, ℕ, zero, suc, ◌+◌, ◌-◌, ◌<◌, ◌≤◌, ◌==◌, ◌⊎◌, inl, inr, ⊎_elim, Bool, true, false, cond, ◌||◌, ◌&&◌, ltb, List, [], ◌∷◌, ◌++◌, map, length, take, drop, encode_utf8, encode_utf8_all, IsUtf8, refl, sym, ap, ◌∙◌, arith, subst, append_assoc, append-nil, true≢false, length-append}
+use Rattle.std.proofs.Common.{◌≡◌, ℕ, ◌<◌, ◌≤◌, ◌⊎◌, inl, inr, ⊎_elim, Bool, true, false, cond, ◌&&◌, ltb, List, [], ◌∷◌, ◌++◌, map, length, encode_utf8, encode_utf8_all, refl, sym, ap, ◌∙◌, arith, append_assoc, true≢false, length-append}
 use Rattle.std.specs.Bool.{⊤}
 use Rattle.std.specs.Str.{all_scalars, StartsWithNoChar}
-use Rattle.std.specs.Char.{IsScalar, len_utf8}
 use lib.Utf8.{scalar, encode}
 use Rattle.std.proofs.lemmas.Bool.Decides.{nat_tests, leb_tells}
-use Rattle.std.proofs.lemmas.Str.{encode_ascii, encode_same, encodes-append, length-encode, len_utf8_bounds}
-use Rattle.tcl_words.specs.ScriptGrammar.{Ending, Ends, Breaks, Continues, First, Command, Nothing, Fault, Open, Place, Between, Inside, Follows, onto_word, end_word, words_from, first}
+use Rattle.std.proofs.lemmas.Str.{encode_ascii, encode_same, length-encode, len_utf8_bounds}
+use Rattle.tcl_words.specs.ScriptGrammar.{Ending, Ends, Breaks, Continues, First, Command, Nothing, Fault, Open, Place, Between, Inside, onto_word, words_from, first}
 use Rattle.tcl_words.specs.Scanning.{is_separator, inside_step, step_of}
 use Rattle.tcl_words.specs.declared.fault.ScriptFault.{ScriptFault}
-use Rattle.tcl_words.specs.declared.fault.ScriptFault.TheVariants.{Substitution, NotUtf8}
+use Rattle.tcl_words.specs.declared.fault.ScriptFault.TheVariants.{Substitution}
 use Rattle.tcl_words.specs.declared.scanner.Stage.{Stage}
 use Rattle.tcl_words.specs.declared.scanner.Stage.TheVariants.{BeforeCommand, AfterBlank, InWord, AfterDollar, AfterColon}
 use Rattle.tcl_words.specs.declared.scanner.Step.{Step}

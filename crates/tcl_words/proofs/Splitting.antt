@@ -1,14 +1,14 @@
 -- What the splitter takes from the bytes not yet given.
-use Rattle.std.proofs.Common.{◌≡◌, ◌≢◌, ℕ, zero, suc, ◌+◌, ◌-◌, ◌<◌, ◌≤◌, ◌||◌, inl, inr, Bool, true, false, cond, List, [], ◌∷◌, ◌++◌, map, length, take, drop, Option, Some, None, String, string_bytes, chars, encode_utf8_all, IsUtf8, refl, sym, ap, ◌∙◌, arith, subst, length-drop, take-append-drop}
+use Rattle.std.proofs.Common.{◌≡◌, ℕ, ◌+◌, ◌-◌, ◌<◌, ◌≤◌, ◌||◌, inl, inr, ⊎_elim, Bool, true, false, cond, List, [], ◌∷◌, map, length, take, drop, None, String, string_bytes, chars, encode_utf8_all, IsUtf8, refl, sym, ap, ◌∙◌, arith, subst, length-drop, length-take, take-append-drop}
 use Rattle.std.specs.Bool.{⊤}
-use Rattle.std.proofs.lemmas.Str.{IsUtf8-string_bytes, chars_from_encodes, IsUtf8-nil}
-use Rattle.std.proofs.lemmas.List.{take_rest, drop-drop}
+use Rattle.std.proofs.lemmas.Str.{IsUtf8-string_bytes, chars_from_encodes, IsUtf8-nil, IsUtf8-drop, IsCharBoundary-from_take}
+use Rattle.std.proofs.lemmas.Bool.Decides.{leb_tells}
+use Rattle.std.proofs.lemmas.List.{take-take, drop-take, drop-drop}
 use Rattle.tcl_words.specs.Characters.{is_end, is_blank, is_hash}
-use Rattle.tcl_words.specs.ScriptGrammar.{Ending, Ends, Breaks, Continues, First, Command, Nothing, Fault, Open, Place, Between, Inside, is_refused, onto_word, end_word, at_stop, words_from, first, IsWholeCommand, IsLastCommand, IsCommandBefore}
+use Rattle.tcl_words.specs.ScriptGrammar.{Ending, Ends, Breaks, Continues, First, Command, Nothing, Fault, Open, Between, Inside, is_refused, onto_word, end_word, at_stop, words_from, first, IsCommandBefore}
 use Rattle.tcl_words.specs.Scanning.{pieces_from}
-use Rattle.tcl_words.specs.Unread.{IsNextCommand, HasNoCommand, texts_of}
+use Rattle.tcl_words.specs.Unread.{Unread, IsNextCommand, HasNoCommand, TakesCommand, texts_of}
 use Rattle.tcl_words.specs.Progression.{IsProgress, IsCommandOf, starting_at}
-use Rattle.tcl_words.specs.declared.fault.ScriptFault.{ScriptFault}
 use Rattle.tcl_words.specs.declared.fault.ScriptFault.TheVariants.{Substitution}
 use Rattle.tcl_words.specs.declared.progress.Progress.{Progress}
 use Rattle.tcl_words.specs.declared.scanner.Stage.TheVariants.{BeforeCommand}
@@ -74,10 +74,6 @@ next_before : (finished : Bool) (rest : List ℕ) (words : List (List ℕ)) (byt
 next_before true rest words bytes h = h
 next_before false rest words bytes h = inl h
 
--- the bytes not yet given, as the code slices them
-pub rest_is : (script items : List ℕ) (given : ℕ) → script ≡ items → take (length script - given) (drop given script) ≡ drop given items
-rest_is script items given e = take_rest script given ∙ ap (drop given) e
-
 -- nothing was read of bytes of which so many are a text
 pub starts : (rest : List ℕ) (valid : ℕ) → valid ≤ length rest → IsUtf8 (take valid rest) → IsProgress rest (starting_at valid)
 starts rest valid within text = record {
@@ -87,52 +83,32 @@ starts rest valid within text = record {
   reached = scanned-nil BeforeCommand;
 }
 
--- the progress after a command is taken
-pub taken : (finished : Bool) (rest : List ℕ) (progress : Progress) (n : ℕ) → IsProgress rest progress → IsCommandOf finished rest progress.valid n
-    → IsProgress (drop n rest) (starting_at (progress.valid - n))
-taken finished rest progress n p k =
+-- the progress after a text is left behind
+passed : (rest : List ℕ) (progress : Progress) (n : ℕ) → IsProgress rest progress → n ≤ length rest → IsUtf8 (take n rest) → IsProgress (drop n rest) (starting_at (progress.valid - n))
+passed rest progress n p long text =
     let within = p.within in
-    let low = k.within in
-    starts (drop n rest) (progress.valid - n) (omega (arith, length-drop n rest)) k.after
+    ⊎_elim
+    (λ all.
+    let none : progress.valid - n ≡ 0 = omega arith in
+    starts (drop n rest) (progress.valid - n) (omega arith) (subst (λ k. IsUtf8 (take k (drop n rest))) (sym none) IsUtf8-nil))
+    (λ some.
+    let low : n ≤ progress.valid = omega arith in
+    let sum : n + (progress.valid - n) ≡ progress.valid = omega arith in
+    let front : take n (take progress.valid rest) ≡ take n rest = take-take n progress.valid rest low in
+    let left : drop n (take progress.valid rest) ≡ take (progress.valid - n) (drop n rest) = ap (λ m. drop n (take m rest)) (sym sum) ∙ drop-take n (progress.valid - n) rest in
+    let fits : n ≤ length (take progress.valid rest) = omega (arith, length-take progress.valid rest) in
+    starts (drop n rest) (progress.valid - n) (omega (arith, length-drop n rest))
+    (subst IsUtf8 left (IsUtf8-drop (take progress.valid rest) n p.text (IsCharBoundary-from_take (take progress.valid rest) n p.text fits (subst IsUtf8 (sym front) text)))))
+    (leb_tells progress.valid n)
 
--- A command is taken off the bytes not yet given.
-pub record IsTaken (finished : Bool) (items : List ℕ) (given n : ℕ) (progress : Progress) (slice : List ℕ) : Type 0 where
-  pub within : given + n ≤ length items
-  pub progress_is : IsProgress (drop (given + n) items) (starting_at (progress.valid - n))
-  pub words : List (List ℕ)
-  pub some : 0 < length words
-  pub split : drop given items ≡ take n slice ++ drop (given + n) items
-  pub is : IsNextCommand finished (drop (given + n) items) words (take n slice)
-  pub spelled : pieces_from (take n slice) Between ≡ map encode_utf8_all words
-  pub left : ¬ HasNoCommand finished (drop given items)
+-- what a command of these bytes tells
+has_words : (finished : Bool) (rest : List ℕ) (n : ℕ) (k : IsCommandOf finished rest n) → 0 < length k.words
+has_words finished rest n k = before_has_word (drop n rest) (take n rest) k.words (next_before finished (drop n rest) k.words (take n rest) k.is)
 
-none_left : (finished : Bool) (rest : List ℕ) (valid n : ℕ) → IsCommandOf finished rest valid n → ¬ HasNoCommand finished rest
-none_left true rest valid n k none =
+pub not_none : (finished : Bool) (rest : List ℕ) (n : ℕ) → IsCommandOf finished rest n → ¬ HasNoCommand finished rest
+not_none true rest n k none =
     let no = one_found rest Nothing (Command k.words (drop n rest)) (reads_nothing rest none) (reads_before rest (take n rest) (drop n rest) k.words (sym (take-append-drop n rest)) k.is) in cc
-none_left false rest valid n k none = none k.words (take n rest) (drop n rest) (sym (take-append-drop n rest)) k.is
-
-taken_rest : (finished : Bool) (items : List ℕ) (given n : ℕ) (progress : Progress) (rest : List ℕ) → rest ≡ drop given items → given ≤ length items
-    → IsProgress rest progress → IsCommandOf finished rest progress.valid n → IsTaken finished items given n progress rest
-taken_rest finished items given n progress rest same fits p k =
-    let within = p.within in
-    let low = k.within in
-    let left : drop n rest ≡ drop (given + n) items = ap (drop n) same ∙ drop-drop n given items in
-    record {
-      within = omega (arith, ap length same, length-drop given items);
-      progress_is = subst (λ l. IsProgress l (starting_at (progress.valid - n))) left (taken finished rest progress n p k);
-      words = k.words;
-      some = before_has_word (drop n rest) (take n rest) k.words (next_before finished (drop n rest) k.words (take n rest) k.is);
-      split = sym same ∙ sym (take-append-drop n rest) ∙ ap (λ l. take n rest ++ l) left;
-      is = subst (λ l. IsNextCommand finished l k.words (take n rest)) left k.is;
-      spelled = k.spelled;
-      left = λ none. none_left finished rest progress.valid n k (subst (HasNoCommand finished) (sym same) none);
-    }
-
-pub is_taken : (finished : Bool) (script items : List ℕ) (given n : ℕ) (progress : Progress) → script ≡ items → given ≤ length script
-    → IsProgress (take (length script - given) (drop given script)) progress → IsCommandOf finished (take (length script - given) (drop given script)) progress.valid n
-    → IsTaken finished items given n progress (take (length script - given) (drop given script))
-is_taken finished script items given n progress e fits p k =
-    taken_rest finished items given n progress (take (length script - given) (drop given script)) (rest_is script items given e) (omega (arith, ap length e)) p k
+not_none false rest n k none = none k.words (take n rest) (drop n rest) (sym (take-append-drop n rest)) k.is
 
 -- strings of these words
 pub texts_are : {Z : Type 0} (strings : List (String Z)) (words : List (List ℕ)) → map (λ s. string_bytes s) strings ≡ map encode_utf8_all words → texts_of strings ≡ words
@@ -149,3 +125,27 @@ pub strings_some : {Z : Type 0} (strings : List (String Z)) (words : List (List 
 strings_some [] [] h some = some
 strings_some [] (word ∷ words) h some = absurd cc
 strings_some (s ∷ strings) words h some = omega arith
+
+-- From old to new these words are taken, with the value between, where the command was found.
+pub takes : (old between new : Unread) (len : ℕ) (words : List (List ℕ)) → (between ≡ old) × (old.fault ≡ None) → (k : IsCommandOf old.finished old.rest len)
+    → new ≡ record between { rest = drop len between.rest } → words ≡ k.words → TakesCommand old words new
+takes old between new len words same k e w =
+    let after : record old { rest = drop len old.rest } ≡ new = ap (λ (u : Unread). record u { rest = drop len u.rest }) (sym same.0) ∙ sym e in
+    subst (TakesCommand old words) after
+    (take len old.rest, same.1, sym (take-append-drop len old.rest), refl, subst (λ ws. IsNextCommand old.finished (drop len old.rest) ws (take len old.rest)) (sym w) k.is)
+
+-- the strings of a command's pieces
+pub texts_found : {Z : Type 0} (finished : Bool) (rest slice : List ℕ) (len : ℕ) (strings : List (String Z)) (k : IsCommandOf finished rest len) → slice ≡ take len rest
+    → map (λ s. string_bytes s) strings ≡ pieces_from slice Between → (texts_of strings ≡ k.words) × (0 < length strings)
+texts_found finished rest slice len strings k same h =
+    let spelled = h ∙ ap (λ l. pieces_from l Between) same ∙ k.spelled in
+    (texts_are strings k.words spelled, strings_some strings k.words spelled (has_words finished rest len k))
+
+-- the progress after the next bytes of all are left behind
+pub passed_in : (items rest : List ℕ) (given : ℕ) (progress : Progress) (n : ℕ) → drop given items ≡ rest → given ≤ length items → IsProgress (drop given items) progress → n ≤ length rest → IsUtf8 (take n rest)
+    → (given + n ≤ length items) × IsProgress (drop (given + n) items) (starting_at (progress.valid - n))
+passed_in items rest given progress n same fits p long text =
+    let within : n ≤ length (drop given items) = omega (arith, ap length same) in (
+      omega (arith, length-drop given items),
+      subst (λ l. IsProgress l (starting_at (progress.valid - n))) (drop-drop n given items) (passed (drop given items) progress n p within (subst (λ l. IsUtf8 (take n l)) (sym same) text)),
+    )

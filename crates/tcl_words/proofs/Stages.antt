@@ -1,9 +1,9 @@
 -- What a scan says of the grammar, whatever follows the bytes.
-use Rattle.std.proofs.Common.{◌≡◌, ℕ, zero, suc, ◌+◌, ◌<◌, ◌≤◌, ◌==◌, Bool, true, false, cond, ◌||◌, ◌&&◌, List, [], ◌∷◌, ◌++◌, length, take, refl, sym, ap, ◌∙◌, arith, subst, rules, true≢false, one-add}
-use Rattle.std.proofs.lemmas.Bool.Decides.{nat_tests, eqb_tells}
+use Rattle.std.proofs.Common.{◌≡◌, ℕ, ◌<◌, ◌≤◌, ◌==◌, Bool, true, false, cond, ◌||◌, ◌&&◌, List, [], ◌∷◌, ◌++◌, length, take, refl, sym, ap, ◌∙◌, arith, subst, true≢false, one-add}
+use Rattle.std.proofs.lemmas.Bool.Decides.{nat_tests}
 use Rattle.std.specs.Bool.{⊤}
 use Rattle.tcl_words.specs.Characters.{is_end, is_blank, is_hash, names_variable, begins_with_colon}
-use Rattle.tcl_words.specs.ScriptGrammar.{Ending, Ends, Breaks, Continues, First, Command, Nothing, Fault, Open, Place, Between, Inside, onto_word, end_word, at_stop, words_from, first}
+use Rattle.tcl_words.specs.ScriptGrammar.{Ending, Ends, Breaks, Continues, First, Command, Nothing, Fault, Open, Place, Between, Inside, onto_word, end_word, words_from, first}
 use Rattle.tcl_words.specs.Scanning.{is_separator, names_byte, inside_step, between_step, command_step, dollar_step, colon_step, step_of, later, scan_step, scanned, end_piece, onto_piece, pieces_from}
 use Rattle.tcl_words.specs.declared.fault.ScriptFault.{ScriptFault}
 use Rattle.tcl_words.specs.declared.fault.ScriptFault.TheVariants.{Substitution, NotUtf8}
@@ -246,17 +246,22 @@ verdict_go : (stage next : Stage) (sep : Bool) (c : ℕ) (cs : List ℕ)
     → ((xs : List ℕ) → pieces_from (c ∷ xs) (place_of stage) ≡ put_piece (place_of stage) sep c (pieces_from xs (place_of next)))
     → (scan : Scan) → Verdict scan next cs → Verdict (later 1 scan) stage (c ∷ cs)
 verdict_go stage next sep c cs goes pieces (EndsAt n) v = let long = v.0 in
-    rw (one-add n) (omega arith, omega arith, λ e tail.
-    goes e (take n cs ++ tail) ∙ ap (put (place_of stage) sep c) (v.2 e tail)
-    ∙ put_command (place_of stage) sep c (pieces_from (take n cs) (place_of next)) tail
-    ∙ ap (λ words. Command words tail) (sym (pieces (take n cs))))
+    rw (one-add n) (
+      omega arith,
+      omega arith,
+      λ e tail.
+          goes e (take n cs ++ tail) ∙ ap (put (place_of stage) sep c) (v.2 e tail)
+          ∙ put_command (place_of stage) sep c (pieces_from (take n cs) (place_of next)) tail
+          ∙ ap (λ words. Command words tail) (sym (pieces (take n cs))),
+    )
 verdict_go stage next sep c cs goes pieces Refused v =
     λ e tail. goes e (cs ++ tail) ∙ ap (put (place_of stage) sep c) (v e tail) ∙ put_fault (place_of stage) sep c
 verdict_go stage next sep c cs goes pieces (Reaches last) v = (
-    goes Continues cs ∙ ap (put (place_of stage) sep c) v.0 ∙ put_open (place_of stage) sep c,
-    goes Breaks cs ∙ ap (put (place_of stage) sep c) v.1 ∙ put_any_fault (place_of stage) sep c NotUtf8,
-    goes Ends cs ∙ ap (put (place_of stage) sep c) v.2 ∙ put_at_end last (place_of stage) sep c (pieces_from cs (place_of next))
-    ∙ ap (at_end last) (sym (pieces cs)))
+  goes Continues cs ∙ ap (put (place_of stage) sep c) v.0 ∙ put_open (place_of stage) sep c,
+  goes Breaks cs ∙ ap (put (place_of stage) sep c) v.1 ∙ put_any_fault (place_of stage) sep c NotUtf8,
+  goes Ends cs ∙ ap (put (place_of stage) sep c) v.2 ∙ put_at_end last (place_of stage) sep c (pieces_from cs (place_of next))
+      ∙ ap (at_end last) (sym (pieces cs)),
+)
 
 verdict_step : (stage : Stage) (step : Step) (sep : Bool) (c : ℕ) (cs : List ℕ) (after : Stage → Scan) → Agrees step sep
     → ((e : Ending) (xs : List ℕ) → from stage e (c ∷ xs) ≡ put (place_of stage) sep c (arrive step (λ next. from next e xs) xs))
@@ -264,9 +269,13 @@ verdict_step : (stage : Stage) (step : Step) (sep : Bool) (c : ℕ) (cs : List �
     → ((next : Stage) → Verdict (after next) next cs) → Verdict (scan_step step after) stage (c ∷ cs)
 verdict_step stage (Go next) sep c cs after agrees goes pieces rest =
     verdict_go stage next sep c cs goes (λ xs. pieces xs ∙ pieces_put sep c xs (place_of stage) (place_of next) agrees) (after next) (rest next)
-verdict_step stage End sep c cs after agrees goes pieces rest = (omega arith, omega arith, λ e tail.
-    goes e tail ∙ put_command (place_of stage) sep c [] tail
-    ∙ ap (λ words. Command words tail) (sym (pieces [] ∙ pieces_last sep c (place_of stage) agrees)))
+verdict_step stage End sep c cs after agrees goes pieces rest = (
+  omega arith,
+  omega arith,
+  λ e tail.
+      goes e tail ∙ put_command (place_of stage) sep c [] tail
+      ∙ ap (λ words. Command words tail) (sym (pieces [] ∙ pieces_last sep c (place_of stage) agrees)),
+)
 verdict_step stage Refuse sep c cs after agrees goes pieces rest = λ e tail. goes e (cs ++ tail) ∙ put_fault (place_of stage) sep c
 
 from_end : (stage : Stage) → (from stage Continues [] ≡ Open) × (from stage Breaks [] ≡ Fault NotUtf8) × (from stage Ends [] ≡ at_end stage (end_piece (place_of stage) []))

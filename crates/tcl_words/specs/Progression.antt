@@ -1,8 +1,9 @@
 -- How far the bytes not yet given were read, and what they hold next.
-use Rattle.std.specs.Prelude.{◌≡◌, ◌≢◌, ℕ, ◌-◌, ◌<◌, ◌≤◌, Bool, true, false, List, length, take, drop, map, IsUtf8, encode_utf8_all}
+use Rattle.std.specs.Prelude.{◌≡◌, ◌≢◌, ℕ, ◌<◌, ◌≤◌, Bool, true, false, Option, Some, None, Result, Ok, Err, List, length, take, drop, map, IsUtf8, encode_utf8_all}
 use Rattle.tcl_words.specs.ScriptGrammar.{Between}
 use Rattle.tcl_words.specs.Scanning.{scanned, pieces_from}
 use Rattle.tcl_words.specs.Unread.{IsNextCommand, HasNoCommand, HasFault}
+use Rattle.tcl_words.specs.declared.fault.ScriptFault.{ScriptFault}
 use Rattle.tcl_words.specs.declared.fault.ScriptFault.TheVariants.{Memory, NotUtf8}
 use Rattle.tcl_words.specs.declared.encoding.TextStop.{TextStop}
 use Rattle.tcl_words.specs.declared.encoding.TextStop.TheVariants.{AtEnd, WithinCharacter, Broken}
@@ -10,8 +11,6 @@ use Rattle.tcl_words.specs.declared.scanner.Stage.{Stage}
 use Rattle.tcl_words.specs.declared.scanner.Stage.TheVariants.{BeforeCommand, AfterBlank, InWord, AfterDollar, AfterColon}
 use Rattle.tcl_words.specs.declared.scanner.Scan.TheVariants.{Reaches}
 use Rattle.tcl_words.specs.declared.progress.Progress.{Progress}
-use Rattle.tcl_words.specs.declared.progress.NextCommand.{NextCommand}
-use Rattle.tcl_words.specs.declared.progress.NextCommand.TheVariants.{OfLength, Missing, Stopped}
 
 abbrev pub starting_at : ℕ → Progress
 starting_at valid = record { valid = valid; seen = 0; stage = BeforeCommand }
@@ -24,33 +23,32 @@ pub record IsProgress (rest : List ℕ) (progress : Progress) : Type 0 where
   pub reached : scanned (take progress.seen rest) BeforeCommand ≡ Reaches progress.stage
 
 -- the first so many bytes are the next command
-pub record IsCommandOf (finished : Bool) (rest : List ℕ) (valid n : ℕ) : Type 0 where
-  pub some : 0 < n
-  pub within : n ≤ valid
+pub record IsCommandOf (finished : Bool) (rest : List ℕ) (len : ℕ) : Type 0 where
+  pub some : 0 < len
+  pub within : len ≤ length rest
   pub words : List (List ℕ)
-  pub is : IsNextCommand finished (drop n rest) words (take n rest)
-  pub spelled : pieces_from (take n rest) Between ≡ map encode_utf8_all words
-  pub text : IsUtf8 (take n rest)
-  pub after : IsUtf8 (take (valid - n) (drop n rest))
+  pub is : IsNextCommand finished (drop len rest) words (take len rest)
+  pub spelled : pieces_from (take len rest) Between ≡ map encode_utf8_all words
+  pub text : IsUtf8 (take len rest)
 
 -- what the bytes hold next
-abbrev pub IsNext : Bool → List ℕ → ℕ → NextCommand → Type 0
-IsNext finished rest valid (OfLength n) = IsCommandOf finished rest valid n
-IsNext finished rest valid Missing = HasNoCommand finished rest
-IsNext finished rest valid (Stopped fault) = (fault ≢ Memory) × HasFault finished rest fault
+abbrev pub IsNext : Bool → List ℕ → Result (Option ℕ) ScriptFault → Type 0
+IsNext finished rest (Ok (Some len)) = IsCommandOf finished rest len
+IsNext finished rest (Ok None) = HasNoCommand finished rest
+IsNext finished rest (Err fault) = (fault ≢ Memory) × HasFault finished rest fault
 
--- the command that the end of the script ends, if it has begun
-abbrev pub last_command : Stage → ℕ → NextCommand
-last_command BeforeCommand n = Missing
-last_command AfterBlank n = OfLength n
-last_command InWord n = OfLength n
-last_command AfterDollar n = OfLength n
-last_command AfterColon n = OfLength n
+-- the command that the end of the script ends, if one has begun
+abbrev pub last_command : Stage → ℕ → Option ℕ
+last_command BeforeCommand len = None
+last_command AfterBlank len = Some len
+last_command InWord len = Some len
+last_command AfterDollar len = Some len
+last_command AfterColon len = Some len
 
--- what is next where the scan has passed the text
-abbrev pub at_text_end : TextStop → Bool → Stage → ℕ → NextCommand
-at_text_end AtEnd true stage n = last_command stage n
-at_text_end AtEnd false stage n = Missing
-at_text_end WithinCharacter true stage n = Stopped NotUtf8
-at_text_end WithinCharacter false stage n = Missing
-at_text_end Broken finished stage n = Stopped NotUtf8
+-- what is next where the scan has passed the text and met no end
+abbrev pub text_end : TextStop → Bool → Stage → ℕ → Result (Option ℕ) ScriptFault
+text_end AtEnd true stage len = Ok (last_command stage len)
+text_end AtEnd false stage len = Ok None
+text_end WithinCharacter true stage len = Err NotUtf8
+text_end WithinCharacter false stage len = Ok None
+text_end Broken finished stage len = Err NotUtf8

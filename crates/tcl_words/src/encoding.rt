@@ -32,7 +32,11 @@ pub fn text_front(bytes: &[u8]) -> TextFront
         },
         Err(error) => TextFront {
             len: error.valid_up_to(),
-            stop: if error.error_len().is_some() { TextStop::Broken } else { TextStop::WithinCharacter },
+            stop: if error.error_len().is_some() {
+                TextStop::Broken
+            } else {
+                TextStop::WithinCharacter
+            },
         },
     }
 }

@@ -2,9 +2,8 @@ ghost use Rattle.std.specs.Prelude.{◌≡◌, ◌++◌, IfOk, OnOk, IsUtf8, map
 ghost use Rattle.tcl_words.specs.Scanning.{is_separator, some_piece, pieces_from};
 ghost use Rattle.tcl_words.specs.ScriptGrammar.{Between};
 
-use std::alloc::{AllocError, Global};
-
 use crate::scanner::{is_blank, is_end};
+use std::alloc::{AllocError, Global};
 
 fn is_separator(byte: u8) -> bool
     ensures { result ≡ is_separator byte }

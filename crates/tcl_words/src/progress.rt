@@ -1,18 +1,9 @@
 ghost use Rattle.std.specs.Prelude.{◌≡◌};
-ghost use Rattle.tcl_words.specs.Progression.{IsProgress, IsNext, at_text_end, last_command, starting_at};
+ghost use Rattle.tcl_words.specs.Progression.{IsProgress, IsNext, text_end, last_command, starting_at};
 
 use crate::encoding::{TextStop, text_front};
 use crate::fault::ScriptFault;
 use crate::scanner::{Scan, Stage, scan_bytes};
-
-/// What the bytes not yet given hold next.
-pub enum NextCommand {
-    /// A command of this many bytes.
-    OfLength(usize),
-    /// No command.
-    Missing,
-    Stopped(ScriptFault),
-}
 
 /// How far the bytes not yet given were read, so that none is read twice.
 #[derive(Clone, Copy)]
@@ -36,17 +27,21 @@ impl Progress {
         }
     }
 
-    /// Reads on to the end of the next command.
-    pub fn find_command(&mut self, rest: &[u8], finished: bool) -> NextCommand
+    /// Reads on to the end of the next command, and says how many bytes it has; `None` if there is none.
+    pub fn find_command(
+        &mut self,
+        rest: &[u8],
+        finished: bool,
+    ) -> Result<Option<usize>, ScriptFault>
         requires { IsProgress rest.now self.old }
         ensures progress { IsProgress rest.now self.new }
-        ensures next { IsNext finished rest.now self.new.valid result }
+        ensures next { IsNext finished rest.now result }
     {
         let front = text_front(&rest[self.valid..]);
         self.valid += front.len;
         match scan_bytes(&rest[self.seen..self.valid], self.stage) {
-            Scan::EndsAt(len) => NextCommand::OfLength(self.seen + len),
-            Scan::Refused => NextCommand::Stopped(ScriptFault::Substitution),
+            Scan::EndsAt(len) => Ok(Some(self.seen + len)),
+            Scan::Refused => Err(ScriptFault::Substitution),
             Scan::Reaches(stage) => {
                 self.seen = self.valid;
                 self.stage = stage;
@@ -56,23 +51,36 @@ impl Progress {
     }
 }
 
-// What is next where the scan has passed the text.
-fn at_text_end(stop: TextStop, finished: bool, stage: Stage, valid: usize) -> NextCommand
-    ensures { result ≡ at_text_end stop finished stage valid }
+// What is next where the scan has passed the text and met no end.
+fn at_text_end(
+    stop: TextStop,
+    finished: bool,
+    stage: Stage,
+    len: usize,
+) -> Result<Option<usize>, ScriptFault>
+    ensures { result ≡ text_end stop finished stage len }
 {
     match stop {
-        TextStop::AtEnd => if finished { last_command(stage, valid) } else { NextCommand::Missing },
-        TextStop::WithinCharacter => if finished { NextCommand::Stopped(ScriptFault::NotUtf8) } else { NextCommand::Missing },
-        TextStop::Broken => NextCommand::Stopped(ScriptFault::NotUtf8),
+        TextStop::AtEnd => Ok(if finished {
+            last_command(stage, len)
+        } else {
+            None
+        }),
+        TextStop::WithinCharacter => if finished {
+            Err(ScriptFault::NotUtf8)
+        } else {
+            Ok(None)
+        },
+        TextStop::Broken => Err(ScriptFault::NotUtf8),
     }
 }
 
-// The command that the end of the script ends.
-fn last_command(stage: Stage, len: usize) -> NextCommand
+// The command that the end of the script ends, if one has begun.
+fn last_command(stage: Stage, len: usize) -> Option<usize>
     ensures { result ≡ last_command stage len }
 {
     match stage {
-        Stage::BeforeCommand => NextCommand::Missing,
-        _ => NextCommand::OfLength(len),
+        Stage::BeforeCommand => None,
+        _ => Some(len),
     }
 }

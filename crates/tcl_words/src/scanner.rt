@@ -17,7 +17,7 @@ pub enum Stage {
     AfterColon,
 }
 
-/// What one byte does.
+/// What one byte does: it leads to a stage, ends the command, or is the script fault `Substitution`.
 pub enum Step {
     Go(Stage),
     End,
@@ -34,12 +34,14 @@ pub enum Scan {
     Reaches(Stage),
 }
 
+/// Whether the byte ends a command.
 pub fn is_end(byte: u8) -> bool
     ensures { result ≡ is_end byte }
 {
     byte == b'\n' || byte == b';'
 }
 
+/// Whether the byte separates words.
 pub fn is_blank(byte: u8) -> bool
     ensures { result ≡ is_blank byte }
 {
@@ -72,7 +74,11 @@ fn step_inside(byte: u8) -> Step
 fn step_between(byte: u8) -> Step
     ensures { result ≡ between_step byte }
 {
-    if byte == b'{' || byte == b'"' { Step::Refuse } else { step_inside(byte) }
+    if byte == b'{' || byte == b'"' {
+        Step::Refuse
+    } else {
+        step_inside(byte)
+    }
 }
 
 fn step_command(byte: u8) -> Step
@@ -107,7 +113,11 @@ fn step_from(stage: Stage, byte: u8) -> Step
         Stage::AfterBlank => step_between(byte),
         Stage::InWord => step_inside(byte),
         Stage::AfterDollar => step_dollar(byte),
-        Stage::AfterColon => if byte == b':' { Step::Refuse } else { step_inside(byte) },
+        Stage::AfterColon => if byte == b':' {
+            Step::Refuse
+        } else {
+            step_inside(byte)
+        },
     }
 }
 

@@ -1,12 +1,12 @@
-ghost use Rattle.std.specs.Prelude.{◌≡◌, ◌≢◌, ◌<◌, List, ℕ, length, vec_len, true, false, IfOk, IfErr, OnOk, OnErr, IsSome, IsOk, IfSome, IfNone};
+ghost use Rattle.std.specs.Prelude.{◌≡◌, ◌≢◌, ◌<◌, ◌≤◌, List, ℕ, length, take, drop, IsUtf8, vec_len, true, false, IfOk, IfErr, OnOk, OnErr, IsSome, IsOk, IfSome, IfNone};
+ghost use Rattle.tcl_words.specs.Progression.{IsCommandOf};
 ghost use Rattle.tcl_words.specs.Unread.{nothing_fed, fed, TakesCommand, HasNoCommand, StopsAt, texts_of};
-
-use std::alloc::{AllocError, Global};
-use std::marker::Model;
 
 use crate::fault::ScriptFault;
 use crate::pieces::words_of;
-use crate::progress::{NextCommand, Progress};
+use crate::progress::Progress;
+use std::alloc::{AllocError, Global};
+use std::marker::Model;
 
 /// Splits a script, which comes in pieces of any length, into commands of words.
 ///
@@ -14,8 +14,11 @@ use crate::progress::{NextCommand, Progress};
 /// with them, and the script fault that was met.
 #[derive(Drop)]
 pub struct Splitter {
+    // all that was fed
     script: Vec<u8>,
+    // how many of its bytes were given as commands
     given: usize,
+    // how far the bytes after them were read
     progress: Progress,
     finished: bool,
     fault: Option<ScriptFault>,
@@ -82,23 +85,12 @@ impl Splitter {
             (self.new ≡ self.old) × (self.old.fault ≡ None) × ¬ HasNoCommand self.old.finished self.old.rest }
         ensures again { IfSome self.old.fault (λ fault. result ≡ Err fault) }
     {
-        if let Some(fault) = self.fault {
-            return Err(fault);
-        }
-        let rest = &self.script[self.given..];
-        match self.progress.find_command(rest, self.finished) {
-            NextCommand::OfLength(len) => {
-                let words = words_of(*self.script.allocator(), &rest[..len])?;
-                self.given += len;
-                self.progress = Progress::starting(self.progress.valid - len);
-                Ok(Some(words))
-            }
-            NextCommand::Missing => Ok(None),
-            NextCommand::Stopped(fault) => {
-                self.fault = Some(fault);
-                Err(fault)
-            }
-        }
+        let Some(len) = self.find_command()? else {
+            return Ok(None);
+        };
+        let words = words_of(*self.script.allocator(), &self.rest()[..len])?;
+        self.pass(len);
+        Ok(Some(words))
     }
 
     /// Drops the command that `next_command` would take and answers true, or answers false where none is left, or
@@ -111,21 +103,47 @@ impl Splitter {
         ensures fault { IfErr result (λ fault. (fault ≢ ScriptFault.Memory) × StopsAt self.old fault self.new) }
         ensures again { IfSome self.old.fault (λ fault. result ≡ Err fault) }
     {
+        let Some(len) = self.find_command()? else {
+            return Ok(false);
+        };
+        self.pass(len);
+        Ok(true)
+    }
+
+    // The bytes that aren't given as commands yet.
+    fn rest(&self) -> &[u8]
+        ensures { result.now ≡ self.now.rest }
+    {
+        &self.script[self.given..]
+    }
+
+    // How many bytes the next command has, if there is one. A fault is kept.
+    fn find_command(&mut self) -> Result<Option<usize>, ScriptFault>
+        ensures found { IfOk result (λ found. IfSome found (λ len. IsCommandOf self.old.finished self.old.rest len)) }
+        ensures none { IfOk result (λ found. IfNone found (HasNoCommand self.old.finished self.old.rest)) }
+        ensures same { OnOk result ((self.new ≡ self.old) × (self.old.fault ≡ None)) }
+        ensures fault { IfErr result (λ fault. (fault ≢ ScriptFault.Memory) × StopsAt self.old fault self.new) }
+        ensures again { IfSome self.old.fault (λ fault. result ≡ Err fault) }
+    {
         if let Some(fault) = self.fault {
             return Err(fault);
         }
-        let rest = &self.script[self.given..];
-        match self.progress.find_command(rest, self.finished) {
-            NextCommand::OfLength(len) => {
-                self.given += len;
-                self.progress = Progress::starting(self.progress.valid - len);
-                Ok(true)
-            }
-            NextCommand::Missing => Ok(false),
-            NextCommand::Stopped(fault) => {
-                self.fault = Some(fault);
-                Err(fault)
-            }
+        let found = self
+            .progress
+            .find_command(&self.script[self.given..], self.finished);
+        if let Err(fault) = found {
+            self.fault = Some(fault);
         }
+        found
+    }
+
+    // Leaves the next so many bytes behind.
+    fn pass(&mut self, len: usize)
+        requires within { len ≤ length self.old.rest }
+        requires text { IsUtf8 (take len self.old.rest) }
+        ensures { self.new ≡ record self.old { rest = drop len self.old.rest } }
+    {
+        self.given += len;
+        self.progress = Progress::starting(self.progress.valid.saturating_sub(len));
     }
 }

@@ -1,10 +1,9 @@
 ghost use Rattle.std.specs.Prelude.{◌≡◌, ◌<◌, length, true, false};
 
-use std::alloc::Global;
-use std::test::Fail;
-
 use crate::fault::ScriptFault;
 use crate::splitter::Splitter;
+use std::alloc::Global;
+use std::test::Fail;
 
 // Scripts with what `tclsh` makes of them: a bar before each word, and a line for each command.
 const SCRIPTS: [(&str, &str); 9] = [
@@ -139,7 +138,10 @@ fn skips_commands(rt: HostRuntime) -> Result<(), Fail> {
     splitter.feed(b"\ne\n")?;
     assert_eq!(rt; splitter.skip_command(), Err(ScriptFault::Substitution));
     splitter.finish();
-    assert_eq!(rt; splitter.next_command().err(), Some(ScriptFault::Substitution));
+    assert_eq!(rt;
+        splitter.next_command().err(),
+        Some(ScriptFault::Substitution)
+    );
     Ok(())
 }
 

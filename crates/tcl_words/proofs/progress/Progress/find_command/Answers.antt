@@ -1,4 +1,4 @@
-use Rattle.std.proofs.Common.{◌∙◌, ap, arith, ◌+◌}
+use Rattle.std.proofs.Common.{◌∙◌, ap, arith}
 use Rattle.std.proofs.lemmas.List.{take_rest}
 use Rattle.tcl_words.specs.Scanning.{later}
 use Rattle.tcl_words.proofs.Finding.{progress_more, progress_scan, progress_reaches, command_of, refused_of, reached_of, stops_after}
@@ -51,6 +51,6 @@ returns-in-Reaches-clause-next c =
     let rest = c.args.rest.now in
     let self = c.args.self.now in
     let p = progress_more rest _ self c.text_front-front.result.len c.requires (take_rest rest self.valid) c.text_front-front.ensures.within c.text_front-front.ensures.text in
-    rw c.at_text_end.ensures (reached_of c.text_front-front.result.stop c.args.finished rest _ c.in-Reaches.stage p.text
+    rw c.at_text_end.ensures (reached_of c.text_front-front.result.stop c.args.finished rest _ c.in-Reaches.stage p.within p.text
     (progress_scan rest _ _ p c.scan_bytes.ensures ∙ ap (later self.seen) c.in-Reaches.is)
     (stops_after rest _ self.valid c.text_front-front.result.len c.text_front-front.result.stop (take_rest rest self.valid) c.text_front-front.ensures.stop))

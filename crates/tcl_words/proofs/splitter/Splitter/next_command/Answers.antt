@@ -1,31 +1,22 @@
-use Rattle.std.proofs.Common.{◌-◌, ◌≡◌, ap, sym, ◌∙◌, refl, arith, length, subst}
-use Rattle.tcl_words.specs.Unread.{IsNextCommand}
-use Rattle.tcl_words.proofs.Splitting.{is_taken, texts_are, strings_some}
+use Rattle.std.proofs.Common.{◌∙◌, ap, take, arith}
+use Rattle.tcl_words.specs.Unread.{Unread}
+use Rattle.tcl_words.proofs.Splitting.{takes, texts_found, not_none}
 use Rattle.tcl_words.proofs.splitter.Splitter.next_command.Goals as goal
 
-pub returns-in_err-words-in-OfLength-clause-memory : goal.returns-in_err-words-in-OfLength-clause-memory
-returns-in_err-words-in-OfLength-clause-memory c =
-    let inside = c.self.inside in
-    let t = is_taken inside.finished c.deref.result.now inside.script.items inside.given c.in-OfLength.len c.find_command.new.self c.deref.ensures.value (omega arith) c.find_command.ensures.progress c.in-OfLength.ensures.next in
-    rw (← c.self.view_is) (λ e. (refl, c.in_default.is, t.left))
+pub returns-in_err-words-clause-memory : goal.returns-in_err-words-clause-memory
+returns-in_err-words-clause-memory c =
+    let k = rw c.in-Some.is at c.in_ok-len.ensures.found in
+    λ e. (c.in_ok-len.ensures.same.0, c.in_ok-len.ensures.same.1, not_none c.args.self.now.finished c.args.self.now.rest c.in-Some.len k)
 
-pub invariant_of-self-in-OfLength : goal.invariant_of-self-in-OfLength
-invariant_of-self-in-OfLength c =
-    let inside = c.self.inside in
-    let t = is_taken inside.finished c.deref.result.now inside.script.items inside.given c.in-OfLength.len c.find_command.new.self c.deref.ensures.value (omega arith) c.find_command.ensures.progress c.in-OfLength.ensures.next in
-    let within = t.within in
-    (omega (arith, ap length c.deref.ensures.value), c.self.invariant.1, rw c.starting-self-inside.ensures t.progress_is)
+pub returns-clause-command : goal.returns-clause-command
+returns-clause-command c =
+    let k = rw c.in-Some.is at c.in_ok-len.ensures.found in
+    let texts = texts_found c.args.self.now.finished c.args.self.now.rest _ c.in-Some.len c.in_ok-words.words.items k (ap (take c.in-Some.len) (c.rest.ensures ∙ ap (λ (u : Unread). u.rest) c.in_ok-len.ensures.same.0)) c.in_ok-words.ensures in
+    takes c.args.self.now c.find_command.new.self c.pass.new.self c.in-Some.len _ c.in_ok-len.ensures.same k c.pass.ensures texts.0
 
-pub returns-in_ok-words-in-OfLength-clause-command : goal.returns-in_ok-words-in-OfLength-clause-command
-returns-in_ok-words-in-OfLength-clause-command c =
-    let inside = c.self.inside in
-    let t = is_taken inside.finished c.deref.result.now inside.script.items inside.given c.in-OfLength.len c.find_command.new.self c.deref.ensures.value (omega arith) c.find_command.ensures.progress c.in-OfLength.ensures.next in
-    let texts = texts_are c.in_ok-words-in-OfLength.words.items t.words (c.in_ok-words-in-OfLength.ensures ∙ t.spelled) in
-    rw (← c.self.view_is, texts) (_, c.in_default.is, t.split, refl, t.is)
-
-pub returns-in_ok-words-in-OfLength-clause-words : goal.returns-in_ok-words-in-OfLength-clause-words
-returns-in_ok-words-in-OfLength-clause-words c =
-    let inside = c.self.inside in
-    let t = is_taken inside.finished c.deref.result.now inside.script.items inside.given c.in-OfLength.len c.find_command.new.self c.deref.ensures.value (omega arith) c.find_command.ensures.progress c.in-OfLength.ensures.next in
-    let some = strings_some c.in_ok-words-in-OfLength.words.items t.words (c.in_ok-words-in-OfLength.ensures ∙ t.spelled) t.some in
+pub returns-clause-words : goal.returns-clause-words
+returns-clause-words c =
+    let k = rw c.in-Some.is at c.in_ok-len.ensures.found in
+    let texts = texts_found c.args.self.now.finished c.args.self.now.rest _ c.in-Some.len c.in_ok-words.words.items k (ap (take c.in-Some.len) (c.rest.ensures ∙ ap (λ (u : Unread). u.rest) c.in_ok-len.ensures.same.0)) c.in_ok-words.ensures in
+    let some = texts.1 in
     omega arith
