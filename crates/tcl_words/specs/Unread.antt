@@ -1,7 +1,6 @@
 -- What a splitter has still to give.
-use Rattle.std.specs.Prelude.{◌≡◌, ◌≢◌, ℕ, Bool, true, false, List, [], ◌∷◌, ◌++◌, map, Option, Some, None, chars, string_bytes, String, refl}
+use Rattle.std.specs.Prelude.{◌≡◌, ℕ, Bool, true, false, List, [], ◌++◌, map, Option, Some, None, chars, string_bytes, String}
 use Rattle.tcl_words.specs.declared.fault.ScriptFault.{ScriptFault}
-use Rattle.tcl_words.specs.declared.fault.ScriptFault.TheVariants.{Memory}
 use Rattle.tcl_words.specs.ScriptGrammar.{IsWholeCommand, IsCommandBefore, HoldsNothing, HoldsNoWhole, HoldsFault, MeetsFault}
 
 -- the bytes that aren't given as commands yet, whether the script ends with them, and the fault that stopped it

@@ -1,3 +1,8 @@
+ghost use Rattle.std.specs.Prelude.{◌≡◌};
+ghost use Rattle.tcl_words.specs.declared.fault.ScriptFault.{ScriptFault};
+ghost use Rattle.tcl_words.specs.declared.fault.ScriptFault.TheVariants.{Memory};
+
+use std::alloc::AllocError;
 use thiserror::Error;
 
 /// Why a script can't be read further, or that memory is wanted for the words of a command.
@@ -12,4 +17,12 @@ pub enum ScriptFault {
     /// The words of a command find no memory. The script can be read on.
     #[error("out of memory")]
     Memory,
+}
+
+impl From<AllocError> for ScriptFault {
+    ghost from_gives = { λ _ fault. fault ≡ Memory };
+
+    fn from(_: AllocError) -> Self {
+        ScriptFault::Memory
+    }
 }

@@ -1,9 +1,15 @@
 //! Commands and their words out of the bytes of a script, as Tcl(n) quotes them.
 #![tactic(auto)]
 
+mod encoding;
 mod fault;
 pub mod laws;
+mod pieces;
+mod progress;
+mod scanner;
 mod splitter;
+#[cfg(test)]
+mod tests;
 
 pub use fault::ScriptFault;
 pub use splitter::Splitter;

@@ -1,10 +1,12 @@
-ghost use Rattle.std.specs.Prelude.{◌≡◌, ◌≢◌, ◌<◌, List, ℕ, length, vec_len, true, false, IfOk, IfErr, OnOk, OnErr, IsSome, IsOk, IfSome, IfNone};
+ghost use Rattle.std.specs.Prelude.{◌≡◌, ◌≢◌, ◌<◌, ◌≤◌, List, ℕ, length, take, drop, IsUtf8, vec_len, true, false, IfOk, IfErr, OnOk, OnErr, IsSome, IsOk, IfSome, IfNone};
+ghost use Rattle.tcl_words.specs.Progression.{IsCommandOf};
 ghost use Rattle.tcl_words.specs.Unread.{nothing_fed, fed, TakesCommand, HasNoCommand, StopsAt, texts_of};
 
+use crate::fault::ScriptFault;
+use crate::pieces::words_of;
+use crate::progress::Progress;
 use std::alloc::{AllocError, Global};
 use std::marker::Model;
-
-use crate::fault::ScriptFault;
 
 /// Splits a script, which comes in pieces of any length, into commands of words.
 ///
@@ -12,21 +14,27 @@ use crate::fault::ScriptFault;
 /// with them, and the script fault that was met.
 #[derive(Drop)]
 pub struct Splitter {
+    // all that was fed
     script: Vec<u8>,
+    // how many of its bytes were given as commands
     given: usize,
+    // how far the bytes after them were read
+    progress: Progress,
     finished: bool,
     fault: Option<ScriptFault>,
 }
 
 impl Model for Splitter {
-    ghost use Rattle.std.specs.Prelude.{◌≤◌, vec_len, drop};
+    ghost use Rattle.std.specs.Prelude.{◌≡◌, ◌≤◌, ◌≢◌, Some, vec_len, drop};
     ghost use Rattle.tcl_words.specs.Unread.{Unread};
+    ghost use Rattle.tcl_words.specs.Progression.{IsProgress};
+    ghost use Rattle.tcl_words.specs.declared.fault.ScriptFault.TheVariants.{Memory};
 
     ghost Value = { Unread };
 
     ghost view = { λ s. record { rest = drop s.given s.script.items; finished = s.finished; fault = s.fault } };
 
-    ghost invariant = { λ s. s.given ≤ vec_len s.script };
+    ghost invariant = { λ s. (s.given ≤ vec_len s.script) × (s.fault ≢ Some Memory) × IsProgress (drop s.given s.script.items) s.progress };
 }
 
 impl Splitter {
@@ -37,6 +45,7 @@ impl Splitter {
         Splitter {
             script: Vec::new(alloc),
             given: 0,
+            progress: Progress::starting(0),
             finished: false,
             fault: None,
         }
@@ -76,7 +85,12 @@ impl Splitter {
             (self.new ≡ self.old) × (self.old.fault ≡ None) × ¬ HasNoCommand self.old.finished self.old.rest }
         ensures again { IfSome self.old.fault (λ fault. result ≡ Err fault) }
     {
-        Err(ScriptFault::Memory)
+        let Some(len) = self.find_command()? else {
+            return Ok(None);
+        };
+        let words = words_of(*self.script.allocator(), &self.rest()[..len])?;
+        self.pass(len);
+        Ok(Some(words))
     }
 
     /// Drops the command that `next_command` would take and answers true, or answers false where none is left, or
@@ -89,6 +103,47 @@ impl Splitter {
         ensures fault { IfErr result (λ fault. (fault ≢ ScriptFault.Memory) × StopsAt self.old fault self.new) }
         ensures again { IfSome self.old.fault (λ fault. result ≡ Err fault) }
     {
-        Ok(false)
+        let Some(len) = self.find_command()? else {
+            return Ok(false);
+        };
+        self.pass(len);
+        Ok(true)
+    }
+
+    // The bytes that aren't given as commands yet.
+    fn rest(&self) -> &[u8]
+        ensures { result.now ≡ self.now.rest }
+    {
+        &self.script[self.given..]
+    }
+
+    // How many bytes the next command has, if there is one. A fault is kept.
+    fn find_command(&mut self) -> Result<Option<usize>, ScriptFault>
+        ensures found { IfOk result (λ found. IfSome found (λ len. IsCommandOf self.old.finished self.old.rest len)) }
+        ensures none { IfOk result (λ found. IfNone found (HasNoCommand self.old.finished self.old.rest)) }
+        ensures same { OnOk result ((self.new ≡ self.old) × (self.old.fault ≡ None)) }
+        ensures fault { IfErr result (λ fault. (fault ≢ ScriptFault.Memory) × StopsAt self.old fault self.new) }
+        ensures again { IfSome self.old.fault (λ fault. result ≡ Err fault) }
+    {
+        if let Some(fault) = self.fault {
+            return Err(fault);
+        }
+        let found = self
+            .progress
+            .find_command(&self.script[self.given..], self.finished);
+        if let Err(fault) = found {
+            self.fault = Some(fault);
+        }
+        found
+    }
+
+    // Leaves the next so many bytes behind.
+    fn pass(&mut self, len: usize)
+        requires within { len ≤ length self.old.rest }
+        requires text { IsUtf8 (take len self.old.rest) }
+        ensures { self.new ≡ record self.old { rest = drop len self.old.rest } }
+    {
+        self.given += len;
+        self.progress = Progress::starting(self.progress.valid.saturating_sub(len));
     }
 }

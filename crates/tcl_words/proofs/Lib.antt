@@ -1,0 +1,7 @@
+pub mod Stages
+pub mod Spelling
+pub mod Readings
+pub mod Broken
+pub mod Scans
+pub mod Finding
+pub mod Splitting

@@ -1,0 +1,54 @@
+-- How far the bytes not yet given were read, and what they hold next.
+use Rattle.std.specs.Prelude.{◌≡◌, ◌≢◌, ℕ, ◌<◌, ◌≤◌, Bool, true, false, Option, Some, None, Result, Ok, Err, List, length, take, drop, map, IsUtf8, encode_utf8_all}
+use Rattle.tcl_words.specs.ScriptGrammar.{Between}
+use Rattle.tcl_words.specs.Scanning.{scanned, pieces_from}
+use Rattle.tcl_words.specs.Unread.{IsNextCommand, HasNoCommand, HasFault}
+use Rattle.tcl_words.specs.declared.fault.ScriptFault.{ScriptFault}
+use Rattle.tcl_words.specs.declared.fault.ScriptFault.TheVariants.{Memory, NotUtf8}
+use Rattle.tcl_words.specs.declared.encoding.TextStop.{TextStop}
+use Rattle.tcl_words.specs.declared.encoding.TextStop.TheVariants.{AtEnd, WithinCharacter, Broken}
+use Rattle.tcl_words.specs.declared.scanner.Stage.{Stage}
+use Rattle.tcl_words.specs.declared.scanner.Stage.TheVariants.{BeforeCommand, AfterBlank, InWord, AfterDollar, AfterColon}
+use Rattle.tcl_words.specs.declared.scanner.Scan.TheVariants.{Reaches}
+use Rattle.tcl_words.specs.declared.progress.Progress.{Progress}
+
+abbrev pub starting_at : ℕ → Progress
+starting_at valid = record { valid = valid; seen = 0; stage = BeforeCommand }
+
+-- the bytes were read so far
+pub record IsProgress (rest : List ℕ) (progress : Progress) : Type 0 where
+  pub order : progress.seen ≤ progress.valid
+  pub within : progress.valid ≤ length rest
+  pub text : IsUtf8 (take progress.valid rest)
+  pub reached : scanned (take progress.seen rest) BeforeCommand ≡ Reaches progress.stage
+
+-- the first so many bytes are the next command
+pub record IsCommandOf (finished : Bool) (rest : List ℕ) (len : ℕ) : Type 0 where
+  pub some : 0 < len
+  pub within : len ≤ length rest
+  pub words : List (List ℕ)
+  pub is : IsNextCommand finished (drop len rest) words (take len rest)
+  pub spelled : pieces_from (take len rest) Between ≡ map encode_utf8_all words
+  pub text : IsUtf8 (take len rest)
+
+-- what the bytes hold next
+abbrev pub IsNext : Bool → List ℕ → Result (Option ℕ) ScriptFault → Type 0
+IsNext finished rest (Ok (Some len)) = IsCommandOf finished rest len
+IsNext finished rest (Ok None) = HasNoCommand finished rest
+IsNext finished rest (Err fault) = (fault ≢ Memory) × HasFault finished rest fault
+
+-- the command that the end of the script ends, if one has begun
+abbrev pub last_command : Stage → ℕ → Option ℕ
+last_command BeforeCommand len = None
+last_command AfterBlank len = Some len
+last_command InWord len = Some len
+last_command AfterDollar len = Some len
+last_command AfterColon len = Some len
+
+-- what is next where the scan has passed the text and met no end
+abbrev pub text_end : TextStop → Bool → Stage → ℕ → Result (Option ℕ) ScriptFault
+text_end AtEnd true stage len = Ok (last_command stage len)
+text_end AtEnd false stage len = Ok None
+text_end WithinCharacter true stage len = Err NotUtf8
+text_end WithinCharacter false stage len = Ok None
+text_end Broken finished stage len = Err NotUtf8
