@@ -1,0 +1,39 @@
+# make run     the program on standard input, or on SCRIPT=file; with no script given, on examples/first.tcl
+# make test    the gate, and then the checks that the gate can't do; the last line counts them
+# make fuzz    the program against the plain model on random scripts: SEEDS=300 of them, FIRST=0 on
+# make bench   the program's time per command as the text grows, into docs/bench.txt
+
+PROGRAM = crates/tktext/out/tktext
+SHIM = out/refuse.so
+SEEDS ?= 300
+FIRST ?= 0
+SOURCES = crates.txt $(shell find crates -name '*.rt' -o -name '*.antt' | grep -v /out/)
+
+run: $(PROGRAM)
+	@sh tools/run.sh $(PROGRAM) examples/first.tcl $(SCRIPT)
+
+# The program, proved and built; `rt run` proves the crates below it first.
+$(PROGRAM): $(SOURCES)
+	cd crates/tktext && rt run < /dev/null > /dev/null
+	@touch $@
+
+$(SHIM): tools/refuse.c
+	mkdir -p out
+	cc -shared -fPIC -O1 -o $@ $<
+
+# `rt ci` puts back an out/ that was there before it, so an old program is taken away first.
+test: $(SHIM)
+	rm -rf crates/tktext/out
+	python3 tools/total.py 'rt ci' \
+	  'python3 tools/selftest.py' \
+	  'python3 tools/fuzz.py --program $(PROGRAM) --seeds 300' \
+	  'python3 tools/refusals.py --program $(PROGRAM) --shim $(SHIM)' \
+	  'python3 tools/idle.py --program $(PROGRAM)'
+
+fuzz: $(PROGRAM)
+	python3 tools/fuzz.py --program $(PROGRAM) --seeds $(SEEDS) --first $(FIRST)
+
+bench: $(PROGRAM)
+	python3 tools/bench.py --program $(PROGRAM) --out docs/bench.txt
+
+.PHONY: run test fuzz bench

@@ -1,0 +1,52 @@
+use std::alloc::{AllocError, Global};
+use std::process::Abort;
+
+use script_cli::{Watched, outcome, run};
+use text_model::{Limits, PlainStore, TextStore};
+
+use crate::readers::Pieces;
+use crate::table::{ROWS, Row};
+
+/// Runs a row with a reader that hands out so many bytes at a time.
+fn check_row<S: TextStore>(
+    rt: &impl Abort,
+    alloc: Global,
+    row: &Row,
+    most: usize,
+) -> Result<(), AllocError> {
+    let numbers = row.numbers;
+    let limits = Limits::new(
+        numbers.chars,
+        numbers.tags,
+        numbers.marks,
+        numbers.widgets,
+        numbers.reads,
+    )
+    .expect(rt, "the numbers of a row are limits");
+    let mut source = Watched::new(Pieces {
+        left: row.script,
+        most,
+    });
+    let mut sink = Watched::new(Vec::new(alloc));
+    let ended = run::<S, _, _>(alloc, &mut source, &mut sink, limits);
+    let (status, _words) = outcome(&ended);
+    let name = row.name;
+    assert_eq!(rt; sink.get_ref().as_slice(), row.output.as_bytes(), "{name}, {most} bytes a read");
+    assert_eq!(rt; status, row.status, "{name}, {most} bytes a read");
+    Ok(())
+}
+
+/// Runs each row with reads of several lengths.
+fn check_rows<S: TextStore>(rt: &impl Abort, alloc: Global) -> Result<(), AllocError> {
+    for row in &ROWS {
+        for most in [1, 3, 4096] {
+            check_row::<S>(rt, alloc, row, most)?;
+        }
+    }
+    Ok(())
+}
+
+#[test]
+fn rows_on_the_plain_store(rt: HostRuntime) -> Result<(), AllocError> {
+    check_rows::<PlainStore>(&rt, rt.alloc())
+}

@@ -1,0 +1,32 @@
+//! `tktext` reads a script of text widget commands on standard input, and prints the answer or the fault of each.
+#![tactic(auto)]
+
+use std::process::ExitCode;
+
+use script_cli::{Watched, outcome, run};
+use text_model::{Limits, PlainStore};
+
+/// How many reads of up to 4,096 bytes a script may take.
+const MOST_READS: u32 = 1_073_741_824;
+
+fn limits() -> Limits {
+    Limits::new(
+        Limits::MOST_CHARS,
+        Limits::MOST_TAGS,
+        Limits::MOST_MARKS,
+        Limits::MOST_WIDGETS,
+        MOST_READS,
+    )
+    .unwrap()
+}
+
+fn main(rt: HostRuntime) -> ExitCode {
+    let mut source = Watched::new(rt.stdin());
+    let mut sink = Watched::new(rt.stdout());
+    let ended = run::<PlainStore, _, _>(rt.alloc(), &mut source, &mut sink, limits());
+    let (status, words) = outcome(&ended);
+    if !words.is_empty() {
+        let _ = rt.eprintln(words);
+    }
+    ExitCode::from(status)
+}
