@@ -1,6 +1,8 @@
 //! `tktext` reads a script of text widget commands on standard input, and prints the answer or the fault of each.
 #![tactic(auto)]
 
+ghost use Rattle.std.specs.Prelude.{◌≡◌};
+
 use std::process::ExitCode;
 
 use script_cli::{Watched, outcome, run};
@@ -9,7 +11,10 @@ use text_model::{Limits, PlainStore};
 /// How many reads of up to 4,096 bytes a script may take.
 const MOST_READS: u32 = 1_073_741_824;
 
-fn limits() -> Limits {
+/// The program's limits, each number the greatest.
+fn limits() -> Limits
+    ensures { result ≡ record { chars = 16777216; tags = 192; marks = 4096; widgets = 64; reads = 1073741824 } }
+{
     Limits::new(
         Limits::MOST_CHARS,
         Limits::MOST_TAGS,
