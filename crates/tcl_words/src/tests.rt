@@ -52,18 +52,22 @@ const FAULTY: [(&[u8], &str, ScriptFault); 30] = [
     (b"\xc3", "", ScriptFault::NotUtf8),
 ];
 
-// Writes each command that can be given.
+// Writes each command that can be given, up to a script fault.
 fn write_commands(splitter: &mut Splitter, text: &mut String) -> Result<(), Fail>
     ensures { splitter.new.finished ≡ splitter.old.finished }
 {
-    while let Ok(Some(words)) = splitter.next_command() {
+    loop {
+        let words = match splitter.next_command() {
+            Ok(Some(words)) => words,
+            Err(ScriptFault::Memory) => return Err(Fail::from(ScriptFault::Memory)),
+            _ => return Ok(()),
+        };
         for word in &words {
             text.push('|')?;
             text.push_str(word.as_str())?;
         }
         text.push('\n')?;
     }
-    Ok(())
 }
 
 // Splits the script in pieces of so many bytes.
@@ -153,5 +157,18 @@ fn skips_the_last_command(rt: HostRuntime) -> Result<(), Fail> {
     splitter.finish();
     assert!(rt; splitter.skip_command()?);
     assert!(rt; !splitter.skip_command()?);
+    Ok(())
+}
+
+#[test]
+fn prints_faults(rt: HostRuntime) -> Result<(), Fail> {
+    let faults = [
+        (ScriptFault::Substitution, "substitution isn't supported"),
+        (ScriptFault::NotUtf8, "script isn't UTF-8"),
+        (ScriptFault::Memory, "out of memory"),
+    ];
+    for (fault, text) in faults {
+        assert_eq!(rt; format!(in rt.alloc(); "{fault}")?.as_str(), text);
+    }
     Ok(())
 }
