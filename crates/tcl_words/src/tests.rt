@@ -129,6 +129,22 @@ fn waits_for_the_end(rt: HostRuntime) -> Result<(), Fail> {
 }
 
 #[test]
+fn meets_faults_before_the_end(rt: HostRuntime) -> Result<(), Fail> {
+    let scripts = [
+        (b"a \xff".as_slice(), ScriptFault::NotUtf8),
+        (b"a\xe6A".as_slice(), ScriptFault::NotUtf8),
+        (b"a$:\xe6$".as_slice(), ScriptFault::NotUtf8),
+        (b"a b[".as_slice(), ScriptFault::Substitution),
+    ];
+    for (script, met) in scripts {
+        let mut splitter = Splitter::new(rt.alloc());
+        splitter.feed(script)?;
+        assert_eq!(rt; splitter.next_command().err(), Some(met), "{script:?}");
+    }
+    Ok(())
+}
+
+#[test]
 fn skips_commands(rt: HostRuntime) -> Result<(), Fail> {
     let mut splitter = Splitter::new(rt.alloc());
     let mut text = String::new(rt.alloc());
