@@ -6,7 +6,7 @@ use lib.Utf8.{scalar, encode}
 use Rattle.std.proofs.lemmas.Bool.Decides.{nat_tests, leb_tells}
 use Rattle.std.proofs.lemmas.Str.{encode_ascii, encode_same, length-encode, len_utf8_bounds}
 use Rattle.tcl_words.specs.ScriptGrammar.{Ending, Ends, Breaks, Continues, First, Command, Nothing, Fault, Open, Place, Between, Inside, onto_word, words_from, first}
-use Rattle.tcl_words.specs.Scanning.{is_separator, inside_step, step_of}
+use Rattle.tcl_words.specs.Scanning.{is_separator, step_of}
 use Rattle.tcl_words.specs.declared.fault.ScriptFault.{ScriptFault}
 use Rattle.tcl_words.specs.declared.fault.ScriptFault.TheVariants.{Substitution}
 use Rattle.tcl_words.specs.declared.scanner.Stage.{Stage}
@@ -29,12 +29,6 @@ scalars_split (c ∷ xs) ys h =
     let here = both (scalar c) (all_scalars (xs ++ ys)) h in
     let rest = scalars_split xs ys here.1 in
     (both_true (scalar c) (all_scalars xs) here.0 rest.0, rest.1)
-
-pub scalars-append : (xs ys : List ℕ) → all_scalars xs ≡ true → all_scalars ys ≡ true → all_scalars (xs ++ ys) ≡ true
-scalars-append [] ys p q = q
-scalars-append (c ∷ xs) ys p q =
-    let here = both (scalar c) (all_scalars xs) p in
-    both_true (scalar c) (all_scalars (xs ++ ys)) here.0 (scalars-append xs ys here.1 q)
 
 -- no character is spelled by nothing
 pub encode_some : (c : ℕ) (rest : List ℕ) → 0 < length (encode_utf8 c ++ rest)
@@ -122,9 +116,6 @@ encode_high c h =
 
 high_separator : (c : ℕ) → 128 ≤ c → is_separator c ≡ false
 high_separator c h = grind (arith, nat_tests)
-
-high_inside : (c : ℕ) → 128 ≤ c → inside_step c ≡ Go InWord
-high_inside c h = grind (arith, nat_tests)
 
 high_step : (stage : Stage) (c : ℕ) → 128 ≤ c → step_of stage c ≡ Go InWord
 high_step BeforeCommand c h = grind (arith, nat_tests)

@@ -52,18 +52,22 @@ const FAULTY: [(&[u8], &str, ScriptFault); 30] = [
     (b"\xc3", "", ScriptFault::NotUtf8),
 ];
 
-// Writes each command that can be given.
+// Writes each command that can be given, up to a script fault.
 fn write_commands(splitter: &mut Splitter, text: &mut String) -> Result<(), Fail>
     ensures { splitter.new.finished ≡ splitter.old.finished }
 {
-    while let Ok(Some(words)) = splitter.next_command() {
+    loop {
+        let words = match splitter.next_command() {
+            Ok(Some(words)) => words,
+            Err(ScriptFault::Memory) => return Err(Fail::from(ScriptFault::Memory)),
+            _ => return Ok(()),
+        };
         for word in &words {
             text.push('|')?;
             text.push_str(word.as_str())?;
         }
         text.push('\n')?;
     }
-    Ok(())
 }
 
 // Splits the script in pieces of so many bytes.
@@ -125,6 +129,22 @@ fn waits_for_the_end(rt: HostRuntime) -> Result<(), Fail> {
 }
 
 #[test]
+fn meets_faults_before_the_end(rt: HostRuntime) -> Result<(), Fail> {
+    let scripts = [
+        (b"a \xff".as_slice(), ScriptFault::NotUtf8),
+        (b"a\xe6A".as_slice(), ScriptFault::NotUtf8),
+        (b"a$:\xe6$".as_slice(), ScriptFault::NotUtf8),
+        (b"a b[".as_slice(), ScriptFault::Substitution),
+    ];
+    for (script, met) in scripts {
+        let mut splitter = Splitter::new(rt.alloc());
+        splitter.feed(script)?;
+        assert_eq!(rt; splitter.next_command().err(), Some(met), "{script:?}");
+    }
+    Ok(())
+}
+
+#[test]
 fn skips_commands(rt: HostRuntime) -> Result<(), Fail> {
     let mut splitter = Splitter::new(rt.alloc());
     let mut text = String::new(rt.alloc());
@@ -153,5 +173,18 @@ fn skips_the_last_command(rt: HostRuntime) -> Result<(), Fail> {
     splitter.finish();
     assert!(rt; splitter.skip_command()?);
     assert!(rt; !splitter.skip_command()?);
+    Ok(())
+}
+
+#[test]
+fn prints_faults(rt: HostRuntime) -> Result<(), Fail> {
+    let faults = [
+        (ScriptFault::Substitution, "substitution isn't supported"),
+        (ScriptFault::NotUtf8, "script isn't UTF-8"),
+        (ScriptFault::Memory, "out of memory"),
+    ];
+    for (fault, text) in faults {
+        assert_eq!(rt; format!(in rt.alloc(); "{fault}")?.as_str(), text);
+    }
     Ok(())
 }
