@@ -2,9 +2,12 @@
 #![tactic(auto)]
 
 mod devices;
+mod read_count;
 mod running;
 mod summary;
+mod watched;
 
 pub use devices::{ByteSink, ByteSource};
 pub use running::run;
 pub use summary::{RunFault, RunSummary, outcome};
+pub use watched::Watched;
