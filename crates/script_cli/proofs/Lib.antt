@@ -1,1 +1,4 @@
+pub mod PieceLaws
+pub mod SendingLaws
+pub mod TurnLaws
 pub mod WalkSteps

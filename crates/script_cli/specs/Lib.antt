@@ -1,4 +1,7 @@
 pub mod Devices
 pub mod Pieces
+pub mod Reading
 pub mod Run
+pub mod Sending
 pub mod Status
+pub mod Turns

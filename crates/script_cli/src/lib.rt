@@ -2,9 +2,12 @@
 #![tactic(auto)]
 
 mod devices;
+mod output;
+mod pieces;
 mod read_count;
 mod running;
 mod summary;
+mod turns;
 mod watched;
 
 pub use devices::{ByteSink, ByteSource};
