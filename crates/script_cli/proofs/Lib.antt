@@ -1,4 +1,5 @@
 pub mod PieceLaws
+pub mod ReadingLaws
 pub mod SendingLaws
 pub mod TurnLaws
 pub mod WalkSteps

@@ -10,7 +10,10 @@ use Rattle.peers.specs.declared.answers.Fault.TheVariants as fault
 use Rattle.peers.specs.World.{World}
 use Rattle.peers.specs.Step.{step}
 use Rattle.script_cli.specs.Pieces.{piece}
-use Rattle.script_cli.specs.Turns.{Replies, MeetsCommand}
+use Rattle.script_cli.specs.Turns.{Replies, MeetsCommand, Meets, goes_on, is_refusal}
+use Rattle.script_cli.specs.declared.turns.Met.{Met}
+use Rattle.script_cli.specs.declared.turns.Met.TheVariants as met
+use Rattle.std.proofs.lemmas.Bool.{false≢true}
 
 -- a result that isn't want of memory is the step's
 by_step : (world new : World) (words : List (List ℕ)) (reply : Result Answer Fault)
@@ -37,3 +40,11 @@ meets world after old new words refused text finished shorter takes reply =
 pub meets_fault : (old new : Unread) (fault : ScriptFault) → old.finished ≡ true → old.fault ≡ None → StopsAt old fault new → MeetsFault old.rest fault
 meets_fault old new fault finished none stops =
     let is = stops.0 in let at_none = rw none at is in rw finished at at_none
+
+-- a command that was met goes on, and is refused or not
+pub meets_command : (met : Met) (world after : World) (rest left text : List ℕ) → goes_on met ≡ true
+    → MeetsCommand world rest after left (is_refusal met) text → Meets world rest after left met text
+meets_command met.Answer world after rest left text on meets = meets
+meets_command met.Refusal world after rest left text on meets = meets
+meets_command met.Fault world after rest left text on meets = absurd (false≢true on)
+meets_command met.End world after rest left text on meets = absurd (false≢true on)

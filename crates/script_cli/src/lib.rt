@@ -5,6 +5,7 @@ mod devices;
 mod output;
 mod pieces;
 mod read_count;
+mod reading;
 mod running;
 mod summary;
 mod turns;

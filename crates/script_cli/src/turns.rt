@@ -52,8 +52,10 @@ pub fn take_turn<S: TextStore, W: ByteSink>(world: &mut World<S>, splitter: &mut
             met: Met::End,
             is_written: true,
         },
-        Err(ScriptFault::Memory) => refuse(splitter, output, sink),
-        Err(fault) => stop(fault, output, sink),
+        Err(fault) => match fault {
+            ScriptFault::Memory => refuse(splitter, output, sink),
+            fault => stop(fault, output, sink),
+        },
     }
 }
 

@@ -7,4 +7,4 @@ returns-in-Some c =
     rw c.as_str.ensures.value (word_characters c.args.words.now c.args.position c.in-Some.word.now found.0 (found.1 c.in-Some.word.now))
 
 pub returns-in-None : goal.returns-in-None
-returns-in-None c = let l = c.in-None.ensures.lookup in ?
+returns-in-None c = no_word c.args.words.now c.args.position c.in-None.ensures.lookup.3
