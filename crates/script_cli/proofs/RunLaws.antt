@@ -1,5 +1,5 @@
 -- A run so far, and whatever the rest of it prints.
-use Rattle.std.proofs.Common.{◌≡◌, ℕ, suc, ◌+◌, ◌≤◌, Bool, true, false, not, cond, List, [], ◌∷◌, ◌++◌, length, Option, None, Some, ◌⊎◌, inl, inr, refl, sym, ap, ◌∙◌, append_assoc, arith, encode_utf8_all}
+use Rattle.std.proofs.Common.{◌≡◌, ℕ, suc, ◌+◌, ◌<◌, take, Bool, true, false, not, cond, List, [], ◌∷◌, ◌++◌, length, Option, None, Some, ◌⊎◌, inl, inr, refl, sym, ap, ◌∙◌, append_assoc, arith, encode_utf8_all}
 use Rattle.std.specs.Prelude.{is_some, is_err, is_ok, Result, Ok, Err, IsErrOf, IfOk, OnErr, unwrap_or, IfSome}
 use Rattle.std.specs.Result.{result_err}
 use Rattle.std.proofs.lemmas.Option.{same_Some}
@@ -17,8 +17,10 @@ use Rattle.script_cli.specs.declared.summary.RunFault.{RunFault}
 use Rattle.script_cli.specs.declared.turns.Met.{Met}
 use Rattle.script_cli.specs.declared.turns.Met.TheVariants as kinds
 use Rattle.script_cli.specs.Devices.{Appends, Consumes}
-use Rattle.script_cli.specs.Pieces.{piece}
+use Rattle.script_cli.specs.Pieces.{piece, error_line}
 use Rattle.script_cli.specs.Run.{no_documents, last_piece, run_output, refused_count, RunsTo, WritesRun, WritesFront, WritesFrontOfRead}
+use Rattle.peers.specs.Words.{literal}
+use Rattle.script_cli.specs.PlainRun.{IsPlain, IsPlainUpToRefusal}
 use Rattle.script_cli.specs.Sending.{Sends, Gathers}
 use Rattle.script_cli.specs.Turns.{Replies, MeetsCommand, Meets}
 use Rattle.script_cli.proofs.SendingLaws.{Appends-nil, Appends-then}
@@ -278,3 +280,32 @@ pub turned : (world after : World) (rest left : List ℕ) (now new : Option (Lis
     → Turned world after rest left now new waits left_waiting kind (not is_cut)
 turned world after rest left now new waits left_waiting found kind done is_cut is cut turn =
     let is_done = from_not done is_cut cut in rw (is, is_done) at turn
+
+one_past : (k n : ℕ) → k < n → suc k < suc n
+one_past k n below = omega (arith, below)
+
+none_past : (n : ℕ) → 0 < suc n
+none_past n = omega arith
+
+-- after a command that is answered as in the plain run
+plain_more : (world : World) (words : List (List ℕ)) (commands : List (List (List ℕ))) (fault : Option ScriptFault) (out rest : List ℕ) (refused others : ℕ)
+    → out ≡ piece words (step world words).reply ++ rest → refused ≡ cond (is_err (step world words).reply) 1 0 + others
+    → IsPlain (step world words).world commands fault rest others ⊎ IsPlainUpToRefusal (step world words).world commands rest
+    → IsPlain world (words ∷ commands) fault out refused ⊎ IsPlainUpToRefusal world (words ∷ commands) out
+plain_more world words commands fault out rest refused others is count (inl plain) =
+    inl (is ∙ ap (λ more. piece words (step world words).reply ++ more) plain.0,
+      count ∙ ap (λ n. cond (is_err (step world words).reply) 1 0 + n) plain.1)
+plain_more world words commands fault out rest refused others is count (inr cut) =
+    let text = piece words (step world words).reply in
+    let before = run_output (step world words).world (take cut.0 commands) None in
+    inr (suc cut.0, cut.1, one_past cut.0 (length commands) cut.2,
+      is ∙ ap (λ more. text ++ more) cut.3 ∙ sym (append_assoc text before (error_line (literal "out of memory") ++ cut.1)))
+
+pub plain_up_to_refusal : (commands : List (List (List ℕ))) (world : World) (fault : Option ScriptFault) (out : List ℕ) (refused : ℕ)
+    → RunsTo world commands fault out refused → IsPlain world commands fault out refused ⊎ IsPlainUpToRefusal world commands out
+plain_up_to_refusal [] world fault out refused runs = inl runs
+plain_up_to_refusal (words ∷ commands) world fault out refused (inl by_step) =
+    plain_more world words commands fault out by_step.0 refused by_step.1 by_step.2 by_step.3
+      (plain_up_to_refusal commands (step world words).world fault by_step.0 by_step.1 by_step.4)
+plain_up_to_refusal (words ∷ commands) world fault out refused (inr by_memory) =
+    inr (0, by_memory.0, none_past (length commands), by_memory.2)

@@ -1,5 +1,6 @@
 pub mod Devices
 pub mod Pieces
+pub mod PlainRun
 pub mod Reading
 pub mod Run
 pub mod Sending

@@ -2,6 +2,7 @@
 #![tactic(auto)]
 
 mod devices;
+pub mod laws;
 mod output;
 mod pieces;
 mod read_count;
