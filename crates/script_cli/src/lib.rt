@@ -9,6 +9,8 @@ mod read_count;
 mod reading;
 mod running;
 mod summary;
+#[cfg(test)]
+mod tests;
 mod turns;
 mod watched;
 

@@ -47,7 +47,15 @@ impl<T: Read> ByteSource for Watched<T> {
         self.failed
     }
 
-    fn read(&mut self, buffer: &mut [u8]) -> usize {
+    fn read(&mut self, buffer: &mut [u8]) -> usize
+        ensures bound { result ≤ length buffer.new }
+        ensures bytes { self.old.failed ≡ false →
+            Reads (T.remaining self.old.inner) (T.remaining self.new.inner) result buffer.new self.new.failed }
+        ensures flag { self.old.failed ≡ true → self.new.failed ≡ true }
+        ensures counted { self.new.reads.count ≡ self.old.reads.count + 1 }
+        // After a failure the reader isn't called.
+        ensures stopped { self.old.failed ≡ true → (result ≡ 0) × (self.new.inner ≡ self.old.inner) }
+    {
         self.reads.step();
         if self.failed {
             return 0;
@@ -71,7 +79,15 @@ impl<T: Write> ByteSink for Watched<T> {
         self.failed
     }
 
-    fn write(&mut self, bytes: &[u8]) -> usize {
+    fn write(&mut self, bytes: &[u8]) -> usize
+        ensures bound { result ≤ length bytes.now }
+        ensures bytes { self.old.failed ≡ false →
+            Appends (T.contents self.old.inner) (T.contents self.new.inner) (take result bytes.now) }
+        ensures some { self.new.failed ≡ false → 0 < length bytes.now → 0 < result }
+        ensures flag { self.old.failed ≡ true → self.new.failed ≡ true }
+        // After a failure the writer isn't called.
+        ensures stopped { self.old.failed ≡ true → (result ≡ 0) × (self.new.inner ≡ self.old.inner) }
+    {
         if self.failed {
             return 0;
         }
