@@ -2,9 +2,19 @@
 #![tactic(auto)]
 
 mod devices;
+pub mod laws;
+mod output;
+mod pieces;
+mod read_count;
+mod reading;
 mod running;
 mod summary;
+#[cfg(test)]
+mod tests;
+mod turns;
+mod watched;
 
 pub use devices::{ByteSink, ByteSource};
 pub use running::run;
 pub use summary::{RunFault, RunSummary, outcome};
+pub use watched::Watched;

@@ -1,0 +1,91 @@
+-- The characters of what is printed.
+use Rattle.std.proofs.Common.{◌≡◌, ℕ, ◌<◌, ◌≤◌, arith, List, [], ◌∷◌, ◌++◌, length, get_or, String, string_bytes, encode_utf8_all, codes, refl, sym, ap, ◌∙◌, append_assoc}
+use Rattle.std.specs.Str.{chars, IsUtf8}
+use Rattle.std.proofs.Math.ListN.{get_or-eq_default}
+use Rattle.std.proofs.lemmas.Grind.{common_steps}
+use Rattle.std.proofs.lemmas.List.{append-nil, get_or-map}
+use Rattle.std.proofs.lemmas.Str.{encodes-append, encodes-chars}
+use Rattle.tcl_words.specs.Unread.{texts_of}
+use Rattle.peers.specs.Words.{literal}
+use Rattle.script_cli.specs.Pieces.{quoted, error_line, word_at}
+
+-- the bytes of three texts
+pub three_texts : (before word after : List ℕ) → IsUtf8 before → IsUtf8 word → IsUtf8 after
+    → before ++ (word ++ after) ≡ encode_utf8_all (chars before ++ (chars word ++ chars after))
+three_texts before word after first second third =
+    rw (encodes-append (chars before) (chars word ++ chars after), encodes-append (chars word) (chars after),
+      encodes-chars before first, encodes-chars word second, encodes-chars after third) refl
+
+pub one_text : (text : List ℕ) → IsUtf8 text → text ++ ([] ++ []) ≡ encode_utf8_all (chars text)
+one_text text is = append-nil text ∙ sym (encodes-chars text is)
+
+pub word_characters : {Z : Type 0} (words : List (String Z)) (position : ℕ) (word : String Z) → position < length words
+    → word ≡ get_or words position word → chars (string_bytes word) ≡ word_at (texts_of words) position
+word_characters words position word within is =
+    ap (λ w. chars (string_bytes w)) is ∙ sym (get_or-map (λ w. chars (string_bytes w)) words position word [] within)
+
+pub bad_index : (word : List ℕ) → chars (codes "error: bad text index \"") ++ (word ++ chars (codes "\"\n")) ≡ error_line (literal "bad text index " ++ quoted word)
+unfolding chars
+bad_index word = ap (λ text. codes "error: bad text index \"" ++ text) (sym (append_assoc word (34 ∷ []) (10 ∷ [])))
+
+pub bad_option : (word : List ℕ) → chars (codes "error: bad option \"") ++ (word ++ chars (codes "\"\n")) ≡ error_line (literal "bad option " ++ quoted word)
+unfolding chars
+bad_option word = ap (λ text. codes "error: bad option \"" ++ text) (sym (append_assoc word (34 ∷ []) (10 ∷ [])))
+
+pub bad_name : (word : List ℕ) → chars (codes "error: invalid command name \"") ++ (word ++ chars (codes "\"\n")) ≡ error_line (literal "invalid command name " ++ quoted word)
+unfolding chars
+bad_name word = ap (λ text. codes "error: invalid command name \"" ++ text) (sym (append_assoc word (34 ∷ []) (10 ∷ [])))
+
+pub window_exists : (word : List ℕ) → chars (codes "error: window name \"") ++ (word ++ chars (codes "\" already exists\n"))
+    ≡ error_line (literal "window name " ++ quoted word ++ literal " already exists")
+unfolding chars
+window_exists word =
+    ap (λ text. codes "error: window name \"" ++ text)
+      (sym (append_assoc word (34 ∷ codes " already exists") (10 ∷ []))
+        ∙ ap (λ text. text ++ 10 ∷ []) (sym (append_assoc word (34 ∷ []) (codes " already exists"))))
+
+pub wrong_arguments : chars (codes "error: wrong # args\n") ≡ error_line (literal "wrong # args")
+unfolding chars
+wrong_arguments = refl
+
+pub document_exists : chars (codes "error: a document exists\n") ≡ error_line (literal "a document exists")
+unfolding chars
+document_exists = refl
+
+pub too_many_widgets : chars (codes "error: too many widgets\n") ≡ error_line (literal "too many widgets")
+unfolding chars
+too_many_widgets = refl
+
+pub too_long : chars (codes "error: text is too long\n") ≡ error_line (literal "text is too long")
+unfolding chars
+too_long = refl
+
+pub no_memory : chars (codes "error: out of memory\n") ≡ error_line (literal "out of memory")
+unfolding chars
+no_memory = refl
+
+pub no_substitution : chars (codes "error: substitution isn't supported\n") ≡ error_line (literal "substitution isn't supported")
+unfolding chars
+no_substitution = refl
+
+pub not_utf8 : chars (codes "error: script isn't UTF-8\n") ≡ error_line (literal "script isn't UTF-8")
+unfolding chars
+not_utf8 = refl
+
+pub flag_true : chars (codes "1") ≡ literal "1"
+flag_true = refl
+
+pub flag_false : chars (codes "0") ≡ literal "0"
+flag_false = refl
+
+pub answer_line : (text : List ℕ) → chars (codes "") ++ (text ++ chars (codes "\n")) ≡ text ++ 10 ∷ []
+unfolding chars
+answer_line text = refl
+
+pub no_characters : chars [] ≡ []
+unfolding chars
+no_characters = refl
+
+pub no_word : {Z : Type 0} (words : List (String Z)) (position : ℕ) → length words ≤ position → chars [] ≡ word_at (texts_of words) position
+unfolding chars
+no_word words position past = sym (get_or-eq_default (texts_of words) [] (grind (arith, common_steps)))

@@ -1,0 +1,50 @@
+-- What a turn of a run prints, and what it leaves.
+use Rattle.std.proofs.Common.{◌≡◌, ◌≢◌, ◌<◌, length, ℕ, Bool, true, false, List, Option, None, Some, ◌⊎◌, inl, inr, refl, sym, ap, ◌∙◌, rules}
+use Rattle.std.specs.Prelude.{Result, Ok, Err, IfErr, is_err}
+use Rattle.tcl_words.specs.ScriptGrammar.{IsCommandBefore, MeetsFault}
+use Rattle.tcl_words.specs.Unread.{Unread, TakesCommand, IsNextCommand, StopsAt, IsFaultOf}
+use Rattle.tcl_words.specs.declared.fault.ScriptFault.{ScriptFault}
+use Rattle.peers.specs.declared.answers.Answer.{Answer}
+use Rattle.peers.specs.declared.answers.Fault.{Fault}
+use Rattle.peers.specs.declared.answers.Fault.TheVariants as fault
+use Rattle.peers.specs.World.{World}
+use Rattle.peers.specs.Step.{step}
+use Rattle.script_cli.specs.Pieces.{piece}
+use Rattle.script_cli.specs.Turns.{Replies, MeetsCommand, Meets, goes_on, is_refusal}
+use Rattle.script_cli.specs.declared.turns.Met.{Met}
+use Rattle.script_cli.specs.declared.turns.Met.TheVariants as met
+use Rattle.std.proofs.lemmas.Bool.{false≢true}
+
+-- a result that isn't want of memory is the step's
+by_step : (world new : World) (words : List (List ℕ)) (reply : Result Answer Fault)
+    → reply ≡ (step world words).reply → new ≡ (step world words).world → Replies world new words (is_err reply) (piece words reply)
+by_step world new words reply same goes = inl (ap (piece words) same, ap is_err same, goes)
+
+pub replies : (world new : World) (words : List (List ℕ)) (reply : Result Answer Fault)
+    → (reply ≢ Err fault.Memory → reply ≡ (step world words).reply)
+    → (reply ≢ Err fault.Memory → new ≡ (step world words).world)
+    → IfErr reply (λ _. new ≡ world)
+    → Replies world new words (is_err reply) (piece words reply)
+replies world new words (Ok answer) same goes kept = by_step world new words (Ok answer) (same (search rules)) (goes (search rules))
+replies world new words (Err fault.Memory) same goes kept = inr (refl, refl, kept)
+replies world new words (Err fault) same goes kept = by_step world new words (Err fault) (same (search rules)) (goes (search rules))
+
+-- the command that is taken at the end of the script
+pub meets : (world after : World) (old new : Unread) (words : List (List ℕ)) (refused : Bool) (text : List ℕ)
+    → old.finished ≡ true → length new.rest < length old.rest → TakesCommand old words new → Replies world after words refused text
+    → MeetsCommand world old.rest after new.rest refused text
+meets world after old new words refused text finished shorter takes reply =
+    let next = rw finished at takes.4 in (words, takes.0, takes.2, shorter, next, reply)
+
+-- the fault that is met at the end of the script
+pub meets_fault : (old new : Unread) (fault : ScriptFault) → old.finished ≡ true → old.fault ≡ None → StopsAt old fault new → MeetsFault old.rest fault
+meets_fault old new fault finished none stops =
+    let is = stops.0 in let at_none = rw none at is in rw finished at at_none
+
+-- a command that was met goes on, and is refused or not
+pub meets_command : (met : Met) (world after : World) (rest left text : List ℕ) → goes_on met ≡ true
+    → MeetsCommand world rest after left (is_refusal met) text → Meets world rest after left met text
+meets_command met.Answer world after rest left text on meets = meets
+meets_command met.Refusal world after rest left text on meets = meets
+meets_command met.Fault world after rest left text on meets = absurd (false≢true on)
+meets_command met.End world after rest left text on meets = absurd (false≢true on)

@@ -1,0 +1,13 @@
+use Rattle.std.proofs.Common.{◌≡◌, length, ◌-◌, ◌≤◌, take, false}
+use Rattle.script_cli.specs.Devices.{Appends}
+use Rattle.script_cli.proofs.output.write_all.Given as goal
+
+abbrev pub invariant-loop-sent : goal.invariant-loop-sent
+invariant-loop-sent g l = record {
+    within : l.sent ≤ length l.bytes;
+    appends : Appends (g.W.ByteSink.written l.fn.sink) (g.W.ByteSink.written l.sink) (take l.sent l.bytes);
+    up : g.W.ByteSink.is_failed l.sink ≡ false
+  }
+
+abbrev pub decreases-loop-sent : goal.decreases-loop-sent
+decreases-loop-sent g l = length l.bytes - l.sent

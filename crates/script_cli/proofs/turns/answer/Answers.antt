@@ -1,0 +1,12 @@
+use Rattle.std.proofs.Common.{◌≡◌, encode_utf8_all}
+use Rattle.tcl_words.specs.Unread.{texts_of}
+use Rattle.script_cli.specs.Pieces.{piece}
+use Rattle.script_cli.proofs.TurnLaws.{replies}
+use Rattle.script_cli.proofs.turns.answer.Goals as goal
+
+pub returns-clause-met : goal.returns-clause-met
+returns-clause-met g c =
+    let words = texts_of c.args.words.now in let h = c.call-reply.ensures in
+    let written = rw c.of_reply.ensures at c.push_to.ensures.bytes in
+    let replied = replies c.args.world.now c.call-reply.new.self words c.call-reply.result h.reply h.world h.refused in
+    (piece words c.call-reply.result, rw c.met_by.ensures.refusal replied, written)

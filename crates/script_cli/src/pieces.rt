@@ -1,0 +1,130 @@
+ghost use Rattle.std.specs.Prelude.{◌≡◌, ◌++◌, false, not, Ok, Err, chars, encode_utf8_all};
+ghost use Rattle.tcl_words.specs.Unread.{texts_of};
+ghost use Rattle.script_cli.specs.Pieces.{piece, error_line, script_fault_text, answer_text as spec_answer_text, word_at as spec_word_at};
+ghost use Rattle.script_cli.specs.Sending.{Gathers};
+
+use std::marker::Model;
+
+use peers::{Answer, Fault};
+use tcl_words::ScriptFault;
+
+use crate::devices::ByteSink;
+use crate::output::Output;
+
+/// The text that is printed for a command: a word or a text between two texts of the program.
+#[derive(Drop)]
+pub struct Piece<'a> {
+    before: &'static str,
+    word: &'a str,
+    after: &'static str,
+}
+
+impl<'a> Model for Piece<'a> {
+    ghost use Rattle.std.specs.Prelude.{ℕ, List, ◌++◌};
+
+    ghost Value = { List ℕ };
+
+    ghost view = { λ p. p.before.now ++ (p.word.now ++ p.after.now) };
+}
+
+impl<'a> Piece<'a> {
+    /// The answer of a command of these words, or its fault.
+    pub fn of_reply(words: &'a [String], reply: &'a Result<Answer, Fault>) -> Piece<'a>
+        ensures { result ≡ encode_utf8_all (piece (texts_of words.now) reply.now) }
+    {
+        match reply {
+            Ok(answer) => Piece::of_answer(words, answer),
+            Err(fault) => Piece::of_fault(words, *fault),
+        }
+    }
+
+    fn of_answer(words: &'a [String], answer: &'a Answer) -> Piece<'a>
+        ensures { result ≡ encode_utf8_all (piece (texts_of words.now) (Ok answer.now)) }
+    {
+        Piece::around("", answer_text(words, answer), "\n")
+    }
+
+    fn of_fault(words: &'a [String], fault: Fault) -> Piece<'a>
+        ensures { result ≡ encode_utf8_all (piece (texts_of words.now) (Err fault)) }
+    {
+        match fault {
+            Fault::BadIndex(position) => Piece::around("error: bad text index \"", word_at(words, position), "\"\n"),
+            Fault::BadOption(position) => Piece::around("error: bad option \"", word_at(words, position), "\"\n"),
+            Fault::WrongArguments => Piece::plain("error: wrong # args\n"),
+            Fault::InvalidCommandName(position) => Piece::around("error: invalid command name \"", word_at(words, position), "\"\n"),
+            Fault::WindowExists(position) => Piece::around("error: window name \"", word_at(words, position), "\" already exists\n"),
+            Fault::DocumentExists => Piece::plain("error: a document exists\n"),
+            Fault::TooManyWidgets => Piece::plain("error: too many widgets\n"),
+            Fault::TextTooLong => Piece::plain("error: text is too long\n"),
+            Fault::Memory => Piece::plain("error: out of memory\n"),
+        }
+    }
+
+    /// The fault of a script.
+    pub fn of_script_fault(fault: ScriptFault) -> Piece<'a>
+        ensures { result ≡ encode_utf8_all (error_line (script_fault_text fault)) }
+    {
+        match fault {
+            ScriptFault::Substitution => Piece::plain("error: substitution isn't supported\n"),
+            ScriptFault::NotUtf8 => Piece::plain("error: script isn't UTF-8\n"),
+            ScriptFault::Memory => Piece::plain("error: out of memory\n"),
+        }
+    }
+
+    /// Puts the bytes behind those that wait, and answers false where the writer fails.
+    pub fn push_to<W: ByteSink>(&self, output: &mut Output, sink: &mut W) -> bool
+        requires { W.is_failed sink.old ≡ false }
+        ensures bytes { Gathers (W.written sink.old) output.old (W.written sink.new) output.new self.now result }
+        ensures flag { W.is_failed sink.new ≡ not result }
+    {
+        if !output.push(sink, self.before.as_bytes()) {
+            return false;
+        }
+        if !output.push(sink, self.word.as_bytes()) {
+            return false;
+        }
+        output.push(sink, self.after.as_bytes())
+    }
+
+    fn around(before: &'static str, word: &'a str, after: &'static str) -> Piece<'a>
+        ensures { result ≡ encode_utf8_all (chars before.now ++ (chars word.now ++ chars after.now)) }
+    {
+        Piece {
+            before,
+            word,
+            after,
+        }
+    }
+
+    fn plain(text: &'static str) -> Piece<'a>
+        ensures { result ≡ encode_utf8_all (chars text.now) }
+    {
+        Piece {
+            before: text,
+            word: "",
+            after: "",
+        }
+    }
+}
+
+fn answer_text<'a>(words: &'a [String], answer: &'a Answer) -> &'a str
+    ensures { chars result.now ≡ spec_answer_text (texts_of words.now) answer.now }
+{
+    match answer {
+        Answer::Empty => "",
+        Answer::Word(position) => word_at(words, *position),
+        Answer::Flag(true) => "1",
+        Answer::Flag(false) => "0",
+        Answer::Text(text) => text.as_str(),
+    }
+}
+
+/// The word at a position; the empty text where there is none.
+fn word_at(words: &[String], position: usize) -> &str
+    ensures { chars result.now ≡ spec_word_at (texts_of words.now) position }
+{
+    match words.get(position) {
+        Some(word) => word.as_str(),
+        None => "",
+    }
+}

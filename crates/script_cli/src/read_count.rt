@@ -1,0 +1,27 @@
+ghost use Rattle.std.specs.Prelude.{◌≡◌, ◌+◌, ℕ};
+
+use std::marker::Model;
+
+/// How many reads were made, which only contracts can see.
+#[derive(Drop)]
+pub struct ReadCount {
+    ghost count: { ℕ },
+}
+
+impl Model for ReadCount {
+    ghost use base.Fml.{ftrue};
+
+    ghost also_owns = { λ _. ftrue };
+}
+
+impl ReadCount {
+    pub fn new() -> Self
+        ensures { result.count ≡ 0 }
+    {
+        ReadCount {}
+    }
+
+    pub fn step(&mut self)
+        ensures { self.new.count ≡ self.old.count + 1 }
+    {}
+}

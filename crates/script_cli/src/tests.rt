@@ -1,0 +1,237 @@
+ghost use Rattle.std.specs.Prelude.{◌≡◌, false};
+
+use crate::devices::{ByteSink, ByteSource};
+use crate::output::Output;
+use crate::running::run;
+use crate::summary::{RunFault, RunSummary, outcome};
+use crate::watched::Watched;
+use std::alloc::Global;
+use std::io;
+use std::io::{Read, Write};
+use std::test::Fail;
+use text_model::{Limits, PlainStore};
+
+// Gives the bytes of a script, so many a read, and fails once where so many were given.
+#[derive(Drop)]
+struct TestReader {
+    script: &'static [u8],
+    most: usize,
+    before_failure: Option<usize>,
+}
+
+impl Read for TestReader {
+    fn read(&mut self, buf: &mut [u8]) -> io::Result<usize> {
+        let mut most = self.most.min(self.script.len()).min(buf.len());
+        if let Some(before_failure) = self.before_failure {
+            if before_failure == 0 {
+                self.before_failure = None;
+                return Err(io::ErrorKind::Other.into());
+            }
+            most = most.min(before_failure);
+            self.before_failure = Some(before_failure - most);
+        }
+        buf[..most].copy_from_slice(&self.script[..most]);
+        self.script = &self.script[most..];
+        Ok(most)
+    }
+}
+
+// Takes so many bytes a write, and no more where so many were taken: then it fails once, or takes none once.
+#[derive(Drop)]
+struct TestWriter {
+    written: Vec<u8>,
+    most: usize,
+    room: usize,
+    takes_none: bool,
+}
+
+impl Write for TestWriter {
+    fn write(&mut self, buf: &[u8]) -> io::Result<usize> {
+        let most = self.most.min(self.room).min(buf.len());
+        if most == 0 && !buf.is_empty() {
+            self.room = usize::MAX;
+            if self.takes_none {
+                return Ok(0);
+            }
+            return Err(io::ErrorKind::Other.into());
+        }
+        self.written.extend_from_slice(&buf[..most])?;
+        self.room -= most;
+        Ok(most)
+    }
+
+    fn flush(&mut self) -> io::Result<()> {
+        Ok(())
+    }
+}
+
+fn reader(script: &'static [u8], most: usize, before_failure: Option<usize>) -> Watched<TestReader>
+    ensures { result.failed ≡ false }
+{
+    Watched::new(TestReader {
+        script,
+        most,
+        before_failure,
+    })
+}
+
+fn writer(alloc: Global, most: usize, room: usize, takes_none: bool) -> Watched<TestWriter>
+    ensures { result.failed ≡ false }
+{
+    Watched::new(TestWriter {
+        written: Vec::new(alloc),
+        most,
+        room,
+        takes_none,
+    })
+}
+
+fn limits(reads: u32) -> Result<Limits, Fail> {
+    Limits::new(100, 2, 2, 1, reads).ok_or_else(|| Fail::new("no limits"))
+}
+
+// What a script prints where neither device fails.
+fn output_of(alloc: Global, script: &[u8]) -> Result<Vec<u8>, Fail> {
+    let mut source = Watched::new(script);
+    let mut sink = Watched::new(Vec::new(alloc));
+    run::<PlainStore, _, _>(alloc, &mut source, &mut sink, limits(100)?)?;
+    Ok(sink.get_ref().clone()?)
+}
+
+const SCRIPT: &[u8] = b"foo\nbar baz; qux";
+
+const REFUSED: RunSummary = RunSummary {
+    commands: 3,
+    refused: 3,
+    script_fault: false,
+};
+
+#[test]
+fn tells_how_a_run_ended(rt: HostRuntime) {
+    let answered = RunSummary {
+        refused: 0,
+        ..REFUSED
+    };
+    let stopped = RunSummary {
+        script_fault: true,
+        ..answered
+    };
+    let ends = [
+        (Ok(answered), 0, ""),
+        (Ok(REFUSED), 1, ""),
+        (Ok(stopped), 2, ""),
+        (Err(RunFault::Read), 2, "read failed"),
+        (Err(RunFault::Write), 2, "write failed"),
+        (Err(RunFault::Memory), 2, "out of memory"),
+        (Err(RunFault::Endless), 2, "too many reads"),
+    ];
+    for (ended, status, words) in ends {
+        assert_eq!(rt; outcome(&ended), (status, words));
+    }
+}
+
+#[test]
+fn runs_whatever_the_reads_and_the_writes(rt: HostRuntime) -> Result<(), Fail> {
+    let all = output_of(rt.alloc(), SCRIPT)?;
+    assert_eq!(rt; all.iter().filter(|byte| **byte == b'\n').count(), 3);
+    for most in [1, 3, 4096] {
+        let mut source = reader(SCRIPT, most, None);
+        let mut sink = writer(rt.alloc(), most, usize::MAX, false);
+        let ended = run::<PlainStore, _, _>(rt.alloc(), &mut source, &mut sink, limits(100)?);
+        assert_eq!(rt; ended, Ok(REFUSED));
+        assert_eq!(rt; sink.get_ref().written, all);
+    }
+    Ok(())
+}
+
+#[test]
+fn a_reader_fails_at_each_place(rt: HostRuntime) -> Result<(), Fail> {
+    for place in 0..=SCRIPT.len() {
+        let mut source = reader(SCRIPT, 3, Some(place));
+        let mut sink = writer(rt.alloc(), 4096, usize::MAX, false);
+        let ended = run::<PlainStore, _, _>(rt.alloc(), &mut source, &mut sink, limits(100)?);
+        assert_eq!(rt; ended, Err(RunFault::Read), "after {place} bytes");
+        assert!(rt; sink.get_ref().written.is_empty());
+        assert_eq!(rt; source.read(&mut [0; 4]), 0);
+    }
+    Ok(())
+}
+
+#[test]
+fn a_writer_fails_at_each_place(rt: HostRuntime) -> Result<(), Fail> {
+    let all = output_of(rt.alloc(), SCRIPT)?;
+    for place in 0..all.len() {
+        let mut source = reader(SCRIPT, 4096, None);
+        let mut sink = writer(rt.alloc(), 5, place, place % 2 == 0);
+        let ended = run::<PlainStore, _, _>(rt.alloc(), &mut source, &mut sink, limits(100)?);
+        assert_eq!(rt; ended, Err(RunFault::Write), "after {place} bytes");
+        assert_eq!(rt; &sink.get_ref().written[..], &all[..place]);
+        assert_eq!(rt; sink.write(b"more"), 0);
+    }
+    Ok(())
+}
+
+#[test]
+fn reads_no_more_than_it_may(rt: HostRuntime) -> Result<(), Fail> {
+    let tries: [(&'static [u8], u32, bool); 5] = [
+        (b"", 0, false),
+        (b"", 1, true),
+        (b"foo", 1, false),
+        (b"foo", 2, true),
+        (b"foo", u32::MAX, true),
+    ];
+    for (script, reads, ends) in tries {
+        let mut source = reader(script, 4096, None);
+        let mut sink = writer(rt.alloc(), 4096, usize::MAX, false);
+        let ended = run::<PlainStore, _, _>(rt.alloc(), &mut source, &mut sink, limits(reads)?);
+        assert_eq!(rt; ended.is_ok(), ends, "in {reads} reads");
+        assert_eq!(rt; ended == Err(RunFault::Endless), !ends);
+        assert_eq!(rt; source.get_ref().script.is_empty(), reads > 0 || script.is_empty());
+    }
+    Ok(())
+}
+
+#[test]
+fn prints_a_script_fault_last(rt: HostRuntime) -> Result<(), Fail> {
+    let faults: [(&'static [u8], &str); 2] = [
+        (b"foo\n[bar]\nbaz", "error: substitution isn't supported\n"),
+        (b"foo\n\xff\nbaz", "error: script isn't UTF-8\n"),
+    ];
+    for (script, line) in faults {
+        let mut source = reader(script, 4096, None);
+        let mut sink = writer(rt.alloc(), 4096, usize::MAX, false);
+        let ended = run::<PlainStore, _, _>(rt.alloc(), &mut source, &mut sink, limits(100)?);
+        let summary = RunSummary {
+            commands: 1,
+            refused: 1,
+            script_fault: true,
+        };
+        assert_eq!(rt; ended, Ok(summary));
+        assert!(rt; sink.get_ref().written.ends_with(line.as_bytes()));
+    }
+    Ok(())
+}
+
+fn text_of(alloc: Global, len: usize) -> Result<Vec<u8>, Fail> {
+    Ok(vec![in alloc; b'x'; len]?)
+}
+
+fn push_twice(sink: &mut Watched<TestWriter>, text: &[u8]) -> bool
+    requires { sink.old.failed ≡ false }
+{
+    let mut output = Output::new();
+    output.push(sink, b"ab") && output.push(sink, text) && output.push(sink, text) && output.push(sink, b"c") && output.flush(sink)
+}
+
+#[test]
+fn writes_more_than_waits(rt: HostRuntime) -> Result<(), Fail> {
+    for len in [0, 5_000, 8_190, 8_192, 10_000] {
+        let text = text_of(rt.alloc(), len)?;
+        let mut sink = writer(rt.alloc(), usize::MAX, usize::MAX, false);
+        assert!(rt; push_twice(&mut sink, &text));
+        let all = &sink.get_ref().written;
+        assert_eq!(rt; all.len(), 2 * len + 3);
+        assert!(rt; all.starts_with(b"ab") && all.ends_with(b"c"));
+    }
+    Ok(())
+}

@@ -1,0 +1,124 @@
+ghost use Rattle.std.specs.Prelude.{◌≡◌, ◌<◌, ◌++◌, false, true, not, None, Some, is_err, length, List, ℕ, Bool, encode_utf8_all};
+ghost use Rattle.tcl_words.specs.Unread.{texts_of};
+ghost use Rattle.tcl_words.specs.ScriptGrammar.{MeetsFault};
+ghost use Rattle.peers.specs.World.{World as WorldState};
+ghost use Rattle.script_cli.specs.Run.{last_piece};
+ghost use Rattle.script_cli.specs.Sending.{Gathers};
+ghost use Rattle.script_cli.specs.Turns.{Replies, Meets, goes_on, is_refusal};
+
+use peers::{Answer, Fault, World};
+use tcl_words::{ScriptFault, Splitter};
+use text_model::TextStore;
+
+use crate::devices::ByteSink;
+use crate::output::Output;
+use crate::pieces::Piece;
+
+/// What a turn met.
+#[derive(Clone, Copy)]
+pub enum Met {
+    /// A command that was answered.
+    Answer,
+    /// A command that was refused.
+    Refusal,
+    /// A script fault.
+    Fault,
+    /// The end of the script.
+    End,
+}
+
+/// One turn of a run.
+#[derive(Clone, Copy)]
+pub struct Turn {
+    pub met: Met,
+    /// False where the writer failed.
+    pub is_written: bool,
+}
+
+/// Takes the next command and prints its answer or its fault.
+pub fn take_turn<S: TextStore, W: ByteSink>(world: &mut World<S>, splitter: &mut Splitter, output: &mut Output, sink: &mut W) -> Turn
+    requires finished { splitter.old.finished ≡ true }
+    requires no_fault { splitter.old.fault ≡ None }
+    requires sink { W.is_failed sink.old ≡ false }
+    ensures met { (text : List ℕ)
+        × Meets world.old splitter.old.rest world.new splitter.new.rest result.met text
+        × Gathers (W.written sink.old) output.old (W.written sink.new) output.new (encode_utf8_all text) result.is_written }
+    ensures flag { W.is_failed sink.new ≡ not result.is_written }
+    ensures going { goes_on result.met ≡ true → (splitter.new.finished ≡ true) × (splitter.new.fault ≡ None) }
+{
+    match splitter.next_command() {
+        Ok(Some(words)) => answer(world, &words, output, sink),
+        Ok(None) => Turn {
+            met: Met::End,
+            is_written: true,
+        },
+        Err(fault) => match fault {
+            ScriptFault::Memory => refuse(splitter, output, sink),
+            fault => stop(fault, output, sink),
+        },
+    }
+}
+
+/// Carries out a command and prints its answer or its fault.
+fn answer<S: TextStore, W: ByteSink>(world: &mut World<S>, words: &[String], output: &mut Output, sink: &mut W) -> Turn
+    requires some { 0 < length words.now }
+    requires sink { W.is_failed sink.old ≡ false }
+    ensures met { (text : List ℕ) × Replies world.old world.new (texts_of words.now) (is_refusal result.met) text
+        × Gathers (W.written sink.old) output.old (W.written sink.new) output.new (encode_utf8_all text) result.is_written }
+    ensures flag { W.is_failed sink.new ≡ not result.is_written }
+    ensures going { goes_on result.met ≡ true }
+{
+    let reply = world.call(words);
+    Turn {
+        met: met_by(&reply),
+        is_written: Piece::of_reply(words, &reply).push_to(output, sink),
+    }
+}
+
+fn met_by(reply: &Result<Answer, Fault>) -> Met
+    ensures refusal { is_refusal result ≡ is_err reply.now }
+    ensures going { goes_on result ≡ true }
+{
+    match reply {
+        Ok(_) => Met::Answer,
+        Err(_) => Met::Refusal,
+    }
+}
+
+/// Drops a command whose words find no memory, and prints that.
+fn refuse<W: ByteSink>(splitter: &mut Splitter, output: &mut Output, sink: &mut W) -> Turn
+    requires finished { splitter.old.finished ≡ true }
+    requires no_fault { splitter.old.fault ≡ None }
+    requires sink { W.is_failed sink.old ≡ false }
+    ensures met { (world : WorldState) → (text : List ℕ)
+        × Meets world splitter.old.rest world splitter.new.rest result.met text
+        × Gathers (W.written sink.old) output.old (W.written sink.new) output.new (encode_utf8_all text) result.is_written }
+    ensures flag { W.is_failed sink.new ≡ not result.is_written }
+    ensures going { goes_on result.met ≡ true → (splitter.new.finished ≡ true) × (splitter.new.fault ≡ None) }
+{
+    match splitter.skip_command() {
+        Ok(true) => Turn {
+            met: Met::Refusal,
+            is_written: Piece::of_reply(&[], &Err(Fault::Memory)).push_to(output, sink),
+        },
+        Ok(false) => Turn {
+            met: Met::End,
+            is_written: true,
+        },
+        Err(fault) => stop(fault, output, sink),
+    }
+}
+
+/// Prints a script fault.
+fn stop<W: ByteSink>(fault: ScriptFault, output: &mut Output, sink: &mut W) -> Turn
+    requires sink { W.is_failed sink.old ≡ false }
+    ensures met { result.met ≡ Met.Fault }
+    ensures text { Gathers (W.written sink.old) output.old (W.written sink.new) output.new
+        (encode_utf8_all (last_piece (Some fault))) result.is_written }
+    ensures flag { W.is_failed sink.new ≡ not result.is_written }
+{
+    Turn {
+        met: Met::Fault,
+        is_written: Piece::of_script_fault(fault).push_to(output, sink),
+    }
+}
