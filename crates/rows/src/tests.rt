@@ -1,11 +1,9 @@
-use std::alloc::{AllocError, Global};
-use std::process::Abort;
-
-use script_cli::{Watched, outcome, run};
-use text_model::{Limits, PlainStore, TextStore};
-
 use crate::readers::Pieces;
 use crate::table::{ROWS, Row};
+use script_cli::{Watched, outcome, run};
+use std::alloc::{AllocError, Global};
+use std::process::Abort;
+use text_model::{Limits, PlainStore, TextStore};
 
 /// Runs a row with a reader that hands out so many bytes at a time.
 fn check_row<S: TextStore>(
@@ -31,7 +29,11 @@ fn check_row<S: TextStore>(
     let ended = run::<S, _, _>(alloc, &mut source, &mut sink, limits);
     let (status, _words) = outcome(&ended);
     let name = row.name;
-    assert_eq!(rt; sink.get_ref().as_slice(), row.output.as_bytes(), "{name}, {most} bytes a read");
+    assert_eq!(rt;
+        sink.get_ref().as_slice(),
+        row.output.as_bytes(),
+        "{name}, {most} bytes a read"
+    );
     assert_eq!(rt; status, row.status, "{name}, {most} bytes a read");
     Ok(())
 }

@@ -3,9 +3,8 @@
 
 ghost use Rattle.std.specs.Prelude.{◌≡◌};
 
-use std::process::ExitCode;
-
 use script_cli::{Watched, outcome, run};
+use std::process::ExitCode;
 use text_model::{Limits, PlainStore};
 
 /// How many reads of up to 4,096 bytes a script may take.
