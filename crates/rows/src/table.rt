@@ -26,7 +26,7 @@ pub const AMPLE: Numbers = Numbers {
     reads: 1_073_741_824,
 };
 
-pub static ROWS: [Row; 22] = [
+pub static ROWS: [Row; 23] = [
     Row {
         name: "the empty script",
         script: b"",
@@ -94,11 +94,11 @@ pub static ROWS: [Row; 22] = [
         name: "too many widgets",
         script: b"text .t",
         numbers: Numbers {
-            chars: 16777216,
+            chars: 16_777_216,
             tags: 192,
-            marks: 4096,
+            marks: 4_096,
             widgets: 0,
-            reads: 1073741824,
+            reads: 1_073_741_824,
         },
         output: "error: too many widgets\n",
         status: 1,
@@ -111,7 +111,7 @@ pub static ROWS: [Row; 22] = [
             tags: 0,
             marks: 0,
             widgets: 1,
-            reads: 1073741824,
+            reads: 1_073_741_824,
         },
         output: ".t\nerror: text is too long\n\nerror: text is too long\nabc\n\n",
         status: 1,
@@ -124,7 +124,7 @@ pub static ROWS: [Row; 22] = [
             tags: 0,
             marks: 0,
             widgets: 1,
-            reads: 1073741824,
+            reads: 1_073_741_824,
         },
         output: ".t\nerror: text is too long\n\n\n",
         status: 1,
@@ -172,12 +172,25 @@ pub static ROWS: [Row; 22] = [
         status: 0,
     },
     Row {
+        name: "no end in as many reads",
+        script: b"text .t\n",
+        numbers: Numbers {
+            chars: 16_777_216,
+            tags: 192,
+            marks: 4_096,
+            widgets: 64,
+            reads: 1,
+        },
+        output: "",
+        status: 2,
+    },
+    Row {
         name: "no read",
         script: b"text .t\n",
         numbers: Numbers {
-            chars: 16777216,
+            chars: 16_777_216,
             tags: 192,
-            marks: 4096,
+            marks: 4_096,
             widgets: 64,
             reads: 0,
         },
