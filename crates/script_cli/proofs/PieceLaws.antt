@@ -13,8 +13,13 @@ use Rattle.script_cli.specs.Pieces.{quoted, error_line, word_at}
 pub three_texts : (before word after : List ℕ) → IsUtf8 before → IsUtf8 word → IsUtf8 after
     → before ++ (word ++ after) ≡ encode_utf8_all (chars before ++ (chars word ++ chars after))
 three_texts before word after first second third =
-    rw (encodes-append (chars before) (chars word ++ chars after), encodes-append (chars word) (chars after),
-      encodes-chars before first, encodes-chars word second, encodes-chars after third) refl
+    rw (
+      encodes-append (chars before) (chars word ++ chars after),
+      encodes-append (chars word) (chars after),
+      encodes-chars before first,
+      encodes-chars word second,
+      encodes-chars after third,
+    ) refl
 
 pub one_text : (text : List ℕ) → IsUtf8 text → text ++ ([] ++ []) ≡ encode_utf8_all (chars text)
 one_text text is = append-nil text ∙ sym (encodes-chars text is)
@@ -41,8 +46,8 @@ pub window_exists : (word : List ℕ) → chars (codes "error: window name \"") 
 unfolding chars
 window_exists word =
     ap (λ text. codes "error: window name \"" ++ text)
-      (sym (append_assoc word (34 ∷ codes " already exists") (10 ∷ []))
-        ∙ ap (λ text. text ++ 10 ∷ []) (sym (append_assoc word (34 ∷ []) (codes " already exists"))))
+    (sym (append_assoc word (34 ∷ codes " already exists") (10 ∷ []))
+    ∙ ap (λ text. text ++ 10 ∷ []) (sym (append_assoc word (34 ∷ []) (codes " already exists"))))
 
 pub wrong_arguments : chars (codes "error: wrong # args\n") ≡ error_line (literal "wrong # args")
 unfolding chars

@@ -6,10 +6,9 @@ use Rattle.std.proofs.lemmas.Option.{same_Some}
 use Rattle.std.proofs.lemmas.List.{append-nil}
 use Rattle.std.proofs.lemmas.Str.{encodes-append}
 use Rattle.text_model.specs.LimitTable.{LimitTable}
-use Rattle.tcl_words.specs.ScriptGrammar.{ReadsScript, ReadsFront}
+use Rattle.tcl_words.specs.ScriptGrammar.{ReadsScript}
 use Rattle.tcl_words.specs.declared.fault.ScriptFault.{ScriptFault}
 use Rattle.tcl_words.proofs.Readings.{a_reading}
-use Rattle.peers.specs.declared.answers.Fault.TheVariants.{Memory}
 use Rattle.peers.specs.World.{World}
 use Rattle.peers.specs.Step.{step}
 use Rattle.script_cli.specs.declared.summary.RunSummary.{RunSummary}
@@ -95,7 +94,7 @@ continues_more : (limits : LimitTable) (script : List ℕ) (met refused : ℕ) (
 continues_more limits script met refused out world after rest left text is_refused goes_on meets commands fault more others reads runs =
     let words = meets.0 in
     let whole = goes_on (words ∷ commands) fault (text ++ more) (cond is_refused 1 0 + others)
-      (meets.1, left, meets.2, meets.4, reads) (runs_more world after words commands fault is_refused text more others meets.5 runs) in
+    (meets.1, left, meets.2, meets.4, reads) (runs_more world after words commands fault is_refused text more others meets.5 runs) in
     let counts : refused + cond is_refused 1 0 + others ≡ refused + (cond is_refused 1 0 + others) = omega arith in
     (whole.0, whole.1, rw (append_assoc out text more, counts) whole.2, one_more met (length commands) (length whole.0) whole.3)
 
@@ -104,10 +103,13 @@ so_far_more : (limits : LimitTable) (script : List ℕ) (met refused : ℕ) (wor
     → SoFar limits script met refused world rest old now waits → MeetsCommand world rest after left is_refused text
     → Gathers now waits new left_waiting (encode_utf8_all text) true
     → SoFar limits script (met + 1) (refused + cond is_refused 1 0) after left old new left_waiting
-so_far_more limits script met refused world after rest left text is_refused old now new waits left_waiting so_far meets gathers =
-    (so_far.0 ++ text, so_far.1 ++ gathers.0, more_bytes so_far.0 text so_far.1 waits gathers.0 left_waiting so_far.2 gathers.1,
-      Appends-then old now new so_far.1 gathers.0 so_far.3 gathers.2,
-      continues_more limits script met refused so_far.0 world after rest left text is_refused so_far.4 meets)
+so_far_more limits script met refused world after rest left text is_refused old now new waits left_waiting so_far meets gathers = (
+  so_far.0 ++ text,
+  so_far.1 ++ gathers.0,
+  more_bytes so_far.0 text so_far.1 waits gathers.0 left_waiting so_far.2 gathers.1,
+  Appends-then old now new so_far.1 gathers.0 so_far.3 gathers.2,
+  continues_more limits script met refused so_far.0 world after rest left text is_refused so_far.4 meets,
+)
 
 pub answers_more : (limits : LimitTable) (script : List ℕ) (met refused : ℕ) (world after : World) (rest left text : List ℕ)
     (old now new : Option (List ℕ)) (waits left_waiting : List ℕ)
@@ -140,10 +142,13 @@ ended : (limits : LimitTable) (script : List ℕ) (met refused : ℕ) (world : W
     → SoFar limits script met refused world rest old now waits → ReadsScript rest [] fault → text ≡ last_piece fault
     → Gathers now waits new left_waiting (encode_utf8_all text) true
     → Ended limits script met refused fault old new left_waiting
-ended limits script met refused world rest text fault old now new waits left_waiting so_far reads is gathers =
-    (so_far.0 ++ text, so_far.1 ++ gathers.0, more_bytes so_far.0 text so_far.1 waits gathers.0 left_waiting so_far.2 gathers.1,
-      Appends-then old now new so_far.1 gathers.0 so_far.3 gathers.2,
-      whole_last limits script met refused so_far.0 world rest text fault so_far.4 reads is)
+ended limits script met refused world rest text fault old now new waits left_waiting so_far reads is gathers = (
+  so_far.0 ++ text,
+  so_far.1 ++ gathers.0,
+  more_bytes so_far.0 text so_far.1 waits gathers.0 left_waiting so_far.2 gathers.1,
+  Appends-then old now new so_far.1 gathers.0 so_far.3 gathers.2,
+  whole_last limits script met refused so_far.0 world rest text fault so_far.4 reads is,
+)
 
 pub ends : (limits : LimitTable) (script : List ℕ) (met refused : ℕ) (world after : World) (rest left text : List ℕ)
     (old now new : Option (List ℕ)) (waits left_waiting : List ℕ)
@@ -171,9 +176,18 @@ writes_run limits script fault summary old now new waits end is sends =
 -- the writer fails at what waited
 pub writes_front : (limits : LimitTable) (script : List ℕ) (met refused : ℕ) (fault : Option ScriptFault) (old now new : Option (List ℕ)) (waits : List ℕ)
     → Ended limits script met refused fault old now waits → Sends now new waits false → WritesFront limits script old new
-writes_front limits script met refused fault old now new waits end sends =
-    (end.4.0, fault, end.0, refused, end.1 ++ sends.0, sends.1, end.4.1, end.4.2,
-      end.2 ∙ ap (λ xs. end.1 ++ xs) sends.2 ∙ sym (append_assoc end.1 sends.0 sends.1), Appends-then old now new end.1 sends.0 end.3 sends.3)
+writes_front limits script met refused fault old now new waits end sends = (
+  end.4.0,
+  fault,
+  end.0,
+  refused,
+  end.1 ++ sends.0,
+  sends.1,
+  end.4.1,
+  end.4.2,
+  end.2 ∙ ap (λ xs. end.1 ++ xs) sends.2 ∙ sym (append_assoc end.1 sends.0 sends.1),
+  Appends-then old now new end.1 sends.0 end.3 sends.3,
+)
 
 -- a run of the script that begins with this text
 abbrev Begins : LimitTable → List ℕ → List ℕ → Type 0
@@ -183,30 +197,47 @@ Begins limits script out =
 begins : (limits : LimitTable) (script : List ℕ) (met refused : ℕ) (out : List ℕ) (world : World) (rest : List ℕ)
     → Continues limits script met refused out world rest → Begins limits script out
 begins limits script met refused out world rest goes_on =
-    let reading = a_reading rest in let commands = reading.0 in let fault = reading.1 in
-    (met + length commands, refused + refused_count world commands, fault, run_output world commands fault,
-      goes_on commands fault (run_output world commands fault) (refused_count world commands) reading.2 (plain_runs commands world fault))
+    let reading = a_reading rest in let commands = reading.0 in let fault = reading.1 in (
+      met + length commands,
+      refused + refused_count world commands,
+      fault,
+      run_output world commands fault,
+      goes_on commands fault (run_output world commands fault) (refused_count world commands) reading.2 (plain_runs commands world fault),
+    )
 
 begins_with : (limits : LimitTable) (script : List ℕ) (met refused : ℕ) (out : List ℕ) (world after : World) (rest left text : List ℕ) (found : Met)
     → Continues limits script met refused out world rest → Meets world rest after left found text → Begins limits script (out ++ text)
 begins_with limits script met refused out world after rest left text kinds.Answer goes_on meets =
     begins limits script (met + 1) (refused + 0) (out ++ text) after left
-      (continues_more limits script met refused out world after rest left text false goes_on meets)
+    (continues_more limits script met refused out world after rest left text false goes_on meets)
 begins_with limits script met refused out world after rest left text kinds.Refusal goes_on meets =
     begins limits script (met + 1) (refused + 1) (out ++ text) after left
-      (continues_more limits script met refused out world after rest left text true goes_on meets)
-begins_with limits script met refused out world after rest left text kinds.Fault goes_on meets =
-    (met, refused, Some meets.0, [],
-      rw append-nil (whole_last limits script met refused out world rest text (Some meets.0) goes_on meets.1 meets.2))
+    (continues_more limits script met refused out world after rest left text true goes_on meets)
+begins_with limits script met refused out world after rest left text kinds.Fault goes_on meets = (
+  met,
+  refused,
+  Some meets.0,
+  [],
+  rw append-nil (whole_last limits script met refused out world rest text (Some meets.0) goes_on meets.1 meets.2),
+)
 begins_with limits script met refused out world after rest left text kinds.End goes_on meets =
     (met, refused, None, [], rw append-nil (whole_last limits script met refused out world rest text None goes_on meets.0 meets.1))
 
 -- a front of what such a run prints was written
 front_of : (limits : LimitTable) (script out front back : List ℕ) (old new : Option (List ℕ)) → Begins limits script out
     → encode_utf8_all out ≡ front ++ back → Appends old new front → WritesFront limits script old new
-front_of limits script out front back old new begun is appends =
-    (begun.4.0, begun.2, out ++ begun.3, begun.1, front, back ++ encode_utf8_all begun.3, begun.4.1, begun.4.2,
-      encodes-append out begun.3 ∙ ap (λ xs. xs ++ encode_utf8_all begun.3) is ∙ append_assoc front back (encode_utf8_all begun.3), appends)
+front_of limits script out front back old new begun is appends = (
+  begun.4.0,
+  begun.2,
+  out ++ begun.3,
+  begun.1,
+  front,
+  back ++ encode_utf8_all begun.3,
+  begun.4.1,
+  begun.4.2,
+  encodes-append out begun.3 ∙ ap (λ xs. xs ++ encode_utf8_all begun.3) is ∙ append_assoc front back (encode_utf8_all begun.3),
+  appends,
+)
 
 -- the writer fails at this text
 pub cuts : (limits : LimitTable) (script : List ℕ) (met refused : ℕ) (world after : World) (rest left text : List ℕ) (found : Met)
@@ -216,15 +247,15 @@ pub cuts : (limits : LimitTable) (script : List ℕ) (met refused : ℕ) (world 
     → WritesFront limits script old new
 cuts limits script met refused world after rest left text found old now new waits left_waiting so_far meets gathers =
     front_of limits script (so_far.0 ++ text) (so_far.1 ++ gathers.0) gathers.1 old new
-      (begins_with limits script met refused so_far.0 world after rest left text found so_far.4 meets)
-      (more_bytes so_far.0 text so_far.1 waits gathers.0 gathers.1 so_far.2 gathers.2)
-      (Appends-then old now new so_far.1 gathers.0 so_far.3 gathers.3)
+    (begins_with limits script met refused so_far.0 world after rest left text found so_far.4 meets)
+    (more_bytes so_far.0 text so_far.1 waits gathers.0 gathers.1 so_far.2 gathers.2)
+    (Appends-then old now new so_far.1 gathers.0 so_far.3 gathers.3)
 
 -- nothing was written
 pub nothing_written : (limits : LimitTable) (script : List ℕ) (known : Option (List ℕ)) → WritesFront limits script known known
 nothing_written limits script known =
     front_of limits script [] [] [] known known
-      (begins limits script 0 0 [] (no_documents limits) script (continues_all limits script)) refl (Appends-nil known)
+    (begins limits script 0 0 [] (no_documents limits) script (continues_all limits script)) refl (Appends-nil known)
 
 pub nothing_written_of_read : (limits : LimitTable) (script read : List ℕ) (unread known : Option (List ℕ)) → Consumes (Some script) unread read
     → WritesFrontOfRead limits script unread known known
@@ -293,19 +324,25 @@ plain_more : (world : World) (words : List (List ℕ)) (commands : List (List (L
     → IsPlain (step world words).world commands fault rest others ⊎ IsPlainUpToRefusal (step world words).world commands rest
     → IsPlain world (words ∷ commands) fault out refused ⊎ IsPlainUpToRefusal world (words ∷ commands) out
 plain_more world words commands fault out rest refused others is count (inl plain) =
-    inl (is ∙ ap (λ more. piece words (step world words).reply ++ more) plain.0,
-      count ∙ ap (λ n. cond (is_err (step world words).reply) 1 0 + n) plain.1)
+    inl (
+      is ∙ ap (λ more. piece words (step world words).reply ++ more) plain.0,
+      count ∙ ap (λ n. cond (is_err (step world words).reply) 1 0 + n) plain.1,
+    )
 plain_more world words commands fault out rest refused others is count (inr cut) =
     let text = piece words (step world words).reply in
     let before = run_output (step world words).world (take cut.0 commands) None in
-    inr (suc cut.0, cut.1, one_past cut.0 (length commands) cut.2,
-      is ∙ ap (λ more. text ++ more) cut.3 ∙ sym (append_assoc text before (error_line (literal "out of memory") ++ cut.1)))
+    inr (
+      suc cut.0,
+      cut.1,
+      one_past cut.0 (length commands) cut.2,
+      is ∙ ap (λ more. text ++ more) cut.3 ∙ sym (append_assoc text before (error_line (literal "out of memory") ++ cut.1)),
+    )
 
 pub plain_up_to_refusal : (commands : List (List (List ℕ))) (world : World) (fault : Option ScriptFault) (out : List ℕ) (refused : ℕ)
     → RunsTo world commands fault out refused → IsPlain world commands fault out refused ⊎ IsPlainUpToRefusal world commands out
 plain_up_to_refusal [] world fault out refused runs = inl runs
 plain_up_to_refusal (words ∷ commands) world fault out refused (inl by_step) =
     plain_more world words commands fault out by_step.0 refused by_step.1 by_step.2 by_step.3
-      (plain_up_to_refusal commands (step world words).world fault by_step.0 by_step.1 by_step.4)
+    (plain_up_to_refusal commands (step world words).world fault by_step.0 by_step.1 by_step.4)
 plain_up_to_refusal (words ∷ commands) world fault out refused (inr by_memory) =
     inr (0, by_memory.0, none_past (length commands), by_memory.2)

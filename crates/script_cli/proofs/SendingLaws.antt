@@ -43,9 +43,12 @@ pub Gathers-past : (old mid new : Option (List ℕ)) (waited bytes : List ℕ) (
     → Sends old mid waited true → Sends mid new bytes done → Gathers old waited new [] bytes done
 Gathers-past old mid new waited bytes true first second =
     (waited ++ bytes, sym (append-nil (waited ++ bytes)), Appends-then old mid new waited bytes first second)
-Gathers-past old mid new waited bytes false first second =
-    (waited ++ second.0, second.1, ap (λ xs. waited ++ xs) second.2 ∙ sym (append_assoc waited second.0 second.1),
-      Appends-then old mid new waited second.0 first second.3)
+Gathers-past old mid new waited bytes false first second = (
+  waited ++ second.0,
+  second.1,
+  ap (λ xs. waited ++ xs) second.2 ∙ sym (append_assoc waited second.0 second.1),
+  Appends-then old mid new waited second.0 first second.3,
+)
 
 regroup : (p a s q b t r : List ℕ) → p ++ a ≡ s ++ q → q ++ b ≡ t ++ r → p ++ (a ++ b) ≡ (s ++ t) ++ r
 regroup p a s q b t r e f =
@@ -55,12 +58,17 @@ regroup p a s q b t r e f =
 pub Gathers-then : (first_known mid last : Option (List ℕ)) (waited between waits a b : List ℕ) (done : Bool)
     → Gathers first_known waited mid between a true → Gathers mid between last waits b done
     → Gathers first_known waited last waits (a ++ b) done
-Gathers-then old mid new waited between waits a b true first second =
-    (first.0 ++ second.0, regroup waited a first.0 between b second.0 waits first.1 second.1,
-      Appends-then old mid new first.0 second.0 first.2 second.2)
-Gathers-then old mid new waited between waits a b false first second =
-    (first.0 ++ second.0, second.1, regroup waited a first.0 between b second.0 second.1 first.1 second.2,
-      Appends-then old mid new first.0 second.0 first.2 second.3)
+Gathers-then old mid new waited between waits a b true first second = (
+  first.0 ++ second.0,
+  regroup waited a first.0 between b second.0 waits first.1 second.1,
+  Appends-then old mid new first.0 second.0 first.2 second.2,
+)
+Gathers-then old mid new waited between waits a b false first second = (
+  first.0 ++ second.0,
+  second.1,
+  regroup waited a first.0 between b second.0 second.1 first.1 second.2,
+  Appends-then old mid new first.0 second.0 first.2 second.3,
+)
 
 -- the writer fails at the first
 pub Gathers-stop : (old new : Option (List ℕ)) (waited between waits a b : List ℕ)

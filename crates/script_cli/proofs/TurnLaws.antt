@@ -1,8 +1,8 @@
 -- What a turn of a run prints, and what it leaves.
-use Rattle.std.proofs.Common.{◌≡◌, ◌≢◌, ◌<◌, length, ℕ, Bool, true, false, List, Option, None, Some, ◌⊎◌, inl, inr, refl, sym, ap, ◌∙◌, rules}
+use Rattle.std.proofs.Common.{◌≡◌, ◌≢◌, ◌<◌, length, ℕ, Bool, true, List, None, inl, inr, refl, ap, rules}
 use Rattle.std.specs.Prelude.{Result, Ok, Err, IfErr, is_err}
-use Rattle.tcl_words.specs.ScriptGrammar.{IsCommandBefore, MeetsFault}
-use Rattle.tcl_words.specs.Unread.{Unread, TakesCommand, IsNextCommand, StopsAt, IsFaultOf}
+use Rattle.tcl_words.specs.ScriptGrammar.{MeetsFault}
+use Rattle.tcl_words.specs.Unread.{Unread, TakesCommand, StopsAt}
 use Rattle.tcl_words.specs.declared.fault.ScriptFault.{ScriptFault}
 use Rattle.peers.specs.declared.answers.Answer.{Answer}
 use Rattle.peers.specs.declared.answers.Fault.{Fault}

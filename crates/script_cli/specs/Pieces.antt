@@ -1,5 +1,5 @@
 -- What is printed for a command, as characters.
-use Rattle.std.specs.Prelude.{ℕ, Bool, true, false, List, [], ◌∷◌, ◌++◌, chars, codes, slice_index_or, Result, Ok, Err}
+use Rattle.std.specs.Prelude.{ℕ, true, false, List, [], ◌∷◌, ◌++◌, slice_index_or, Result, Ok, Err}
 use Rattle.peers.specs.declared.answers.Answer.{Answer}
 use Rattle.peers.specs.declared.answers.Answer.TheVariants.{Empty, Word, Flag, Text}
 use Rattle.peers.specs.declared.answers.Fault.{Fault}

@@ -1,5 +1,5 @@
 -- What a whole script prints.
-use Rattle.std.specs.Prelude.{◌≡◌, ℕ, ◌+◌, Bool, ◌⊎◌, List, [], ◌∷◌, ◌++◌, length, Option, None, Some, is_some, is_err, encode_utf8_all, Result, Err, if◌then◌else◌}
+use Rattle.std.specs.Prelude.{◌≡◌, ℕ, ◌+◌, ◌⊎◌, List, [], ◌∷◌, ◌++◌, length, Option, None, Some, is_some, is_err, encode_utf8_all, Err, if◌then◌else◌}
 use Rattle.text_model.specs.LimitTable.{LimitTable}
 use Rattle.tcl_words.specs.ScriptGrammar.{ReadsScript, ReadsFront}
 use Rattle.tcl_words.specs.declared.fault.ScriptFault.{ScriptFault}
@@ -37,10 +37,10 @@ abbrev pub RunsTo : World → List (List (List ℕ)) → Option ScriptFault → 
 RunsTo world [] fault out refused = (out ≡ last_piece fault) × (refused ≡ 0)
 RunsTo world (words ∷ commands) fault out refused =
     ((rest : List ℕ) × (others : ℕ) × (out ≡ piece words (step world words).reply ++ rest)
-      × (refused ≡ (if is_err (step world words).reply then 1 else 0) + others)
-      × RunsTo (step world words).world commands fault rest others)
+    × (refused ≡ (if is_err (step world words).reply then 1 else 0) + others)
+    × RunsTo (step world words).world commands fault rest others)
     ⊎ ((rest : List ℕ) × (others : ℕ) × (out ≡ piece words (Err Memory) ++ rest)
-      × (refused ≡ 1 + others) × RunsTo world commands fault rest others)
+    × (refused ≡ 1 + others) × RunsTo world commands fault rest others)
 
 -- From old to new the run of a script was written, of which this is the summary.
 abbrev pub WritesRun : LimitTable → List ℕ → Option (List ℕ) → Option (List ℕ) → RunSummary → Type 0

@@ -1,5 +1,5 @@
 -- What one turn of a run meets: a command, a script fault or the end of the script.
-use Rattle.std.specs.Prelude.{◌≡◌, ℕ, ◌<◌, Bool, true, false, ◌⊎◌, List, [], ◌++◌, length, Option, Some, is_err, Err}
+use Rattle.std.specs.Prelude.{◌≡◌, ℕ, ◌<◌, Bool, true, false, ◌⊎◌, List, [], ◌++◌, length, Some, is_err, Err}
 use Rattle.tcl_words.specs.ScriptGrammar.{IsCommandBefore, HoldsNothing, MeetsFault}
 use Rattle.tcl_words.specs.declared.fault.ScriptFault.{ScriptFault}
 use Rattle.peers.specs.declared.answers.Fault.TheVariants.{Memory}

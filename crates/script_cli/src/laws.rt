@@ -12,12 +12,10 @@ pub fn plain_run()
     ensures { (world : World) (commands : List (List (List ℕ))) (fault : Option ScriptFault) (out : List ℕ) (refused : ℕ) →
         RunsTo world commands fault out refused →
         IsPlain world commands fault out refused ⊎ IsPlainUpToRefusal world commands out }
-{
-}
+{}
 
 /// Any commands have a run in any world: the one without refusals for memory.
 pub fn some_run()
     ensures { (world : World) (commands : List (List (List ℕ))) (fault : Option ScriptFault) →
         RunsTo world commands fault (run_output world commands fault) (refused_count world commands) }
-{
-}
+{}

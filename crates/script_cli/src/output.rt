@@ -1,9 +1,8 @@
 ghost use Rattle.std.specs.Prelude.{◌≡◌, ◌+◌, ◌≤◌, [], ◌++◌, true, false, not, nat_le, length};
 ghost use Rattle.script_cli.specs.Sending.{Sends, Gathers};
 
-use std::marker::Model;
-
 use crate::devices::ByteSink;
+use std::marker::Model;
 
 /// Writes all of the bytes, and answers false where the writer fails before their end.
 #[tactic(auto, using(crate::proofs::SendingLaws::writing))]

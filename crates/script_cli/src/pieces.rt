@@ -3,13 +3,11 @@ ghost use Rattle.tcl_words.specs.Unread.{texts_of};
 ghost use Rattle.script_cli.specs.Pieces.{piece, error_line, script_fault_text, answer_text as spec_answer_text, word_at as spec_word_at};
 ghost use Rattle.script_cli.specs.Sending.{Gathers};
 
-use std::marker::Model;
-
-use peers::{Answer, Fault};
-use tcl_words::ScriptFault;
-
 use crate::devices::ByteSink;
 use crate::output::Output;
+use peers::{Answer, Fault};
+use std::marker::Model;
+use tcl_words::ScriptFault;
 
 /// The text that is printed for a command: a word or a text between two texts of the program.
 #[derive(Drop)]
@@ -48,11 +46,27 @@ impl<'a> Piece<'a> {
         ensures { result ≡ encode_utf8_all (piece (texts_of words.now) (Err fault)) }
     {
         match fault {
-            Fault::BadIndex(position) => Piece::around("error: bad text index \"", word_at(words, position), "\"\n"),
-            Fault::BadOption(position) => Piece::around("error: bad option \"", word_at(words, position), "\"\n"),
+            Fault::BadIndex(position) => Piece::around(
+                "error: bad text index \"",
+                word_at(words, position),
+                "\"\n",
+            ),
+            Fault::BadOption(position) => Piece::around(
+                "error: bad option \"",
+                word_at(words, position),
+                "\"\n",
+            ),
             Fault::WrongArguments => Piece::plain("error: wrong # args\n"),
-            Fault::InvalidCommandName(position) => Piece::around("error: invalid command name \"", word_at(words, position), "\"\n"),
-            Fault::WindowExists(position) => Piece::around("error: window name \"", word_at(words, position), "\" already exists\n"),
+            Fault::InvalidCommandName(position) => Piece::around(
+                "error: invalid command name \"",
+                word_at(words, position),
+                "\"\n",
+            ),
+            Fault::WindowExists(position) => Piece::around(
+                "error: window name \"",
+                word_at(words, position),
+                "\" already exists\n",
+            ),
             Fault::DocumentExists => Piece::plain("error: a document exists\n"),
             Fault::TooManyWidgets => Piece::plain("error: too many widgets\n"),
             Fault::TextTooLong => Piece::plain("error: text is too long\n"),

@@ -3,10 +3,9 @@ ghost use Rattle.tcl_words.specs.Unread.{nothing_fed};
 ghost use Rattle.script_cli.specs.Devices.{Consumes};
 ghost use Rattle.script_cli.specs.Reading.{Feeds, read_so_far, whole_script};
 
-use tcl_words::Splitter;
-
 use crate::devices::ByteSource;
 use crate::summary::RunFault;
+use tcl_words::Splitter;
 
 /// What a read brought.
 #[derive(Clone, Copy)]
@@ -18,7 +17,11 @@ pub enum Brought {
 }
 
 /// Reads a script to its end, in no more than so many reads, and feeds all of it.
-pub fn read_all<R: ByteSource>(source: &mut R, splitter: &mut Splitter, reads: u32) -> Result<(), RunFault>
+pub fn read_all<R: ByteSource>(
+    source: &mut R,
+    splitter: &mut Splitter,
+    reads: u32,
+) -> Result<(), RunFault>
     requires source { R.is_failed source.old ≡ false }
     requires unread { splitter.old ≡ nothing_fed }
     ensures whole { OnOk result (splitter.new ≡ whole_script splitter.new.rest) }

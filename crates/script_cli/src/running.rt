@@ -3,17 +3,15 @@ ghost use Rattle.script_cli.specs.Reading.{whole_script};
 ghost use Rattle.script_cli.specs.Run.{WritesRun, WritesFront, WritesFrontOfRead};
 ghost use Rattle.script_cli.specs.Sending.{Sends};
 
-use std::alloc::Global;
-
-use peers::World;
-use tcl_words::Splitter;
-use text_model::{Limits, TextStore};
-
 use crate::devices::{ByteSink, ByteSource};
 use crate::output::Output;
 use crate::reading::read_all;
 use crate::summary::{RunFault, RunSummary};
 use crate::turns::{Met, take_turn};
+use peers::World;
+use std::alloc::Global;
+use tcl_words::Splitter;
+use text_model::{Limits, TextStore};
 
 /// Runs a script: reads all of it, carries out its commands in order, and writes the answer or the fault of each.
 ///
@@ -95,7 +93,11 @@ fn carry_out<S: TextStore, W: ByteSink>(
 }
 
 /// Writes all that waits at the end of a run.
-fn finish<W: ByteSink>(summary: RunSummary, output: &mut Output, sink: &mut W) -> Result<RunSummary, RunFault>
+fn finish<W: ByteSink>(
+    summary: RunSummary,
+    output: &mut Output,
+    sink: &mut W,
+) -> Result<RunSummary, RunFault>
     requires sink { W.is_failed sink.old ≡ false }
     ensures bytes { Sends (W.written sink.old) (W.written sink.new) output.old (is_ok result) }
     ensures summary { IfOk result (λ ended. ended ≡ summary) }

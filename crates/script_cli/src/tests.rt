@@ -186,7 +186,10 @@ fn reads_no_more_than_it_may(rt: HostRuntime) -> Result<(), Fail> {
         let ended = run::<PlainStore, _, _>(rt.alloc(), &mut source, &mut sink, limits(reads)?);
         assert_eq!(rt; ended.is_ok(), ends, "in {reads} reads");
         assert_eq!(rt; ended == Err(RunFault::Endless), !ends);
-        assert_eq!(rt; source.get_ref().script.is_empty(), reads > 0 || script.is_empty());
+        assert_eq!(rt;
+            source.get_ref().script.is_empty(),
+            reads > 0 || script.is_empty()
+        );
     }
     Ok(())
 }
@@ -220,7 +223,11 @@ fn push_twice(sink: &mut Watched<TestWriter>, text: &[u8]) -> bool
     requires { sink.old.failed ≡ false }
 {
     let mut output = Output::new();
-    output.push(sink, b"ab") && output.push(sink, text) && output.push(sink, text) && output.push(sink, b"c") && output.flush(sink)
+    output.push(sink, b"ab")
+        && output.push(sink, text)
+        && output.push(sink, text)
+        && output.push(sink, b"c")
+        && output.flush(sink)
 }
 
 #[test]

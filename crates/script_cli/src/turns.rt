@@ -1,18 +1,16 @@
-ghost use Rattle.std.specs.Prelude.{◌≡◌, ◌<◌, ◌++◌, false, true, not, None, Some, is_err, length, List, ℕ, Bool, encode_utf8_all};
+ghost use Rattle.std.specs.Prelude.{◌≡◌, ◌<◌, false, true, not, None, Some, is_err, length, List, ℕ, encode_utf8_all};
 ghost use Rattle.tcl_words.specs.Unread.{texts_of};
-ghost use Rattle.tcl_words.specs.ScriptGrammar.{MeetsFault};
 ghost use Rattle.peers.specs.World.{World as WorldState};
 ghost use Rattle.script_cli.specs.Run.{last_piece};
 ghost use Rattle.script_cli.specs.Sending.{Gathers};
 ghost use Rattle.script_cli.specs.Turns.{Replies, Meets, goes_on, is_refusal};
 
-use peers::{Answer, Fault, World};
-use tcl_words::{ScriptFault, Splitter};
-use text_model::TextStore;
-
 use crate::devices::ByteSink;
 use crate::output::Output;
 use crate::pieces::Piece;
+use peers::{Answer, Fault, World};
+use tcl_words::{ScriptFault, Splitter};
+use text_model::TextStore;
 
 /// What a turn met.
 #[derive(Clone, Copy)]
@@ -36,7 +34,12 @@ pub struct Turn {
 }
 
 /// Takes the next command and prints its answer or its fault.
-pub fn take_turn<S: TextStore, W: ByteSink>(world: &mut World<S>, splitter: &mut Splitter, output: &mut Output, sink: &mut W) -> Turn
+pub fn take_turn<S: TextStore, W: ByteSink>(
+    world: &mut World<S>,
+    splitter: &mut Splitter,
+    output: &mut Output,
+    sink: &mut W,
+) -> Turn
     requires finished { splitter.old.finished ≡ true }
     requires no_fault { splitter.old.fault ≡ None }
     requires sink { W.is_failed sink.old ≡ false }
@@ -60,7 +63,12 @@ pub fn take_turn<S: TextStore, W: ByteSink>(world: &mut World<S>, splitter: &mut
 }
 
 /// Carries out a command and prints its answer or its fault.
-fn answer<S: TextStore, W: ByteSink>(world: &mut World<S>, words: &[String], output: &mut Output, sink: &mut W) -> Turn
+fn answer<S: TextStore, W: ByteSink>(
+    world: &mut World<S>,
+    words: &[String],
+    output: &mut Output,
+    sink: &mut W,
+) -> Turn
     requires some { 0 < length words.now }
     requires sink { W.is_failed sink.old ≡ false }
     ensures met { (text : List ℕ) × Replies world.old world.new (texts_of words.now) (is_refusal result.met) text

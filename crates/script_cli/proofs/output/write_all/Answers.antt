@@ -1,6 +1,5 @@
-use Rattle.std.proofs.Common.{◌≡◌, ◌+◌, ◌-◌, length, take, drop, refl, sym, ap, ◌∙◌, arith}
+use Rattle.std.proofs.Common.{◌+◌, sym, ◌∙◌, arith}
 use Rattle.std.proofs.lemmas.Grind.{common_steps}
-use Rattle.script_cli.specs.Devices.{Appends}
 use Rattle.script_cli.proofs.SendingLaws.{Appends-more, Sends-front}
 use Rattle.script_cli.proofs.output.write_all.Goals as goal
 
@@ -8,8 +7,8 @@ pub returns-then-failed-clause-bytes : goal.returns-then-failed-clause-bytes
 returns-then-failed-clause-bytes g c =
     let i = c.loop-sent.invariant in let W = g.W.ByteSink in
     Sends-front (W.written c.args.sink.now) (W.written c.write-sent.new.self) c.args.bytes.now (c.loop-sent.sent + c.write-sent.result)
-      (Appends-more (W.written c.args.sink.now) (W.written c.loop-sent.sink) (W.written c.write-sent.new.self) c.args.bytes.now c.loop-sent.sent
-        c.write-sent.result i.appends (c.write-sent.ensures.bytes i.up))
+    (Appends-more (W.written c.args.sink.now) (W.written c.loop-sent.sink) (W.written c.write-sent.new.self) c.args.bytes.now c.loop-sent.sent
+    c.write-sent.result i.appends (c.write-sent.ensures.bytes i.up))
 
 pub loop-sent-preserved : goal.loop-sent-preserved
 loop-sent-preserved g c =
@@ -17,6 +16,6 @@ loop-sent-preserved g c =
     record {
       within = grind (arith, common_steps);
       appends = Appends-more (W.written c.args.sink.now) (W.written c.loop-sent.sink) (W.written c.write-sent.new.self) c.args.bytes.now c.loop-sent.sent
-        c.write-sent.result i.appends (c.write-sent.ensures.bytes i.up);
-      up = sym c.failed.ensures ∙ c.if-failed.false
+          c.write-sent.result i.appends (c.write-sent.ensures.bytes i.up);
+      up = sym c.failed.ensures ∙ c.if-failed.false;
     }

@@ -11,4 +11,4 @@ returns-clause-front_of_read g c =
     λ fault.
     let consumed = c.in-Err.ensures.front (one_of_faults c.in-Err.fault Read Endless fault) in
     nothing_written_of_part c.args.limits (g.R.ByteSource.remaining c.args.source.now) (g.R.ByteSource.remaining c.read_all.new.source)
-      (g.W.ByteSink.written c.args.sink.now) consumed.0 consumed.1
+    (g.W.ByteSink.written c.args.sink.now) consumed.0 consumed.1

@@ -1,4 +1,3 @@
-use Rattle.std.proofs.Common.{◌≡◌, encode_utf8_all}
 use Rattle.tcl_words.specs.Unread.{texts_of}
 use Rattle.script_cli.specs.Pieces.{piece}
 use Rattle.script_cli.proofs.TurnLaws.{replies}

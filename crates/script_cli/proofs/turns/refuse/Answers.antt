@@ -1,4 +1,4 @@
-use Rattle.std.proofs.Common.{◌≡◌, true, refl, ap, [], Some, inr}
+use Rattle.std.proofs.Common.{true, refl, ap, [], Some, inr}
 use Rattle.std.specs.Prelude.{Err, Ok}
 use Rattle.peers.specs.declared.answers.Fault.TheVariants.{Memory}
 use Rattle.script_cli.specs.declared.turns.Met.TheVariants as met
@@ -13,10 +13,12 @@ returns-in-Ok-true-clause-met g c =
     λ world.
     let is = ap Ok c.in-Ok-true.field-0-test in
     let taken = c.in-Ok-true.ensures.skipped is in
-    let text = piece [] (Err Memory) in
-    (text, meets world world c.args.splitter.now c.skip_command.new.self taken.0 true text c.requires.finished
-        (c.in-Ok-true.ensures.shorter is) taken.1 (inr (refl, refl, refl)),
-      rw c.of_reply.ensures at c.push_to.ensures.bytes)
+    let text = piece [] (Err Memory) in (
+      text,
+      meets world world c.args.splitter.now c.skip_command.new.self taken.0 true text c.requires.finished
+          (c.in-Ok-true.ensures.shorter is) taken.1 (inr (refl, refl, refl)),
+      rw c.of_reply.ensures at c.push_to.ensures.bytes,
+    )
 
 pub returns-in-Err-clause-met : goal.returns-in-Err-clause-met
 returns-in-Err-clause-met g c =
@@ -24,5 +26,5 @@ returns-in-Err-clause-met g c =
     let old = c.args.splitter.now in let new = c.skip_command.new.self in let fault = c.in-Err.fault in
     let text = last_piece (Some fault) in
     let stops : Meets world old.rest world new.rest met.Fault text =
-      (fault, meets_fault old new fault c.requires.finished c.requires.no_fault c.in-Err.ensures.fault.1, refl) in
+    (fault, meets_fault old new fault c.requires.finished c.requires.no_fault c.in-Err.ensures.fault.1, refl) in
     (text, rw c.stop.ensures.met stops, c.stop.ensures.text)

@@ -1,4 +1,4 @@
-use Rattle.std.proofs.Common.{◌≡◌, true, refl, ap, Some}
+use Rattle.std.proofs.Common.{refl, ap, Some}
 use Rattle.std.proofs.lemmas.Bool.{false≢true}
 use Rattle.std.specs.Prelude.{Err}
 use Rattle.script_cli.specs.declared.turns.Met.TheVariants as met
@@ -13,11 +13,13 @@ returns-in-Ok-Some-clause-met g c =
     let old = c.args.splitter.now in let new = c.next_command.new.self in let met = c.answer.result.met in
     let answered = rw c.deref.ensures.value at c.answer.ensures.met in
     let h = rw c.in-Ok-Some.field-0-is at c.in-Ok-Some.ensures in
-    let text = answered.0 in
-    (text, meets_command met c.args.world.now c.answer.new.world old.rest new.rest text c.answer.ensures.going
-        (meets c.args.world.now c.answer.new.world old new (texts_of c.in-Ok-Some.words.items) (is_refusal met) text
+    let text = answered.0 in (
+      text,
+      meets_command met c.args.world.now c.answer.new.world old.rest new.rest text c.answer.ensures.going
+          (meets c.args.world.now c.answer.new.world old new (texts_of c.in-Ok-Some.words.items) (is_refusal met) text
           c.requires.finished (h.shorter refl) h.command answered.1),
-      answered.2)
+      answered.2,
+    )
 
 pub returns-in-Memory-clause-met : goal.returns-in-Memory-clause-met
 returns-in-Memory-clause-met g c =
@@ -30,7 +32,7 @@ returns-in_default-clause-met g c =
     let old = c.args.splitter.now in let new = c.next_command.new.self in let fault = c.in-Err.fault in
     let text = last_piece (Some fault) in let d = c.in_default in
     let stops : Meets world old.rest world new.rest met.Fault text =
-      (fault, meets_fault old new fault c.requires.finished c.requires.no_fault (c.in-Err.ensures.fault c.in_default.not-Memory), refl) in
+    (fault, meets_fault old new fault c.requires.finished c.requires.no_fault (c.in-Err.ensures.fault c.in_default.not-Memory), refl) in
     (text, rw c.stop.ensures.met stops, c.stop.ensures.text)
 
 pub returns-in_default-clause-going : goal.returns-in_default-clause-going

@@ -1,4 +1,4 @@
-use Rattle.std.proofs.Common.{◌≡◌, encode_utf8_all, ap, ◌∙◌}
+use Rattle.std.proofs.Common.{encode_utf8_all, ap, ◌∙◌}
 use Rattle.tcl_words.specs.Unread.{texts_of}
 use Rattle.script_cli.specs.Pieces.{answer_text}
 use Rattle.script_cli.proofs.PieceLaws.{answer_line}

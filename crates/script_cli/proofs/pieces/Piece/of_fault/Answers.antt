@@ -1,4 +1,4 @@
-use Rattle.std.proofs.Common.{◌≡◌, ℕ, List, ◌++◌, encode_utf8_all, ap, ◌∙◌}
+use Rattle.std.proofs.Common.{encode_utf8_all, ap, ◌∙◌}
 use Rattle.tcl_words.specs.Unread.{texts_of}
 use Rattle.script_cli.specs.Pieces.{word_at}
 use Rattle.script_cli.proofs.PieceLaws.{bad_index, bad_option, bad_name, window_exists, wrong_arguments, document_exists, too_many_widgets, too_long, no_memory}

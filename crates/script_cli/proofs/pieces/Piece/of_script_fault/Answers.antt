@@ -1,4 +1,4 @@
-use Rattle.std.proofs.Common.{◌≡◌, encode_utf8_all, ap, ◌∙◌}
+use Rattle.std.proofs.Common.{encode_utf8_all, ap, ◌∙◌}
 use Rattle.script_cli.proofs.PieceLaws.{no_substitution, not_utf8, no_memory}
 use Rattle.script_cli.proofs.pieces.Piece.of_script_fault.Goals as goal
 
