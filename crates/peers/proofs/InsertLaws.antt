@@ -90,10 +90,10 @@ length-after_insertion content after at text within is = ap (λ (c : Content). l
 pub IsKept-inserted : (name : List ℕ) (content after : Content) (at : ℕ) (text : List ℕ) → IsKept name content.cells → at < length content.cells
     → length content.cells + length text ≤ 16777216 → after ≡ after_insertion at text set.empty content → IsKept name after.cells
 IsKept-inserted name content after at text kept within short is = record {
-    named = kept.named;
-    newline = ap (λ (c : Content). ends_in_newline (model.characters c.cells)) is ∙ ends_in_newline-inserted content.cells (cells_of text set.empty) at within ∙ kept.newline;
-    short = omega (arith, length-after_insertion content after at text within is);
-  }
+  named = kept.named;
+  newline = ap (λ (c : Content). ends_in_newline (model.characters c.cells)) is ∙ ends_in_newline-inserted content.cells (cells_of text set.empty) at within ∙ kept.newline;
+  short = omega (arith, length-after_insertion content after at text within is);
+}
 
 -- the document after an insertion is the one that the definition gives
 pub insert_at-lone : (limits : LimitTable) (name : List ℕ) (content after : Content) (at : ℕ) (text : List ℕ)

@@ -34,6 +34,6 @@ key_cmp_exact a b alike =
 pub intersection-empty : set.intersection (set.empty {R = key_cmp}) set.empty ≡ set.empty
 intersection-empty =
     set.same_set key_cmp_total key_cmp_exact _ _ (λ key.
-      set.contains-intersection key_cmp_total set.empty set.empty key
-      ∙ ap (λ b. b && set.contains (set.empty {R = key_cmp}) key) (set.contains-empty key_cmp key)
-      ∙ sym (set.contains-empty key_cmp key))
+    set.contains-intersection key_cmp_total set.empty set.empty key
+    ∙ ap (λ b. b && set.contains (set.empty {R = key_cmp}) key) (set.contains-empty key_cmp key)
+    ∙ sym (set.contains-empty key_cmp key))

@@ -38,7 +38,7 @@ line_start-line_of (c ∷ text) (suc place) within =
     let here = line_start-line_of text place (omega arith) in
     let long : length front ≡ place = length-take-le place text (omega arith) in
     elim (is_newline c) as (λ b. is_newline c ≡ b → lines (c ∷ front) ≡ cond b 1 0 + lines front
-      → line_start (lines (c ∷ front)) (c ∷ text) + since_newline (c ∷ front) ≡ suc place) [
+    → line_start (lines (c ∷ front)) (c ∷ text) + since_newline (c ∷ front) ≡ suc place) [
       | true ↦ λ newline more. let total : lines (c ∷ front) ≡ suc (lines front) = omega arith in
           ap (λ n. line_start n (c ∷ text) + since_newline (c ∷ front)) total ∙ past_newline c text front (lines front) place newline long here
       | false ↦ λ other more. let total : lines (c ∷ front) ≡ lines front = omega arith in

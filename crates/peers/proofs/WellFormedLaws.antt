@@ -30,31 +30,31 @@ distinct_none = tt
 pub IsWellFormedDocument-lone : (limits : LimitTable) (name : List ℕ) (content : Content) → IsKept name content.cells → length content.cells ≤ limits.chars
     → IsWellFormedDocument limits (lone_document name content)
 IsWellFormedDocument-lone limits name content kept fits = record {
-    newline = ap ends_in_newline (characters-keyed [] content.cells) ∙ kept.newline;
-    fits = omega (arith, length-keyed [] content.cells);
-    keys = no_keys (lone_document name content) content.cells;
-    shown = omega arith;
-    widgets = (record { name = kept.named; start = λ at none. absurd (cc); end = λ at none. absurd (cc); ordered = omega arith; insert = omega arith; current = omega arith }, tt);
-    widget_names = distinct_one name;
-    marks = tt;
-    mark_names = distinct_none;
-    mark_count = omega arith;
-    tag_names = distinct_one sel;
-    sel = ap (λ b. b || false) ((bytes_eq-Decides sel sel).1 refl);
-    tag_count = omega arith;
-    history = record { filled = tt; undone_filled = tt; reverts = refl; repeats = refl };
-  }
+  newline = ap ends_in_newline (characters-keyed [] content.cells) ∙ kept.newline;
+  fits = omega (arith, length-keyed [] content.cells);
+  keys = no_keys (lone_document name content) content.cells;
+  shown = omega arith;
+  widgets = (record { name = kept.named; start = λ at none. absurd (cc); end = λ at none. absurd (cc); ordered = omega arith; insert = omega arith; current = omega arith }, tt);
+  widget_names = distinct_one name;
+  marks = tt;
+  mark_names = distinct_none;
+  mark_count = omega arith;
+  tag_names = distinct_one sel;
+  sel = ap (λ b. b || false) ((bytes_eq-Decides sel sel).1 refl);
+  tag_count = omega arith;
+  history = record { filled = tt; undone_filled = tt; reverts = refl; repeats = refl };
+}
 
 -- a world whose document was changed within its limits
 pub IsWellFormed-changed : (limits : LimitTable) (old new : Document) → IsWellFormed (record { limits = limits; documents = old ∷ [] })
     → (IsWellFormedDocument limits old → IsWellFormedDocument limits new) → length new.widgets ≡ length old.widgets
     → IsWellFormed (record { limits = limits; documents = new ∷ [] })
 IsWellFormed-changed limits old new world keeps widgets = record {
-    limits = world.limits;
-    lone = world.lone;
-    documents = (keeps world.documents.0, tt);
-    widget_count = let before = world.widget_count in omega arith;
-  }
+  limits = world.limits;
+  lone = world.lone;
+  documents = (keeps world.documents.0, tt);
+  widget_count = let before = world.widget_count in omega arith;
+}
 
 -- a world with a first document
 pub IsWellFormed-first : (limits : LimitTable) (new : Document) → AreLimits limits → IsWellFormedDocument limits new → length new.widgets ≡ 1 → 0 < limits.widgets

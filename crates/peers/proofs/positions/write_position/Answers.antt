@@ -27,5 +27,5 @@ returns g c =
     let line_is : 1 + c.line_of-line.result ≡ 1 + line_of text place = ap (λ n. 1 + n) c.line_of-line.ensures in
     let character_is : place - c.line_start.result ≡ since_newline (take place text) = omega (arith, line_start-line_of text place within) in
     let spelled : decimal (1 + c.line_of-line.result) ++ 46 ∷ decimal (place - c.line_start.result) ≡ position_text text place =
-      ap (λ n. decimal n ++ 46 ∷ decimal (place - c.line_start.result)) line_is ∙ ap (λ n. decimal (1 + line_of text place) ++ 46 ∷ decimal n) character_is in
+    ap (λ n. decimal n ++ 46 ∷ decimal (place - c.line_start.result)) line_is ∙ ap (λ n. decimal (1 + line_of text place) ++ 46 ∷ decimal n) character_is in
     IfOk-weaker c.write_numbers.result _ (λ found. chars (string_bytes found) ≡ position_text text place) (λ found written. written ∙ spelled) c.write_numbers.ensures

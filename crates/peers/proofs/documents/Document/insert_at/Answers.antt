@@ -36,4 +36,4 @@ returns-clause-well_formed g c =
     let short : length old.cells + length text ≤ 16777216 = omega (arith, c.is_too_long.ensures.short c.if-is_too_long.false) in
     let fits : length old.cells + length text ≤ c.args.limits.now.chars = omega (arith, c.is_too_long.ensures.fits c.if-is_too_long.false) in
     λ _. IsWellFormedDocument-lone c.args.limits.now name new (IsKept-inserted name old new c.args.at text c.self.invariant within short c.in_ok-insert_text.ensures.ok)
-      (omega (arith, fits, length-after_insertion old new c.args.at text within c.in_ok-insert_text.ensures.ok))
+    (omega (arith, fits, length-after_insertion old new c.args.at text within c.in_ok-insert_text.ensures.ok))

@@ -14,6 +14,6 @@ returns-in_ok-text-in-Some-clause-reply g c =
     let document = c.args.self.now in
     let shown_is = shown-lone (chars (string_bytes c.self.inside.name)) (g.S.TextStore.content c.self.inside.store) in
     λ _. ap (λ text. Ok (Text text)) (c.new.ensures ∙ c.in_ok-text-in-Some.ensures
-      ∙ ap (λ text. position_text text place) (sym shown_is)
-      ∙ ap (λ d. position_text (shown d (lone_widget d)) place) c.self.view_is)
+    ∙ ap (λ text. position_text text place) (sym shown_is)
+    ∙ ap (λ d. position_text (shown d (lone_widget d)) place) c.self.view_is)
     ∙ ap (λ found. (show_place document (lone_widget document) found).reply) (sym c.in-Some.is)
