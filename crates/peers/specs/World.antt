@@ -1,5 +1,5 @@
 -- All that a session of commands can see later.
-use Rattle.std.specs.Prelude.{ℕ, ℤ, pos, Bool, true, false, List, [], ◌∷◌, Option, None, Some, map, chars, codes}
+use Rattle.std.specs.Prelude.{ℕ, ℤ, pos, Bool, true, false, List, [], ◌∷◌, Option, None, map, chars, codes}
 use Rattle.text_model.specs.declared.cells.Cell.{Cell}
 use Rattle.text_model.specs.declared.places.Gravity.TheVariants.{Right}
 use Rattle.text_model.specs.declared.places.Place.{Place}

@@ -74,6 +74,7 @@ impl<S: TextStore> World<S> {
         ensures refused { IfErr result (λ _. self.new ≡ self.old) }
         ensures well_formed { IsWellFormed self.new }
     {
+        // Read first, so that every return knows that the world is well formed.
         let document = &self.document;
         let [name, options @ ..] = arguments else {
             return Err(Fault::WrongArguments);

@@ -1,4 +1,4 @@
-use Rattle.std.proofs.Common.{◌≡◌, ◌∷◌, ◌++◌, [], ap, sym, ◌∙◌, append_assoc}
+use Rattle.std.proofs.Common.{◌≡◌, ◌∷◌, ◌++◌, [], ap, ◌∙◌, append_assoc}
 use Rattle.std.specs.Prelude.{decimal, chars, string_bytes}
 use Rattle.peers.proofs.PositionLaws.{chars-position}
 use Rattle.peers.proofs.positions.write_numbers.Goals as goal

@@ -1,4 +1,4 @@
-use Rattle.std.proofs.Common.{◌≡◌, ◌≤◌, true, length, ap, refl, ◌∙◌, arith}
+use Rattle.std.proofs.Common.{◌≡◌, length, ap, ◌∙◌, arith}
 use Rattle.std.specs.Prelude.{chars, string_bytes}
 use Rattle.text_model.specs.Content.{Content, characters}
 use Rattle.peers.specs.Kept.{IsKept, is_window_name, ends_in_newline}
