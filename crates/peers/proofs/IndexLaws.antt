@@ -1,9 +1,9 @@
 -- Indices of bytes, and with numbers up to the greatest that a machine has.
-use Rattle.std.proofs.Common.{◌≡◌, ◌≢◌, ℕ, zero, suc, ◌+◌, ◌-◌, ◌<◌, ◌≤◌, min, Bool, true, false, cond, ◌&&◌, List, [], ◌∷◌, ◌++◌, Option, Some, None, length, take, drop, get_or, refl, sym, ap, ◌∙◌, arith}
+use Rattle.std.proofs.Common.{◌≡◌, ℕ, zero, suc, ◌+◌, ◌<◌, ◌≤◌, min, Bool, true, false, ◌&&◌, List, [], ◌∷◌, ◌++◌, Option, Some, None, take, drop, get_or, refl, sym, ap, ◌∙◌, arith}
 use Rattle.std.specs.Str.{chars}
 use Rattle.std.specs.Char.{is_ascii_digit}
 use Rattle.peers.proofs.NumberLaws.{add_digit}
-use Rattle.std.specs.Prelude.{fold, codes, bytes_eq, position, option_map, option_and_then, if◌then◌else◌, nat_lt}
+use Rattle.std.specs.Prelude.{fold, bytes_eq, position, option_map, option_and_then, if◌then◌else◌, nat_lt}
 use Rattle.std.proofs.lemmas.Bool.Decides.{nat_tests, Decides-eqb, Decides-ltb}
 use Rattle.std.proofs.lemmas.List.{drop_more, take-append-drop}
 use Rattle.std.proofs.lemmas.List.Folds.{list_all-append}
@@ -37,7 +37,7 @@ pub in_line-end : (line : ℕ) (text : List ℕ) → line ≤ most → bytes_eq 
 in_line-end line text within same =
     ap (λ n. Some (LineEnd n)) (sym (min_most line within))
     ∙ sym (ap (λ e. option_map saturated (if bytes_eq text e then Some (LineEnd line) else option_map (At line) (number_of text))) end_bytes
-      ∙ ap (λ b. option_map saturated (if b then Some (LineEnd line) else option_map (At line) (number_of text))) same)
+    ∙ ap (λ b. option_map saturated (if b then Some (LineEnd line) else option_map (At line) (number_of text))) same)
 
 saturated_at : (line : ℕ) (found : Option ℕ) → line ≤ most → option_map (At line) (option_map (min most) found) ≡ option_map saturated (option_map (At line) found)
 saturated_at line None within = refl
@@ -49,7 +49,7 @@ pub in_line-number : (line : ℕ) (text : List ℕ) (found : Option ℕ) → lin
 in_line-number line text found within other is =
     ap (option_map (At line)) is ∙ saturated_at line (number_of text) within
     ∙ sym (ap (λ e. option_map saturated (if bytes_eq text e then Some (LineEnd line) else option_map (At line) (number_of text))) end_bytes
-      ∙ ap (λ b. option_map saturated (if b then Some (LineEnd line) else option_map (At line) (number_of text))) other)
+    ∙ ap (λ b. option_map saturated (if b then Some (LineEnd line) else option_map (At line) (number_of text))) other)
 
 at_saturated : (line : ℕ) (found : Option ℕ) → option_map saturated (option_map (At (min most line)) found) ≡ option_map saturated (option_map (At line) found)
 at_saturated line None = refl
@@ -58,8 +58,8 @@ at_saturated line (Some n) = ap (λ m. Some (At m (min most n))) (min_twice line
 in_line-saturated : (line : ℕ) (text : List ℕ) → option_map saturated (in_line (min most line) text) ≡ option_map saturated (in_line line text)
 in_line-saturated line text =
     elim (is_same text (literal "end")) as (λ b.
-      option_map saturated (if b then Some (LineEnd (min most line)) else option_map (At (min most line)) (number_of text))
-      ≡ option_map saturated (if b then Some (LineEnd line) else option_map (At line) (number_of text))) [
+    option_map saturated (if b then Some (LineEnd (min most line)) else option_map (At (min most line)) (number_of text))
+    ≡ option_map saturated (if b then Some (LineEnd line) else option_map (At line) (number_of text))) [
       | true ↦ ap (λ m. Some (LineEnd m)) (min_twice line)
       | false ↦ at_saturated line (number_of text)
     ]
@@ -68,20 +68,20 @@ in_line-saturated line text =
 pub around_dot-none : (text : List ℕ) (dot : ℕ) (place : Option ℕ) → place ≡ Some dot → None ≡ option_map (min most) (number_of (take dot text))
     → None ≡ option_map saturated (around_dot text place)
 around_dot-none text dot place at none = rw at (elim (number_of (take dot text)) as (λ o. None ≡ option_map (min most) o → None ≡ option_map saturated (option_and_then (λ line. in_line line (drop (suc dot) text)) o)) [
-      | None ↦ λ _. refl
-      | Some n ↦ λ is. absurd (let h : None ≡ Some (min most n) = is in cc)
-    ] none)
+  | None ↦ λ _. refl
+  | Some n ↦ λ is. absurd (let h : None ≡ Some (min most n) = is in cc)
+] none)
 
 -- before the dot a number stands
 pub around_dot-some : (text : List ℕ) (dot line : ℕ) (place : Option ℕ) (found : Option Index) → place ≡ Some dot
     → Some line ≡ option_map (min most) (number_of (take dot text)) → found ≡ option_map saturated (in_line line (drop (dot + 1) text))
     → found ≡ option_map saturated (around_dot text place)
 around_dot-some text dot line place found at some is = rw at (elim (number_of (take dot text)) as (λ o. Some line ≡ option_map (min most) o → found ≡ option_map saturated (option_and_then (λ n. in_line n (drop (suc dot) text)) o)) [
-      | None ↦ λ none. absurd (let h : Some line ≡ None = none in cc)
-      | Some n ↦ λ same. let line_is : line ≡ min most n = cc in
-          is ∙ ap (λ m. option_map saturated (in_line m (drop (dot + 1) text))) line_is ∙ in_line-saturated n (drop (dot + 1) text)
-          ∙ ap (λ k. option_map saturated (in_line n (drop k text))) (let e : dot + 1 ≡ suc dot = omega arith in e)
-    ] some)
+  | None ↦ λ none. absurd (let h : Some line ≡ None = none in cc)
+  | Some n ↦ λ same. let line_is : line ≡ min most n = cc in
+      is ∙ ap (λ m. option_map saturated (in_line m (drop (dot + 1) text))) line_is ∙ in_line-saturated n (drop (dot + 1) text)
+      ∙ ap (λ k. option_map saturated (in_line n (drop k text))) (let e : dot + 1 ≡ suc dot = omega arith in e)
+] some)
 
 pub index_of-end : (text : List ℕ) → bytes_eq text (101 ∷ 110 ∷ 100 ∷ []) ≡ true → Some End ≡ option_map saturated (index_of text)
 index_of-end text same = sym (ap (λ e. option_map saturated (if bytes_eq text e then Some End else around_dot text (position is_dot text))) end_bytes
@@ -109,9 +109,9 @@ low_digits (c ∷ text) digits =
 low_number : (text : List ℕ) (n : ℕ) → number_of text ≡ Some n → list_all is_low text ≡ true
 low_number [] n is = refl
 low_number (c ∷ text) n is = elim (list_all is_ascii_digit (c ∷ text)) as (λ b. list_all is_ascii_digit (c ∷ text) ≡ b → (if b then Some (fold add_digit 0 (c ∷ text)) else None) ≡ Some n → list_all is_low (c ∷ text) ≡ true) [
-      | true ↦ λ digits _. low_digits (c ∷ text) digits
-      | false ↦ λ _ none. absurd (let h : None ≡ Some n = none in cc)
-    ] refl is
+  | true ↦ λ digits _. low_digits (c ∷ text) digits
+  | false ↦ λ _ none. absurd (let h : None ≡ Some n = none in cc)
+] refl is
 
 low_end : (text : List ℕ) → is_same text (literal "end") ≡ true → list_all is_low text ≡ true
 low_end text same = ap (list_all is_low) ((bytes_eq-Decides text (literal "end")).0 same ∙ end_bytes)
@@ -121,9 +121,9 @@ low_behind line text index is =
     elim (is_same text (literal "end")) as (λ b. is_same text (literal "end") ≡ b → (if b then Some (LineEnd line) else option_map (At line) (number_of text)) ≡ Some index → list_all is_low text ≡ true) [
       | true ↦ λ same _. low_end text same
       | false ↦ λ _. elim (number_of text) as (λ o. number_of text ≡ o → option_map (At line) o ≡ Some index → list_all is_low text ≡ true) [
-          | None ↦ λ _ none. absurd (let h : None ≡ Some index = none in cc)
-          | Some n ↦ λ number _. low_number text n number
-        ] refl
+        | None ↦ λ _ none. absurd (let h : None ≡ Some index = none in cc)
+        | Some n ↦ λ number _. low_number text n number
+      ] refl
     ] refl is
 
 -- the parts round a dot have no such character, so the whole has none
@@ -157,9 +157,9 @@ ascii_of (c ∷ text) low i =
     elim (is_low c) as (λ b. is_low c ≡ b → (b && list_all is_low text) ≡ true → slice_index (c ∷ text) i < 128) [
       | false ↦ λ _ none. absurd (false≢true none)
       | true ↦ λ here rest. elim i as (λ j. slice_index (c ∷ text) j < 128) [
-          | zero ↦ (Decides-ltb c 128).0 here
-          | suc j ↦ ascii_of text rest j
-        ]
+        | zero ↦ (Decides-ltb c 128).0 here
+        | suc j ↦ ascii_of text rest j
+      ]
     ] refl low
 
 -- the index that the bytes of a text are is the one that its characters are
@@ -168,10 +168,10 @@ index_of-chars bytes text =
     elim (index_of bytes) as (λ o. index_of bytes ≡ o → o ≡ index_of (chars bytes)) [
       | Some index ↦ λ is. sym is ∙ ap index_of (sym (chars-IsAscii bytes (ascii_of bytes (low_index bytes index is))))
       | None ↦ λ none. elim (index_of (chars bytes)) as (λ o. index_of (chars bytes) ≡ o → None ≡ o) [
-          | None ↦ λ _. refl
-          | Some index ↦ λ is.
-              let ascii = ascii_of (chars bytes) (low_index (chars bytes) index is) in
-              let same : chars bytes ≡ bytes = sym (encodes-IsAscii (chars bytes) ascii) ∙ encodes-chars bytes text in
-              sym none ∙ ap index_of (sym same) ∙ is
-        ] refl
+        | None ↦ λ _. refl
+        | Some index ↦ λ is.
+            let ascii = ascii_of (chars bytes) (low_index (chars bytes) index is) in
+            let same : chars bytes ≡ bytes = sym (encodes-IsAscii (chars bytes) ascii) ∙ encodes-chars bytes text in
+            sym none ∙ ap index_of (sym same) ∙ is
+      ] refl
     ] refl

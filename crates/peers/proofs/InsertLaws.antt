@@ -1,5 +1,5 @@
 -- A lone document after an insertion.
-use Rattle.std.proofs.Common.{◌≡◌, ℕ, zero, suc, ◌+◌, ◌-◌, ◌<◌, ◌≤◌, Bool, true, false, List, [], ◌∷◌, ◌++◌, Option, None, Some, length, map, take, drop, refl, sym, ap, ◌∙◌, arith, length-append, length-drop}
+use Rattle.std.proofs.Common.{Bool, ◌≡◌, ℕ, zero, suc, ◌+◌, ◌<◌, ◌≤◌, false, List, [], ◌∷◌, ◌++◌, Option, None, Some, length, map, take, drop, refl, sym, ap, ◌∙◌, arith, length-drop}
 use Rattle.std.specs.Prelude.{slice_get, option_map, nat_lt, if◌then◌else◌}
 use Rattle.std.specs.FinSet as set
 use Rattle.std.proofs.lemmas.List.{take-map, drop-map, map-append, length-map}
@@ -10,7 +10,7 @@ use Rattle.text_model.specs.Content.{Content}
 use Rattle.text_model.specs.Splices.{inserted}
 use Rattle.text_model.specs.Steps.{cells_of, after_insertion}
 use Rattle.text_model.proofs.SpliceLaws.{length-inserted, length-cells_of}
-use Rattle.peers.specs.Keys.{Keys, key_cmp, keys_of}
+use Rattle.peers.specs.Keys.{keys_of}
 use Rattle.text_model.specs.LimitTable.{LimitTable}
 use Rattle.peers.specs.declared.answers.Answer.TheVariants.{Empty}
 use Rattle.peers.specs.declared.answers.Fault.TheVariants.{TextTooLong}
@@ -90,10 +90,10 @@ length-after_insertion content after at text within is = ap (λ (c : Content). l
 pub IsKept-inserted : (name : List ℕ) (content after : Content) (at : ℕ) (text : List ℕ) → IsKept name content.cells → at < length content.cells
     → length content.cells + length text ≤ 16777216 → after ≡ after_insertion at text set.empty content → IsKept name after.cells
 IsKept-inserted name content after at text kept within short is = record {
-    named = kept.named;
-    newline = ap (λ (c : Content). ends_in_newline (model.characters c.cells)) is ∙ ends_in_newline-inserted content.cells (cells_of text set.empty) at within ∙ kept.newline;
-    short = omega (arith, length-after_insertion content after at text within is);
-  }
+  named = kept.named;
+  newline = ap (λ (c : Content). ends_in_newline (model.characters c.cells)) is ∙ ends_in_newline-inserted content.cells (cells_of text set.empty) at within ∙ kept.newline;
+  short = omega (arith, length-after_insertion content after at text within is);
+}
 
 -- the document after an insertion is the one that the definition gives
 pub insert_at-lone : (limits : LimitTable) (name : List ℕ) (content after : Content) (at : ℕ) (text : List ℕ)
@@ -105,3 +105,8 @@ insert_at-lone limits name content after at text is fits =
     let room : nat_lt limits.chars (length (keyed [] content.cells) + length text) ≡ false = ap (λ n. nat_lt limits.chars (n + length text)) (length-keyed [] content.cells) ∙ fits in
     (λ i. record document { cells = cells i })
     ∙ sym (ap (λ b. (if b then refused document TextTooLong else answered (record document { cells = with_text document.cells at text }) Empty).document) room)
+
+-- a text that is not too long finds room
+pub has_room : (limits : LimitTable) (content : Content) (text : List ℕ) (len : ℕ) (is_long : Bool) → len ≡ length content.cells → is_long ≡ nat_lt limits.chars (len + length text) → is_long ≡ false
+    → nat_lt limits.chars (length content.cells + length text) ≡ false
+has_room limits content text len is_long here value short = ap (λ n. nat_lt limits.chars (n + length text)) (sym here) ∙ sym value ∙ short

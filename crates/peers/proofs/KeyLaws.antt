@@ -1,5 +1,5 @@
 -- The order of keys, and sets of none.
-use Rattle.std.proofs.Common.{◌≡◌, ℕ, zero, suc, Bool, true, false, List, refl, sym, ap, ◌∙◌, arith}
+use Rattle.std.proofs.Common.{◌≡◌, ℕ, zero, suc, Bool, true, false, List, refl, sym, ap, ◌∙◌}
 use Rattle.std.specs.Prelude.{◌&&◌}
 use Rattle.std.specs.FinSet as set
 use Rattle.std.specs.FinMap.{nat_cmp-IsAntisymmetric, slice_cmp-IsAntisymmetric}
@@ -8,7 +8,7 @@ use Rattle.std.specs.Cmp.{IsTotalOrder, nat_cmp_total}
 use Rattle.std.specs.Cmp.Lexicographic.{slice_cmp, nat_list_cmp_total}
 use Rattle.std.proofs.lemmas.Cmp.{on_total, then_total}
 use Rattle.std.proofs.lemmas.Map.Lookups.{CmpEqualImpliesEq, exact_pairs, exact_unsigned}
-use Rattle.peers.specs.Keys.{Key, Keys, key_cmp, rank}
+use Rattle.peers.specs.Keys.{Key, key_cmp, rank}
 
 pub key_cmp_total : IsTotalOrder key_cmp
 key_cmp_total = then_total (on_total (λ (key : Key). rank key.selects) nat_cmp_total) (on_total (λ (key : Key). key.name) nat_list_cmp_total)
@@ -34,6 +34,6 @@ key_cmp_exact a b alike =
 pub intersection-empty : set.intersection (set.empty {R = key_cmp}) set.empty ≡ set.empty
 intersection-empty =
     set.same_set key_cmp_total key_cmp_exact _ _ (λ key.
-      set.contains-intersection key_cmp_total set.empty set.empty key
-      ∙ ap (λ b. b && set.contains (set.empty {R = key_cmp}) key) (set.contains-empty key_cmp key)
-      ∙ sym (set.contains-empty key_cmp key))
+    set.contains-intersection key_cmp_total set.empty set.empty key
+    ∙ ap (λ b. b && set.contains (set.empty {R = key_cmp}) key) (set.contains-empty key_cmp key)
+    ∙ sym (set.contains-empty key_cmp key))

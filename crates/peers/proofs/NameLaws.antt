@@ -1,9 +1,9 @@
 -- The names of widgets, by their bytes.
-use Rattle.std.proofs.Common.{◌≡◌, ◌≢◌, ℕ, zero, suc, ◌<◌, ◌≤◌, Bool, true, false, List, [], ◌∷◌, ◌++◌, length, get_or, refl, sym, ap, ◌∙◌, arith, eqb}
+use Rattle.std.proofs.Common.{◌≡◌, ℕ, ◌<◌, ◌≤◌, Bool, true, false, List, [], ◌∷◌, ◌++◌, length, get_or, refl, sym, ap, ◌∙◌, arith}
 use Rattle.std.specs.Prelude.{chars, IsUtf8, encode_utf8, encode_utf8_all, ◌==◌}
 use Rattle.std.proofs.lemmas.Bool.{false≢true}
 use Rattle.std.proofs.lemmas.Bool.Decides.{Decides-eqb}
-use Rattle.std.proofs.lemmas.Str.{chars-nil, chars_past_char, chars-encodes, encodes-chars, encode_ascii, IsUtf8-past_char, byte_from_char}
+use Rattle.std.proofs.lemmas.Str.{chars-nil, chars_past_char, encodes-chars, encode_ascii, IsUtf8-past_char}
 use Rattle.peers.specs.Kept.{is_window_name}
 
 -- a character, and more

@@ -1,10 +1,10 @@
 -- The values of indices.
-use Rattle.std.proofs.Common.{◌≡◌, ◌≢◌, ℕ, zero, suc, ◌+◌, ◌-◌, ◌<◌, ◌≤◌, min, Bool, true, false, cond, List, Option, Some, None, length, refl, sym, ap, ◌∙◌, arith, eqb, ltb}
-use Rattle.std.specs.Prelude.{if◌then◌else◌, nat_lt, ◌==◌, option_map}
+use Rattle.std.proofs.Common.{◌≡◌, ℕ, ◌+◌, ◌<◌, ◌≤◌, min, List, Option, Some, None, length, refl, sym, ap, ◌∙◌, arith}
+use Rattle.std.specs.Prelude.{option_map}
 use Rattle.std.proofs.Common.{inl, inr}
 use Rattle.std.proofs.lemmas.Bool.{cases_lt}
 use Rattle.std.proofs.lemmas.Bool.Decides.{nat_tests}
-use Rattle.text_model.specs.Lines.{lines, line_start}
+use Rattle.text_model.specs.Lines.{lines}
 use Rattle.text_model.proofs.LineLaws.{line_start-le, lines-le-length}
 use Rattle.peers.specs.declared.indices.Index.{Index}
 use Rattle.peers.specs.declared.indices.Index.TheVariants.{At, LineEnd, End}

@@ -1,5 +1,5 @@
 -- A lone document is well formed.
-use Rattle.std.proofs.Common.{◌≡◌, ℕ, ◌+◌, ◌<◌, ◌≤◌, Bool, true, false, List, [], ◌∷◌, length, refl, sym, ap, ◌∙◌, arith}
+use Rattle.std.proofs.Common.{ℕ, ◌≤◌, false, List, [], ◌∷◌, length, refl, sym, ap, ◌∙◌, arith}
 use Rattle.std.proofs.lemmas.Bool.{false≢true}
 use Rattle.std.proofs.lemmas.Slice.Eq.{bytes_eq-Decides}
 use Rattle.std.specs.List.{IsDistinct, AllByRecursion}
@@ -7,12 +7,12 @@ use Rattle.std.specs.Prelude.{◌||◌}
 use Rattle.std.specs.FinSet as set
 use Rattle.text_model.specs.declared.cells.Cell.{Cell}
 use Rattle.text_model.specs.Content.{Content}
-use Rattle.text_model.specs.LimitTable.{LimitTable, AreLimits}
-use Rattle.peers.specs.Keys.{Key, key_cmp}
+use Rattle.text_model.specs.LimitTable.{LimitTable}
+use Rattle.peers.specs.Keys.{key_cmp}
 use Rattle.peers.specs.Kept.{IsKept, ends_in_newline}
 use Rattle.peers.specs.Words.{is_same}
 use Rattle.peers.specs.World.{Document, keyed, lone_document, sel}
-use Rattle.peers.specs.WellFormed.{HasItsKeys, IsWellFormed, IsWellFormedDocument, IsPlaced}
+use Rattle.peers.specs.WellFormed.{HasItsKeys, IsWellFormedDocument}
 use Rattle.peers.proofs.ViewLaws.{characters-keyed, length-keyed}
 
 no_keys : (document : Document) (cells : List Cell) → AllByRecursion (HasItsKeys document) (keyed [] cells)
@@ -30,33 +30,17 @@ distinct_none = tt
 pub IsWellFormedDocument-lone : (limits : LimitTable) (name : List ℕ) (content : Content) → IsKept name content.cells → length content.cells ≤ limits.chars
     → IsWellFormedDocument limits (lone_document name content)
 IsWellFormedDocument-lone limits name content kept fits = record {
-    newline = ap ends_in_newline (characters-keyed [] content.cells) ∙ kept.newline;
-    fits = omega (arith, length-keyed [] content.cells);
-    keys = no_keys (lone_document name content) content.cells;
-    shown = omega arith;
-    widgets = (record { name = kept.named; start = λ at none. absurd (cc); end = λ at none. absurd (cc); ordered = omega arith; insert = omega arith; current = omega arith }, tt);
-    widget_names = distinct_one name;
-    marks = tt;
-    mark_names = distinct_none;
-    mark_count = omega arith;
-    tag_names = distinct_one sel;
-    sel = ap (λ b. b || false) ((bytes_eq-Decides sel sel).1 refl);
-    tag_count = omega arith;
-    history = record { filled = tt; undone_filled = tt; reverts = refl; repeats = refl };
-  }
-
--- a world whose document was changed within its limits
-pub IsWellFormed-changed : (limits : LimitTable) (old new : Document) → IsWellFormed (record { limits = limits; documents = old ∷ [] })
-    → (IsWellFormedDocument limits old → IsWellFormedDocument limits new) → length new.widgets ≡ length old.widgets
-    → IsWellFormed (record { limits = limits; documents = new ∷ [] })
-IsWellFormed-changed limits old new world keeps widgets = record {
-    limits = world.limits;
-    lone = world.lone;
-    documents = (keeps world.documents.0, tt);
-    widget_count = let before = world.widget_count in omega arith;
-  }
-
--- a world with a first document
-pub IsWellFormed-first : (limits : LimitTable) (new : Document) → AreLimits limits → IsWellFormedDocument limits new → length new.widgets ≡ 1 → 0 < limits.widgets
-    → IsWellFormed (record { limits = limits; documents = new ∷ [] })
-IsWellFormed-first limits new are document widgets room = record { limits = are; lone = omega arith; documents = (document, tt); widget_count = omega arith }
+  newline = ap ends_in_newline (characters-keyed [] content.cells) ∙ kept.newline;
+  fits = omega (arith, length-keyed [] content.cells);
+  keys = no_keys (lone_document name content) content.cells;
+  shown = omega arith;
+  widgets = (record { name = kept.named; start = λ at none. absurd (cc); end = λ at none. absurd (cc); ordered = omega arith; insert = omega arith; current = omega arith }, tt);
+  widget_names = distinct_one name;
+  marks = tt;
+  mark_names = distinct_none;
+  mark_count = omega arith;
+  tag_names = distinct_one sel;
+  sel = ap (λ b. b || false) ((bytes_eq-Decides sel sel).1 refl);
+  tag_count = omega arith;
+  history = record { filled = tt; undone_filled = tt; reverts = refl; repeats = refl };
+}

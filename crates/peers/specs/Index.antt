@@ -1,5 +1,5 @@
 -- Which words are which indices, and what an index stands for (text(n), "INDICES").
-use Rattle.std.specs.Prelude.{ℕ, suc, ◌+◌, ◌-◌, ◌*◌, min, nat_lt, ◌==◌, Bool, true, false, ◌&&◌, List, [], ◌∷◌, length, take, drop, fold, position, Option, None, Some, option_map, option_and_then, if◌then◌else◌}
+use Rattle.std.specs.Prelude.{ℕ, suc, ◌+◌, ◌-◌, ◌*◌, min, nat_lt, ◌==◌, Bool, List, [], ◌∷◌, length, take, drop, fold, position, Option, None, Some, option_map, option_and_then, if◌then◌else◌}
 use Rattle.std.specs.List.{list_all}
 use Rattle.std.specs.Char.{is_ascii_digit}
 use Rattle.text_model.specs.Lines.{lines, line_start}

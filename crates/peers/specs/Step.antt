@@ -1,5 +1,5 @@
 -- One command of a script: the new world and an answer, or the first fault and the same world.
-use Rattle.std.specs.Prelude.{ℕ, suc, nat_lt, ◌==◌, Bool, false, not, List, [], ◌∷◌, Option, None, Some, Result, Ok, Err, find, if◌then◌else◌}
+use Rattle.std.specs.Prelude.{ℕ, nat_lt, List, [], ◌∷◌, Option, None, Some, Result, Ok, Err, find, if◌then◌else◌}
 use Rattle.std.specs.FinSet as set
 use Rattle.peers.specs.declared.answers.Answer.{Answer}
 use Rattle.peers.specs.declared.answers.Answer.TheVariants.{Word}

@@ -1,9 +1,9 @@
 -- When a world is well formed: what every command can rely on, and keeps.
-use Rattle.std.specs.Prelude.{◌≡◌, ℕ, ◌+◌, ◌<◌, ◌≤◌, Bool, true, false, ◌==◌, nat_eq, ◌&&◌, not, List, [], ◌∷◌, length, map, take, sum_by, Option, None, Some, if◌then◌else◌}
+use Rattle.std.specs.Prelude.{◌≡◌, ℕ, ◌+◌, ◌<◌, ◌≤◌, Bool, true, ◌&&◌, not, List, length, map, sum_by, if◌then◌else◌}
 use Rattle.std.specs.List.{AllByRecursion, IsDistinct, list_any}
 use Rattle.std.specs.Option.{ForSome}
 use Rattle.std.specs.FinSet as set
-use Rattle.text_model.specs.Lines.{lines, line_of, line_start}
+use Rattle.text_model.specs.Lines.{line_of, line_start}
 use Rattle.text_model.specs.LimitTable.{LimitTable, AreLimits}
 use Rattle.peers.specs.Keys.{Key}
 use Rattle.peers.specs.World.{World, Document, Widget, SharedMark, KeyedCell, characters, sel}

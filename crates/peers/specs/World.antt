@@ -1,5 +1,5 @@
 -- All that a session of commands can see later.
-use Rattle.std.specs.Prelude.{ℕ, ℤ, pos, Bool, true, false, List, [], ◌∷◌, Option, None, Some, map, chars, codes}
+use Rattle.std.specs.Prelude.{ℕ, ℤ, pos, Bool, true, false, List, [], ◌∷◌, Option, None, map, chars, codes}
 use Rattle.text_model.specs.declared.cells.Cell.{Cell}
 use Rattle.text_model.specs.declared.places.Gravity.TheVariants.{Right}
 use Rattle.text_model.specs.declared.places.Place.{Place}
@@ -71,18 +71,27 @@ sel = chars (codes "sel")
 -- a widget of the whole document, whose own marks stand at its start
 abbrev pub new_widget : List ℕ → Widget
 new_widget name = record {
-    name = name; start = None; end = None; disabled = false;
-    insert = record { offset = 0; gravity = Right }; current = record { offset = 0; gravity = Right }
-  }
+  name = name;
+  start = None;
+  end = None;
+  disabled = false;
+  insert = record { offset = 0; gravity = Right };
+  current = record { offset = 0; gravity = Right };
+}
 
 -- a document of these cells, with one widget and nothing else
 abbrev pub document_of : List ℕ → List KeyedCell → Document
 document_of name cells = record {
-    cells = cells; widgets = new_widget name ∷ []; marks = []; tags = sel ∷ [];
-    history = record { groups = []; takes_more = false; last = None; undone = [] };
-    modified = record { count = pos 0; fixed = false };
-    undo = false; most_undo = pos 0; separators = true
-  }
+  cells = cells;
+  widgets = new_widget name ∷ [];
+  marks = [];
+  tags = sel ∷ [];
+  history = record { groups = []; takes_more = false; last = None; undone = [] };
+  modified = record { count = pos 0; fixed = false };
+  undo = false;
+  most_undo = pos 0;
+  separators = true;
+}
 
 -- the cells of a store, with the keys that the pairs of a slot and a key give their slots
 abbrev pub keyed : List (ℕ × Key) → List Cell → List KeyedCell

@@ -2,7 +2,6 @@ ghost use Rattle.std.specs.Prelude.{◌≡◌};
 ghost use Rattle.peers.specs.declared.answers.Fault.TheVariants.{Memory};
 
 use std::alloc::AllocError;
-
 use text_model::Text;
 use thiserror::Error;
 

@@ -8,16 +8,14 @@ ghost use Rattle.text_model.specs.LimitTable.{LimitTable, AreLimits};
 ghost use Rattle.peers.specs.WellFormed.{IsWellFormedDocument};
 ghost use Rattle.peers.specs.Command.{place_of, insert_at, insert_place, insert, text_between, get_one, get_range, get, show_place, index, command};
 
-use std::alloc::{AllocError, Global};
-use std::marker::Model;
-
-use text_model::{Limits, Text, TextStore};
-
 use crate::answers::{Answer, Fault};
 use crate::indices::read_place;
 use crate::insertions::insert_text;
 use crate::positions::write_position;
 use crate::words::is_word;
+use std::alloc::{AllocError, Global};
+use std::marker::Model;
+use text_model::{Limits, Text, TextStore};
 
 /// A document: the text in its store, and the name of its widget.
 #[derive(Drop)]
@@ -114,7 +112,12 @@ impl<S: TextStore> Document<S> {
     }
 
     /// Puts a text in at the place of an index, or just before the last newline where that is the end.
-    fn insert_place(&mut self, limits: &Limits, text: &str, place: Option<usize>) -> Result<Answer, Fault>
+    fn insert_place(
+        &mut self,
+        limits: &Limits,
+        text: &str,
+        place: Option<usize>,
+    ) -> Result<Answer, Fault>
         requires { IfSome place (λ place. place ≤ length self.old.cells) }
         ensures reply { result ≢ Err Fault.Memory →
             result ≡ (insert_place limits.now self.old (lone_widget self.old) (chars text.now) place).reply }
@@ -185,7 +188,10 @@ impl<S: TextStore> Document<S> {
     {
         match arguments {
             [first] => self.get_one(self.place(first.as_str())),
-            [first, second] => self.get_range(self.place(first.as_str()), self.place(second.as_str())),
+            [first, second] => self.get_range(
+                self.place(first.as_str()),
+                self.place(second.as_str()),
+            ),
             _ => Err(Fault::WrongArguments),
         }
     }

@@ -9,8 +9,11 @@ use text_model::TextStore;
 /// characters from 0.
 #[derive(Clone, Copy)]
 pub enum Index {
+    /// A character of a line.
     At(usize, usize),
+    /// The newline of a line.
     LineEnd(usize),
+    /// The end of the text.
     End,
 }
 

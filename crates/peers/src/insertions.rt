@@ -3,7 +3,6 @@ ghost use Rattle.std.specs.FinSet as set;
 ghost use Rattle.text_model.specs.Steps.{after_insertion};
 
 use std::alloc::{AllocError, Global};
-
 use text_model::{Edit, Step, Steps, TagSet, Text, TextStore};
 
 /// An edit that puts a text in before the character at an offset.

@@ -6,6 +6,8 @@ mod documents;
 mod indices;
 mod insertions;
 mod positions;
+#[cfg(test)]
+mod tests;
 mod words;
 mod world;
 

@@ -4,7 +4,6 @@ ghost use Rattle.peers.specs.Position.{position_text};
 
 use itoa::Buffer;
 use std::alloc::{AllocError, Global};
-
 use text_model::TextStore;
 
 /// Adds a number to a text.
@@ -29,7 +28,11 @@ fn write_numbers(alloc: Global, line: usize, character: usize) -> Result<String,
 }
 
 /// The text of a place of a store, `line.char`: the line from 1, and the character from 0.
-pub fn write_position<S: TextStore>(alloc: Global, store: &S, place: usize) -> Result<String, AllocError>
+pub fn write_position<S: TextStore>(
+    alloc: Global,
+    store: &S,
+    place: usize,
+) -> Result<String, AllocError>
     requires room { length (S.content store.now).cells < usize.MAX }
     requires within { place ≤ length (S.content store.now).cells }
     ensures { IfOk result (λ text.

@@ -4,14 +4,12 @@ ghost use Rattle.peers.specs.Step.{create_first, create, on_widget, step};
 ghost use Rattle.peers.specs.Kept.{is_window_name};
 ghost use Rattle.peers.specs.WellFormed.{IsWellFormed};
 
-use std::alloc::Global;
-use std::marker::Model;
-
-use text_model::{Limits, TextStore};
-
 use crate::answers::{Answer, Fault};
 use crate::documents::Document;
 use crate::words::{is_window_name, is_word};
+use std::alloc::Global;
+use std::marker::Model;
+use text_model::{Limits, TextStore};
 
 /// All that a session of commands can see later: the limits, and the document with its widget, if there is one.
 #[derive(Drop)]
@@ -76,6 +74,7 @@ impl<S: TextStore> World<S> {
         ensures refused { IfErr result (λ _. self.new ≡ self.old) }
         ensures well_formed { IsWellFormed self.new }
     {
+        // Read first, so that every return knows that the world is well formed.
         let document = &self.document;
         let [name, options @ ..] = arguments else {
             return Err(Fault::WrongArguments);

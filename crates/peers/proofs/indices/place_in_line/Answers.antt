@@ -1,6 +1,5 @@
-use Rattle.std.proofs.Common.{◌≤◌, ◌<◌, ◌-◌, arith}
+use Rattle.std.proofs.Common.{arith}
 use Rattle.text_model.specs.Content.{characters}
-use Rattle.text_model.specs.Lines.{line_start}
 use Rattle.text_model.proofs.LineLaws.{line_start-before}
 use Rattle.peers.proofs.indices.place_in_line.Goals as goal
 

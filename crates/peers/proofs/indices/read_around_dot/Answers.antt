@@ -1,4 +1,4 @@
-use Rattle.std.proofs.Common.{None, ◌+◌, sym, ap, ◌∙◌}
+use Rattle.std.proofs.Common.{◌+◌, sym, ap, ◌∙◌}
 use Rattle.std.proofs.lemmas.List.{take_rest}
 use Rattle.peers.specs.Index.{saturated, in_line, around_dot, is_dot}
 use Rattle.std.specs.Prelude.{position, option_map}

@@ -7,6 +7,6 @@ use Rattle.peers.proofs.indices.read_number.Given as goal
 
 abbrev pub invariant-loop-digit : goal.invariant-loop-digit
 invariant-loop-digit l = record {
-    digits : list_all is_ascii_digit (take l.digit-index l.digits) ≡ true;
-    number : l.number ≡ min 18446744073709551615 (fold add_digit 0 (take l.digit-index l.digits));
-  }
+  digits : list_all is_ascii_digit (take l.digit-index l.digits) ≡ true;
+  number : l.number ≡ min 18446744073709551615 (fold add_digit 0 (take l.digit-index l.digits));
+}

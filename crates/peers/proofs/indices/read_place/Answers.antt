@@ -1,8 +1,8 @@
-use Rattle.std.proofs.Common.{◌<◌, length, sym, ap, ◌∙◌, arith, Some}
+use Rattle.std.proofs.Common.{sym, ap, ◌∙◌, arith, Some}
 use Rattle.std.proofs.lemmas.List.{length-map}
 use Rattle.text_model.specs.declared.cells.Cell.{Cell}
 use Rattle.text_model.specs.Content.{characters}
-use Rattle.peers.specs.Index.{index_of, index_value}
+use Rattle.peers.specs.Index.{index_of}
 use Rattle.std.specs.Prelude.{chars}
 use Rattle.peers.proofs.ValueLaws.{index_value-le, option_map-saturated}
 use Rattle.peers.proofs.indices.read_place.Goals as goal

@@ -1,8 +1,8 @@
-use Rattle.std.proofs.Common.{◌≡◌, ◌≤◌, ◌<◌, ◌+◌, false, [], length, sym, ap, ◌∙◌, arith}
-use Rattle.std.specs.Prelude.{chars, string_bytes, nat_lt}
+use Rattle.std.proofs.Common.{◌≡◌, ◌≤◌, ◌<◌, ◌+◌, [], length, sym, ap, ◌∙◌, arith}
+use Rattle.std.specs.Prelude.{chars, string_bytes}
 use Rattle.peers.specs.World.{Document}
 use Rattle.peers.specs.Command.{insert_at}
-use Rattle.peers.proofs.InsertLaws.{length-after_insertion, IsKept-inserted, insert_at-lone}
+use Rattle.peers.proofs.InsertLaws.{length-after_insertion, IsKept-inserted, insert_at-lone, has_room}
 use Rattle.peers.proofs.WellFormedLaws.{IsWellFormedDocument-lone}
 use Rattle.peers.proofs.ViewLaws.{length-keyed}
 use Rattle.peers.proofs.documents.Document.insert_at.Goals as goal
@@ -21,7 +21,7 @@ returns-clause-document g c =
     let new = g.S.TextStore.content c.insert_text.new.store in
     let name = chars (string_bytes c.self.inside.name) in
     let text = chars c.args.text.now in
-    let room : nat_lt c.args.limits.now.chars (length old.cells + length text) ≡ false = ap (λ n. nat_lt c.args.limits.now.chars (n + length text)) (sym c.len.ensures) ∙ sym c.is_too_long.ensures.value ∙ c.if-is_too_long.false in
+    let room = has_room c.args.limits.now old text c.len.result c.is_too_long.result c.len.ensures c.is_too_long.ensures.value c.if-is_too_long.false in
     λ _. insert_at-lone c.args.limits.now name old new c.args.at text c.in_ok-insert_text.ensures.ok room
     ∙ ap (λ document. (insert_at c.args.limits.now document c.args.at text).document) c.self.view_is
 
@@ -36,4 +36,4 @@ returns-clause-well_formed g c =
     let short : length old.cells + length text ≤ 16777216 = omega (arith, c.is_too_long.ensures.short c.if-is_too_long.false) in
     let fits : length old.cells + length text ≤ c.args.limits.now.chars = omega (arith, c.is_too_long.ensures.fits c.if-is_too_long.false) in
     λ _. IsWellFormedDocument-lone c.args.limits.now name new (IsKept-inserted name old new c.args.at text c.self.invariant within short c.in_ok-insert_text.ensures.ok)
-      (omega (arith, fits, length-after_insertion old new c.args.at text within c.in_ok-insert_text.ensures.ok))
+    (omega (arith, fits, length-after_insertion old new c.args.at text within c.in_ok-insert_text.ensures.ok))

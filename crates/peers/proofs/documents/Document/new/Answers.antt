@@ -1,4 +1,4 @@
-use Rattle.std.proofs.Common.{◌≡◌, ◌≤◌, true, length, ap, refl, ◌∙◌, arith}
+use Rattle.std.proofs.Common.{◌≡◌, length, ap, ◌∙◌, arith}
 use Rattle.std.specs.Prelude.{chars, string_bytes}
 use Rattle.text_model.specs.Content.{Content, characters}
 use Rattle.peers.specs.Kept.{IsKept, is_window_name, ends_in_newline}
@@ -13,5 +13,6 @@ returns-clause-well_formed g c =
     let kept : IsKept name content.cells = record {
       named = ap (λ bytes. is_window_name (chars bytes)) c.in_ok-from_str.ensures.ok ∙ c.requires;
       newline = ap (λ (x : Content). ends_in_newline (characters x.cells)) c.in_ok-new.ensures;
-      short = omega arith } in
+      short = omega arith;
+    } in
     λ limits are. IsWellFormedDocument-lone limits name content kept (omega (arith, are.some))
