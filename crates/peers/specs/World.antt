@@ -102,12 +102,12 @@ abbrev pub lone_document : List ℕ → Content → Document
 lone_document name content = document_of name (keyed [] content.cells)
 
 -- the first widget of a document
-abbrev pub first_of : List ℕ → List Widget → Widget
-first_of name [] = new_widget name
-first_of name (widget ∷ widgets) = widget
+abbrev pub first_widget : List ℕ → List Widget → Widget
+first_widget name [] = new_widget name
+first_widget name (widget ∷ widgets) = widget
 
 abbrev pub lone_widget : Document → Widget
-lone_widget document = first_of [] document.widgets
+lone_widget document = first_widget [] document.widgets
 
 abbrev pub characters : List KeyedCell → List ℕ
 characters cells = map (λ (cell : KeyedCell). cell.character) cells
