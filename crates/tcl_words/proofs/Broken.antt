@@ -66,14 +66,14 @@ encode_one : (c : ℕ) → c < 128 → encode c ≡ c ∷ []
 unfolding encode
 encode_one c h = let one : ltb c 128 ≡ true = grind (arith, nat_tests) in rw one refl
 
-encode_two : (c : ℕ) → 128 ≤ c → c < 2048 → encode c ≡ (192 + c / 64) ∷ (128 + c % 64) ∷ []
+pub encode_two : (c : ℕ) → 128 ≤ c → c < 2048 → encode c ≡ (192 + c / 64) ∷ (128 + c % 64) ∷ []
 unfolding encode
 encode_two c h k =
     let one : ltb c 128 ≡ false = grind (arith, nat_tests) in
     let two : ltb c 2048 ≡ true = grind (arith, nat_tests) in
     rw (one, two) refl
 
-encode_three : (c : ℕ) → 2048 ≤ c → c < 65536 → encode c ≡ (224 + c / 4096) ∷ (128 + (c / 64) % 64) ∷ (128 + c % 64) ∷ []
+pub encode_three : (c : ℕ) → 2048 ≤ c → c < 65536 → encode c ≡ (224 + c / 4096) ∷ (128 + (c / 64) % 64) ∷ (128 + c % 64) ∷ []
 unfolding encode
 encode_three c h k =
     let one : ltb c 128 ≡ false = grind (arith, nat_tests) in
@@ -81,7 +81,7 @@ encode_three c h k =
     let three : ltb c 65536 ≡ true = grind (arith, nat_tests) in
     rw (one, two, three) refl
 
-encode_four : (c : ℕ) → 65536 ≤ c → encode c ≡ (240 + c / 262144) ∷ (128 + (c / 4096) % 64) ∷ (128 + (c / 64) % 64) ∷ (128 + c % 64) ∷ []
+pub encode_four : (c : ℕ) → 65536 ≤ c → encode c ≡ (240 + c / 262144) ∷ (128 + (c / 4096) % 64) ∷ (128 + (c / 64) % 64) ∷ (128 + c % 64) ∷ []
 unfolding encode
 encode_four c h =
     let one : ltb c 128 ≡ false = grind (arith, nat_tests) in

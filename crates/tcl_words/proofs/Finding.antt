@@ -1,12 +1,13 @@
 -- What the bytes not yet given hold next, by a scan of their text.
-use Rattle.std.proofs.Common.{◌≡◌, ◌≢◌, ℕ, zero, suc, ◌+◌, ◌-◌, ◌<◌, ◌≤◌, inl, inr, ⊎_elim, Bool, true, false, List, [], ◌∷◌, ◌++◌, map, length, take, drop, encode_utf8_all, IsUtf8, Ok, refl, sym, ap, ◌∙◌, arith, subst, append_assoc, append-nil, length-append, length-take, length-drop, take-append-drop, take-add}
+use Rattle.std.proofs.Common.{◌≡◌, ◌≢◌, IfOk, IfNone, Option, Some, None, encode_utf8, ℕ, zero, suc, ◌+◌, ◌-◌, ◌<◌, ◌≤◌, inl, inr, ⊎_elim, Bool, true, false, List, [], ◌∷◌, ◌++◌, map, length, take, drop, encode_utf8_all, IsUtf8, Ok, refl, sym, ap, ◌∙◌, arith, subst, append_assoc, append-nil, length-append, length-take, length-drop, take-append-drop, take-add}
+use Rattle.std.specs.Char.{IsScalar}
 use Rattle.std.specs.Str.{all_scalars, StartsWithNoChar}
-use Rattle.std.proofs.lemmas.Str.{encodes-append, IsUtf8-append}
-use Rattle.std.proofs.lemmas.List.{take-take, drop-drop, append_cancel_right}
+use Rattle.std.proofs.lemmas.Str.{encodes-append, encode_ascii, IsUtf8-append, IsUtf8-encode}
+use Rattle.std.proofs.lemmas.List.{take-take, drop-drop, take_all, drop_all, append_cancel_right}
 use Rattle.tcl_words.specs.ScriptGrammar.{Ending, Ends, Breaks, Continues, First, Command, Nothing, Fault, Open, Between, first, MeetsFault, HoldsNoWhole, IsWholeCommand}
 use Rattle.tcl_words.specs.Scanning.{scanned, later, pieces_from}
 use Rattle.tcl_words.specs.Encoding.{StopsAs, BeginsNoChar}
-use Rattle.tcl_words.specs.Unread.{IsNextCommand, HasFault}
+use Rattle.tcl_words.specs.Unread.{IsNextCommand, HasFault, HasNoFault}
 use Rattle.tcl_words.specs.Progression.{IsProgress, IsCommandOf, IsNext, text_end, last_command}
 use Rattle.tcl_words.specs.declared.fault.ScriptFault.{ScriptFault}
 use Rattle.tcl_words.specs.declared.fault.ScriptFault.TheVariants.{Substitution, NotUtf8}
@@ -18,8 +19,8 @@ use Rattle.tcl_words.specs.declared.scanner.Stage.TheVariants.{BeforeCommand, Af
 use Rattle.tcl_words.specs.declared.scanner.Scan.{Scan}
 use Rattle.tcl_words.specs.declared.scanner.Scan.TheVariants.{EndsAt, Refused, Reaches}
 use Rattle.tcl_words.proofs.Stages.{scanned-nil, at_end, Verdict, verdict}
-use Rattle.tcl_words.proofs.Spelling.{spelled, from_spelled, one_goes_on, no_char_nil, scalars_split, encode_not_nil}
-use Rattle.tcl_words.proofs.Readings.{extended, stays, whole_at}
+use Rattle.tcl_words.proofs.Spelling.{spelled, from_spelled, one_goes_on, no_char_nil, scalars_split, encode_not_nil, high_scanned, below_or}
+use Rattle.tcl_words.proofs.Readings.{extended, stays, whole_at, one_found, reads_before, reads_fault, reads_nothing}
 use Rattle.tcl_words.proofs.Scans.{scanned-append}
 
 -- a text whose first n bytes are a command
@@ -221,6 +222,58 @@ reached_of WithinCharacter true rest valid last within text h stops =
 reached_of WithinCharacter false rest valid last within text h stops =
     no_whole (take valid rest) (drop valid rest) rest last text h (sym (take-append-drop valid rest)) stops.1
 reached_of Broken finished rest valid last within text h stops = ((λ e. cc), broken_of finished rest valid last text h stops)
+
+-- where no fault is met
+
+-- What the end of the script ends is no fault.
+clear_by : (bytes : List ℕ) (found : Option ℕ) → IsNext true bytes (Ok found) → (fault : ScriptFault) → ¬ MeetsFault bytes fault
+clear_by bytes None none fault m =
+    let no = one_found bytes Nothing (Fault fault) (reads_nothing bytes none) (reads_fault bytes fault m) in cc
+clear_by bytes (Some n) k fault m =
+    let no = one_found bytes (Command k.words (drop n bytes)) (Fault fault)
+    (reads_before bytes (take n bytes) (drop n bytes) k.words (sym (take-append-drop n bytes)) k.is) (reads_fault bytes fault m) in cc
+
+clear : (text : List ℕ) (last : Stage) → IsUtf8 text → scanned text BeforeCommand ≡ Reaches last → (fault : ScriptFault) → ¬ MeetsFault text fault
+clear text last u h =
+    let all : take (length text) text ≡ text = take_all (length text) text (omega arith) in
+    clear_by text (last_command last (length text)) (finished_of text (length text) last (omega arith) (subst IsUtf8 (sym all) u)
+    (ap (λ l. scanned l BeforeCommand) all ∙ h) (drop_all (length text) text (omega arith)))
+
+-- One more character that isn't ASCII is no fault.
+clear_cut : (text : List ℕ) (last : Stage) (c : ℕ) → IsUtf8 text → scanned text BeforeCommand ≡ Reaches last → IsScalar c → 128 ≤ c → (fault : ScriptFault) → ¬ MeetsFault (text ++ encode_utf8 c) fault
+clear_cut text last c u h s high =
+    clear (text ++ encode_utf8 c) InWord (IsUtf8-append text (encode_utf8 c) u (IsUtf8-encode c s))
+    (scanned-append text (encode_utf8 c) BeforeCommand last h ∙ ap (later (length text)) (high_scanned c last high))
+
+one_front : (c : ℕ) (front more : List ℕ) → 0 < length front → c ∷ [] ≡ front ++ more → front ≡ c ∷ []
+one_front c [] more some h = absurd (omega arith)
+one_front c (b ∷ []) more some h = cc
+one_front c (b ∷ d ∷ front) more some h = cc
+
+-- a character of which bytes that begin none are the front
+high_front : (c : ℕ) (front more : List ℕ) → IsScalar c → 0 < length front → StartsWithNoChar front → encode_utf8 c ≡ front ++ more → 128 ≤ c
+high_front c front more s some none h = ⊎_elim
+    (λ low. let one = encode_ascii c low in absurd (none c [] s (one_front c front more some (sym one ∙ h) ∙ ap (λ l. l ++ []) (sym one))))
+    (λ high. high)
+    (below_or c)
+
+pub no_fault_of : (stop : TextStop) (finished : Bool) (rest : List ℕ) (valid : ℕ) (last : Stage) → valid ≤ length rest → IsUtf8 (take valid rest) → scanned (take valid rest) BeforeCommand ≡ Reaches last
+    → StopsAs stop (drop valid rest) → IfOk (text_end stop finished last valid) (λ found. IfNone found (HasNoFault finished rest))
+no_fault_of AtEnd true rest valid BeforeCommand within text h stops = clear_by rest None (finished_of rest valid BeforeCommand within text h stops)
+no_fault_of AtEnd true rest valid AfterBlank within text h stops = tt
+no_fault_of AtEnd true rest valid InWord within text h stops = tt
+no_fault_of AtEnd true rest valid AfterDollar within text h stops = tt
+no_fault_of AtEnd true rest valid AfterColon within text h stops = tt
+no_fault_of AtEnd false rest valid last within text h stops = λ fault met.
+    clear (take valid rest) last text h fault (subst (λ l. MeetsFault l fault) (append-nil rest ∙ sym (all_taken valid rest stops)) (met []))
+no_fault_of WithinCharacter true rest valid last within text h stops = tt
+no_fault_of WithinCharacter false rest valid last within text h stops = λ fault met.
+    let c = stops.2.0 in
+    let more = stops.2.1 in
+    let whole : rest ++ more ≡ take valid rest ++ encode_utf8 c = split_at valid rest more ∙ ap (λ l. take valid rest ++ l) (sym stops.2.3) in
+    clear_cut (take valid rest) last c text h stops.2.2 (high_front c (drop valid rest) more stops.2.2 stops.0 stops.1 stops.2.3) fault
+    (subst (λ l. MeetsFault l fault) whole (met more))
+no_fault_of Broken finished rest valid last within text h stops = tt
 
 -- the steps of the search for the next command
 

@@ -2,8 +2,9 @@
 use Rattle.std.proofs.Common.{◌≡◌, ◌≢◌, ℕ, zero, suc, ◌<◌, ◌≤◌, ◌⊎◌, inl, inr, ⊎_elim, Bool, true, false, List, [], ◌∷◌, ◌++◌, length, take, drop, Option, Some, None, is_some, encode_utf8, encode_utf8_all, IsUtf8, refl, sym, ap, ◌∙◌, arith, subst, append_assoc, append-nil, true≢false, length-append, length-take, length-drop, take-append-drop}
 use Rattle.std.specs.Str.{all_scalars, StartsWithNoChar, IsValidUpTo, is_utf8}
 use Rattle.std.specs.Str.Lossy.{utf8_error_len}
-use Rattle.tcl_words.specs.Encoding.{BeginsNoChar}
+use Rattle.tcl_words.specs.Encoding.{BeginsNoChar, BeginsOneChar}
 use Rattle.tcl_words.proofs.Broken.{stays_broken}
+use Rattle.tcl_words.proofs.Completion.{completed}
 use Rattle.std.proofs.lemmas.Str.{encodes-append, IsUtf8-from_is_utf8, is_utf8-from_IsUtf8, IsUtf8-append, IsUtf8-encode, IsUtf8-nil, length-le-encodes}
 use Rattle.std.proofs.lemmas.Bool.Decides.{leb_tells}
 use Rattle.std.proofs.lemmas.List.{take_at}
@@ -341,12 +342,18 @@ pub a_reading : (bytes : List ℕ) → Reading bytes
 a_reading bytes = reading_within (suc (length bytes)) bytes (omega arith)
 
 -- where text stops short, bytes that begin no character follow
-pub after_text : (bytes : List ℕ) (n : ℕ) → IsValidUpTo bytes n → (0 < length (drop n bytes)) × StartsWithNoChar (drop n bytes)
+after_text : (bytes : List ℕ) (n : ℕ) → IsValidUpTo bytes n → (0 < length (drop n bytes)) × StartsWithNoChar (drop n bytes)
 after_text bytes n v =
     let short = v.short in
     (omega (arith, length-drop n bytes), no_char_after bytes n (omega arith) v.front (λ k p q. v.longest k p))
 
--- and they are at fault where that is known
+-- they are at fault where that is known
 pub after_fault : (bytes : List ℕ) (n : ℕ) (len : Option ℕ) → IsValidUpTo bytes n → len ≡ utf8_error_len (drop n bytes) → is_some len ≡ true → BeginsNoChar (drop n bytes)
 after_fault bytes n None v e some = absurd (true≢false (sym some))
 after_fault bytes n (Some k) v e some = let after = after_text bytes n v in (after.0, stays_broken (drop n bytes) k (sym e) after.1)
+
+-- and else the front of a character
+pub after_cut : (bytes : List ℕ) (n : ℕ) (len : Option ℕ) → IsValidUpTo bytes n → len ≡ utf8_error_len (drop n bytes) → is_some len ≡ false
+    → (0 < length (drop n bytes)) × StartsWithNoChar (drop n bytes) × BeginsOneChar (drop n bytes)
+after_cut bytes n None v e none = let after = after_text bytes n v in (after.0, after.1, completed (drop n bytes) after.0 (sym e) after.1)
+after_cut bytes n (Some k) v e none = absurd (true≢false none)

@@ -6,14 +6,15 @@ use lib.Utf8.{scalar, encode}
 use Rattle.std.proofs.lemmas.Bool.Decides.{nat_tests, leb_tells}
 use Rattle.std.proofs.lemmas.Str.{encode_ascii, encode_same, length-encode, len_utf8_bounds}
 use Rattle.tcl_words.specs.ScriptGrammar.{Ending, Ends, Breaks, Continues, First, Command, Nothing, Fault, Open, Place, Between, Inside, onto_word, words_from, first}
-use Rattle.tcl_words.specs.Scanning.{is_separator, step_of}
+use Rattle.tcl_words.specs.Scanning.{is_separator, step_of, later, scan_step, scanned}
 use Rattle.tcl_words.specs.declared.fault.ScriptFault.{ScriptFault}
 use Rattle.tcl_words.specs.declared.fault.ScriptFault.TheVariants.{Substitution}
 use Rattle.tcl_words.specs.declared.scanner.Stage.{Stage}
 use Rattle.tcl_words.specs.declared.scanner.Stage.TheVariants.{BeforeCommand, AfterBlank, InWord, AfterDollar, AfterColon}
 use Rattle.tcl_words.specs.declared.scanner.Step.{Step}
 use Rattle.tcl_words.specs.declared.scanner.Step.TheVariants.{Go, End, Refuse}
-use Rattle.tcl_words.proofs.Stages.{from, place_of, put, arrive, from-step}
+use Rattle.tcl_words.specs.declared.scanner.Scan.TheVariants.{Reaches}
+use Rattle.tcl_words.proofs.Stages.{from, place_of, put, arrive, from-step, scanned-nil, scanned-cons}
 
 pub both : (x y : Bool) → (x && y) ≡ true → (x ≡ true) × (y ≡ true)
 both true y h = (refl, h)
@@ -124,7 +125,7 @@ high_step InWord c h = grind (arith, nat_tests)
 high_step AfterDollar c h = grind (arith, nat_tests)
 high_step AfterColon c h = grind (arith, nat_tests)
 
-below_or : (c : ℕ) → (c < 128) ⊎ (128 ≤ c)
+pub below_or : (c : ℕ) → (c < 128) ⊎ (128 ≤ c)
 below_or c = ⊎_elim (λ h. inr h.1) (λ h. inl h.1) (leb_tells 128 c)
 
 high_one : (stage : Stage) (e : Ending) (c : ℕ) (cs : List ℕ) → 128 ≤ c → from stage e (c ∷ cs) ≡ onto_word c (from InWord e cs)
@@ -140,6 +141,20 @@ high_bytes stage e b (b' ∷ bs) cs h = high_one stage e b ((b' ∷ bs) ++ cs) h
 high_some : (stage : Stage) (e : Ending) (bs cs : List ℕ) → 0 < length bs → AllHigh bs → from stage e (bs ++ cs) ≡ onto_all bs (from InWord e cs)
 high_some stage e [] cs some h = absurd (omega arith)
 high_some stage e (b ∷ bs) cs some h = high_bytes stage e b bs cs h
+
+high_scan : (b : ℕ) (bs : List ℕ) (stage : Stage) → AllHigh (b ∷ bs) → scanned (b ∷ bs) stage ≡ Reaches InWord
+high_scan b [] stage h =
+    scanned-cons b [] stage ∙ ap (λ step. scan_step step (scanned [])) (high_step stage b h.0) ∙ ap (later 1) (scanned-nil InWord)
+high_scan b (b' ∷ bs) stage h =
+    scanned-cons b (b' ∷ bs) stage ∙ ap (λ step. scan_step step (scanned (b' ∷ bs))) (high_step stage b h.0) ∙ ap (later 1) (high_scan b' bs InWord h.1)
+
+high_scan_some : (bs : List ℕ) (stage : Stage) → 0 < length bs → AllHigh bs → scanned bs stage ≡ Reaches InWord
+high_scan_some [] stage some h = absurd (omega arith)
+high_scan_some (b ∷ bs) stage some h = high_scan b bs stage h
+
+-- a scan over a character that isn't ASCII
+pub high_scanned : (c : ℕ) (stage : Stage) → 128 ≤ c → scanned (encode_utf8 c) stage ≡ Reaches InWord
+high_scanned c stage h = high_scan_some (encode_utf8 c) stage (let bounds = len_utf8_bounds c in omega (arith, length-encode c)) (encode_high c h)
 
 put_spelled : (place : Place) (sep : Bool) (c : ℕ) (found : First) → encode_utf8 c ≡ c ∷ [] → put place sep c (spelled found) ≡ spelled (put place sep c found)
 put_spelled Between true c found h = refl

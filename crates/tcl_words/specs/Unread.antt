@@ -41,6 +41,10 @@ abbrev pub HasFault : Bool → List ℕ → ScriptFault → Type 0
 HasFault false rest fault = HoldsFault rest fault
 HasFault true rest fault = MeetsFault rest fault
 
+-- no fault comes next: before the end, none that comes next however the script goes on
+abbrev pub HasNoFault : Bool → List ℕ → Type 0
+HasNoFault finished rest = (fault : ScriptFault) → ¬ HasFault finished rest fault
+
 -- the fault that was met before, or that is met now
 abbrev pub IsFaultOf : Option ScriptFault → Bool → List ℕ → ScriptFault → Type 0
 IsFaultOf (Some met) finished rest fault = fault ≡ met

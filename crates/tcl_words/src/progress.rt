@@ -1,5 +1,6 @@
-ghost use Rattle.std.specs.Prelude.{◌≡◌};
+ghost use Rattle.std.specs.Prelude.{◌≡◌, IfOk, IfNone};
 ghost use Rattle.tcl_words.specs.Progression.{IsProgress, IsNext, text_end, last_command, starting_at};
+ghost use Rattle.tcl_words.specs.Unread.{HasNoFault};
 
 use crate::encoding::{TextStop, text_front};
 use crate::fault::ScriptFault;
@@ -36,6 +37,7 @@ impl Progress {
         requires { IsProgress rest.now self.old }
         ensures progress { IsProgress rest.now self.new }
         ensures next { IsNext finished rest.now result }
+        ensures no_fault { IfOk result (λ found. IfNone found (HasNoFault finished rest.now)) }
     {
         let front = text_front(&rest[self.valid..]);
         self.valid += front.len;

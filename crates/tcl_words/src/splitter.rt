@@ -1,6 +1,6 @@
 ghost use Rattle.std.specs.Prelude.{◌≡◌, ◌≢◌, ◌<◌, ◌≤◌, List, ℕ, length, take, drop, IsUtf8, vec_len, true, false, IfOk, IfErr, OnOk, OnErr, IsSome, IsOk, IfSome, IfNone};
 ghost use Rattle.tcl_words.specs.Progression.{IsCommandOf};
-ghost use Rattle.tcl_words.specs.Unread.{nothing_fed, fed, TakesCommand, HasNoCommand, StopsAt, texts_of};
+ghost use Rattle.tcl_words.specs.Unread.{nothing_fed, fed, TakesCommand, HasNoCommand, HasNoFault, StopsAt, texts_of};
 
 use crate::fault::ScriptFault;
 use crate::pieces::words_of;
@@ -72,7 +72,8 @@ impl Splitter {
     }
 
     /// Takes the next command: before the end of the script the next whole one, and then also the last. `None` where
-    /// none is left. After want of memory nothing has changed; after a script fault each call answers that fault.
+    /// none is left and no fault comes next. After want of memory nothing has changed; after a script fault each call
+    /// answers that fault.
     pub fn next_command(&mut self) -> Result<Option<Vec<String>>, ScriptFault>
         ensures command { IfOk result (λ found. IfSome found (λ words.
             TakesCommand self.old (texts_of words.items) self.new)) }
@@ -80,6 +81,7 @@ impl Splitter {
         ensures shorter { IfOk result (λ found. IsSome found → length self.new.rest < length self.old.rest) }
         ensures none { IfOk result (λ found. IfNone found
             ((self.new ≡ self.old) × (self.old.fault ≡ None) × HasNoCommand self.old.finished self.old.rest)) }
+        ensures no_fault { IfOk result (λ found. IfNone found (HasNoFault self.old.finished self.old.rest)) }
         ensures fault { IfErr result (λ fault. fault ≢ ScriptFault.Memory → StopsAt self.old fault self.new) }
         ensures memory { result ≡ Err ScriptFault.Memory →
             (self.new ≡ self.old) × (self.old.fault ≡ None) × ¬ HasNoCommand self.old.finished self.old.rest }
@@ -100,6 +102,7 @@ impl Splitter {
         ensures shorter { result ≡ Ok true → length self.new.rest < length self.old.rest }
         ensures none { result ≡ Ok false →
             (self.new ≡ self.old) × (self.old.fault ≡ None) × HasNoCommand self.old.finished self.old.rest }
+        ensures no_fault { result ≡ Ok false → HasNoFault self.old.finished self.old.rest }
         ensures fault { IfErr result (λ fault. (fault ≢ ScriptFault.Memory) × StopsAt self.old fault self.new) }
         ensures again { IfSome self.old.fault (λ fault. result ≡ Err fault) }
     {
@@ -121,6 +124,7 @@ impl Splitter {
     fn find_command(&mut self) -> Result<Option<usize>, ScriptFault>
         ensures found { IfOk result (λ found. IfSome found (λ len. IsCommandOf self.old.finished self.old.rest len)) }
         ensures none { IfOk result (λ found. IfNone found (HasNoCommand self.old.finished self.old.rest)) }
+        ensures no_fault { IfOk result (λ found. IfNone found (HasNoFault self.old.finished self.old.rest)) }
         ensures same { OnOk result ((self.new ≡ self.old) × (self.old.fault ≡ None)) }
         ensures fault { IfErr result (λ fault. (fault ≢ ScriptFault.Memory) × StopsAt self.old fault self.new) }
         ensures again { IfSome self.old.fault (λ fault. result ≡ Err fault) }

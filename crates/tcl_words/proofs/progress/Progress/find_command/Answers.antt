@@ -1,7 +1,7 @@
 use Rattle.std.proofs.Common.{◌∙◌, ap, arith}
 use Rattle.std.proofs.lemmas.List.{take_rest}
 use Rattle.tcl_words.specs.Scanning.{later}
-use Rattle.tcl_words.proofs.Finding.{progress_more, progress_scan, progress_reaches, command_of, refused_of, reached_of, stops_after}
+use Rattle.tcl_words.proofs.Finding.{progress_more, progress_scan, progress_reaches, command_of, refused_of, reached_of, no_fault_of, stops_after}
 use Rattle.tcl_words.proofs.progress.Progress.find_command.Goals as goal
 
 pub overflow_add-result : goal.overflow_add-result
@@ -52,5 +52,14 @@ returns-in-Reaches-clause-next c =
     let self = c.args.self.now in
     let p = progress_more rest _ self c.text_front-front.result.len c.requires (take_rest rest self.valid) c.text_front-front.ensures.within c.text_front-front.ensures.text in
     rw c.at_text_end.ensures (reached_of c.text_front-front.result.stop c.args.finished rest _ c.in-Reaches.stage p.within p.text
+    (progress_scan rest _ _ p c.scan_bytes.ensures ∙ ap (later self.seen) c.in-Reaches.is)
+    (stops_after rest _ self.valid c.text_front-front.result.len c.text_front-front.result.stop (take_rest rest self.valid) c.text_front-front.ensures.stop))
+
+pub returns-in-Reaches-clause-no_fault : goal.returns-in-Reaches-clause-no_fault
+returns-in-Reaches-clause-no_fault c =
+    let rest = c.args.rest.now in
+    let self = c.args.self.now in
+    let p = progress_more rest _ self c.text_front-front.result.len c.requires (take_rest rest self.valid) c.text_front-front.ensures.within c.text_front-front.ensures.text in
+    rw c.at_text_end.ensures (no_fault_of c.text_front-front.result.stop c.args.finished rest _ c.in-Reaches.stage p.within p.text
     (progress_scan rest _ _ p c.scan_bytes.ensures ∙ ap (later self.seen) c.in-Reaches.is)
     (stops_after rest _ self.valid c.text_front-front.result.len c.text_front-front.result.stop (take_rest rest self.valid) c.text_front-front.ensures.stop))
