@@ -1,5 +1,4 @@
 pub mod PieceLaws
-pub mod ReadingLaws
 pub mod RunLaws
 pub mod SendingLaws
 pub mod TurnLaws

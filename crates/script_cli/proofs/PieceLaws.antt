@@ -77,12 +77,6 @@ pub not_utf8 : chars (codes "error: script isn't UTF-8\n") ≡ error_line (liter
 unfolding chars
 not_utf8 = refl
 
-pub flag_true : chars (codes "1") ≡ literal "1"
-flag_true = refl
-
-pub flag_false : chars (codes "0") ≡ literal "0"
-flag_false = refl
-
 pub answer_line : (text : List ℕ) → chars (codes "") ++ (text ++ chars (codes "\n")) ≡ text ++ 10 ∷ []
 unfolding chars
 answer_line text = refl

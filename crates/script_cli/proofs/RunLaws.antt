@@ -63,9 +63,6 @@ none n = omega arith
 continues_all : (limits : LimitTable) (script : List ℕ) → Continues limits script 0 0 [] (no_documents limits) script
 continues_all limits script commands fault more others reads runs = (commands, reads, rw (none others) runs, omega arith)
 
-pub starts : (limits : LimitTable) (script : List ℕ) (known : Option (List ℕ)) → SoFar limits script 0 0 (no_documents limits) script known known []
-starts limits script known = ([], [], refl, Appends-nil known, continues_all limits script)
-
 -- the bytes of what was printed, with a text more
 more_bytes : (out text sent waits later left : List ℕ) → encode_utf8_all out ≡ sent ++ waits → waits ++ encode_utf8_all text ≡ later ++ left
     → encode_utf8_all (out ++ text) ≡ (sent ++ later) ++ left

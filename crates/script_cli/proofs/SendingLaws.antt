@@ -76,10 +76,6 @@ pub Gathers-stop : (old new : Option (List ℕ)) (waited between waits a b : Lis
 Gathers-stop old new waited between waits a b first =
     (first.0, first.1 ++ b, sym (append_assoc waited a b) ∙ ap (λ xs. xs ++ b) first.2 ∙ append_assoc first.0 first.1 b, first.3)
 
--- nothing is put behind those that wait
-pub Gathers-none : (known : Option (List ℕ)) (waited : List ℕ) → Gathers known waited known waited [] true
-Gathers-none known waited = ([], append-nil waited, Appends-nil known)
-
 pub ruleset writing = Appends-nil
 
 pub ruleset gathering = (Gathers-held, Gathers-flushed, Gathers-cut, Gathers-past)

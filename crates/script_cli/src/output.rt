@@ -50,9 +50,9 @@ impl Output {
         }
     }
 
-    #[tactic(auto, using(crate::proofs::SendingLaws::gathering))]
     /// Puts bytes behind those that wait. Without room for them it writes first, and answers false where the writer
     /// fails.
+    #[tactic(auto, using(crate::proofs::SendingLaws::gathering))]
     pub fn push<W: ByteSink>(&mut self, sink: &mut W, bytes: &[u8]) -> bool
         requires { W.is_failed sink.old ≡ false }
         ensures bytes { Gathers (W.written sink.old) self.old (W.written sink.new) self.new bytes.now result }

@@ -43,10 +43,12 @@ struct TestWriter {
     most: usize,
     room: usize,
     takes_none: bool,
+    writes: usize,
 }
 
 impl Write for TestWriter {
     fn write(&mut self, buf: &[u8]) -> io::Result<usize> {
+        self.writes = self.writes.saturating_add(1);
         let most = self.most.min(self.room).min(buf.len());
         if most == 0 && !buf.is_empty() {
             self.room = usize::MAX;
@@ -83,6 +85,7 @@ fn writer(alloc: Global, most: usize, room: usize, takes_none: bool) -> Watched<
         most,
         room,
         takes_none,
+        writes: 0,
     })
 }
 
@@ -140,6 +143,7 @@ fn runs_whatever_the_reads_and_the_writes(rt: HostRuntime) -> Result<(), Fail> {
         let ended = run::<PlainStore, _, _>(rt.alloc(), &mut source, &mut sink, limits(100)?);
         assert_eq!(rt; ended, Ok(REFUSED));
         assert_eq!(rt; sink.get_ref().written, all);
+        assert_eq!(rt; sink.get_ref().writes, all.len().div_ceil(most));
     }
     Ok(())
 }

@@ -57,7 +57,7 @@ pub fn take_turn<S: TextStore, W: ByteSink>(
         },
         Err(fault) => match fault {
             ScriptFault::Memory => refuse(splitter, output, sink),
-            fault => stop(fault, output, sink),
+            _ => stop(fault, output, sink),
         },
     }
 }
