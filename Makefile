@@ -28,7 +28,8 @@ test: $(SHIM)
 	  'python3 tools/selftest.py' \
 	  'python3 tools/fuzz.py --program $(PROGRAM) --seeds 300' \
 	  'python3 tools/refusals.py --program $(PROGRAM) --shim $(SHIM)' \
-	  'python3 tools/idle.py --program $(PROGRAM)'
+	  'python3 tools/idle.py --program $(PROGRAM)' \
+	  'python3 tools/devices.py --program $(PROGRAM)'
 
 fuzz: $(PROGRAM)
 	python3 tools/fuzz.py --program $(PROGRAM) --seeds $(SEEDS) --first $(FIRST)
