@@ -52,9 +52,11 @@ fn inserted_cells(
     requires { at ≤ length cells.now }
     ensures { IfOk result (λ found. found.items ≡ inserted at (cells_of text.now tags) cells.now) }
 {
-    let mut found = Vec::with_capacity(alloc, cells.len())?;
+    let text = text.as_str();
+    // A character takes one byte or more, so no cell that follows wants more room.
+    let mut found = Vec::with_capacity(alloc, cells.len().saturating_add(text.len()))?;
     found.extend_from_slice(&cells[..at])?;
-    push_cells(&mut found, text.as_str(), tags)?;
+    push_cells(&mut found, text, tags)?;
     found.extend_from_slice(&cells[at..])?;
     Ok(found)
 }
@@ -194,7 +196,7 @@ impl TextStore for PlainStore {
     }
 
     fn copy_text(&self, start: usize, end: usize) -> Result<String, AllocError> {
-        let mut text = String::new(self.alloc);
+        let mut text = String::with_capacity(self.alloc, end - start)?;
         for cell in &self.cells[start..end] {
             push_char(&mut text, cell.character)?;
         }

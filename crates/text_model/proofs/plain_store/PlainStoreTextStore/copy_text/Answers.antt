@@ -7,7 +7,7 @@ use Rattle.text_model.specs.Content.{characters}
 use Rattle.text_model.proofs.plain_store.PlainStoreTextStore.copy_text.Goals as goal
 
 pub loop-cell-init : goal.loop-cell-init
-loop-cell-init c = ap chars c.new-text.ensures.bytes ∙ chars-nil
+loop-cell-init c = ap chars c.in_ok-text.ensures.bytes ∙ chars-nil
 
 pub returns : goal.returns
 returns c =
