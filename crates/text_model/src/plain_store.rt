@@ -344,7 +344,10 @@ impl TextStore for PlainStore {
     }
 
     fn mark_place(&self, number: MarkNo) -> Option<Place> {
-        *self.places.get(number.0 as usize)?
+        match self.places.get(number.0 as usize) {
+            Some(place) => *place,
+            None => None,
+        }
     }
 
     fn next_mark(&self, offset: usize) -> Option<usize> {

@@ -79,8 +79,9 @@ impl TagSet {
         ensures { result ≡ set.intersection self.now other.now }
     {
         let mut words = self.words;
+        let others = other.words;
         for index in 0..WORDS {
-            words[index] &= other.words[index];
+            words[index] &= others[index];
         }
         TagSet { words }
     }
