@@ -1,4 +1,6 @@
+pub mod ChangeLaws
 pub mod LineLaws
+pub mod MarkOrderLaws
 pub mod PlaceLaws
 pub mod PlainLaws
 pub mod SpliceLaws

@@ -1,13 +1,16 @@
 -- Marks that are kept as a list of places by their numbers, and what becomes of each mark.
-use Rattle.std.proofs.Common.{◌≡◌, ◌≢◌, ℕ, zero, suc, ◌+◌, ◌<◌, ◌≤◌, Bool, true, false, cond, ◌&&◌, ◌==◌, T, List, [], ◌∷◌, ◌++◌, Option, Some, None, map, length, get_or, set, replicate, refl, sym, ap, ◌∙◌, inl, inr, arith, get_or-set_same, get_or-set_other}
-use Rattle.std.specs.Prelude.{option_map}
+use Rattle.std.proofs.Common.{◌≡◌, ◌≢◌, ℕ, zero, suc, ◌+◌, ◌<◌, ◌≤◌, Bool, true, false, cond, ◌&&◌, ◌==◌, T, List, [], ◌∷◌, ◌++◌, Option, Some, None, map, length, get_or, set, take, drop, replicate, refl, sym, ap, ◌∙◌, inl, inr, arith, get_or-set_same, get_or-set_other}
+use Rattle.std.specs.Prelude.{option_map, IfSome}
 use Rattle.std.specs.FinMap as finite
 use Rattle.std.specs.FinMap.{find, is_sorted, nat_cmp-IsAntisymmetric}
+use Rattle.std.specs.List.{All}
 use Rattle.std.specs.Ordering.{nat_cmp, eq_by_cmp, is_lt}
 use Rattle.std.specs.Cmp.{nat_cmp_total, unsigned_tied}
 use Rattle.std.proofs.lemmas.Bool.{cases_eq}
 use Rattle.std.proofs.lemmas.Bool.Decides.{nat_tests}
-use Rattle.std.proofs.lemmas.List.{get_or_past}
+use Rattle.std.proofs.lemmas.List.{get_or_default, get_or_past}
+use Rattle.std.proofs.lemmas.List.Edits.{map_over_more}
+use Rattle.std.proofs.lemmas.List.Elements.{All-cons, All-nil}
 use Rattle.text_model.specs.declared.places.Place.{Place}
 use Rattle.text_model.specs.Content.{Marks, map_marks}
 use Rattle.text_model.specs.Plain.{places_from, entry_of, plain_marks}
@@ -33,6 +36,51 @@ get-map_marks f marks number =
 pub same_marks : (one other : Marks) → ((number : ℕ) → finite.get one number ≡ finite.get other number) → one ≡ other
 same_marks one other alike = finite.same_map nat_cmp_total nat_cmp-IsAntisymmetric one other alike
 
+other_number : (q number : ℕ) → q ≢ number → eq_by_cmp nat_cmp q number ≡ false
+other_number q number other = unsigned_tied q number ∙ grind (arith, nat_tests)
+
+same_number : (q number : ℕ) → q ≡ number → eq_by_cmp nat_cmp q number ≡ true
+same_number q number same = unsigned_tied q number ∙ grind (arith, nat_tests)
+
+two_parts : (first second third rest : Bool) → T ((first && second) && (third && rest)) → (first ≡ true) × T (second && rest)
+two_parts true true true rest all = (refl, all)
+two_parts true true false rest all = absurd all
+two_parts true false third rest all = absurd all
+two_parts false second third rest all = absurd all
+
+second_part : (first rest : Bool) → T (first && rest) → T rest
+second_part true rest both = both
+second_part false rest both = absurd both
+
+apart : (a b : ℕ) → is_lt (nat_cmp a b) ≡ true → eq_by_cmp nat_cmp a b ≡ false
+apart a b less = unsigned_tied a b ∙ grind (arith, nat_tests)
+
+not_behind : (entry : ℕ × Place) (entries : List (ℕ × Place)) → T (is_sorted nat_cmp (entry ∷ entries)) → find nat_cmp entry.0 entries ≡ None
+not_behind entry [] sorted = refl
+not_behind entry (next ∷ entries) sorted =
+    let parts = two_parts (is_lt (nat_cmp entry.0 next.0)) _ _ _ sorted in
+    ap (λ b. cond b (Some next.1) (find nat_cmp entry.0 entries)) (apart entry.0 next.0 parts.0) ∙ not_behind entry entries parts.1
+
+found_behind : (tied : Bool) (value : Place) (rest : Option Place) (place : Place) → rest ≡ Some place → (tied ≡ true → rest ≡ None) → cond tied (Some value) rest ≡ Some place
+found_behind true value rest place is none = absurd (let no : None ≡ Some place = sym (none refl) ∙ is in cc)
+found_behind false value rest place is none = is
+
+tied_same : (a b : ℕ) → eq_by_cmp nat_cmp a b ≡ true → a ≡ b
+tied_same a b tied = let test : (a == b) ≡ true = sym (unsigned_tied a b) ∙ tied in grind (arith, nat_tests)
+
+each_entry : (P : ℕ × Place → Type 0) (entries : List (ℕ × Place)) → T (is_sorted nat_cmp entries) → ((number : ℕ) (place : Place) → find nat_cmp number entries ≡ Some place → P (number, place)) → All P entries
+each_entry P [] sorted each = All-nil P
+each_entry P (entry ∷ entries) sorted each =
+    let here = each entry.0 entry.1 (ap (λ b. cond b (Some entry.1) (find nat_cmp entry.0 entries)) (same_number entry.0 entry.0 refl)) in
+    All-cons P entry entries here (each_entry P entries (second_part _ _ sorted) (λ number place is.
+    each number place (found_behind (eq_by_cmp nat_cmp number entry.0) entry.1 (find nat_cmp number entries) place is
+    (λ tied. ap (λ n. find nat_cmp n entries) (tied_same number entry.0 tied) ∙ not_behind entry entries sorted))))
+
+-- what holds of each mark that a number has holds of each entry
+pub All-entries : (marks : Marks) (P : ℕ × Place → Type 0) → ((number : ℕ) (place : Place) → finite.get marks number ≡ Some place → P (number, place)) → All P (finite.entries marks)
+All-entries marks P each =
+    each_entry P (finite.entries marks) (finite.entries_sorted marks) (λ number place is. each number place (finite.get-entries marks number ∙ is))
+
 below : (a b : ℕ) → a < b → is_lt (nat_cmp a b) ≡ true
 below a b less = grind (arith, nat_tests)
 
@@ -54,12 +102,6 @@ places_sorted number (Some place ∷ places) = sorted_behind number (number + 1)
 
 pub entries-plain_marks : (places : List (Option Place)) → finite.entries (plain_marks places) ≡ places_from 0 places
 entries-plain_marks places = finite.entries-from_sorted nat_cmp (places_from 0 places) (places_sorted 0 places)
-
-other_number : (q number : ℕ) → q ≢ number → eq_by_cmp nat_cmp q number ≡ false
-other_number q number other = unsigned_tied q number ∙ grind (arith, nat_tests)
-
-same_number : (q number : ℕ) → q ≡ number → eq_by_cmp nat_cmp q number ≡ true
-same_number q number same = unsigned_tied q number ∙ grind (arith, nat_tests)
 
 find_before : (places : List (Option Place)) (number q : ℕ) → q < number → find nat_cmp q (places_from number places) ≡ None
 find_before [] number q before = refl
@@ -132,3 +174,16 @@ plain_marks_none places number past =
     none_there (eq_by_cmp nat_cmp q number) (finite.get (plain_marks places) q)
     (λ tied. get-plain_marks places q ∙ get_or_past places q None (let same : q ≡ number = let t : (q == number) ≡ true = sym (unsigned_tied q number) ∙ tied in grind (arith, nat_tests) in omega arith))
     ∙ sym (finite.get-remove nat_cmp_total (plain_marks places) number q))
+
+-- a loop that puts each place elsewhere: one place more
+pub place_more : (f : Place → Place) (old places : List (Option Place)) (i : ℕ) (here there : Option Place) → i < length old → length places ≡ length old
+    → places ≡ map (option_map f) (take i old) ++ drop i old → get_or places i None ≡ here → there ≡ option_map f here
+    → set places i there ≡ map (option_map f) (take (i + 1) old) ++ drop (i + 1) old
+place_more f old places i here there within long so_far here_is there_is =
+    let inside : i < length places = rw long within in
+    ap (set places i) (there_is ∙ ap (option_map f) (sym here_is))
+    ∙ map_over_more (option_map f) old places i (get_or places i None) within so_far (get_or_default places i None _ inside)
+
+pub stands_if_some : (place : Option Place) (end : ℕ) → ((here : Place) → place ≡ Some here → here.offset ≤ end) → IfSome place (λ here. here.offset ≤ end)
+stands_if_some None end within = tt
+stands_if_some (Some place) end within = within place refl

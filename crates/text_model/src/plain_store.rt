@@ -4,7 +4,7 @@ ghost use Rattle.text_model.specs.Changes.{is_alike};
 ghost use Rattle.text_model.specs.Content.{characters, flags};
 ghost use Rattle.text_model.specs.Lines.{lines, line_start};
 ghost use Rattle.text_model.specs.MarkOrder.{marks_at, next_mark, previous_mark};
-ghost use Rattle.text_model.specs.Plain.{plain_content, plain_marks, IsPlain};
+ghost use Rattle.text_model.specs.Plain.{plain_content, plain_marks, stands_at, with_next, with_previous, IsPlain};
 ghost use Rattle.text_model.specs.Splices.{inserted, removed, moved, drawn};
 ghost use Rattle.text_model.specs.Steps.{cells_of, with_slot, StepFits, after_step};
 ghost use Rattle.text_model.specs.TagBits.{slot_count};
@@ -78,12 +78,11 @@ fn alike_from_last(cells: &[Cell], slot: TagSlot, is_on: bool) -> usize
     requires { slot.0 < slot_count }
     ensures { result ≡ suffix_len (is_alike is_on) (flags slot.0 cells.now) }
 {
-    for start in (0..cells.len()).rev() {
-        if cells[start].tags.has(slot) != is_on {
-            return cells.len() - 1 - start;
-        }
+    let mut start = cells.len();
+    while start > 0 && cells[start - 1].tags.has(slot) == is_on {
+        start -= 1;
     }
-    cells.len()
+    cells.len() - start
 }
 
 /// Adds the characters of a text as cells with these tags.
@@ -135,9 +134,10 @@ fn move_places(places: &mut [Option<Place>], at: usize, count: usize, end: usize
     ensures { places.new ≡ map (option_map (moved at count)) places.old }
 {
     for place in places.iter_mut() {
-        if let Some(place) = place {
-            *place = place.moved(at, count);
-        }
+        *place = match *place {
+            None => None,
+            Some(place) => Some(place.moved(at, count)),
+        };
     }
 }
 
@@ -147,9 +147,10 @@ fn draw_places(places: &mut [Option<Place>], from: usize, to: usize)
     ensures { places.new ≡ map (option_map (drawn from to)) places.old }
 {
     for place in places.iter_mut() {
-        if let Some(place) = place {
-            *place = place.drawn(from, to);
-        }
+        *place = match *place {
+            None => None,
+            Some(place) => Some(place.drawn(from, to)),
+        };
     }
 }
 
@@ -234,18 +235,49 @@ fn copy_with_room<T: Copy>(alloc: Global, items: &[T], capacity: usize) -> Resul
     Ok(copy)
 }
 
+/// The least of offsets at or above one, with a place more.
+fn with_next(next: Option<usize>, offset: usize, place: Option<Place>) -> Option<usize>
+    ensures { result ≡ with_next next offset place }
+{
+    match place {
+        Some(place) if offset <= place.offset => Some(match next {
+            None => place.offset,
+            Some(least) => least.min(place.offset),
+        }),
+        _ => next,
+    }
+}
+
+/// The greatest of offsets below one, with a place more.
+fn with_previous(previous: Option<usize>, offset: usize, place: Option<Place>) -> Option<usize>
+    ensures { result ≡ with_previous previous offset place }
+{
+    match place {
+        Some(place) if place.offset < offset => Some(match previous {
+            None => place.offset,
+            Some(greatest) => greatest.max(place.offset),
+        }),
+        _ => previous,
+    }
+}
+
+/// Whether a mark is there, and stands at an offset.
+fn stands_at(place: Option<Place>, offset: usize) -> bool
+    ensures { result ≡ stands_at place offset }
+{
+    match place {
+        None => false,
+        Some(place) => place.offset == offset,
+    }
+}
+
 /// The least offset at or above this one among the places.
 fn find_next(places: &[Option<Place>], offset: usize) -> Option<usize>
     ensures { result ≡ next_mark offset (plain_marks places.now) }
 {
     let mut next = None;
     for place in places {
-        if let Some(place) = place && offset <= place.offset {
-            next = Some(match next {
-                None => place.offset,
-                Some(least) => place.offset.min(least),
-            });
-        }
+        next = with_next(next, offset, *place);
     }
     next
 }
@@ -256,12 +288,7 @@ fn find_previous(places: &[Option<Place>], offset: usize) -> Option<usize>
 {
     let mut previous = None;
     for place in places {
-        if let Some(place) = place && place.offset < offset {
-            previous = Some(match previous {
-                None => place.offset,
-                Some(greatest) => place.offset.max(greatest),
-            });
-        }
+        previous = with_previous(previous, offset, *place);
     }
     previous
 }
@@ -273,12 +300,13 @@ fn find_mark(places: &[Option<Place>], offset: usize, index: usize) -> Option<Ma
 {
     let mut left = index;
     for (number, place) in places.iter().enumerate() {
-        if let Some(place) = place && place.offset == offset {
-            if left == 0 {
-                return Some(MarkNo(number as u16));
-            }
-            left -= 1;
+        if !stands_at(*place, offset) {
+            continue;
         }
+        if left == 0 {
+            return Some(MarkNo(number as u16));
+        }
+        left -= 1;
     }
     None
 }
