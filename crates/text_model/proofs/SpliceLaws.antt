@@ -1,7 +1,7 @@
 -- What an insertion, a removal and a change leave of a list: its length, its elements, its parts, and what a function makes of each element.
-use Rattle.std.proofs.Common.{◌≡◌, ℕ, zero, suc, ◌+◌, ◌-◌, ◌<◌, ◌≤◌, List, [], ◌∷◌, ◌++◌, length, get_or, take, drop, map, refl, sym, ap, ap₂, ◌∙◌, arith, rules, length-append, length-drop}
+use Rattle.std.proofs.Common.{◌≡◌, ℕ, zero, suc, ◌+◌, ◌-◌, ◌<◌, ◌≤◌, List, [], ◌∷◌, ◌++◌, length, get_or, set, take, drop, map, refl, sym, ap, ap₂, ◌∙◌, arith, rules, length-append, length-drop}
 use Rattle.std.specs.Prelude.{slice_range}
-use Rattle.std.proofs.lemmas.List.{places, length-take-le, length-map, map-append, take-map, drop-map, get_or_append_left, get_or-append_right, get_or-take, get_or-drop, get_or-map, take-append-le, take-take, drop-append-le, drop_at, drop-drop, append_assoc}
+use Rattle.std.proofs.lemmas.List.{places, length-take-le, length-map, map-append, take-map, drop-map, get_or_append_left, get_or-append_right, get_or-take, get_or-drop, get_or-map, take-append-le, take-take, drop-append-le, drop_at, drop-drop, drop_more, set_split, append_assoc}
 use Rattle.text_model.specs.Content.{Slots}
 use Rattle.text_model.specs.Steps.{cells_of}
 use Rattle.text_model.specs.Splices.{inserted, removed, changed}
@@ -62,6 +62,14 @@ get_or-changed_behind f from to xs i d ordered within behind =
     let long : length (front ++ map f middle) ≡ to =
     omega (arith, length-append front (map f middle), length-map middle f, length-take-le from xs (omega arith), length-take-le (to - from) (drop from xs) (omega (arith, length-drop from xs))) in
     get_or-append_right (front ++ map f middle) (drop to xs) to i d long behind ∙ get_or-drop to xs (i - to) d ∙ ap (λ k. get_or xs k d) (omega arith)
+
+-- a change of one element
+pub changed-one : {A : Type 0} (f : A → A) (at : ℕ) (xs : List A) (x : A) → at < length xs → x ≡ get_or xs at x → changed f at (at + 1) xs ≡ set xs at (f x)
+changed-one f at xs x within is =
+    let one : slice_range xs at (at + 1) ≡ x ∷ [] =
+    ap (λ n. take n (drop at xs)) (let same : (at + 1) - at ≡ 1 = omega arith in same) ∙ ap (take 1) (drop_more xs at x within) ∙ ap (λ y. y ∷ []) (sym is) in
+    ap (λ part. take at xs ++ map f part ++ drop (at + 1) xs) one ∙ append_assoc (take at xs) (f x ∷ []) (drop (at + 1) xs)
+    ∙ ap (λ n. take at xs ++ f x ∷ drop n xs) (let same : at + 1 ≡ suc at = omega arith in same) ∙ sym (set_split xs at (f x) within)
 
 -- what a function makes of each element after a step
 pub map-inserted : {A B : Type 0} (g : A → B) (at : ℕ) (new xs : List A) → map g (inserted at new xs) ≡ inserted at (map g new) (map g xs)

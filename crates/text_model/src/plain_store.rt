@@ -157,7 +157,7 @@ fn draw_places(places: &mut [Option<Place>], from: usize, to: usize)
 /// Puts the mark of a number at a place.
 fn put_place(places: &mut Vec<Option<Place>>, number: MarkNo, place: Place) -> Result<(), AllocError>
     ensures marks { OnOk result (plain_marks places.new.items ≡ finite.insert (plain_marks places.old.items) number.0 place) }
-    ensures len { OnOk result (vec_len places.new ≡ max (vec_len places.old) (number.0 + 1)) }
+    ensures few { OnOk result (vec_len places.new ≤ max (vec_len places.old) (2 ^ 16)) }
 {
     let index = number.0 as usize;
     if places.len() <= index {
