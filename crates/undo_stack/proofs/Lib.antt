@@ -1,0 +1,4 @@
+pub mod BorderLaws
+pub mod CountLaws
+pub mod GroupLaws
+pub mod RingLaws

@@ -1,0 +1,6 @@
+use Rattle.std.proofs.Common.{◌≡◌, ◌-◌}
+use Rattle.undo_stack.specs.Modified.{times, counted_up}
+use Rattle.undo_stack.proofs.counts.ModifiedCount.repeat.Given as goal
+
+abbrev pub invariant-loop : goal.invariant-loop
+invariant-loop l = times l.actions counted_up l.fn.self ≡ times (l.actions - l.counter) counted_up l.self

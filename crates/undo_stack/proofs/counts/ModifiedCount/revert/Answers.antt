@@ -1,0 +1,13 @@
+use Rattle.std.proofs.Common.{◌≡◌, ◌+◌, ◌-◌, sym, ap, ◌∙◌, arith}
+use Rattle.undo_stack.specs.Modified.{times, counted_down}
+use Rattle.undo_stack.proofs.CountLaws.{times-left}
+use Rattle.undo_stack.proofs.counts.ModifiedCount.revert.Goals as goal
+
+pub loop-preserved : goal.loop-preserved
+loop-preserved c =
+    c.loop.invariant ∙ times-left c.args.actions c.loop.counter counted_down c.loop.self c.loop-test.true
+    ∙ ap (times (c.args.actions - (c.loop.counter + 1)) counted_down) (sym c.count_down.ensures)
+
+pub returns : goal.returns
+returns c =
+    sym (c.loop.invariant ∙ ap (λ left. times left counted_down c.loop.self) (let e : c.args.actions - c.loop.counter ≡ 0 = omega arith in e))

@@ -1,0 +1,4 @@
+pub mod Fits
+pub mod History
+pub mod Modified
+pub mod Rings

@@ -1,0 +1,18 @@
+use text_model::Text;
+
+/// A text that was put in at an offset, or taken out there. Offsets count characters from the start of the text.
+#[derive(Drop)]
+pub struct Action {
+    /// Whether it was put in.
+    pub inserts: bool,
+    pub at: usize,
+    pub text: Text,
+}
+
+/// What kind of edit an action belongs to.
+#[derive(Clone, Copy, Debug, PartialEq, Eq)]
+pub enum EditKind {
+    Insert,
+    Delete,
+    Replace,
+}

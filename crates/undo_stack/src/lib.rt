@@ -1,0 +1,14 @@
+//! The history of a text: what was done, to be undone and redone, and whether the text is modified.
+#![tactic(auto)]
+
+mod actions;
+mod counts;
+mod faults;
+mod groups;
+mod rings;
+mod stack;
+
+pub use actions::{Action, EditKind};
+pub use groups::Group;
+pub use faults::HistoryFault;
+pub use stack::UndoStack;
