@@ -1,12 +1,12 @@
 -- The groups at the border between those that are done and those that are undone.
-use Rattle.std.proofs.Common.{◌≡◌, take_all, ℕ, zero, suc, ◌+◌, ◌-◌, ◌<◌, ◌≤◌, Bool, true, false, List, [], ◌∷◌, ◌++◌, length, take, drop, get_or, Option, Some, None, refl, sym, ap, ap₂, ◌∙◌, subst, arith, length-append, length-drop, length-take}
-use Rattle.std.specs.Prelude.{sum, slice_get, min, IfSome, IsSome, ◌↔◌}
+use Rattle.std.proofs.Common.{◌≡◌, ℕ, zero, suc, ◌+◌, ◌-◌, ◌<◌, ◌≤◌, Bool, false, List, [], ◌∷◌, ◌++◌, length, take, drop, get_or, Option, Some, None, refl, sym, ap, ap₂, ◌∙◌, arith, length-drop, length-take}
+use Rattle.std.specs.Prelude.{sum, slice_get, min}
 use Rattle.std.proofs.lemmas.List.{drop-drop, take_more, drop_more, take-append-drop, get_or-take, get_or_read}
 use Rattle.undo_stack.specs.declared.actions.Action.{Action}
 use Rattle.undo_stack.specs.declared.actions.EditKind.{EditKind}
-use Rattle.undo_stack.specs.History.{History, next_undo, next_redo, after_undo, newest, limited}
+use Rattle.undo_stack.specs.History.{next_undo, next_redo, after_undo}
 use Rattle.undo_stack.specs.Rings.{grouped, history_of, AreGroups}
-use Rattle.undo_stack.proofs.GroupLaws.{sum-cons, sum-append, sum-one, take-grouped, grouped-append, slice_get-grouped}
+use Rattle.undo_stack.proofs.GroupLaws.{sum-append, sum-one, take-grouped, grouped-append, slice_get-grouped}
 use Rattle.undo_stack.proofs.RingLaws.{count-groups, part-within}
 
 -- the sum through a group is the sum before it and its length
@@ -41,12 +41,12 @@ border-back lengths xs k d takes_more last within part =
     let n = get_or lengths k 0 in
     let through : sum (take k lengths) + n ≡ d = sym (sum-through lengths k within) ∙ part in
     let groups : grouped (take k lengths) xs ≡ take (length (grouped (take (k + 1) lengths) xs) - 1) (grouped (take (k + 1) lengths) xs) =
-        ap (λ ns. grouped ns xs) (sym (take-fewer k (k + 1) lengths (omega arith)))
-        ∙ sym (take-grouped k (take (k + 1) lengths) xs)
-        ∙ ap (λ j. take j (grouped (take (k + 1) lengths) xs)) (let e : k ≡ k + 1 - 1 = omega arith in e ∙ ap (λ j. j - 1) (sym (count-groups lengths xs (k + 1) (omega arith)))) in
+    ap (λ ns. grouped ns xs) (sym (take-fewer k (k + 1) lengths (omega arith)))
+    ∙ sym (take-grouped k (take (k + 1) lengths) xs)
+    ∙ ap (λ j. take j (grouped (take (k + 1) lengths) xs)) (let e : k ≡ k + 1 - 1 = omega arith in e ∙ ap (λ j. j - 1) (sym (count-groups lengths xs (k + 1) (omega arith)))) in
     let undone : grouped (drop k lengths) (drop (d - n) xs) ≡ take n (drop (d - n) xs) ∷ grouped (drop (k + 1) lengths) (drop d xs) =
-        ap (λ ns. grouped ns (drop (d - n) xs)) (drop_more lengths k 0 within)
-        ∙ ap (λ ys. take n (drop (d - n) xs) ∷ grouped (drop (k + 1) lengths) ys) (drop-drop n (d - n) xs ∙ ap (λ j. drop j xs) (let e : d - n + n ≡ d = omega (arith, through) in e)) in
+    ap (λ ns. grouped ns (drop (d - n) xs)) (drop_more lengths k 0 within)
+    ∙ ap (λ ys. take n (drop (d - n) xs) ∷ grouped (drop (k + 1) lengths) ys) (drop-drop n (d - n) xs ∙ ap (λ j. drop j xs) (let e : d - n + n ≡ d = omega (arith, through) in e)) in
     ap₂ (λ (gs us : List (List Action)). record { groups = gs; takes_more = false; last = None; undone = us }) groups undone
 
 -- the group undone last
@@ -58,20 +58,20 @@ first-undone lengths xs g d takes_more last within = ap (λ ns. slice_get (group
 pub border-on : (lengths : List ℕ) (xs : List Action) (g d : ℕ) (takes_more : Bool) (last : Option EditKind) → g < length lengths → sum (take g lengths) ≡ d
     → history_of lengths xs (g + 1) (d + get_or lengths g 0) false None
     ≡ record {
-        groups = grouped (take g lengths) xs ++ take (get_or lengths g 0) (drop d xs) ∷ [];
-        takes_more = false;
-        last = None;
-        undone = drop 1 (grouped (drop g lengths) (drop d xs));
-      }
+      groups = grouped (take g lengths) xs ++ take (get_or lengths g 0) (drop d xs) ∷ [];
+      takes_more = false;
+      last = None;
+      undone = drop 1 (grouped (drop g lengths) (drop d xs));
+    }
 border-on lengths xs g d takes_more last within part =
     let n = get_or lengths g 0 in
     let groups : grouped (take (g + 1) lengths) xs ≡ grouped (take g lengths) xs ++ take n (drop d xs) ∷ [] =
-        ap (λ ns. grouped ns xs) (take_more lengths g 0 within)
-        ∙ grouped-append (take g lengths) (n ∷ []) xs
-        ∙ ap (λ j. grouped (take g lengths) xs ++ take n (drop j xs) ∷ []) part in
+    ap (λ ns. grouped ns xs) (take_more lengths g 0 within)
+    ∙ grouped-append (take g lengths) (n ∷ []) xs
+    ∙ ap (λ j. grouped (take g lengths) xs ++ take n (drop j xs) ∷ []) part in
     let undone : grouped (drop (g + 1) lengths) (drop (d + n) xs) ≡ drop 1 (grouped (drop g lengths) (drop d xs)) =
-        ap (grouped (drop (g + 1) lengths)) (sym (drop-drop n d xs))
-        ∙ sym (ap (λ ns. drop 1 (grouped ns (drop d xs))) (drop_more lengths g 0 within)) in
+    ap (grouped (drop (g + 1) lengths)) (sym (drop-drop n d xs))
+    ∙ sym (ap (λ ns. drop 1 (grouped ns (drop d xs))) (drop_more lengths g 0 within)) in
     ap₂ (λ (gs us : List (List Action)). record { groups = gs; takes_more = false; last = None; undone = us }) groups undone
 
 -- where no group is done or undone there is none
@@ -97,9 +97,9 @@ last-moves lengths xs count g d n takes_more last are counted some is =
     let whole = part-within lengths count g d takes_more are in
     record {
       found = ap (λ j. next_undo (history_of lengths xs j d takes_more last)) (sym next) ∙ last-group lengths xs k d takes_more last within part
-        ∙ ap (λ m. Some (take m (drop (d - m) xs))) (sym zeroed);
+          ∙ ap (λ m. Some (take m (drop (d - m) xs))) (sym zeroed);
       moved = ap (λ m. history_of lengths xs k (d - m) false None) zeroed ∙ border-back lengths xs k d takes_more last within part
-        ∙ ap₂ (λ m j. after_undo (take m (drop (d - m) xs)) (history_of lengths xs j d takes_more last)) (sym zeroed) next;
+          ∙ ap₂ (λ m j. after_undo (take m (drop (d - m) xs)) (history_of lengths xs j d takes_more last)) (sym zeroed) next;
       long = length-take n (drop (d - n) xs) ∙ ap (λ j. min n j) (length-drop (d - n) xs) ∙ omega (arith, through, zeroed, whole, counted);
     }
 
@@ -121,12 +121,12 @@ next-moves lengths xs count g d n takes_more last are counted within is =
     let zeroed : n ≡ get_or lengths g 0 = get_or_read lengths g n within is 0 in
     let through : sum (take (g + 1) lengths) ≡ sum (take g lengths) + get_or lengths g 0 = sum-through lengths g within in
     let parts : sum lengths ≡ sum (take (g + 1) lengths) + sum (drop (g + 1) lengths) =
-        ap sum (sym (take-append-drop (g + 1) lengths)) ∙ sum-append (take (g + 1) lengths) (drop (g + 1) lengths) in
+    ap sum (sym (take-append-drop (g + 1) lengths)) ∙ sum-append (take (g + 1) lengths) (drop (g + 1) lengths) in
     let inside : d + n ≤ count = omega (arith, zeroed, through, parts, are.whole, are.part) in
     record {
       found = first-undone lengths xs g d takes_more last within ∙ ap (λ m. Some (take m (drop d xs))) (sym zeroed);
       moved = ap (λ m. history_of lengths xs (g + 1) (d + m) false None) zeroed ∙ border-on lengths xs g d takes_more last within are.part
-        ∙ ap (λ m. record { groups = grouped (take g lengths) xs ++ take m (drop d xs) ∷ []; takes_more = false; last = None; undone = drop 1 (grouped (drop g lengths) (drop d xs)) }) (sym zeroed);
+          ∙ ap (λ m. record { groups = grouped (take g lengths) xs ++ take m (drop d xs) ∷ []; takes_more = false; last = None; undone = drop 1 (grouped (drop g lengths) (drop d xs)) }) (sym zeroed);
       long = length-take n (drop d xs) ∙ ap (λ j. min n j) (length-drop d xs) ∙ omega (arith, inside, counted);
       within = inside;
     }

@@ -1,11 +1,11 @@
 -- What a row in groups is, as the row or the lengths change at an end, or the border between two groups moves.
-use Rattle.std.proofs.Common.{◌≡◌, take_all, ℕ, zero, suc, ◌+◌, ◌-◌, ◌<◌, ◌≤◌, Bool, true, false, List, [], ◌∷◌, ◌++◌, length, take, drop, get_or, Option, Some, None, refl, sym, ap, ap₂, ◌∙◌, arith, append_assoc, length-append, length-drop, length-take}
-use Rattle.std.specs.Prelude.{sum, slice_get, slice_index}
-use Rattle.std.proofs.lemmas.List.{drop-drop, take-append-le, drop-append-le, take-append-drop, take_more, drop_more}
+use Rattle.std.proofs.Common.{◌≡◌, take_all, ℕ, zero, suc, ◌+◌, ◌<◌, ◌≤◌, List, [], ◌∷◌, ◌++◌, length, take, drop, get_or, Some, refl, sym, ap, ap₂, ◌∙◌, arith, length-append, length-drop, length-take}
+use Rattle.std.specs.Prelude.{sum, slice_get}
+use Rattle.std.proofs.lemmas.List.{drop-drop, take-append-le, drop-append-le, take-append-drop}
 use Rattle.std.proofs.lemmas.List.Sums.{sum_by-cons, sum_by-append}
 use Rattle.std.proofs.Math.ListN.{drop_of_length-le}
 use Rattle.undo_stack.specs.declared.actions.Action.{Action}
-use Rattle.undo_stack.specs.History.{onto_last, joined}
+use Rattle.undo_stack.specs.History.{onto_last}
 use Rattle.undo_stack.specs.Rings.{grouped}
 
 pub sum-cons : (n : ℕ) (ns : List ℕ) → sum (n ∷ ns) ≡ n + sum ns
@@ -71,7 +71,7 @@ grouped-join front n xs x is =
     grouped-append front ((n + 1) ∷ []) (xs ++ x ∷ [])
     ∙ ap₂ (λ gs zs. gs ++ take (n + 1) zs ∷ []) (grouped-front front xs (x ∷ []) (omega (arith, is))) (drop-append-le (sum front) xs (x ∷ []) (omega (arith, is)))
     ∙ ap (λ g. grouped front xs ++ g ∷ []) (take_all (n + 1) (ys ++ x ∷ []) (rw (length-append ys (x ∷ []), count) (omega arith))
-      ∙ ap (λ g. g ++ x ∷ []) (sym (take_all n ys (omega (arith, count)))))
+    ∙ ap (λ g. g ++ x ∷ []) (sym (take_all n ys (omega (arith, count)))))
     ∙ sym (onto_last-append x (grouped front xs) (take n ys))
     ∙ ap (onto_last x) (sym (grouped-append front (n ∷ []) xs))
 

@@ -1,4 +1,5 @@
 pub mod BorderLaws
 pub mod CountLaws
+pub mod FitsLaws
 pub mod GroupLaws
 pub mod RingLaws

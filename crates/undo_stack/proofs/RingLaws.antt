@@ -1,13 +1,13 @@
 -- What a history is, as its rows change.
-use Rattle.std.proofs.Common.{◌≡◌, take_all, ℕ, zero, suc, ◌+◌, ◌-◌, ◌<◌, ◌≤◌, Bool, true, false, List, [], ◌∷◌, ◌++◌, length, take, drop, get_or, Option, Some, None, refl, sym, ap, ap₂, ◌∙◌, subst, ne_eqb, arith, length-append, length-drop, length-take}
-use Rattle.std.specs.Prelude.{sum, slice_get, slice_index_or, min, unwrap_or, option_to_list, if◌then◌else◌}
-use Rattle.std.proofs.lemmas.List.{drop-drop, take-append-le, drop-append-le, take-append-drop, take_more, drop_more}
+use Rattle.std.proofs.Common.{◌≡◌, take_all, ℕ, suc, ◌+◌, ◌-◌, ◌<◌, ◌≤◌, Bool, true, false, List, [], ◌∷◌, ◌++◌, length, take, drop, get_or, Option, Some, sym, ap, ap₂, ◌∙◌, ne_eqb, arith, length-append, length-drop, length-take}
+use Rattle.std.specs.Prelude.{sum, slice_index_or, unwrap_or, option_to_list, if◌then◌else◌}
+use Rattle.std.proofs.lemmas.List.{drop-drop, take-append-drop}
 use Rattle.std.proofs.Math.ListN.{drop_of_length-le}
 use Rattle.undo_stack.specs.declared.actions.Action.{Action}
 use Rattle.undo_stack.specs.declared.actions.EditKind.{EditKind}
-use Rattle.undo_stack.specs.History.{History, joined, newest}
+use Rattle.undo_stack.specs.History.{joined, newest}
 use Rattle.undo_stack.specs.Rings.{grouped, history_of, AreGroups}
-use Rattle.undo_stack.proofs.GroupLaws.{sum-cons, sum-append, sum-one, length-grouped, take-grouped, grouped-append, grouped-take, grouped-new, grouped-join}
+use Rattle.undo_stack.proofs.GroupLaws.{sum-cons, sum-append, sum-one, length-grouped, grouped-take, grouped-new, grouped-join}
 
 -- a row by its first number and the others
 pub begins-with : (lengths : List ℕ) (n : ℕ) (rest : List ℕ) → 0 < length lengths → n ≡ get_or lengths 0 0 → rest ≡ drop 1 lengths → n ∷ rest ≡ lengths
@@ -31,10 +31,10 @@ oldest-goes n rest xs g d lengths takes_more last is some part =
     let one : g ≡ suc (g - 1) = omega arith in
     let whole = first-within n rest lengths g d is some part in
     let groups : grouped (take k rest) (drop n xs) ≡ drop 1 (grouped (take g lengths) xs) =
-        sym (ap₂ (λ j (ns : List ℕ). drop 1 (grouped (take j ns) xs)) one (sym is)) in
+    sym (ap₂ (λ j (ns : List ℕ). drop 1 (grouped (take j ns) xs)) one (sym is)) in
     let undone : grouped (drop k rest) (drop (d - n) (drop n xs)) ≡ grouped (drop g lengths) (drop d xs) =
-        ap (grouped (drop k rest)) (drop-drop (d - n) n xs ∙ ap (λ j. drop j xs) (let e : n + (d - n) ≡ d = omega (arith, whole) in e))
-        ∙ sym (ap₂ (λ j (ns : List ℕ). grouped (drop j ns) (drop d xs)) one (sym is)) in
+    ap (grouped (drop k rest)) (drop-drop (d - n) n xs ∙ ap (λ j. drop j xs) (let e : n + (d - n) ≡ d = omega (arith, whole) in e))
+    ∙ sym (ap₂ (λ j (ns : List ℕ). grouped (drop j ns) (drop d xs)) one (sym is)) in
     ap₂ (λ (gs us : List (List Action)). record { groups = gs; takes_more = takes_more; last = last; undone = us }) groups undone
 
 -- and what is left are groups
@@ -81,11 +81,11 @@ begins-group lengths xs x count g d takes_more last are counted all none =
     let sums : sum lengths ≡ length xs = are.whole ∙ counted in
     let wide : length (lengths ++ 1 ∷ []) ≡ g + 1 = length-append lengths (1 ∷ []) ∙ ap (λ n. n + 1) all in
     let groups : grouped (take (g + 1) (lengths ++ 1 ∷ [])) (xs ++ x ∷ []) ≡ joined false x (grouped (take g lengths) xs) =
-        ap (λ ns. grouped ns (xs ++ x ∷ [])) (take_all (g + 1) (lengths ++ 1 ∷ []) (omega (arith, wide)))
-        ∙ grouped-new lengths xs x sums
-        ∙ ap (λ ns. grouped ns xs ++ (x ∷ []) ∷ []) (sym (take_all g lengths (omega (arith, all)))) in
+    ap (λ ns. grouped ns (xs ++ x ∷ [])) (take_all (g + 1) (lengths ++ 1 ∷ []) (omega (arith, wide)))
+    ∙ grouped-new lengths xs x sums
+    ∙ ap (λ ns. grouped ns xs ++ (x ∷ []) ∷ []) (sym (take_all g lengths (omega (arith, all)))) in
     let undone : grouped (drop (g + 1) (lengths ++ 1 ∷ [])) (drop (d + 1) (xs ++ x ∷ [])) ≡ grouped (drop g lengths) (drop d xs) =
-        ap (λ ns. grouped ns (drop (d + 1) (xs ++ x ∷ []))) (drop_of_length-le (lengths ++ 1 ∷ []) (omega (arith, wide))) ∙ sym none in
+    ap (λ ns. grouped ns (drop (d + 1) (xs ++ x ∷ []))) (drop_of_length-le (lengths ++ 1 ∷ []) (omega (arith, wide))) ∙ sym none in
     ap₂ (λ (gs us : List (List Action)). record { groups = gs; takes_more = takes_more; last = last; undone = us }) groups undone
 
 -- an action more in the last group
@@ -97,11 +97,11 @@ joins-group front lengths n xs x count g d takes_more last is are counted all no
     let sums : sum front + n ≡ length xs = sym (sum-one front n) ∙ ap sum (sym is) ∙ are.whole ∙ counted in
     let wide : length (front ++ (n + 1) ∷ []) ≡ g = length-append front ((n + 1) ∷ []) ∙ sym (length-append front (n ∷ [])) ∙ ap length (sym is) ∙ all in
     let groups : grouped (take g (front ++ (n + 1) ∷ [])) (xs ++ x ∷ []) ≡ joined true x (grouped (take g lengths) xs) =
-        ap (λ ns. grouped ns (xs ++ x ∷ [])) (take_all g (front ++ (n + 1) ∷ []) (omega (arith, wide)))
-        ∙ grouped-join front n xs x sums
-        ∙ ap (λ ns. joined true x (grouped ns xs)) (sym is ∙ sym (take_all g lengths (omega (arith, all)))) in
+    ap (λ ns. grouped ns (xs ++ x ∷ [])) (take_all g (front ++ (n + 1) ∷ []) (omega (arith, wide)))
+    ∙ grouped-join front n xs x sums
+    ∙ ap (λ ns. joined true x (grouped ns xs)) (sym is ∙ sym (take_all g lengths (omega (arith, all)))) in
     let undone : grouped (drop g (front ++ (n + 1) ∷ [])) (drop (d + 1) (xs ++ x ∷ [])) ≡ grouped (drop g lengths) (drop d xs) =
-        ap (λ ns. grouped ns (drop (d + 1) (xs ++ x ∷ []))) (drop_of_length-le (front ++ (n + 1) ∷ []) (omega (arith, wide))) ∙ sym none in
+    ap (λ ns. grouped ns (drop (d + 1) (xs ++ x ∷ []))) (drop_of_length-le (front ++ (n + 1) ∷ []) (omega (arith, wide))) ∙ sym none in
     ap₂ (λ (gs us : List (List Action)). record { groups = gs; takes_more = takes_more; last = last; undone = us }) groups undone
 
 -- what stands behind the border doesn't count

@@ -1,5 +1,5 @@
 -- When the groups of a history can be reverted and repeated in a text.
-use Rattle.std.specs.Prelude.{◌≡◌, ℕ, ◌+◌, ◌<◌, ◌≤◌, nat_lt, nat_le, ◌&&◌, List, [], ◌∷◌, length, slice_range, bytes_eq, Option, None, Some, option_and_then, IsSome, if◌then◌else◌}
+use Rattle.std.specs.Prelude.{ℕ, ◌+◌, ◌<◌, ◌≤◌, nat_lt, nat_le, ◌&&◌, List, [], ◌∷◌, length, slice_range, bytes_eq, Option, None, Some, option_and_then, IsSome, if◌then◌else◌}
 use Rattle.std.specs.List.{AllByRecursion}
 use Rattle.text_model.specs.Splices.{inserted, removed}
 use Rattle.undo_stack.specs.declared.actions.Action.{Action}

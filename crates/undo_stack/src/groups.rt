@@ -34,7 +34,7 @@ impl<'a> Group<'a> {
         Group { actions, from, len }
     }
 
-    /// How many actions it has; one at least.
+    /// How many actions it has.
     pub fn len(&self) -> usize
         ensures { result ≡ length self.now }
     {

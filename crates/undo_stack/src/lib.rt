@@ -5,10 +5,13 @@ mod actions;
 mod counts;
 mod faults;
 mod groups;
+pub mod laws;
 mod rings;
 mod stack;
+#[cfg(test)]
+mod tests;
 
 pub use actions::{Action, EditKind};
-pub use groups::Group;
 pub use faults::HistoryFault;
+pub use groups::Group;
 pub use stack::UndoStack;

@@ -40,10 +40,10 @@ impl Model for UndoStack {
     ghost Value = { Kept };
 
     ghost view = { λ s. record {
-        history = history_of s.lengths.items s.actions.items s.groups s.done s.takes_more s.last;
-        modified = s.modified;
-        most = s.most;
-        room = min (deque_capacity s.lengths - deque_len s.lengths) (deque_capacity s.actions - deque_len s.actions);
+      history = history_of s.lengths.items s.actions.items s.groups s.done s.takes_more s.last;
+      modified = s.modified;
+      most = s.most;
+      room = min (deque_capacity s.lengths - deque_len s.lengths) (deque_capacity s.actions - deque_len s.actions);
     } };
 
     ghost invariant = { λ s. AreGroups s.lengths.items (deque_len s.actions) s.groups s.done s.takes_more };
@@ -136,11 +136,7 @@ impl UndoStack {
         if self.groups == self.lengths.len() {
             return None;
         }
-        Some(Group::new(
-            &self.actions,
-            self.done,
-            self.lengths[self.groups],
-        ))
+        Some(Group::new(&self.actions, self.done, self.lengths[self.groups]))
     }
 
     /// Moves the last group to those that are undone, and counts its actions as reverted.

@@ -1,4 +1,4 @@
-use Rattle.std.proofs.Common.{◌≡◌, ◌<◌, Some, length, sym, ap, ◌∙◌, arith}
+use Rattle.std.proofs.Common.{◌<◌, Some, length, sym, ap, ◌∙◌, arith}
 use Rattle.undo_stack.specs.History.{next_redo}
 use Rattle.undo_stack.specs.Rings.{Kept}
 use Rattle.undo_stack.proofs.BorderLaws.{next-moves}
@@ -9,7 +9,7 @@ new-requires c =
     let own = c.self.inside in
     let some : own.groups < length own.lengths.items = omega (arith, c.if-self-len.false, c.len.ensures, own.lengths.ok.0, c.self.invariant.within) in
     let group = next-moves own.lengths.items own.actions.items own.actions.len own.groups own.done c.index.result.now own.takes_more own.last
-        c.self.invariant own.actions.ok.0 some c.index.ensures in
+    c.self.invariant own.actions.ok.0 some c.index.ensures in
     group.within
 
 pub returns : goal.returns
@@ -17,5 +17,5 @@ returns c =
     let own = c.self.inside in
     let some : own.groups < length own.lengths.items = omega (arith, c.if-self-len.false, c.len.ensures, own.lengths.ok.0, c.self.invariant.within) in
     let group = next-moves own.lengths.items own.actions.items own.actions.len own.groups own.done c.index.result.now own.takes_more own.last
-        c.self.invariant own.actions.ok.0 some c.index.ensures in
+    c.self.invariant own.actions.ok.0 some c.index.ensures in
     ap Some c.new.ensures ∙ sym group.found ∙ ap (λ (kept : Kept). next_redo kept.history) c.self.view_is

@@ -1,4 +1,4 @@
-use Rattle.std.proofs.Common.{◌≡◌, Some, sym, ap, ◌∙◌}
+use Rattle.std.proofs.Common.{Some, sym, ap, ◌∙◌}
 use Rattle.undo_stack.specs.History.{next_undo}
 use Rattle.undo_stack.specs.Rings.{Kept}
 use Rattle.undo_stack.proofs.BorderLaws.{last-moves}
@@ -8,5 +8,5 @@ pub returns : goal.returns
 returns c =
     let own = c.self.inside in
     let group = last-moves own.lengths.items own.actions.items own.actions.len own.groups own.done c.index-len.result.now own.takes_more own.last
-        c.self.invariant own.actions.ok.0 c.if-self-eq0.false c.index-len.ensures in
+    c.self.invariant own.actions.ok.0 c.if-self-eq0.false c.index-len.ensures in
     ap Some c.new.ensures ∙ sym group.found ∙ ap (λ (kept : Kept). next_undo kept.history) c.self.view_is

@@ -1,9 +1,7 @@
-use Rattle.std.proofs.Common.{◌≡◌, ◌-◌, ℕ, List, take, drop, Option, Some, length, refl, sym, ap, ap₂, ◌∙◌, subst}
-use Rattle.std.specs.Prelude.{IfSome, IsSome, IsOk}
-use Rattle.undo_stack.specs.declared.actions.Action.{Action}
+use Rattle.std.proofs.Common.{◌-◌, take, drop, refl, sym, ap, ap₂, ◌∙◌}
 use Rattle.undo_stack.specs.History.{next_undo, after_undo}
-use Rattle.undo_stack.specs.Modified.{Modified, times, counted_down}
-use Rattle.undo_stack.specs.Rings.{Kept, history_of}
+use Rattle.undo_stack.specs.Modified.{times, counted_down}
+use Rattle.undo_stack.specs.Rings.{Kept}
 use Rattle.undo_stack.proofs.BorderLaws.{last-moves}
 use Rattle.undo_stack.proofs.stack.UndoStack.take_undo.Goals as goal
 
@@ -11,7 +9,7 @@ pub returns-clause-some : goal.returns-clause-some
 returns-clause-some c =
     let own = c.self.inside in
     let group = last-moves own.lengths.items own.actions.items own.actions.len own.groups own.done c.index-len.result.now own.takes_more own.last
-        c.self.invariant own.actions.ok.0 c.if-self-eq0.false c.index-len.ensures in
+    c.self.invariant own.actions.ok.0 c.if-self-eq0.false c.index-len.ensures in
     let found = sym (ap (λ (kept : Kept). next_undo kept.history) c.self.view_is) ∙ group.found in
     (λ _. rw found refl, λ _. refl)
 
@@ -19,16 +17,16 @@ pub returns-clause-history : goal.returns-clause-history
 returns-clause-history c =
     let own = c.self.inside in
     let group = last-moves own.lengths.items own.actions.items own.actions.len own.groups own.done c.index-len.result.now own.takes_more own.last
-        c.self.invariant own.actions.ok.0 c.if-self-eq0.false c.index-len.ensures in
+    c.self.invariant own.actions.ok.0 c.if-self-eq0.false c.index-len.ensures in
     let found = sym (ap (λ (kept : Kept). next_undo kept.history) c.self.view_is) ∙ group.found in
     rw found (group.moved
-      ∙ ap (λ (kept : Kept). after_undo (take c.index-len.result.now (drop (own.done - c.index-len.result.now) own.actions.items)) kept.history) c.self.view_is)
+    ∙ ap (λ (kept : Kept). after_undo (take c.index-len.result.now (drop (own.done - c.index-len.result.now) own.actions.items)) kept.history) c.self.view_is)
 
 pub returns-clause-modified : goal.returns-clause-modified
 returns-clause-modified c =
     let own = c.self.inside in
     let group = last-moves own.lengths.items own.actions.items own.actions.len own.groups own.done c.index-len.result.now own.takes_more own.last
-        c.self.invariant own.actions.ok.0 c.if-self-eq0.false c.index-len.ensures in
+    c.self.invariant own.actions.ok.0 c.if-self-eq0.false c.index-len.ensures in
     let found = sym (ap (λ (kept : Kept). next_undo kept.history) c.self.view_is) ∙ group.found in
     rw found (c.revert.ensures
-      ∙ ap₂ (λ n (kept : Kept). times n counted_down kept.modified) (sym group.long) c.self.view_is)
+    ∙ ap₂ (λ n (kept : Kept). times n counted_down kept.modified) (sym group.long) c.self.view_is)
