@@ -1,7 +1,9 @@
 -- The steps of an edit: when they fit a content, and the content after them.
 use Rattle.std.specs.Prelude.{ℕ, ◌+◌, ◌<◌, ◌≤◌, Bool, false, List, [], ◌∷◌, length, map, ⊤, if◌then◌else◌}
+use Rattle.std.specs.Char.{IsScalar}
 use Rattle.std.specs.FinSet as set
 use Rattle.std.specs.FinMap as finite
+use Rattle.std.specs.List.{All}
 use Rattle.text_model.specs.declared.cells.Cell.{Cell}
 use Rattle.text_model.specs.declared.edits.Step.{Step}
 use Rattle.text_model.specs.declared.edits.Step.TheVariants.{Remove, Insert, SetTag, ClearTags, ClearSlot, PutMark, TakeMark}
@@ -56,6 +58,16 @@ after_step (ClearTags at) content = record content { cells = changed without_slo
 after_step (ClearSlot slot) content = record content { cells = map (with_slot slot.0 false) content.cells }
 after_step (PutMark number place) content = record content { marks = finite.insert content.marks number.0 place }
 after_step (TakeMark number) content = record content { marks = finite.remove content.marks number.0 }
+
+-- what a step puts in, if it does, is Unicode scalar values
+abbrev pub InsertsScalars : Step → Type 0
+InsertsScalars (Remove from to) = ⊤
+InsertsScalars (Insert at text slots) = All IsScalar text
+InsertsScalars (SetTag from to slot on) = ⊤
+InsertsScalars (ClearTags at) = ⊤
+InsertsScalars (ClearSlot slot) = ⊤
+InsertsScalars (PutMark number place) = ⊤
+InsertsScalars (TakeMark number) = ⊤
 
 -- each step fits what the steps before it leave
 abbrev pub Fits : List Step → Content → Type 0
