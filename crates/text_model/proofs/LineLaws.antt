@@ -74,8 +74,13 @@ lines-inserted at new text = omega (arith, lines-append (take at text ++ new) (d
 pub lines-removed : (from to : ℕ) (text : List ℕ) → from ≤ to → lines (removed from to text) + lines (slice_range text from to) ≡ lines text
 lines-removed from to text ordered =
     let middle = slice_range text from to in
-    omega (arith, lines-append (take from text) (drop to text), ap lines (split_between text from to ordered),
-      lines-append (take from text) (middle ++ drop to text), lines-append middle (drop to text))
+    omega (
+      arith,
+      lines-append (take from text) (drop to text),
+      ap lines (split_between text from to ordered),
+      lines-append (take from text) (middle ++ drop to text),
+      lines-append middle (drop to text),
+    )
 
 -- the lines before an offset: before the step and behind it
 pub line_of-inserted_before : (at : ℕ) (new text : List ℕ) (offset : ℕ) → at ≤ length text → offset ≤ at → line_of (inserted at new text) offset ≡ line_of text offset

@@ -89,7 +89,7 @@ marks_one at number None places false is = refl
 marks_one at number (Some place) places stands is =
     ap (λ b. map (λ entry. record { 0 = entry.0 }) (cond b ((number, place) ∷ filter (λ (entry : ℕ × Place). entry.1.offset == at) (places_from (number + 1) places)) (filter (λ (entry : ℕ × Place). entry.1.offset == at) (places_from (number + 1) places)))) is
     ∙ elim stands as (λ b. map (λ entry. record { 0 = entry.0 }) (cond b ((number, place) ∷ filter (λ (entry : ℕ × Place). entry.1.offset == at) (places_from (number + 1) places)) (filter (λ (entry : ℕ × Place). entry.1.offset == at) (places_from (number + 1) places)))
-      ≡ cond b (record { 0 = number } ∷ marks_from at (number + 1) places) (marks_from at (number + 1) places)) [ true ↦ refl | false ↦ refl ]
+    ≡ cond b (record { 0 = number } ∷ marks_from at (number + 1) places) (marks_from at (number + 1) places)) [ true ↦ refl | false ↦ refl ]
 
 pub marks_more : (at : ℕ) (places : List (Option Place)) (i : ℕ) (place : Option Place) (stands : Bool) → i < length places → place ≡ get_or places i place → stands_at place at ≡ stands
     → marks_from at i (drop i places) ≡ cond stands (record { 0 = i } ∷ marks_from at (i + 1) (drop (i + 1) places)) (marks_from at (i + 1) (drop (i + 1) places))
