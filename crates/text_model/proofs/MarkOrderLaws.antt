@@ -1,6 +1,6 @@
 -- The marks of a list of places, one place after another.
-use Rattle.std.proofs.Common.{◌≡◌, ◌≢◌, ℕ, zero, suc, ◌+◌, ◌-◌, ◌<◌, ◌≤◌, min, max, Bool, true, false, cond, nat_lt, nat_le, ◌==◌, List, [], ◌∷◌, length, drop, get_or, map, Option, Some, None, refl, sym, ap, ◌∙◌, subst, arith}
-use Rattle.std.specs.Prelude.{slice_get, IfSome, if◌then◌else◌}
+use Rattle.std.proofs.Common.{◌≡◌, ℕ, ◌+◌, ◌<◌, ◌≤◌, min, max, Bool, true, false, cond, nat_lt, nat_le, ◌==◌, List, [], ◌∷◌, length, drop, get_or, map, Option, Some, None, refl, sym, ap, ◌∙◌, arith}
+use Rattle.std.specs.Prelude.{IfSome, if◌then◌else◌}
 use Rattle.std.specs.List.{All, filter, fold, reduce}
 use Rattle.std.specs.FinMap as finite
 use Rattle.std.proofs.lemmas.List.{drop_more, drop_all}
@@ -11,7 +11,7 @@ use Rattle.text_model.specs.declared.places.Place.{Place}
 use Rattle.text_model.specs.Content.{Content, Marks}
 use Rattle.text_model.specs.Documents.{MarksStand}
 use Rattle.text_model.specs.MarkOrder.{next_mark, offsets, previous_mark, marks_at}
-use Rattle.text_model.specs.Plain.{places_from, plain_marks, stands_at, joined, with_next, with_previous}
+use Rattle.text_model.specs.Plain.{places_from, plain_marks, stands_at, with_next, with_previous}
 use Rattle.text_model.proofs.PlaceLaws.{All-entries, entries-plain_marks}
 
 -- f over offsets, from one if there is one

@@ -1,5 +1,4 @@
-use Rattle.std.proofs.Common.{length, subst, ap₂, ◌∙◌}
-use Rattle.std.specs.Prelude.{◌≡◌}
+use Rattle.std.proofs.Common.{subst}
 use Rattle.text_model.specs.Steps.{FitsIn}
 use Rattle.text_model.proofs.StepLaws.{Fits-from_FitsIn}
 use Rattle.text_model.proofs.tests.make.Goals as goal
