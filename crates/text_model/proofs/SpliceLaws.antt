@@ -1,7 +1,8 @@
 -- What an insertion, a removal and a change leave of a list: its length, its elements, its parts, and what a function makes of each element.
 use Rattle.std.proofs.Common.{◌≡◌, ℕ, zero, suc, ◌+◌, ◌-◌, ◌<◌, ◌≤◌, List, [], ◌∷◌, ◌++◌, length, get_or, set, take, drop, map, refl, sym, ap, ap₂, ◌∙◌, arith, rules, length-append, length-drop}
 use Rattle.std.specs.Prelude.{slice_range}
-use Rattle.std.proofs.lemmas.List.{places, length-take-le, length-map, map-append, take-map, drop-map, get_or_append_left, get_or-append_right, get_or-take, get_or-drop, get_or-map, take-append-le, take-take, drop-append-le, drop_at, drop-drop, drop_more, set_split, append_assoc}
+use Rattle.std.proofs.lemmas.List.{places, length-take-le, length-map, map-append, map-id, take-map, drop-map, get_or_append_left, get_or-append_right, get_or-take, get_or-drop, get_or-map, take-append-le, take-take, drop-append-le, drop_at, drop-drop, drop_more, set_split, append_assoc}
+use Rattle.std.proofs.lemmas.List.Edits.{split_between}
 use Rattle.text_model.specs.Content.{Slots}
 use Rattle.text_model.specs.Steps.{cells_of}
 use Rattle.text_model.specs.Splices.{inserted, removed, changed}
@@ -17,11 +18,21 @@ length-removed from to xs ordered within =
 pub length-changed : {A : Type 0} (f : A → A) (from to : ℕ) (xs : List A) → from ≤ to → to ≤ length xs → length (changed f from to xs) ≡ length xs
 length-changed f from to xs ordered within =
     let middle = slice_range xs from to in
-    omega (arith, length-append (take from xs ++ map f middle) (drop to xs), length-append (take from xs) (map f middle), length-map middle f,
-      length-take-le (to - from) (drop from xs) (omega (arith, length-drop from xs)), length-take-le from xs (omega arith), length-drop to xs)
+    omega (
+      arith,
+      length-append (take from xs ++ map f middle) (drop to xs),
+      length-append (take from xs) (map f middle),
+      length-map middle f,
+      length-take-le (to - from) (drop from xs) (omega (arith, length-drop from xs)),
+      length-take-le from xs (omega arith),
+      length-drop to xs,
+    )
 
 pub length-cells_of : (text : List ℕ) (slots : Slots) → length (cells_of text slots) ≡ length text
 length-cells_of text slots = length-map text _
+
+pub length-cells_inserted : (at : ℕ) (text : List ℕ) (slots : Slots) (cells : List Cell) → at ≤ length cells → length (inserted at (cells_of text slots) cells) ≡ length cells + length text
+length-cells_inserted at text slots cells within = length-inserted at (cells_of text slots) cells within ∙ ap (λ n. length cells + n) (length-cells_of text slots)
 
 -- the elements after an insertion: before it, in it, and behind it
 pub get_or-inserted_before : {A : Type 0} (at : ℕ) (new xs : List A) (i : ℕ) (d : A) → at ≤ length xs → i < at → get_or (inserted at new xs) i d ≡ get_or xs i d
@@ -83,11 +94,11 @@ map-removed g from to xs = map-append g (take from xs) (drop to xs) ∙ ap₂ (�
 pub map-slice_range : {A B : Type 0} (g : A → B) (from to : ℕ) (xs : List A) → map g (slice_range xs from to) ≡ slice_range (map g xs) from to
 map-slice_range g from to xs = sym (take-map g (to - from) (drop from xs)) ∙ ap (take (to - from)) (sym (drop-map g from xs))
 
-map-alike : {A B : Type 0} (f g : A → B) → ((x : A) → f x ≡ g x) → (xs : List A) → map f xs ≡ map g xs
+pub map-alike : {A B : Type 0} (f g : A → B) → ((x : A) → f x ≡ g x) → (xs : List A) → map f xs ≡ map g xs
 map-alike f g alike [] = refl
 map-alike f g alike (x ∷ xs) = ap₂ (λ y ys. y ∷ ys) (alike x) (map-alike f g alike xs)
 
-map-map : {A B C : Type 0} (g : B → C) (f : A → B) (xs : List A) → map g (map f xs) ≡ map (λ x. g (f x)) xs
+pub map-map : {A B C : Type 0} (g : B → C) (f : A → B) (xs : List A) → map g (map f xs) ≡ map (λ x. g (f x)) xs
 map-map g f [] = refl
 map-map g f (x ∷ xs) = ap (λ ys. g (f x) ∷ ys) (map-map g f xs)
 
@@ -99,6 +110,11 @@ map-changed g f h alike from to xs =
     map-map g f middle ∙ map-alike _ _ alike middle ∙ sym (map-map h g middle) ∙ ap (map h) (map-slice_range g from to xs) in
     map-append g (take from xs ++ map f middle) (drop to xs)
     ∙ ap₂ (λ front back. front ++ back) (map-append g (take from xs) (map f middle) ∙ ap₂ (λ front back. front ++ back) (sym (take-map g from xs)) inner) (sym (drop-map g to xs))
+
+-- a change that keeps each element keeps the list
+pub changed-same : {A : Type 0} (from to : ℕ) (xs : List A) → from ≤ to → changed (λ x. x) from to xs ≡ xs
+changed-same from to xs ordered =
+    ap (λ part. take from xs ++ part ++ drop to xs) (map-id (slice_range xs from to)) ∙ append_assoc (take from xs) (slice_range xs from to) (drop to xs) ∙ sym (split_between xs from to ordered)
 
 -- the parts before a step and behind it
 pub take-inserted : {A : Type 0} (at : ℕ) (new xs : List A) (n : ℕ) → at ≤ length xs → n ≤ at → take n (inserted at new xs) ≡ take n xs
