@@ -1,6 +1,7 @@
 -- A lone document is well formed.
 use Rattle.std.proofs.Common.{ℕ, ◌≤◌, false, List, [], ◌∷◌, length, refl, sym, ap, subst, ◌∙◌, arith}
 use Rattle.std.proofs.lemmas.Bool.{false≢true}
+use Rattle.std.proofs.lemmas.List.{length-map}
 use Rattle.std.proofs.lemmas.Slice.Eq.{bytes_eq-Decides}
 use Rattle.std.specs.List.{IsDistinct, AllByRecursion}
 use Rattle.std.specs.Prelude.{◌||◌}
@@ -43,5 +44,5 @@ IsWellFormedDocument-lone limits name content kept fits = record {
   tag_names = distinct_one sel;
   sel = ap (λ b. b || false) ((bytes_eq-Decides sel sel).1 refl);
   tag_count = omega arith;
-  history = record { filled = tt; undone_filled = tt; reverts = refl; repeats = refl };
+  history = record { short = rw (characters-keyed [] content.cells, length-map content.cells (λ (cell : Cell). cell.character)) fits; filled = tt; undone_filled = tt; reverts = refl; repeats = refl };
 }

@@ -1,5 +1,4 @@
 pub mod Command
-pub mod History
 pub mod Index
 pub mod Kept
 pub mod Keys

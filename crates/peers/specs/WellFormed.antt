@@ -11,7 +11,7 @@ use Rattle.peers.specs.World.{World, Document, Widget, SharedMark, KeyedCell, ch
 use Rattle.peers.specs.View.{view_start, view_end}
 use Rattle.peers.specs.Words.{is_same}
 use Rattle.peers.specs.Kept.{is_window_name}
-use Rattle.peers.specs.History.{FitsText}
+use Rattle.undo_stack.specs.Fits.{FitsText}
 
 abbrev pub is_among : List ℕ → List (List ℕ) → Bool
 is_among name names = list_any (is_same name) names

@@ -5,6 +5,8 @@ use Rattle.text_model.specs.declared.places.Gravity.TheVariants.{Right}
 use Rattle.text_model.specs.declared.places.Place.{Place}
 use Rattle.text_model.specs.Content.{Content}
 use Rattle.text_model.specs.LimitTable.{LimitTable}
+use Rattle.undo_stack.specs.History.{History, no_history}
+use Rattle.undo_stack.specs.Modified.{Modified, unmodified}
 use Rattle.peers.specs.Keys.{Key, Keys, keys_of}
 
 -- a character with a finite set of keys
@@ -24,28 +26,6 @@ pub record Widget : Type 0 where
 pub record SharedMark : Type 0 where
   pub name : List ℕ
   pub place : Place
-
--- a text that was put in at an offset, or taken out there
-pub record Action : Type 0 where
-  pub inserts : Bool
-  pub at : ℕ
-  pub text : List ℕ
-
-pub data EditKind : Type 0 where
-  Inserts : EditKind
-  Deletes : EditKind
-  Replaces : EditKind
-
--- groups of actions, whether the last group takes more, the kind of the last edit, and the groups undone
-pub record History : Type 0 where
-  pub groups : List (List Action)
-  pub takes_more : Bool
-  pub last : Option EditKind
-  pub undone : List (List Action)
-
-pub record Modified : Type 0 where
-  pub count : ℤ
-  pub fixed : Bool
 
 -- A document: its cells, its widgets in the order of their creation, its shared marks in that order, its tags
 -- from the lowest, its history, whether it is modified, and the options that its widgets share.
@@ -86,8 +66,8 @@ document_of name cells = record {
   widgets = new_widget name ∷ [];
   marks = [];
   tags = sel ∷ [];
-  history = record { groups = []; takes_more = false; last = None; undone = [] };
-  modified = record { count = pos 0; fixed = false };
+  history = no_history;
+  modified = unmodified;
   undo = false;
   most_undo = pos 0;
   separators = true;
