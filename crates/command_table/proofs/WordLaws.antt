@@ -1,5 +1,5 @@
 -- What the bytes of words say of their characters.
-use Rattle.std.proofs.Common.{◌≡◌, ℕ, ◌<◌, ◌≤◌, Bool, true, false, List, [], ◌∷◌, ◌++◌, length, take, drop, get_or, refl, sym, ap, ◌∙◌, arith}
+use Rattle.std.proofs.Common.{◌≡◌, ℕ, ◌<◌, ◌≤◌, Bool, true, false, List, [], ◌∷◌, ◌++◌, length, drop, get_or, refl, sym, ap, ◌∙◌, arith}
 use Rattle.std.specs.Prelude.{chars, bytes_eq, IsUtf8, encode_utf8, encode_utf8_all, ◌==◌, nat_eq}
 use Rattle.std.specs.List.{starts_with}
 use Rattle.std.proofs.lemmas.Bool.{false≢true}
@@ -29,7 +29,7 @@ starts_with-chars text front is_text is_front =
     same_tests _ _
     (λ passes. characters.1 _ (ap chars (bytes.0 passes) ∙ chars-append front _ is_front))
     (λ passes. bytes.1 _ (sym (encodes-chars text is_text) ∙ ap encode_utf8_all (characters.0 passes)
-      ∙ encodes-append (chars front) _ ∙ ap (λ x. x ++ encode_utf8_all (drop (length (chars front)) (chars text))) (encodes-chars front is_front)))
+    ∙ encodes-append (chars front) _ ∙ ap (λ x. x ++ encode_utf8_all (drop (length (chars front)) (chars text))) (encodes-chars front is_front)))
 
 dash_in_bytes : (c : ℕ) (rest bytes : List ℕ) → encode_utf8 c ++ rest ≡ bytes → (c == 45) ≡ true → is_dashed bytes ≡ true
 dash_in_bytes c rest bytes is dash =

@@ -1,5 +1,5 @@
 -- Which words are booleans, and which are integers.
-use Rattle.std.specs.Prelude.{ℕ, ◌+◌, ◌-◌, ◌*◌, nat_lt, nat_le, Bool, true, false, ◌&&◌, ◌==◌, List, [], ◌∷◌, length, fold, Option, None, Some, option_map, if◌then◌else◌, ℤ, pos, neg_ℤ}
+use Rattle.std.specs.Prelude.{ℕ, ◌+◌, ◌-◌, ◌*◌, nat_lt, nat_le, Bool, true, false, ◌&&◌, ◌==◌, [], ◌∷◌, length, fold, Option, None, Some, option_map, if◌then◌else◌, ℤ, pos, neg_ℤ}
 use Rattle.std.specs.List.{list_all}
 use Rattle.std.specs.Char.{is_ascii_digit}
 use Rattle.command_table.specs.Words.{Word, is_among, literal}

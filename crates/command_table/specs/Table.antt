@@ -8,13 +8,23 @@ use Rattle.command_table.specs.declared.commands.Command.TheVariants.{Text, Inse
 -- `text W ?option value ..?`; there are no options yet
 abbrev pub text_row : RowRule
 text_row = record {
-  spelling = []; command = Text; switches = None; options = Some (record { names = []; after = 1; valued = true }); least = 1; greatest = None;
+  spelling = [];
+  command = Text;
+  switches = None;
+  options = Some (record { names = []; after = 1; valued = true });
+  least = 1;
+  greatest = None;
 }
 
 -- a subcommand of arguments alone
 abbrev pub plain : List (List ℕ) → Command → ℕ → Option ℕ → RowRule
 plain spelling command least greatest = record {
-  spelling = spelling; command = command; switches = None; options = None; least = least; greatest = greatest;
+  spelling = spelling;
+  command = command;
+  switches = None;
+  options = None;
+  least = least;
+  greatest = greatest;
 }
 
 abbrev pub alone : List ℕ → Command → ℕ → Option ℕ → RowRule

@@ -9,6 +9,8 @@ mod rows;
 mod shapes;
 mod spellings;
 mod switches;
+#[cfg(test)]
+mod tests;
 mod words;
 
 pub use commands::Command;

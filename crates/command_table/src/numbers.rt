@@ -65,8 +65,5 @@ fn read_integer(word: &[u8]) -> Option<i32>
 pub fn integer(word: &str) -> Result<i32, ValueFault>
     ensures { result ≡ ok_or (integer_of (chars word.now)) ValueFault.ExpectedInteger }
 {
-    match read_integer(word.as_bytes()) {
-        None => Err(ValueFault::ExpectedInteger),
-        Some(number) => Ok(number),
-    }
+    read_integer(word.as_bytes()).ok_or(ValueFault::ExpectedInteger)
 }

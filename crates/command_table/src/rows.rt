@@ -64,7 +64,12 @@ static ROWS: [Row; 21] = [
     plain!(Spelling::Member("mark", "gravity"), MarkGravity, 1, Some(2)),
     plain!(Spelling::Member("mark", "names"), MarkNames, 0, Some(0)),
     plain!(Spelling::Member("mark", "next"), MarkNext, 1, Some(1)),
-    plain!(Spelling::Member("mark", "previous"), MarkPrevious, 1, Some(1)),
+    plain!(
+        Spelling::Member("mark", "previous"),
+        MarkPrevious,
+        1,
+        Some(1)
+    ),
     plain!(Spelling::Member("mark", "set"), MarkSet, 2, Some(2)),
     plain!(Spelling::Member("mark", "unset"), MarkUnset, 0, None),
     plain!(Spelling::Member("tag", "add"), TagAdd, 2, None),
@@ -72,8 +77,18 @@ static ROWS: [Row; 21] = [
     plain!(Spelling::Member("tag", "delete"), TagDelete, 1, None),
     plain!(Spelling::Member("tag", "names"), TagNames, 0, Some(1)),
     plain!(Spelling::Member("tag", "ranges"), TagRanges, 1, Some(1)),
-    plain!(Spelling::Member("tag", "nextrange"), TagNextRange, 2, Some(3)),
-    plain!(Spelling::Member("tag", "prevrange"), TagPreviousRange, 2, Some(3)),
+    plain!(
+        Spelling::Member("tag", "nextrange"),
+        TagNextRange,
+        2,
+        Some(3)
+    ),
+    plain!(
+        Spelling::Member("tag", "prevrange"),
+        TagPreviousRange,
+        2,
+        Some(3)
+    ),
     plain!(Spelling::Member("tag", "raise"), TagRaise, 1, Some(2)),
     plain!(Spelling::Member("tag", "lower"), TagLower, 1, Some(2)),
 ];

@@ -1,4 +1,4 @@
-use Rattle.std.proofs.Common.{◌≡◌, drop, take, sym, ap, ap₂, ◌∙◌, arith}
+use Rattle.std.proofs.Common.{drop, sym, ap, ap₂, ◌∙◌}
 use Rattle.std.proofs.lemmas.List.{take_rest, drop-map}
 use Rattle.std.specs.List.{take-map}
 use Rattle.std.specs.Prelude.{chars, string_bytes}
@@ -15,4 +15,4 @@ returns c =
     ∙ ap₂ (λ front back. decided (row_rule c.args.self) c.args.at front back)
     (sym (take-map (λ word. chars (string_bytes word)) count.result words) ∙ count.ensures.front)
     (ap texts_of (take_rest words count.result) ∙ sym (drop-map (λ word. chars (string_bytes word)) count.result words)
-      ∙ ap (λ n. drop n (texts_of words)) count.ensures.value)
+    ∙ ap (λ n. drop n (texts_of words)) count.ensures.value)

@@ -1,4 +1,4 @@
-use Rattle.std.proofs.Common.{sym, ap, ◌∙◌, chars, arith}
+use Rattle.std.proofs.Common.{sym, ap, ◌∙◌, chars}
 use Rattle.command_table.specs.Words.{is_dashed}
 use Rattle.command_table.specs.Rows.{ends_switches}
 use Rattle.command_table.specs.Spelled.{switch_rule}

@@ -1,4 +1,4 @@
-use Rattle.std.proofs.Common.{◌≡◌, ◌+◌, ◌++◌, length, drop, take}
+use Rattle.std.proofs.Common.{◌≡◌, ◌++◌, drop, take}
 use Rattle.command_table.specs.Words.{texts_of}
 use Rattle.command_table.specs.Rows.{dashed_words}
 use Rattle.command_table.specs.Spelled.{switch_rule}
