@@ -1,0 +1,10 @@
+use Rattle.std.proofs.Common.{◌≡◌, ◌++◌, drop, take}
+use Rattle.command_table.specs.Words.{texts_of}
+use Rattle.command_table.specs.Rows.{dashed_words}
+use Rattle.command_table.specs.Spelled.{switch_rule}
+use Rattle.command_table.proofs.switches.Switches.count.Given as goal
+
+abbrev pub invariant-loop-index : goal.invariant-loop-index
+invariant-loop-index l =
+    dashed_words (switch_rule l.self) (texts_of l.words)
+    ≡ take l.index (texts_of l.words) ++ dashed_words (switch_rule l.self) (texts_of (drop l.index l.words))

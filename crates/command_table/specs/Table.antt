@@ -1,0 +1,59 @@
+-- The commands: the words of each subcommand, and how many words may stand behind it (text(n), "WIDGET COMMAND").
+use Rattle.std.specs.Prelude.{ℕ, List, [], ◌∷◌, true, Option, None, Some}
+use Rattle.command_table.specs.Words.{literal}
+use Rattle.command_table.specs.Rows.{RowRule}
+use Rattle.command_table.specs.declared.commands.Command.{Command}
+use Rattle.command_table.specs.declared.commands.Command.TheVariants.{Text, Insert, Delete, Replace, Get, Index, Compare, MarkGravity, MarkNames, MarkNext, MarkPrevious, MarkSet, MarkUnset, TagAdd, TagRemove, TagDelete, TagNames, TagRanges, TagNextRange, TagPreviousRange, TagRaise, TagLower}
+
+-- `text W ?option value ..?`; there are no options yet
+abbrev pub text_row : RowRule
+text_row = record {
+  spelling = [];
+  command = Text;
+  switches = None;
+  options = Some (record { names = []; after = 1; valued = true });
+  least = 1;
+  greatest = None;
+}
+
+-- a subcommand of arguments alone
+abbrev pub plain : List (List ℕ) → Command → ℕ → Option ℕ → RowRule
+plain spelling command least greatest = record {
+  spelling = spelling;
+  command = command;
+  switches = None;
+  options = None;
+  least = least;
+  greatest = greatest;
+}
+
+abbrev pub alone : List ℕ → Command → ℕ → Option ℕ → RowRule
+alone name command least greatest = plain (name ∷ []) command least greatest
+
+abbrev pub member : List ℕ → List ℕ → Command → ℕ → Option ℕ → RowRule
+member family name command least greatest = plain (family ∷ name ∷ []) command least greatest
+
+abbrev pub table : List RowRule
+table =
+    alone (literal "insert") Insert 2 None
+    ∷ alone (literal "delete") Delete 1 None
+    ∷ alone (literal "replace") Replace 3 None
+    ∷ alone (literal "get") Get 1 None
+    ∷ alone (literal "index") Index 1 (Some 1)
+    ∷ alone (literal "compare") Compare 3 (Some 3)
+    ∷ member (literal "mark") (literal "gravity") MarkGravity 1 (Some 2)
+    ∷ member (literal "mark") (literal "names") MarkNames 0 (Some 0)
+    ∷ member (literal "mark") (literal "next") MarkNext 1 (Some 1)
+    ∷ member (literal "mark") (literal "previous") MarkPrevious 1 (Some 1)
+    ∷ member (literal "mark") (literal "set") MarkSet 2 (Some 2)
+    ∷ member (literal "mark") (literal "unset") MarkUnset 0 None
+    ∷ member (literal "tag") (literal "add") TagAdd 2 None
+    ∷ member (literal "tag") (literal "remove") TagRemove 2 None
+    ∷ member (literal "tag") (literal "delete") TagDelete 1 None
+    ∷ member (literal "tag") (literal "names") TagNames 0 (Some 1)
+    ∷ member (literal "tag") (literal "ranges") TagRanges 1 (Some 1)
+    ∷ member (literal "tag") (literal "nextrange") TagNextRange 2 (Some 3)
+    ∷ member (literal "tag") (literal "prevrange") TagPreviousRange 2 (Some 3)
+    ∷ member (literal "tag") (literal "raise") TagRaise 1 (Some 2)
+    ∷ member (literal "tag") (literal "lower") TagLower 1 (Some 2)
+    ∷ []

@@ -1,0 +1,19 @@
+//! Where the subcommand, the switches, the arguments and the options of a command stand.
+#![tactic(auto)]
+
+mod commands;
+mod numbers;
+mod options;
+mod readings;
+mod rows;
+mod shapes;
+mod spellings;
+mod switches;
+#[cfg(test)]
+mod tests;
+mod words;
+
+pub use commands::Command;
+pub use numbers::{ValueFault, boolean, integer};
+pub use readings::shape;
+pub use shapes::{Shape, ShapeFault};

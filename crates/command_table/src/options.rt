@@ -1,0 +1,55 @@
+ghost use Rattle.std.specs.Prelude.{◌≡◌, ◌≤◌, ◌+◌, length};
+ghost use Rattle.command_table.specs.Words.{texts_of};
+ghost use Rattle.command_table.specs.Rows.{is_option_place, bad_option, are_paired};
+ghost use Rattle.command_table.specs.Spelled.{option_rule};
+
+use crate::words::is_among;
+
+/// The options of a command, which are found by their place among the arguments.
+#[derive(Clone, Copy)]
+pub struct Options {
+    /// Their names, whole.
+    pub names: &'static [&'static str],
+    /// How many arguments stand before them.
+    pub after: usize,
+    /// Whether each has a value behind it, and others may follow.
+    pub valued: bool,
+}
+
+impl Options {
+    /// Whether an option stands at a place among the arguments, from 0.
+    fn stands_at(self, place: usize) -> bool
+        ensures { result ≡ is_option_place (option_rule self) place }
+    {
+        if self.valued {
+            self.after <= place && (place - self.after) % 2 == 0
+        } else {
+            place == self.after
+        }
+    }
+
+    /// Whether each option of so many arguments has its value.
+    pub fn are_paired(self, count: usize) -> bool
+        ensures { result ≡ are_paired (Some (option_rule self)) count }
+    {
+        if self.valued {
+            self.after <= count && (count - self.after) % 2 == 0
+        } else {
+            true
+        }
+    }
+
+    /// The position of the first word that stands in place of an option and is none. The arguments stand from a
+    /// position on.
+    pub fn first_bad(self, at: usize, arguments: &[String]) -> Option<usize>
+        requires { at + length arguments.now ≤ usize.MAX }
+        ensures { result ≡ bad_option (Some (option_rule self)) at (texts_of arguments.now) }
+    {
+        for (place, word) in arguments.iter().enumerate() {
+            if self.stands_at(place) && !is_among(self.names, word.as_str()) {
+                return Some(at + place);
+            }
+        }
+        None
+    }
+}

@@ -1,0 +1,49 @@
+ghost use Rattle.std.specs.Prelude.{◌≡◌, ◌<◌, length};
+ghost use Rattle.command_table.specs.Words.{texts_of};
+ghost use Rattle.command_table.specs.Reading.{unknown, subcommand, reading};
+
+use crate::rows::{find_row, goes_on, text_row};
+use crate::shapes::{Shape, ShapeFault};
+use crate::words::is_word;
+
+/// Why words that begin with no subcommand are refused.
+fn unknown(words: &[String]) -> ShapeFault
+    ensures { Err result ≡ unknown (texts_of words.now) }
+{
+    if goes_on(words) {
+        return ShapeFault::WrongArguments;
+    }
+    match words {
+        [first, _, ..] => ShapeFault::BadOption(if goes_on(&words[..1]) { 2 } else { 1 }),
+        _ => ShapeFault::BadOption(1),
+    }
+}
+
+/// What the words behind the name of a widget are.
+fn subcommand(words: &[String]) -> Result<Shape, ShapeFault>
+    ensures { result ≡ subcommand (texts_of words.now) }
+{
+    match find_row(words) {
+        None => Err(unknown(words)),
+        Some(row) => {
+            let count = row.spelling.len();
+            row.read(1 + count, &words[count..])
+        }
+    }
+}
+
+/// What the words of a command are, for `text`, `destroy` or the command of a widget, whatever its name is: first the
+/// subcommand is decided, then switches and options from left to right, then how many words there are.
+pub fn shape(words: &[String]) -> Result<Shape, ShapeFault>
+    requires { 0 < length words.now }
+    ensures { result ≡ reading (texts_of words.now) }
+{
+    let [name, rest @ ..] = words else {
+        unreachable!()
+    };
+    if is_word(name.as_str(), "text") {
+        text_row().read(1, rest)
+    } else {
+        subcommand(rest)
+    }
+}

@@ -1,0 +1,232 @@
+ghost use Rattle.std.specs.Prelude.{◌≡◌, ◌≤◌, ◌+◌, length, take, map, option_map, IfSome};
+ghost use Rattle.std.specs.List.{find};
+ghost use Rattle.command_table.specs.Words.{texts_of};
+ghost use Rattle.command_table.specs.Rows.{begins, switch_words, bad_switch, bad_option, fits, before_options};
+ghost use Rattle.command_table.specs.Reading.{decided, behind, go_on};
+ghost use Rattle.command_table.specs.Table.{table, text_row};
+ghost use Rattle.command_table.specs.Spelled.{spelled, row_rule};
+
+use crate::commands::Command;
+use crate::options::Options;
+use crate::shapes::{Shape, ShapeFault};
+use crate::spellings::Spelling;
+use crate::switches::Switches;
+
+/// A row of the table: a command, and what may stand behind the words of its subcommand.
+#[derive(Clone, Copy)]
+pub struct Row {
+    pub spelling: Spelling,
+    pub command: Command,
+    pub switches: Option<Switches>,
+    pub options: Option<Options>,
+    /// The least number of words behind the switches.
+    pub least: usize,
+    /// The greatest, or any number.
+    pub greatest: Option<usize>,
+}
+
+/// `text W ?option value ..?`. There are no options yet.
+const TEXT: Row = Row {
+    spelling: Spelling::First,
+    command: Command::Text,
+    switches: None,
+    options: Some(Options {
+        names: &[],
+        after: 1,
+        valued: true,
+    }),
+    least: 1,
+    greatest: None,
+};
+
+// A subcommand of arguments alone: so many words at least, and at most.
+macro_rules! plain {
+    ($spelling:expr, $command:ident, $least:literal, $greatest:expr) => {
+        Row {
+            spelling: $spelling,
+            command: Command::$command,
+            switches: None,
+            options: None,
+            least: $least,
+            greatest: $greatest,
+        }
+    };
+}
+
+/// The subcommands of a widget.
+static ROWS: [Row; 21] = [
+    plain!(Spelling::Alone("insert"), Insert, 2, None),
+    plain!(Spelling::Alone("delete"), Delete, 1, None),
+    plain!(Spelling::Alone("replace"), Replace, 3, None),
+    plain!(Spelling::Alone("get"), Get, 1, None),
+    plain!(Spelling::Alone("index"), Index, 1, Some(1)),
+    plain!(Spelling::Alone("compare"), Compare, 3, Some(3)),
+    plain!(Spelling::Member("mark", "gravity"), MarkGravity, 1, Some(2)),
+    plain!(Spelling::Member("mark", "names"), MarkNames, 0, Some(0)),
+    plain!(Spelling::Member("mark", "next"), MarkNext, 1, Some(1)),
+    plain!(
+        Spelling::Member("mark", "previous"),
+        MarkPrevious,
+        1,
+        Some(1)
+    ),
+    plain!(Spelling::Member("mark", "set"), MarkSet, 2, Some(2)),
+    plain!(Spelling::Member("mark", "unset"), MarkUnset, 0, None),
+    plain!(Spelling::Member("tag", "add"), TagAdd, 2, None),
+    plain!(Spelling::Member("tag", "remove"), TagRemove, 2, None),
+    plain!(Spelling::Member("tag", "delete"), TagDelete, 1, None),
+    plain!(Spelling::Member("tag", "names"), TagNames, 0, Some(1)),
+    plain!(Spelling::Member("tag", "ranges"), TagRanges, 1, Some(1)),
+    plain!(
+        Spelling::Member("tag", "nextrange"),
+        TagNextRange,
+        2,
+        Some(3)
+    ),
+    plain!(
+        Spelling::Member("tag", "prevrange"),
+        TagPreviousRange,
+        2,
+        Some(3)
+    ),
+    plain!(Spelling::Member("tag", "raise"), TagRaise, 1, Some(2)),
+    plain!(Spelling::Member("tag", "lower"), TagLower, 1, Some(2)),
+];
+
+impl Row {
+    /// How many words stand in place of switches.
+    fn count_switches(self, words: &[String]) -> usize
+        ensures value { result ≡ length (switch_words (row_rule self).switches (texts_of words.now)) }
+        ensures bound { result ≤ length words.now }
+        ensures front { take result (texts_of words.now) ≡ switch_words (row_rule self).switches (texts_of words.now) }
+    {
+        match self.switches {
+            None => 0,
+            Some(switches) => switches.count(words),
+        }
+    }
+
+    /// The position of the first word that is no switch. The words stand from a position on.
+    fn first_bad_switch(self, at: usize, words: &[String]) -> Option<usize>
+        requires { at + length words.now ≤ usize.MAX }
+        ensures { result ≡ bad_switch (row_rule self).switches at (texts_of words.now) }
+    {
+        match self.switches {
+            None => None,
+            Some(switches) => switches.first_bad(at, words),
+        }
+    }
+
+    /// The position of the first word that stands in place of an option and is none. The arguments stand from a
+    /// position on.
+    fn first_bad_option(self, at: usize, arguments: &[String]) -> Option<usize>
+        requires { at + length arguments.now ≤ usize.MAX }
+        ensures { result ≡ bad_option (row_rule self).options at (texts_of arguments.now) }
+    {
+        match self.options {
+            None => None,
+            Some(options) => options.first_bad(at, arguments),
+        }
+    }
+
+    /// Whether so many words may stand behind the switches.
+    fn fits(self, count: usize) -> bool
+        ensures { result ≡ fits (row_rule self) count }
+    {
+        let is_few = match self.greatest {
+            None => true,
+            Some(greatest) => count <= greatest,
+        };
+        let is_paired = match self.options {
+            None => true,
+            Some(options) => options.are_paired(count),
+        };
+        self.least <= count && is_few && is_paired
+    }
+
+    /// How many of so many words behind the switches stand before the options.
+    fn before_options(self, count: usize) -> usize
+        ensures { result ≡ before_options (row_rule self).options count }
+    {
+        match self.options {
+            None => count,
+            Some(options) => options.after,
+        }
+    }
+
+    /// What switches and arguments are that stand behind the subcommand from a position on.
+    fn decide(
+        self,
+        at: usize,
+        switches: &[String],
+        arguments: &[String],
+    ) -> Result<Shape, ShapeFault>
+        requires { at + length switches.now + length arguments.now ≤ usize.MAX }
+        ensures { result ≡ decided (row_rule self) at (texts_of switches.now) (texts_of arguments.now) }
+    {
+        let from = at + switches.len();
+        if let Some(position) = self.first_bad_switch(at, switches) {
+            return Err(ShapeFault::BadOption(position));
+        }
+        if let Some(position) = self.first_bad_option(from, arguments) {
+            return Err(ShapeFault::BadOption(position));
+        }
+        if !self.fits(arguments.len()) {
+            return Err(ShapeFault::WrongArguments);
+        }
+        Ok(Shape {
+            command: self.command,
+            switches: at,
+            arguments: from,
+            count: self.before_options(arguments.len()),
+        })
+    }
+
+    /// What the words behind the subcommand are. They stand from a position on.
+    pub fn read(self, at: usize, words: &[String]) -> Result<Shape, ShapeFault>
+        requires { at + length words.now ≤ usize.MAX }
+        ensures { result ≡ behind (row_rule self) at (texts_of words.now) }
+    {
+        let count = self.count_switches(words);
+        self.decide(at, &words[..count], &words[count..])
+    }
+}
+
+/// The subcommands of a widget, which are those of the definition.
+fn rows() -> &'static [Row]
+    ensures { map row_rule result.now ≡ table }
+{
+    &ROWS
+}
+
+/// The row of `text`, which is that of the definition.
+pub fn text_row() -> Row
+    ensures { row_rule result ≡ text_row }
+{
+    TEXT
+}
+
+/// The first row whose subcommand begins the words.
+pub fn find_row(words: &[String]) -> Option<Row>
+    ensures first { option_map row_rule result ≡ find (λ row. begins row.spelling (texts_of words.now)) table }
+    ensures short { IfSome result (λ row. length (spelled row.spelling) ≤ length words.now) }
+{
+    for row in rows() {
+        if row.spelling.begins(words) {
+            return Some(*row);
+        }
+    }
+    None
+}
+
+/// Whether some subcommand begins with the words.
+pub fn goes_on(words: &[String]) -> bool
+    ensures { result ≡ go_on (texts_of words.now) }
+{
+    for row in rows() {
+        if row.spelling.goes_on(words) {
+            return true;
+        }
+    }
+    false
+}
