@@ -1,6 +1,9 @@
 pub mod Characters
 pub mod Encoding
+pub mod EscapeSteps
+pub mod Escapes
 pub mod Progression
 pub mod Scanning
 pub mod ScriptGrammar
+pub mod Steps
 pub mod Unread

@@ -2,12 +2,15 @@
 #![tactic(auto)]
 
 mod encoding;
+mod escapes;
 mod fault;
 pub mod laws;
 mod pieces;
 mod progress;
 mod scanner;
 mod splitter;
+mod stage;
+mod steps;
 #[cfg(test)]
 mod tests;
 

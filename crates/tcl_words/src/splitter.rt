@@ -90,7 +90,8 @@ impl Splitter {
         let Some(len) = self.find_command()? else {
             return Ok(None);
         };
-        let words = words_of(*self.script.allocator(), &self.rest()[..len])?;
+        let text = str::from_utf8(&self.rest()[..len]).unwrap();
+        let words = words_of(*self.script.allocator(), text)?;
         self.pass(len);
         Ok(Some(words))
     }

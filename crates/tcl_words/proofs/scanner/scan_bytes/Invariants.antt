@@ -1,6 +1,0 @@
-use Rattle.std.proofs.Common.{◌≡◌, drop}
-use Rattle.tcl_words.specs.Scanning.{scanned, later}
-use Rattle.tcl_words.proofs.scanner.scan_bytes.Given as goal
-
-abbrev pub invariant-loop-index : goal.invariant-loop-index
-invariant-loop-index l = scanned l.bytes l.fn.from ≡ later l.index (scanned (drop l.index l.bytes) l.stage)
