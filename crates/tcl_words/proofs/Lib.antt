@@ -1,3 +1,4 @@
 pub mod Broken
 pub mod Completion
 pub mod Stages
+pub mod Verdicts

@@ -1,5 +1,5 @@
 -- How a scan goes over a command one by one, and what it writes.
-use Rattle.std.specs.Prelude.{ℕ, ◌+◌, Bool, if◌then◌else◌, List, [], ◌∷◌, ◌++◌, Option, Some, None}
+use Rattle.std.specs.Prelude.{ℕ, ◌+◌, Bool, if◌then◌else◌, List, [], ◌∷◌, Option, Some, None}
 use Rattle.tcl_words.specs.Steps.{step_of, last_step}
 use Rattle.tcl_words.specs.declared.stage.Stage.{Stage}
 use Rattle.tcl_words.specs.declared.stage.Next.{Next}
@@ -25,25 +25,24 @@ unfoldable pub scanned : List ℕ → Stage → Scan
 scanned [] stage = Reaches stage
 scanned (c ∷ cs) stage = scan_next (step_of stage c).next (scanned cs)
 
--- these characters go onto the first word
-abbrev pub onto_first : List ℕ → List (List ℕ) → List (List ℕ)
-onto_first cs [] = []
-onto_first cs (word ∷ words) = (cs ++ word) ∷ words
+-- the character goes onto the first word
+abbrev pub onto_piece : ℕ → List (List ℕ) → List (List ℕ)
+onto_piece c [] = []
+onto_piece c (word ∷ words) = (c ∷ word) ∷ words
 
-abbrev pub given_list : Option ℕ → List ℕ
-given_list None = []
-given_list (Some c) = c ∷ []
+abbrev pub given_onto : Option ℕ → List (List ℕ) → List (List ℕ)
+given_onto None words = words
+given_onto (Some c) words = onto_piece c words
 
-abbrev pub kept_list : Bool → ℕ → List ℕ
-kept_list kept c = if kept then c ∷ [] else []
+abbrev pub kept_onto : Bool → ℕ → List (List ℕ) → List (List ℕ)
+kept_onto kept c words = if kept then onto_piece c words else words
 
-abbrev pub ended_list : Bool → List (List ℕ) → List (List ℕ)
-ended_list ended words = if ended then [] ∷ words else words
+abbrev pub ended_before : Bool → List (List ℕ) → List (List ℕ)
+ended_before ended words = if ended then [] ∷ words else words
 
 -- what a character adds goes before the words that follow
 abbrev pub written : Output → ℕ → List (List ℕ) → List (List ℕ)
-written output c words =
-    onto_first (given_list output.given) (onto_first (kept_list output.kept c) (ended_list output.ended words))
+written output c words = given_onto output.given (kept_onto output.kept c (ended_before output.ended words))
 
 -- the words after a character, and those of what follows from each stage
 abbrev pub words_next : Next → (Stage → List (List ℕ)) → List (List ℕ)

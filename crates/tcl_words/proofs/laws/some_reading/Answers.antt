@@ -1,4 +1,4 @@
-use Rattle.tcl_words.proofs.Stages.{escape-step}
+use Rattle.tcl_words.proofs.Verdicts.{verdict}
 use Rattle.tcl_words.proofs.laws.some_reading.Goals as goal
 
 pub returns : goal.returns
