@@ -1,5 +1,5 @@
-use Rattle.tcl_words.proofs.Verdicts.{verdict}
+use Rattle.tcl_words.proofs.Readings.{a_reading}
 use Rattle.tcl_words.proofs.laws.some_reading.Goals as goal
 
 pub returns : goal.returns
-returns c = ?
+returns c = a_reading
