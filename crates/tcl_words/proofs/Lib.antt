@@ -6,3 +6,4 @@ pub mod Spelling
 pub mod Readings
 pub mod Scans
 pub mod Finding
+pub mod Splitting
