@@ -7,3 +7,4 @@ pub mod Readings
 pub mod Scans
 pub mod Finding
 pub mod Splitting
+pub mod Writing

@@ -1,5 +1,5 @@
 -- How a scan goes over a command one by one, and what it writes.
-use Rattle.std.specs.Prelude.{ℕ, ◌+◌, Bool, if◌then◌else◌, List, [], ◌∷◌, Option, Some, None}
+use Rattle.std.specs.Prelude.{ℕ, ◌+◌, Bool, if◌then◌else◌, List, [], ◌∷◌, ◌++◌, Option, Some, None, encode_utf8}
 use Rattle.tcl_words.specs.Steps.{step_of, last_step}
 use Rattle.tcl_words.specs.declared.stage.Stage.{Stage}
 use Rattle.tcl_words.specs.declared.stage.Next.{Next}
@@ -54,3 +54,23 @@ words_next (Refuse fault) after = []
 unfoldable pub pieces_from : List ℕ → Stage → List (List ℕ)
 pieces_from [] stage = written (last_step stage).output 0 []
 pieces_from (c ∷ cs) stage = written (step_of stage c).output c (words_next (step_of stage c).next (pieces_from cs))
+
+-- What is written so far: the bytes of the words that ended, and of the one that is under way.
+
+abbrev pub given_bytes : Option ℕ → List ℕ
+given_bytes None = []
+given_bytes (Some c) = encode_utf8 c
+
+abbrev pub kept_bytes : Bool → ℕ → List ℕ
+kept_bytes kept c = if kept then encode_utf8 c else []
+
+-- the word with what a character adds
+abbrev pub word_with : Output → ℕ → List ℕ → List ℕ
+word_with output c word = (word ++ given_bytes output.given) ++ kept_bytes output.kept c
+
+-- the words after it, and the word that is under way then
+abbrev pub words_after : Bool → List ℕ → List (List ℕ) → List (List ℕ)
+words_after ended word words = if ended then words ++ word ∷ [] else words
+
+abbrev pub word_after : Bool → List ℕ → List ℕ
+word_after ended word = if ended then [] else word

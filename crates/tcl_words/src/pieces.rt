@@ -1,5 +1,5 @@
 ghost use Rattle.std.specs.Prelude.{◌≡◌, ◌++◌, IfOk, OnOk, map, chars, length, ◌≤◌, string_bytes, encode_utf8_all};
-ghost use Rattle.tcl_words.specs.Scanning.{pieces_from};
+ghost use Rattle.tcl_words.specs.Scanning.{pieces_from, word_with, words_after, word_after};
 ghost use Rattle.tcl_words.specs.declared.stage.Stage.TheVariants.{BeforeCommand};
 
 use crate::stage::{Next, Output, Stage};
@@ -14,7 +14,13 @@ struct Writer {
 }
 
 impl Writer {
-    fn write(&mut self, alloc: Global, output: Output, c: char) -> Result<(), AllocError> {
+    // Writes what a character adds.
+    fn write(&mut self, alloc: Global, output: Output, c: char) -> Result<(), AllocError>
+        ensures word { OnOk result (string_bytes self.new.word
+            ≡ word_after output.ended (word_with output c (string_bytes self.old.word))) }
+        ensures words { OnOk result (map (λ word. string_bytes word) self.new.words.items
+            ≡ words_after output.ended (word_with output c (string_bytes self.old.word)) (map (λ word. string_bytes word) self.old.words.items)) }
+    {
         if let Some(given) = output.given {
             self.word.push(given)?;
         }
@@ -44,7 +50,7 @@ pub fn words_of(alloc: Global, text: &str) -> Result<Vec<String>, AllocError>
         writer.write(alloc, step.output, c)?;
         match step.next {
             Next::Go(next) => stage = next,
-            _ => return Ok(writer.words),
+            Next::End | Next::Refuse(_) => return Ok(writer.words),
         }
     }
     writer.write(alloc, last_from(stage).output, '\0')?;
