@@ -1,10 +1,9 @@
 -- What the bytes not yet given hold next, by a scan of their text.
 use Rattle.std.proofs.Common.{◌≡◌, ◌≢◌, IfOk, IfNone, Option, Some, None, encode_utf8, ℕ, zero, suc, ◌+◌, ◌-◌, ◌<◌, ◌≤◌, inl, inr, ⊎_elim, Bool, true, false, List, [], ◌∷◌, ◌++◌, length, take, drop, chars, encode_utf8_all, IsUtf8, Ok, refl, sym, ap, ◌∙◌, arith, subst, append_assoc, append-nil, length-append, length-take, length-drop, take-append-drop, take-add}
-use Rattle.std.specs.Char.{IsScalar}
 use Rattle.std.specs.Str.{all_scalars, StartsWithNoChar}
 use Rattle.std.proofs.lemmas.Str.{encodes-append, chars_from_encodes, IsUtf8-append, IsUtf8-encode, length-le-encodes}
-use Rattle.std.proofs.lemmas.List.{take-take, drop-drop, take_all, drop_all, take_at}
-use Rattle.tcl_words.specs.ScriptGrammar.{Ending, Ends, Breaks, Continues, First, Command, Nothing, Fault, Open, first, Follows, MeetsFault, HoldsNoWhole, IsWholeCommand}
+use Rattle.std.proofs.lemmas.List.{take-take, drop-drop, take_at}
+use Rattle.tcl_words.specs.ScriptGrammar.{Ending, Ends, Breaks, Continues, Command, Nothing, Fault, Open, first, Follows, MeetsFault, HoldsNoWhole, IsWholeCommand}
 use Rattle.tcl_words.specs.Scanning.{scanned, later, pieces_from}
 use Rattle.tcl_words.specs.Steps.{last_step, depth_of}
 use Rattle.tcl_words.specs.Encoding.{StopsAs, BeginsNoChar}
@@ -21,7 +20,7 @@ use Rattle.tcl_words.specs.declared.stage.Next.{Next}
 use Rattle.tcl_words.specs.declared.stage.Next.TheVariants.{Go, End, Refuse}
 use Rattle.tcl_words.specs.declared.scanner.Scan.{Scan}
 use Rattle.tcl_words.specs.declared.scanner.Scan.TheVariants.{EndsAt, Refused, Reaches}
-use Rattle.tcl_words.proofs.Verdicts.{IsMet, IsMetAtEnd, met_at_end, at_last, Verdict, verdict, scanned-nil}
+use Rattle.tcl_words.proofs.Verdicts.{IsMetAtEnd, met_at_end, at_last, Verdict, verdict, scanned-nil}
 use Rattle.tcl_words.proofs.Spelling.{broken_byte, widened, scan_widened, one_goes_on, no_char_nil, scalars_split, encode_not_nil}
 use Rattle.tcl_words.proofs.Readings.{extended, stays, whole_at, one_found, reads_before, reads_fault, reads_nothing}
 use Rattle.tcl_words.proofs.Scans.{scanned-append, depth_reached}

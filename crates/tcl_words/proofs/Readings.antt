@@ -13,7 +13,6 @@ use Rattle.tcl_words.specs.Scanning.{scanned, pieces_from}
 use Rattle.tcl_words.specs.Steps.{last_step}
 use Rattle.tcl_words.specs.declared.fault.ScriptFault.{ScriptFault}
 use Rattle.tcl_words.specs.declared.fault.ScriptFault.TheVariants.{NotUtf8}
-use Rattle.tcl_words.specs.declared.stage.Stage.{Stage}
 use Rattle.tcl_words.specs.declared.stage.Stage.TheVariants.{BeforeCommand}
 use Rattle.tcl_words.specs.declared.stage.Next.{Next}
 use Rattle.tcl_words.specs.declared.stage.Next.TheVariants.{Go, End, Refuse}

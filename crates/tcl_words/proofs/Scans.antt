@@ -1,5 +1,5 @@
 -- Steps of the loops that scan a command and write its words.
-use Rattle.std.proofs.Common.{◌≡◌, ℕ, suc, ◌+◌, ◌<◌, ◌≤◌, List, [], ◌∷◌, ◌++◌, length, drop, get_or, refl, sym, ap, ◌∙◌, arith, subst}
+use Rattle.std.proofs.Common.{◌≡◌, ℕ, suc, ◌+◌, ◌<◌, ◌≤◌, List, [], ◌∷◌, ◌++◌, length, drop, get_or, sym, ap, ◌∙◌, arith, subst}
 use Rattle.std.proofs.lemmas.List.{drop_more, drop_all}
 use Rattle.tcl_words.specs.Steps.{step_of, depth_of}
 use Rattle.tcl_words.specs.Scanning.{later, scan_next, scanned}

@@ -1,17 +1,16 @@
 -- Characters and their bytes in UTF-8.
-use Rattle.std.proofs.Common.{◌≡◌, ℕ, suc, ◌+◌, ◌<◌, ◌≤◌, ◌⊎◌, inl, inr, ⊎_elim, Bool, true, false, cond, ◌==◌, ◌||◌, ◌&&◌, ltb, Option, Some, None, List, [], ◌∷◌, ◌++◌, length, take, encode_utf8, encode_utf8_all, refl, sym, ap, ◌∙◌, arith, append_assoc, append-nil, add_assoc, true≢false, length-append, one-add}
+use Rattle.std.proofs.Common.{◌≡◌, ℕ, suc, ◌+◌, ◌<◌, ◌≤◌, ◌⊎◌, inl, inr, ⊎_elim, Bool, true, false, cond, ◌==◌, ◌||◌, ◌&&◌, ltb, List, [], ◌∷◌, ◌++◌, length, take, encode_utf8, encode_utf8_all, refl, sym, ap, ◌∙◌, arith, append_assoc, append-nil, add_assoc, true≢false, length-append, one-add}
 use Rattle.std.specs.Bool.{⊤}
-use Rattle.std.specs.Char.{is_ascii_alphanumeric, is_digit}
+use Rattle.std.specs.Char.{is_digit}
 use Rattle.std.specs.Str.{all_scalars, StartsWithNoChar}
 use lib.Utf8.{scalar, encode}
 use Rattle.std.proofs.lemmas.Bool.Decides.{nat_tests, leb_tells}
 use Rattle.std.proofs.lemmas.Str.{encode_ascii, encode_same, length-encode, len_utf8_bounds}
 use Rattle.tcl_words.specs.Characters.{is_end, is_blank, begins_name}
 use Rattle.tcl_words.specs.Escapes.{joins}
-use Rattle.tcl_words.specs.EscapeSteps.{base_of, limit_of, given, before, is_gap, is_letter, escape_step}
-use Rattle.tcl_words.specs.Steps.{fault_behind, text_step, inside_step, word_step, close_step, braced_step, step_by, step_of}
+use Rattle.tcl_words.specs.EscapeSteps.{base_of, limit_of, is_gap, is_letter, escape_step}
+use Rattle.tcl_words.specs.Steps.{fault_behind, text_step, inside_step, word_step, braced_step, step_by, step_of}
 use Rattle.tcl_words.specs.Scanning.{later, scan_next, scanned}
-use Rattle.tcl_words.specs.declared.fault.ScriptFault.{ScriptFault}
 use Rattle.tcl_words.specs.declared.fault.ScriptFault.TheVariants.{BadCharacterCode}
 use Rattle.tcl_words.specs.declared.escapes.Radix.{Radix}
 use Rattle.tcl_words.specs.declared.escapes.Radix.TheVariants.{Octal, Hexadecimal}

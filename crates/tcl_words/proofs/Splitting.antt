@@ -10,7 +10,6 @@ use Rattle.tcl_words.specs.ScriptGrammar.{Ending, Ends, Breaks, Continues, is_la
 use Rattle.tcl_words.specs.Scanning.{pieces_from}
 use Rattle.tcl_words.specs.Unread.{Unread, IsNextCommand, HasNoCommand, TakesCommand, texts_of}
 use Rattle.tcl_words.specs.Progression.{IsProgress, IsCommandOf, starting_at}
-use Rattle.tcl_words.specs.declared.fault.ScriptFault.{ScriptFault}
 use Rattle.tcl_words.specs.declared.fault.ScriptFault.TheVariants.{Substitution}
 use Rattle.tcl_words.specs.declared.progress.Progress.{Progress}
 use Rattle.tcl_words.specs.declared.stage.Stage.TheVariants.{BeforeCommand}

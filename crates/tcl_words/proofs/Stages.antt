@@ -1,16 +1,15 @@
 -- What each stage of a scan says of the grammar.
-use Rattle.std.proofs.Common.{◌≡◌, ℕ, zero, suc, ◌+◌, ◌*◌, ◌-◌, ◌<◌, ◌≤◌, ◌==◌, Bool, true, false, cond, ◌||◌, ◌&&◌, Option, Some, None, List, [], ◌∷◌, refl, sym, ap, ◌∙◌, arith, subst, true≢false}
+use Rattle.std.proofs.Common.{◌≡◌, ℕ, zero, suc, ◌+◌, ◌*◌, ◌-◌, ◌==◌, Bool, true, false, cond, ◌||◌, ◌&&◌, Option, Some, None, List, [], ◌∷◌, refl, sym, ap, ◌∙◌, arith, true≢false}
 use Rattle.std.proofs.lemmas.Bool.Decides.{nat_tests}
-use Rattle.std.specs.Bool.{⊤}
 use Rattle.std.specs.Char.{is_digit, digit_value}
 use lib.Utf8.{scalar}
-use Rattle.tcl_words.specs.Characters.{is_end, is_blank, is_joint, is_expansion, begins_name, begins_with, names_variable}
+use Rattle.tcl_words.specs.Characters.{is_end, is_blank, begins_name, begins_with, names_variable}
 use Rattle.tcl_words.specs.Escapes.{Escape, Gives, NoCharacter, Undecided, further, valued, joins, numeral, hexadecimal, gap, letter_value, escape}
-use Rattle.tcl_words.specs.EscapeSteps.{base_of, limit_of, given, before, digit_step, letter_step, is_gap, gap_step, is_letter, plain_step, backslash_step, escape_step, last_given}
-use Rattle.tcl_words.specs.ScriptGrammar.{Ending, Ends, Breaks, Continues, is_last, First, Command, Nothing, Fault, Open, at_stop, onto_word, end_word, Where, AtCommand, InComment, AtWord, InBare, InQuotes, InBraces, Behind, escaped, text_rule, bare_rule, quoted_rule, close_rule, kept_rule, braced_rule, open_rule, word_rule, behind_rule, command_rule, rule, read, is_nil}
-use Rattle.tcl_words.specs.Steps.{no_output, itself, word_end, passes, keeps, closes, ends_here, refuses, after, fault_behind, text_step, bare_step, quoted_step, inside_step, word_step, command_step, comment_step, close_step, braced_step, kept_step, behind_step, dollar_step, colon_step, step_by, joint_step, opening_step, star_step, gap_in_braces, behind_joint, step_of, last_in_text, last_by, last_step}
+use Rattle.tcl_words.specs.EscapeSteps.{base_of, limit_of, given, before, is_gap, is_letter, plain_step, escape_step}
+use Rattle.tcl_words.specs.ScriptGrammar.{Ending, is_last, First, Command, Fault, at_stop, onto_word, end_word, Where, AtCommand, InComment, AtWord, InBare, InQuotes, InBraces, Behind, escaped, text_rule, bare_rule, quoted_rule, close_rule, kept_rule, braced_rule, open_rule, word_rule, behind_rule, command_rule, rule, read, is_nil}
+use Rattle.tcl_words.specs.Steps.{passes, keeps, closes, ends_here, refuses, after, fault_behind, text_step, bare_step, quoted_step, inside_step, word_step, command_step, close_step, braced_step, behind_step, step_by, opening_step, step_of}
 use Rattle.tcl_words.specs.declared.fault.ScriptFault.{ScriptFault}
-use Rattle.tcl_words.specs.declared.fault.ScriptFault.TheVariants.{MissingBrace, MissingQuote, ExtraAfterBrace, ExtraAfterQuote, Substitution, NotUtf8, BadCharacterCode}
+use Rattle.tcl_words.specs.declared.fault.ScriptFault.TheVariants.{Substitution}
 use Rattle.tcl_words.specs.declared.escapes.Radix.{Radix}
 use Rattle.tcl_words.specs.declared.escapes.Radix.TheVariants.{Octal, Hexadecimal}
 use Rattle.tcl_words.specs.declared.escapes.EscapeStage.{EscapeStage}
@@ -20,7 +19,7 @@ use Rattle.tcl_words.specs.declared.escapes.EscapeStep.TheVariants as escape_ste
 use Rattle.tcl_words.specs.declared.stage.TextWord.{TextWord}
 use Rattle.tcl_words.specs.declared.stage.TextWord.TheVariants.{Bare, Quoted}
 use Rattle.tcl_words.specs.declared.stage.Closing.{Closing}
-use Rattle.tcl_words.specs.declared.stage.Closing.TheVariants.{Brace, Quote, Expansion}
+use Rattle.tcl_words.specs.declared.stage.Closing.TheVariants.{Quote, Expansion}
 use Rattle.tcl_words.specs.declared.stage.Stage.{Stage}
 use Rattle.tcl_words.specs.declared.stage.Stage.TheVariants as stages
 use Rattle.tcl_words.specs.declared.stage.Next.{Next}

@@ -1,15 +1,15 @@
 -- What a scan says of the grammar, whatever follows the characters.
-use Rattle.std.proofs.Common.{◌≡◌, ◌≢◌, ℕ, zero, suc, ◌+◌, ◌<◌, ◌≤◌, ◌==◌, Bool, true, false, cond, ◌||◌, Option, Some, None, List, [], ◌∷◌, ◌++◌, length, take, refl, sym, ap, ◌∙◌, arith, subst, one-add}
+use Rattle.std.proofs.Common.{◌≡◌, ◌≢◌, ℕ, zero, suc, ◌<◌, ◌≤◌, ◌==◌, Bool, true, false, cond, ◌||◌, Option, Some, None, List, [], ◌∷◌, ◌++◌, length, take, refl, sym, ap, ◌∙◌, arith, one-add}
 use Rattle.std.specs.Bool.{⊤}
 use lib.Utf8.{scalar}
 use Rattle.tcl_words.specs.Characters.{is_end, is_blank, begins_name}
 use Rattle.tcl_words.specs.Escapes.{Gives, NoCharacter, numeral}
 use Rattle.tcl_words.specs.EscapeSteps.{is_gap, escape_step, last_given}
-use Rattle.tcl_words.specs.ScriptGrammar.{Ending, Ends, Breaks, Continues, First, Command, Nothing, Fault, Open, at_stop, onto_word, end_word, escaped, read}
-use Rattle.tcl_words.specs.Steps.{passes, keeps, closes, ends_here, refuses, after, fault_behind, text_step, inside_step, word_step, close_step, braced_step, step_by, joint_step, step_of, last_in_text, last_by, last_step, depth_of}
+use Rattle.tcl_words.specs.ScriptGrammar.{Ending, Ends, Breaks, Continues, First, Command, Nothing, Fault, Open, onto_word, end_word, escaped, read}
+use Rattle.tcl_words.specs.Steps.{after, fault_behind, text_step, inside_step, word_step, close_step, braced_step, step_by, step_of, last_in_text, last_by, last_step, depth_of}
 use Rattle.tcl_words.specs.Scanning.{later, scan_next, scanned, onto_piece, given_onto, kept_onto, ended_before, written, words_next, pieces_from}
 use Rattle.tcl_words.specs.declared.fault.ScriptFault.{ScriptFault}
-use Rattle.tcl_words.specs.declared.fault.ScriptFault.TheVariants.{MissingBrace, MissingQuote, ExtraAfterBrace, ExtraAfterQuote, Substitution, NotUtf8, BadCharacterCode, Memory}
+use Rattle.tcl_words.specs.declared.fault.ScriptFault.TheVariants.{MissingQuote, NotUtf8, Memory}
 use Rattle.tcl_words.specs.declared.escapes.EscapeStage.{EscapeStage}
 use Rattle.tcl_words.specs.declared.escapes.EscapeStage.TheVariants.{Backslash, Letter, Digits, Gap}
 use Rattle.tcl_words.specs.declared.escapes.EscapeStep.{EscapeStep}
@@ -26,7 +26,7 @@ use Rattle.tcl_words.specs.declared.stage.Output.{Output}
 use Rattle.tcl_words.specs.declared.stage.Step.{Step}
 use Rattle.tcl_words.specs.declared.scanner.Scan.{Scan}
 use Rattle.tcl_words.specs.declared.scanner.Scan.TheVariants.{EndsAt, Refused, Reaches}
-use Rattle.tcl_words.proofs.Stages.{from, from-step, put, onto_given, arrive, escape_from}
+use Rattle.tcl_words.proofs.Stages.{from, from-step, put, onto_given, arrive}
 
 -- Which faults a scan meets, and how deep it goes.
 

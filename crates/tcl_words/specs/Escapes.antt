@@ -1,5 +1,5 @@
 -- What a backslash and the characters behind it give (Tcl(n), "Backslash substitution").
-use Rattle.std.specs.Prelude.{ℕ, zero, suc, ◌+◌, ◌*◌, ◌-◌, Bool, ◌&&◌, ◌||◌, ◌==◌, if◌then◌else◌, List, [], ◌∷◌}
+use Rattle.std.specs.Prelude.{ℕ, zero, suc, ◌+◌, ◌*◌, Bool, ◌&&◌, ◌||◌, ◌==◌, if◌then◌else◌, List, [], ◌∷◌}
 use Rattle.std.specs.Char.{is_digit, digit_value}
 use Rattle.std.specs.Bool.{nat_le}
 use lib.Utf8.{scalar}

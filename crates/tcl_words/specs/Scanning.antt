@@ -5,7 +5,6 @@ use Rattle.tcl_words.specs.declared.stage.Stage.{Stage}
 use Rattle.tcl_words.specs.declared.stage.Next.{Next}
 use Rattle.tcl_words.specs.declared.stage.Next.TheVariants.{Go, End, Refuse}
 use Rattle.tcl_words.specs.declared.stage.Output.{Output}
-use Rattle.tcl_words.specs.declared.stage.Step.{Step}
 use Rattle.tcl_words.specs.declared.scanner.Scan.{Scan}
 use Rattle.tcl_words.specs.declared.scanner.Scan.TheVariants.{EndsAt, Refused, Reaches}
 

@@ -1,11 +1,9 @@
 -- What each character of a command does, by what stands before it.
-use Rattle.std.specs.Prelude.{ℕ, zero, suc, ◌-◌, ◌+◌, Bool, true, false, ◌||◌, ◌==◌, if◌then◌else◌, Option, Some, None}
-use Rattle.std.specs.Char.{is_ascii_alphanumeric}
+use Rattle.std.specs.Prelude.{ℕ, zero, suc, true, false, ◌||◌, ◌==◌, if◌then◌else◌, Option, Some, None}
 use Rattle.tcl_words.specs.Characters.{is_end, is_blank, begins_name}
 use Rattle.tcl_words.specs.EscapeSteps.{is_gap, escape_step, last_given}
 use Rattle.tcl_words.specs.declared.fault.ScriptFault.{ScriptFault}
 use Rattle.tcl_words.specs.declared.fault.ScriptFault.TheVariants.{MissingBrace, MissingQuote, ExtraAfterBrace, ExtraAfterQuote, Substitution, BadCharacterCode}
-use Rattle.tcl_words.specs.declared.escapes.EscapeStage.{EscapeStage}
 use Rattle.tcl_words.specs.declared.escapes.EscapeStage.TheVariants.{Backslash}
 use Rattle.tcl_words.specs.declared.escapes.EscapeStep.{EscapeStep}
 use Rattle.tcl_words.specs.declared.escapes.EscapeStep.TheVariants as escape

@@ -67,7 +67,11 @@ impl Radix {
         let digit = c.to_digit(self.base())?;
         let scaled = value.checked_mul(self.base())?;
         let more = scaled.checked_add(digit)?;
-        if more <= self.limit() { Some(more) } else { None }
+        if more <= self.limit() {
+            Some(more)
+        } else {
+            None
+        }
     }
 }
 

@@ -8,6 +8,8 @@ pub mod laws;
 mod pieces;
 mod progress;
 mod scanner;
+#[cfg(test)]
+mod scripts;
 mod splitter;
 mod stage;
 mod steps;

@@ -28,7 +28,8 @@ impl Writer {
             self.word.push(c)?;
         }
         if output.ended {
-            self.words.push(String::from_str(alloc, self.word.as_str())?)?;
+            self.words
+                .push(String::from_str(alloc, self.word.as_str())?)?;
             self.word.clear();
         }
         Ok(())

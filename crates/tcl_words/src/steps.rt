@@ -310,9 +310,16 @@ pub fn last_from(stage: Stage) -> Step
     ensures { result ≡ last_step stage }
 {
     match stage {
-        Stage::BeforeCommand | Stage::Comment | Stage::CommentBackslash => Step::pass(Stage::BeforeCommand),
-        Stage::CommandBackslash | Stage::WordBackslash | Stage::BareBackslash => last_by(TextWord::Bare, EscapeStage::Backslash.last()),
-        Stage::Text(word) | Stage::AfterDollar(word) | Stage::AfterColon(word) => last_in_text(word),
+        Stage::BeforeCommand | Stage::Comment | Stage::CommentBackslash => Step::pass(
+            Stage::BeforeCommand,
+        ),
+        Stage::CommandBackslash | Stage::WordBackslash | Stage::BareBackslash => last_by(
+            TextWord::Bare,
+            EscapeStage::Backslash.last(),
+        ),
+        Stage::Text(word) | Stage::AfterDollar(word) | Stage::AfterColon(word) => last_in_text(
+            word,
+        ),
         Stage::Escaped(word, escape) => last_by(word, escape.last()),
         Stage::AfterOpening
         | Stage::AfterStar
