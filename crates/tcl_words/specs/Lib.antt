@@ -3,6 +3,7 @@ pub mod Encoding
 pub mod EscapeSteps
 pub mod Escapes
 pub mod Progression
+pub mod Runs
 pub mod Scanning
 pub mod ScriptGrammar
 pub mod Steps

@@ -7,6 +7,7 @@ mod fault;
 pub mod laws;
 mod pieces;
 mod progress;
+mod runs;
 mod scanner;
 #[cfg(test)]
 mod scripts;
