@@ -7,4 +7,5 @@ pub mod Readings
 pub mod Scans
 pub mod Finding
 pub mod Splitting
+pub mod Plain
 pub mod Writing

@@ -1,7 +1,7 @@
 -- Steps of the loop that writes the words of a command.
-use Rattle.std.proofs.Common.{◌≡◌, ℕ, ◌+◌, ◌<◌, ◌≤◌, ◌⊎◌, inl, inr, Bool, true, false, Option, Some, None, List, [], ◌∷◌, ◌++◌, map, length, drop, get_or, encode_utf8, encode_utf8_all, refl, sym, ap, ◌∙◌, arith, subst, append_assoc, append-nil}
-use Rattle.std.proofs.lemmas.List.{drop_more, drop_all}
-use Rattle.tcl_words.specs.Steps.{step_of, last_step, depth_of}
+use Rattle.std.proofs.Common.{◌≡◌, ℕ, ◌+◌, ◌<◌, ◌≤◌, ◌⊎◌, inl, inr, Bool, true, false, Option, Some, None, List, [], ◌∷◌, ◌++◌, map, length, take, drop, chars, encode_utf8, encode_utf8_all, refl, sym, ap, ◌∙◌, arith, subst, append_assoc, append-nil}
+use Rattle.std.proofs.lemmas.Str.{chars-nil}
+use Rattle.tcl_words.specs.Steps.{step_of, last_step}
 use Rattle.tcl_words.specs.Scanning.{onto_piece, given_onto, kept_onto, ended_before, written, words_next, pieces_from, given_bytes, kept_bytes, word_with, words_after, word_after}
 use Rattle.tcl_words.specs.declared.fault.ScriptFault.{ScriptFault}
 use Rattle.tcl_words.specs.declared.stage.Stage.{Stage}
@@ -11,7 +11,7 @@ use Rattle.tcl_words.specs.declared.stage.Next.TheVariants.{Go, End, Refuse}
 use Rattle.tcl_words.specs.declared.stage.Output.{Output}
 use Rattle.tcl_words.specs.declared.stage.Step.{Step}
 use Rattle.tcl_words.proofs.Verdicts.{pieces-nil, pieces-cons}
-use Rattle.tcl_words.proofs.Scans.{depth_on}
+use Rattle.tcl_words.proofs.Plain.{AllPlain, plain_step, RunOf}
 
 -- bytes go onto the first word
 abbrev pub prefixed : List ℕ → List (List ℕ) → List (List ℕ)
@@ -54,45 +54,55 @@ written_more output c word words others =
     ∙ prefixed_kept output.kept c (word ++ given_bytes output.given) (ended_before output.ended others))
     ∙ prefixed_ended output.ended (word_with output c word) words others
 
--- So many characters led to the stage, and these words and this one that is under way were written.
-pub record IsWritten (cs : List ℕ) (n : ℕ) (stage : Stage) (words : List (List ℕ)) (word : List ℕ) : Type 0 where
-  pub pieces : spelled (pieces_from cs BeforeCommand) ≡ words ++ prefixed word (spelled (pieces_from (drop n cs) stage))
-  pub depth : depth_of stage ≤ n
+-- The characters before the rest led to the stage, and these words and this one that is under way were written.
+pub record IsWritten (cs rest : List ℕ) (stage : Stage) (words : List (List ℕ)) (word : List ℕ) : Type 0 where
+  pub pieces : spelled (pieces_from cs BeforeCommand) ≡ words ++ prefixed word (spelled (pieces_from rest stage))
 
-pub writing_starts : (cs : List ℕ) (words : List (List ℕ)) (word : List ℕ) → words ≡ [] → word ≡ [] → IsWritten cs 0 BeforeCommand words word
+pub writing_starts : (cs : List ℕ) (words : List (List ℕ)) (word : List ℕ) → words ≡ [] → word ≡ [] → IsWritten cs cs BeforeCommand words word
 writing_starts cs words word none empty = record {
   pieces = sym (ap (λ l. l ++ prefixed word (spelled (pieces_from cs BeforeCommand))) none ∙ ap (λ l. prefixed l (spelled (pieces_from cs BeforeCommand))) empty
       ∙ prefixed_nil (spelled (pieces_from cs BeforeCommand)));
-  depth = omega arith;
+}
+
+-- a run is written
+run_written : (stage : Stage) (run rest : List ℕ) (word : List ℕ) → AllPlain stage run
+    → prefixed word (spelled (pieces_from (run ++ rest) stage)) ≡ prefixed (word ++ encode_utf8_all run) (spelled (pieces_from rest stage))
+run_written stage [] rest word h = ap (λ l. prefixed l (spelled (pieces_from rest stage))) (sym (append-nil word))
+run_written stage (c ∷ run) rest word h =
+    ap (λ l. prefixed word (spelled l)) (pieces-cons c (run ++ rest) stage)
+    ∙ ap (λ (s : Step). prefixed word (spelled (written s.output c (words_next s.next (pieces_from (run ++ rest)))))) (plain_step stage c h.0)
+    ∙ prefixed_onto c word (pieces_from (run ++ rest) stage) ∙ run_written stage run rest (word ++ encode_utf8 c) h.1
+    ∙ ap (λ l. prefixed l (spelled (pieces_from rest stage))) (append_assoc word (encode_utf8 c) (encode_utf8_all run))
+
+pub writing_runs : (cs : List ℕ) (bytes : List ℕ) (n : ℕ) (stage : Stage) (words : List (List ℕ)) (word more : List ℕ) → IsWritten cs (chars bytes) stage words word
+    → RunOf stage bytes n → more ≡ word ++ take n bytes → IsWritten cs (chars (drop n bytes)) stage words more
+writing_runs cs bytes n stage words word more w r e = record {
+  pieces = w.pieces ∙ ap (λ l. words ++ prefixed word (spelled (pieces_from l stage))) r.split
+      ∙ ap (λ l. words ++ l) (run_written stage r.run (chars (drop n bytes)) word r.plain)
+      ∙ ap (λ l. words ++ prefixed l (spelled (pieces_from (chars (drop n bytes)) stage))) (ap (λ l. word ++ l) (sym r.spelled) ∙ sym e);
 }
 
 -- the pieces after one more character
-pieces_more : (cs : List ℕ) (n : ℕ) (stage : Stage) (words more : List (List ℕ)) (word rest : List ℕ) (step : Step) (c : ℕ) → IsWritten cs n stage words word
-    → n < length cs → c ≡ get_or cs n c → step ≡ step_of stage c
+pieces_more : (cs now later : List ℕ) (stage : Stage) (words more : List (List ℕ)) (word rest : List ℕ) (step : Step) (c : ℕ) → IsWritten cs now stage words word
+    → now ≡ c ∷ later → step ≡ step_of stage c
     → more ≡ words_after step.output.ended (word_with step.output c word) words → rest ≡ word_after step.output.ended (word_with step.output c word)
-    → spelled (pieces_from cs BeforeCommand) ≡ more ++ prefixed rest (spelled (words_next step.next (pieces_from (drop (n + 1) cs))))
-pieces_more cs n stage words more word rest step c w h same does e f =
-    let here : drop n cs ≡ c ∷ drop (n + 1) cs = drop_more cs n c h ∙ ap (λ d. d ∷ drop (n + 1) cs) (sym same) in
+    → spelled (pieces_from cs BeforeCommand) ≡ more ++ prefixed rest (spelled (words_next step.next (pieces_from later)))
+pieces_more cs now later stage words more word rest step c w here does e f =
     w.pieces ∙ ap (λ l. words ++ prefixed word (spelled (pieces_from l stage))) here
-    ∙ ap (λ l. words ++ prefixed word (spelled l)) (pieces-cons c (drop (n + 1) cs) stage)
-    ∙ ap (λ (s : Step). words ++ prefixed word (spelled (written s.output c (words_next s.next (pieces_from (drop (n + 1) cs)))))) (sym does)
-    ∙ written_more step.output c word words (words_next step.next (pieces_from (drop (n + 1) cs)))
-    ∙ ap (λ l. l ++ prefixed (word_after step.output.ended (word_with step.output c word)) (spelled (words_next step.next (pieces_from (drop (n + 1) cs))))) (sym e)
-    ∙ ap (λ l. more ++ prefixed l (spelled (words_next step.next (pieces_from (drop (n + 1) cs))))) (sym f)
+    ∙ ap (λ l. words ++ prefixed word (spelled l)) (pieces-cons c later stage)
+    ∙ ap (λ (s : Step). words ++ prefixed word (spelled (written s.output c (words_next s.next (pieces_from later))))) (sym does)
+    ∙ written_more step.output c word words (words_next step.next (pieces_from later))
+    ∙ ap (λ l. l ++ prefixed (word_after step.output.ended (word_with step.output c word)) (spelled (words_next step.next (pieces_from later)))) (sym e)
+    ∙ ap (λ l. more ++ prefixed l (spelled (words_next step.next (pieces_from later)))) (sym f)
 
-pub writing_goes : (cs : List ℕ) (n m : ℕ) (stage next : Stage) (words more : List (List ℕ)) (word rest : List ℕ) (step : Step) (c : ℕ) → IsWritten cs n stage words word
-    → (n < length cs) × (c ≡ get_or cs n c) → step ≡ step_of stage c → step.next ≡ Go next → m ≡ n + 1
+pub writing_goes : (cs now later : List ℕ) (stage next : Stage) (words more : List (List ℕ)) (word rest : List ℕ) (step : Step) (c : ℕ) → IsWritten cs now stage words word
+    → now ≡ c ∷ later → step ≡ step_of stage c → step.next ≡ Go next
     → more ≡ words_after step.output.ended (word_with step.output c word) words → rest ≡ word_after step.output.ended (word_with step.output c word)
-    → IsWritten cs m next more rest
-writing_goes cs n m stage next words more word rest step c w h does goes long e f =
-    let depth = depth_on stage next step c goes does in
-    let before = w.depth in
-    record {
-      pieces = pieces_more cs n stage words more word rest step c w h.0 h.1 does e f
-          ∙ ap (λ s. more ++ prefixed rest (spelled (words_next s (pieces_from (drop (n + 1) cs))))) goes
-          ∙ ap (λ k. more ++ prefixed rest (spelled (pieces_from (drop k cs) next))) (sym long);
-      depth = omega arith;
-    }
+    → IsWritten cs later next more rest
+writing_goes cs now later stage next words more word rest step c w here does goes e f = record {
+  pieces = pieces_more cs now later stage words more word rest step c w here does e f
+      ∙ ap (λ s. more ++ prefixed rest (spelled (words_next s (pieces_from later)))) goes;
+}
 
 -- the command's end
 abbrev pub IsLast : Next → Type 0
@@ -109,21 +119,22 @@ no_more (Go stage) after h = absurd h
 no_more End after h = refl
 no_more (Refuse fault) after h = refl
 
-pub writing_stops : (cs : List ℕ) (n : ℕ) (stage : Stage) (words more : List (List ℕ)) (word rest : List ℕ) (step : Step) (c : ℕ) → IsWritten cs n stage words word
-    → (n < length cs) × (c ≡ get_or cs n c) → step ≡ step_of stage c → IsLast step.next
+pub writing_stops : (cs now later : List ℕ) (stage : Stage) (words more : List (List ℕ)) (word rest : List ℕ) (step : Step) (c : ℕ) → IsWritten cs now stage words word
+    → now ≡ c ∷ later → step ≡ step_of stage c → IsLast step.next
     → more ≡ words_after step.output.ended (word_with step.output c word) words → rest ≡ word_after step.output.ended (word_with step.output c word)
     → more ≡ spelled (pieces_from cs BeforeCommand)
-writing_stops cs n stage words more word rest step c w h does last e f =
-    sym (pieces_more cs n stage words more word rest step c w h.0 h.1 does e f
-    ∙ ap (λ l. more ++ prefixed rest (spelled l)) (no_more step.next (pieces_from (drop (n + 1) cs)) last) ∙ append-nil more)
+writing_stops cs now later stage words more word rest step c w here does last e f =
+    sym (pieces_more cs now later stage words more word rest step c w here does e f
+    ∙ ap (λ l. more ++ prefixed rest (spelled l)) (no_more step.next (pieces_from later) last) ∙ append-nil more)
 
 -- the end of the text
-pub writing_ends : (cs : List ℕ) (n : ℕ) (stage : Stage) (words more : List (List ℕ)) (word : List ℕ) (step : Step) → IsWritten cs n stage words word
-    → length cs ≤ n → step ≡ last_step stage
+pub writing_ends : (cs bytes : List ℕ) (stage : Stage) (words more : List (List ℕ)) (word : List ℕ) (step : Step) → IsWritten cs (chars bytes) stage words word
+    → length bytes ≡ 0 → step ≡ last_step stage
     → more ≡ words_after step.output.ended (word_with step.output 0 word) words
     → more ≡ spelled (pieces_from cs BeforeCommand)
-writing_ends cs n stage words more word step w h does e =
-    sym (w.pieces ∙ ap (λ l. words ++ prefixed word (spelled (pieces_from l stage))) (drop_all n cs h)
+writing_ends cs [] stage words more word step w h does e =
+    sym (w.pieces ∙ ap (λ l. words ++ prefixed word (spelled (pieces_from l stage))) chars-nil
     ∙ ap (λ l. words ++ prefixed word (spelled l)) (pieces-nil stage)
     ∙ ap (λ (s : Step). words ++ prefixed word (spelled (written s.output 0 []))) (sym does)
     ∙ written_more step.output 0 word words [] ∙ append-nil _ ∙ sym e)
+writing_ends cs (b ∷ bytes) stage words more word step w h does e = absurd (omega arith)

@@ -1,7 +1,8 @@
-ghost use Rattle.std.specs.Prelude.{◌≡◌, ◌++◌, IfOk, OnOk, map, chars, length, ◌≤◌, string_bytes, encode_utf8_all};
+ghost use Rattle.std.specs.Prelude.{◌≡◌, ◌<◌, ◌∷◌, ◌++◌, ℕ, List, IfOk, OnOk, map, chars, length, string_bytes, encode_utf8, encode_utf8_all};
 ghost use Rattle.tcl_words.specs.Scanning.{pieces_from, word_with, words_after, word_after};
 ghost use Rattle.tcl_words.specs.declared.stage.Stage.TheVariants.{BeforeCommand};
 
+use crate::runs::plain_run;
 use crate::stage::{Next, Output, Stage};
 use crate::steps::{last_from, step_from};
 use std::alloc::{AllocError, Global};
@@ -36,9 +37,16 @@ impl Writer {
     }
 }
 
+// The first character of a text.
+fn first_char(text: &str) -> char
+    requires { 0 < length text.now }
+    ensures { (rest : List ℕ) × (text.now ≡ encode_utf8 result ++ rest) × (chars text.now ≡ result ∷ chars rest) }
+{
+    text.chars().next().unwrap()
+}
+
 /// The words of a command's text.
 pub fn words_of(alloc: Global, text: &str) -> Result<Vec<String>, AllocError>
-    requires { length text.now ≤ usize.MAX }
     ensures { IfOk result (λ words. map (λ word. string_bytes word) words.items ≡ map encode_utf8_all (pieces_from (chars text.now) BeforeCommand)) }
 {
     let mut writer = Writer {
@@ -46,13 +54,22 @@ pub fn words_of(alloc: Global, text: &str) -> Result<Vec<String>, AllocError>
         word: String::with_capacity(alloc, text.len())?,
     };
     let mut stage = Stage::BeforeCommand;
-    for c in text.chars() {
+    let mut rest = text;
+    while !rest.is_empty() {
+        let run = plain_run(stage, rest.as_bytes());
+        if run > 0 {
+            writer.word.push_str(&rest[..run])?;
+            rest = &rest[run..];
+            continue;
+        }
+        let c = first_char(rest);
         let step = step_from(stage, c);
         writer.write(alloc, step.output, c)?;
         match step.next {
             Next::Go(next) => stage = next,
             Next::End | Next::Refuse(_) => return Ok(writer.words),
         }
+        rest = &rest[c.len_utf8()..];
     }
     writer.write(alloc, last_from(stage).output, '\0')?;
     Ok(writer.words)

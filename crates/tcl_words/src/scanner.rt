@@ -3,6 +3,7 @@ ghost use Rattle.tcl_words.specs.Scanning.{scanned};
 ghost use Rattle.tcl_words.specs.Steps.{depth_of};
 
 use crate::fault::ScriptFault;
+use crate::runs::plain_run;
 use crate::stage::{Next, Stage};
 use crate::steps::step_from;
 
@@ -22,12 +23,19 @@ pub fn scan_bytes(bytes: &[u8], from: Stage) -> Scan
     ensures { result ≡ scanned bytes.now from }
 {
     let mut stage = from;
-    for (index, byte) in bytes.iter().enumerate() {
-        match step_from(stage, char::from(*byte)).next {
+    let mut index = 0;
+    while index < bytes.len() {
+        let run = plain_run(stage, &bytes[index..]);
+        if run > 0 {
+            index += run;
+            continue;
+        }
+        match step_from(stage, char::from(bytes[index])).next {
             Next::Go(next) => stage = next,
             Next::End => return Scan::EndsAt(index + 1),
             Next::Refuse(fault) => return Scan::Refused(fault),
         }
+        index += 1;
     }
     Scan::Reaches(stage)
 }

@@ -1,7 +1,14 @@
-use Rattle.std.proofs.Common.{map, length, chars, string_bytes}
+use Rattle.std.proofs.Common.{◌+◌, ◌≤◌, IsUtf8, map, length, chars, string_bytes}
+use Rattle.tcl_words.specs.Steps.{depth_of}
 use Rattle.tcl_words.proofs.Writing.{IsWritten}
 use Rattle.tcl_words.proofs.pieces.words_of.Given as goal
 
-abbrev pub invariant-loop-c : goal.invariant-loop-c
-invariant-loop-c l =
-    IsWritten (chars l.text) (length l.yielded) l.stage (map (λ word. string_bytes word) l.writer.words.items) (string_bytes l.writer.word)
+abbrev pub invariant-loop-rest : goal.invariant-loop-rest
+invariant-loop-rest l = record {
+  utf8 : IsUtf8 l.rest;
+  written : IsWritten (chars l.text) (chars l.rest) l.stage (map (λ word. string_bytes word) l.writer.words.items) (string_bytes l.writer.word);
+  depth : depth_of l.stage + length l.rest ≤ length l.text;
+}
+
+abbrev pub decreases-loop-rest : goal.decreases-loop-rest
+decreases-loop-rest l = length l.rest

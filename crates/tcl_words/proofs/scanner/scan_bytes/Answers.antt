@@ -1,11 +1,25 @@
-use Rattle.std.proofs.Common.{◌+◌, sym, ap, ◌∙◌, arith, drop}
+use Rattle.std.proofs.Common.{◌+◌, sym, ap, ◌∙◌, arith, drop, length-drop}
+use Rattle.std.proofs.lemmas.List.{take_rest}
 use Rattle.tcl_words.specs.Scanning.{scanned, later}
 use Rattle.tcl_words.proofs.Spelling.{later-later}
 use Rattle.tcl_words.proofs.Scans.{scan_by, scan_over, depth_on}
+use Rattle.tcl_words.proofs.Plain.{scan_skips}
 use Rattle.tcl_words.proofs.scanner.scan_bytes.Goals as goal
 
-pub step_from-requires : goal.step_from-requires
-step_from-requires c = let depth = c.loop-index.invariant.depth in omega arith
+pub loop-index-preserved-then-run-gt0 : goal.loop-index-preserved-then-run-gt0
+loop-index-preserved-then-run-gt0 c =
+    let bytes = c.args.bytes.now in
+    let index = c.loop-index.index in
+    let run = c.plain_run-run.result in
+    let skips = scan_skips bytes _ index run c.loop-index.stage (take_rest bytes index) c.plain_run-run.ensures.within c.plain_run-run.ensures.plain in
+    let long = skips.1 in
+    let depth = c.loop-index.invariant.depth in
+    let within = c.loop-index.invariant.within in
+    record {
+      scans = c.loop-index.invariant.scans ∙ ap (later index) skips.0 ∙ later-later index run (scanned (drop (index + run) bytes) c.loop-index.stage);
+      depth = omega arith;
+      within = omega (arith, length-drop index bytes);
+    }
 
 pub returns-in-End : goal.returns-in-End
 returns-in-End c =
@@ -17,12 +31,15 @@ returns-in-Refuse c =
 
 pub loop-index-preserved : goal.loop-index-preserved
 loop-index-preserved c =
-    let depth = depth_on c.loop-index.stage c.in-Go.next _ _ c.in-Go.is c.step_from.ensures in
+    let deeper = depth_on c.loop-index.stage c.in-Go.next _ _ c.in-Go.is c.step_from.ensures in
+    let depth = c.loop-index.invariant.depth in
+    let less = c.loop-index-test.true in
     record {
       scans = c.loop-index.invariant.scans
           ∙ ap (later c.loop-index.index) (scan_by c.args.bytes.now c.loop-index.index c.loop-index.stage _ _ _ c.loop-index-test.true c.in-Go.is c.step_from.ensures c.from.ensures)
           ∙ later-later c.loop-index.index 1 (scanned (drop (c.loop-index.index + 1) c.args.bytes.now) c.in-Go.next);
-      depth = let before = c.loop-index.invariant.depth in omega arith;
+      depth = omega arith;
+      within = omega arith;
     }
 
 pub returns : goal.returns
