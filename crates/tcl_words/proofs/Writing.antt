@@ -1,5 +1,5 @@
 -- Steps of the loop that writes the words of a command.
-use Rattle.std.proofs.Common.{◌≡◌, ℕ, ◌+◌, ◌<◌, ◌≤◌, ◌⊎◌, inl, inr, Bool, true, false, Option, Some, None, List, [], ◌∷◌, ◌++◌, map, length, take, drop, chars, encode_utf8, encode_utf8_all, refl, sym, ap, ◌∙◌, arith, subst, append_assoc, append-nil}
+use Rattle.std.proofs.Common.{◌≡◌, ℕ, ◌⊎◌, inl, inr, Bool, true, false, Option, Some, None, List, [], ◌∷◌, ◌++◌, map, length, take, drop, chars, encode_utf8, encode_utf8_all, refl, sym, ap, ◌∙◌, arith, subst, append_assoc, append-nil}
 use Rattle.std.proofs.lemmas.Str.{chars-nil}
 use Rattle.tcl_words.specs.Steps.{step_of, last_step}
 use Rattle.tcl_words.specs.Scanning.{onto_piece, given_onto, kept_onto, ended_before, written, words_next, pieces_from, given_bytes, kept_bytes, word_with, words_after, word_after}

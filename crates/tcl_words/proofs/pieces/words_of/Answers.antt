@@ -1,8 +1,8 @@
-use Rattle.std.proofs.Common.{◌++◌, ◌∙◌, map, length, chars, string_bytes, sym, ap, subst, arith, IsUtf8, drop}
+use Rattle.std.proofs.Common.{◌++◌, ◌∙◌, map, chars, string_bytes, sym, ap, subst, arith, IsUtf8}
 use Rattle.std.proofs.lemmas.Str.{IsUtf8-drop}
 use Rattle.tcl_words.proofs.Scans.{depth_on}
 use Rattle.tcl_words.proofs.Plain.{run_at, front_range, char_boundary, after_char, none_left}
-use Rattle.tcl_words.proofs.Writing.{IsWritten, writing_starts, writing_runs, writing_goes, writing_stops, writing_ends, is_last}
+use Rattle.tcl_words.proofs.Writing.{writing_starts, writing_runs, writing_goes, writing_stops, writing_ends, is_last}
 use Rattle.tcl_words.proofs.pieces.words_of.Goals as goal
 
 pub loop-rest-init : goal.loop-rest-init
