@@ -1,8 +1,12 @@
+# quotes, braces, escapes, and a line that goes on
 text .t
-.t insert 1.0 hello
-.t insert end ,world
+.t insert 1.0 "hello, world"
+.t insert end {
+{braces} keep $this}
 .t get 1.0 end
-.t insert 1.5 !
+.t insert 1.5 \ big
+.t insert 1.end \
+    "\u2014 a caf\xe9"
 .t get 1.0 1.end
 .t index 1.99
 .t index end

@@ -44,9 +44,16 @@ BLANKS = frozenset(" \t\r\v\f")
 COMMAND_ENDS = frozenset("\n;")
 LETTERS = frozenset("abcdefghijklmnopqrstuvwxyzABCDEFGHIJKLMNOPQRSTUVWXYZ")
 DIGITS = frozenset("0123456789")
+OCTAL_DIGITS = frozenset("01234567")
+HEX_DIGITS = frozenset("0123456789abcdefABCDEF")
 
+MISSING_BRACE = "missing close-brace"
+MISSING_QUOTE = 'missing "'
+EXTRA_AFTER_BRACE = "extra characters after close-brace"
+EXTRA_AFTER_QUOTE = "extra characters after close-quote"
 SUBSTITUTION = "substitution isn't supported"
 NOT_UTF8 = "script isn't UTF-8"
+BAD_CHARACTER_CODE = "bad character code"
 
 
 class ScriptFault(Exception):
@@ -80,6 +87,14 @@ class Source:
         return ""
 
 
+class ListSource(Source):
+    """The characters of a list: its end stands for a script's."""
+
+    def __init__(self, text):
+        self.characters = text
+        self.breaks_off = False
+
+
 def dollar_substitutes(source, place):
     """Whether a dollar sign just before `place` asks for a variable, and doesn't stand for itself.
 
@@ -92,41 +107,175 @@ def dollar_substitutes(source, place):
 
 
 def is_substitution(source, place):
-    """Whether the character at `place`, anywhere in a word, asks for what isn't supported."""
+    """Whether the character at `place`, outside braces, asks for what isn't supported."""
     character = source.at(place)
     if character == "$":
         return dollar_substitutes(source, place + 1)
-    return character in frozenset("[\\")
+    return character == "["
 
 
-def begins_substitution(source, place, is_first_word):
-    """Whether a word that begins at `place` begins with what isn't supported (yet).
-
-    Comments, braced words and quoted words aren't read in this stage.
-    """
-    character = source.at(place)
-    if character == "#" and is_first_word:
-        return True
-    return character in frozenset('{"')
-
-
-def after_blanks(source, place):
-    """The first place at or after `place` where no blank stands."""
-    while source.at(place) in BLANKS:
+def after_spaces(source, place):
+    """The first place at or after `place` where neither a space nor a tab stands."""
+    while source.at(place) in frozenset(" \t"):
         place += 1
     return place
 
 
-def bare_word(source, place):
-    """The word from `place` to the next blank, newline, semicolon or the end; and the place after it."""
-    begin = place
+def is_escaped_newline(source, place):
+    """Whether a backslash with a newline after it stands at `place`."""
+    return source.at(place) == "\\" and source.at(place + 1) == "\n"
+
+
+# The escapes of one letter.
+LETTER_ESCAPES = {"a": "\a", "b": "\b", "f": "\f", "n": "\n", "r": "\r", "t": "\t", "v": "\v"}
+
+# The escapes of digits: which digits, how many at most, and the greatest value.
+OCTAL_ESCAPE = (OCTAL_DIGITS, 8, 3, 0o377)
+HEX_ESCAPES = {
+    "x": (HEX_DIGITS, 16, 2, 0xFF),
+    "u": (HEX_DIGITS, 16, 4, 0xFFFF),
+    "U": (HEX_DIGITS, 16, 8, 0x10FFFF),
+}
+
+
+def digits_at(source, place, rule):
+    """The value of the digits at `place`, or None where there are none, and the place after them.
+
+    A digit that would take the value above the greatest isn't one of them.
+    """
+    kind, base, most, greatest = rule
+    value, begin = 0, place
+    while place - begin < most and value * base <= greatest:
+        digit = source.at(place)
+        if digit == "" or digit not in kind or value * base + int(digit, base) > greatest:
+            break
+        value = value * base + int(digit, base)
+        place += 1
+    return (None if place == begin else value), place
+
+
+def character_of(value):
+    """The character of a value, which has to be a Unicode scalar value."""
+    if 0xD800 <= value <= 0xDFFF:
+        raise ScriptFault(BAD_CHARACTER_CODE)
+    return chr(value)
+
+
+def escape_at(source, place):
+    """What the backslash at `place` gives, and the place after its escape."""
+    escaped = source.at(place + 1)
+    if escaped == "":
+        return "\\", place + 1
+    if escaped == "\n":
+        return " ", after_spaces(source, place + 2)
+    if escaped in OCTAL_DIGITS:
+        value, after = digits_at(source, place + 1, OCTAL_ESCAPE)
+        return character_of(value), after
+    if escaped in HEX_ESCAPES:
+        value, after = digits_at(source, place + 2, HEX_ESCAPES[escaped])
+        return (escaped if value is None else character_of(value)), after
+    return LETTER_ESCAPES.get(escaped, escaped), place + 2
+
+
+def after_blanks(source, place):
+    """The first place at or after `place` where no blank stands; a backslash-newline is one too."""
+    while True:
+        if source.at(place) != "" and source.at(place) in BLANKS:
+            place += 1
+        elif is_escaped_newline(source, place):
+            place = after_spaces(source, place + 2)
+        else:
+            return place
+
+
+def ends_word(source, place):
+    """Whether a word ends at `place`: at a blank, a newline, a semicolon or the end."""
+    character = source.at(place)
+    return character == "" or character in BLANKS or character in COMMAND_ENDS or is_escaped_newline(source, place)
+
+
+def after_comment(source, place):
+    """The place behind the comment that begins at `place`: through a newline that no backslash escapes."""
     while True:
         character = source.at(place)
-        if character == "" or character in BLANKS or character in COMMAND_ENDS:
-            return source.characters[begin:place], place
-        if is_substitution(source, place):
-            raise ScriptFault(SUBSTITUTION)
+        if character == "":
+            return place
+        if character == "\n":
+            return place + 1
+        if character == "\\" and source.at(place + 1) != "":
+            place += 1
         place += 1
+
+
+def is_expansion(source, place):
+    """Whether `{*}` stands at `place` before what makes a substitution of it."""
+    return (
+        source.at(place + 1) == "*" and source.at(place + 2) == "}" and not ends_word(source, place + 3)
+    )
+
+
+def braced_word(source, place):
+    """What stands between the brace at `place` and the matching one, and the place after that."""
+    if is_expansion(source, place):
+        raise ScriptFault(SUBSTITUTION)
+    word, depth, place = [], 1, place + 1
+    while True:
+        character = source.at(place)
+        if character == "":
+            raise ScriptFault(MISSING_BRACE)
+        if character == "\\":
+            escaped = source.at(place + 1)
+            if escaped == "\n":
+                word.append(" ")
+                place = after_spaces(source, place + 2)
+            else:
+                word.append(character + escaped)
+                place += 1 + len(escaped)
+            continue
+        depth += {"{": 1, "}": -1}.get(character, 0)
+        place += 1
+        if depth == 0:
+            break
+        word.append(character)
+    if not ends_word(source, place):
+        raise ScriptFault(EXTRA_AFTER_BRACE)
+    return "".join(word), place
+
+
+def unit_at(source, place):
+    """The character that stands at `place` outside braces, or that an escape gives, and the place after it."""
+    if source.at(place) == "\\":
+        return escape_at(source, place)
+    if is_substitution(source, place):
+        raise ScriptFault(SUBSTITUTION)
+    return source.at(place), place + 1
+
+
+def quoted_word(source, place):
+    """What stands between the quote at `place` and the next one, and the place after that."""
+    word, place = [], place + 1
+    while source.at(place) != '"':
+        if source.at(place) == "":
+            raise ScriptFault(MISSING_QUOTE)
+        character, place = unit_at(source, place)
+        word.append(character)
+    if not ends_word(source, place + 1):
+        raise ScriptFault(EXTRA_AFTER_QUOTE)
+    return "".join(word), place + 1
+
+
+def bare_word(source, place):
+    """The word from `place` to the next blank, newline, semicolon or the end; and the place after it."""
+    word = []
+    while not ends_word(source, place):
+        character, place = unit_at(source, place)
+        word.append(character)
+    return "".join(word), place
+
+
+def word_at(source, place):
+    """The word that begins at `place`, and the place after it."""
+    return {"{": braced_word, '"': quoted_word}.get(source.at(place), bare_word)(source, place)
 
 
 def command_at(source, place):
@@ -139,9 +288,9 @@ def command_at(source, place):
             return words, place
         if character in COMMAND_ENDS:
             return words, place + 1
-        if begins_substitution(source, place, is_first_word=not words):
-            raise ScriptFault(SUBSTITUTION)
-        word, place = bare_word(source, place)
+        if character == "#" and not words:
+            return words, after_comment(source, place)
+        word, place = word_at(source, place)
         words.append(word)
 
 
@@ -158,6 +307,101 @@ def reads_script(script):
     except ScriptFault as fault:
         return commands, fault.text
     return commands, None
+
+
+# ---------------------------------------------------------------------------------------------------
+# List text, both ways
+
+LIST_SPACE = frozenset(" \t\n\r\v\f")
+LIST_MARKS = frozenset('{}[]$";\\')
+SPACE_SPELLINGS = {" ": "\\ ", "\t": "\\t", "\n": "\\n", "\r": "\\r", "\v": "\\v", "\f": "\\f"}
+
+
+def braces_balance(text):
+    """Whether never more braces are closed than opened, and as many at the end."""
+    depth = 0
+    for character in text:
+        depth += {"{": 1, "}": -1}.get(character, 0)
+        if depth < 0:
+            return False
+    return depth == 0
+
+
+def element_text(element):
+    """An element of a list: bare, in braces, or with backslashes."""
+    is_plain = not (set(element) & (LIST_SPACE | LIST_MARKS))
+    if element != "" and is_plain and not element.startswith("#"):
+        return element
+    if "\\" not in element and braces_balance(element):
+        return "{" + element + "}"
+    spelled = [SPACE_SPELLINGS.get(c, "\\" + c if c in LIST_MARKS else c) for c in element]
+    return ("\\" if element.startswith("#") else "") + "".join(spelled)
+
+
+def list_text(elements):
+    """A list as text."""
+    return " ".join(element_text(element) for element in elements)
+
+
+def ends_element(source, place):
+    return source.at(place) == "" or source.at(place) in LIST_SPACE
+
+
+def list_unit_at(source, place):
+    """A character of a list outside braces, or what an escape gives."""
+    return escape_at(source, place) if source.at(place) == "\\" else (source.at(place), place + 1)
+
+
+def braced_element(source, place):
+    """What stands between the brace at `place` and the matching one, unchanged."""
+    begin, depth, place = place + 1, 1, place + 1
+    while depth > 0:
+        character = source.at(place)
+        if character == "":
+            return None, place
+        if character == "\\" and source.at(place + 1) != "":
+            place += 1
+        depth += {"{": 1, "}": -1}.get(character, 0)
+        place += 1
+    return (source.characters[begin : place - 1], place) if ends_element(source, place) else (None, place)
+
+
+def quoted_element(source, place):
+    """What stands between the quote at `place` and the next one, with escapes."""
+    element, place = [], place + 1
+    while source.at(place) != '"':
+        if source.at(place) == "":
+            return None, place
+        character, place = list_unit_at(source, place)
+        element.append(character)
+    return ("".join(element), place + 1) if ends_element(source, place + 1) else (None, place)
+
+
+def bare_element(source, place):
+    """What stands up to the next white space, with escapes."""
+    element = []
+    while not ends_element(source, place):
+        character, place = list_unit_at(source, place)
+        element.append(character)
+    return "".join(element), place
+
+
+def split_list(text):
+    """The list that a text spells, or None where it spells none."""
+    source, place, elements = ListSource(text), 0, []
+    while True:
+        while source.at(place) != "" and source.at(place) in LIST_SPACE:
+            place += 1
+        if source.at(place) == "":
+            return elements
+        reader = {"{": braced_element, '"': quoted_element}.get(source.at(place), bare_element)
+        try:
+            element, place = reader(source, place)
+        except ScriptFault:
+            return None
+        if element is None:
+            return None
+        elements.append(element)
 
 
 # ---------------------------------------------------------------------------------------------------

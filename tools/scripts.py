@@ -17,8 +17,9 @@ import sys
 CHARACTERS = "abcXYZ019_-+=.,:!?*/()<>%&|~^'`@"
 MULTI_BYTE = "éßñ€→あ漢😀𝄞\u00a0\u0085\u2028\u0301\ufeff\U0010ffff"
 CONTROLS = "\x00\x01\x07\x08\x1b\x7f"
-# Characters that are special elsewhere in Tcl, but stand for themselves inside a bare word.
-INNER = '{}"]#'
+# Characters that are special to Tcl somewhere.
+INNER = '{}"]#[$\\;'
+SPACES = " \t\r\v\f\n"
 
 
 def small_number(chance):
@@ -45,8 +46,8 @@ def number(chance):
 
 
 def line_number(chance):
-    """A line's number: mostly 1, since texts are one line long in this stage."""
-    return "1" if chance.random() < 0.7 else number(chance)
+    """A line's number: mostly 1, where most texts begin."""
+    return "1" if chance.random() < 0.5 else number(chance)
 
 
 def plain_text(chance):
@@ -65,8 +66,22 @@ def control_text(chance):
 
 
 def inner_text(chance):
-    """Braces, quotes, `]` and `#` after an ordinary character."""
-    return chance.choice(CHARACTERS) + "".join(chance.choices(INNER + "ab", k=chance.randrange(1, 6)))
+    """Braces, quotes, brackets, dollar signs, backslashes and the like, as they come."""
+    return "".join(chance.choices(INNER + "ab", k=chance.randrange(1, 7)))
+
+
+def spaced_text(chance):
+    """Words with blanks and newlines between them, at the beginning and at the end."""
+    return "".join(chance.choices(SPACES * 2 + "abé", k=chance.randrange(1, 10)))
+
+
+def lines_text(chance):
+    """A few short lines."""
+    return "".join(chance.choice(["", "a", "bc", "é d"]) + "\n" for _ in range(chance.randrange(1, 5)))
+
+
+def empty_text(chance):
+    return ""
 
 
 def lone_dollar_text(chance):
@@ -88,6 +103,9 @@ TEXTS = [
     (multi_byte_text, 5),
     (control_text, 1),
     (inner_text, 2),
+    (spaced_text, 3),
+    (lines_text, 3),
+    (empty_text, 1),
     (lone_dollar_text, 2),
     (long_text, 0.3),
 ]
@@ -100,7 +118,7 @@ def pick(chance, weighted):
 
 
 def text(chance):
-    """The characters to be inserted, as one bare word."""
+    """The characters to be inserted."""
     return pick(chance, TEXTS)
 
 
@@ -149,11 +167,14 @@ def argument_index(chance):
 # Commands, each a list of words
 
 WIDGETS = [".t", ".u", "..", ".t.u", ".é", ".$", ".1"]
-NO_WINDOW_NAMES = ["t", ".", "a.b", "é.", "$", "-undo", "1.0", "text"]
-NO_COMMANDS = ["foo", "puts", "destroy", "pack", "Text", "TEXT", "texts", "tex", "insert", "$", "]", "end", "\x00"]
+NO_WINDOW_NAMES = ["t", ".", "a.b", "é.", "$", "-undo", "1.0", "text", "", " .t", "\n"]
+NO_COMMANDS = [
+    "foo", "puts", "destroy", "pack", "Text", "TEXT", "texts", "tex", "insert", "$", "]", "end", "\x00", "", "#", "text .t",
+]
 NO_SUBCOMMANDS = [
     "foo", "ins", "Insert", "inserts", "ge", "gets", "ind", "indexes", "delete", "replace", "mark", "tag", "edit",
     "peer", "configure", "cget", "search", "count", "dump", "compare", "-undo", "$", "]", "#", ".t", "text", "é",
+    "", " ", "get ", "{", "\\",
 ]
 
 
@@ -241,35 +262,104 @@ COMMANDS = [
 # ---------------------------------------------------------------------------------------------------
 # From words to bytes
 
+LETTER_ESCAPES = {"\a": "\\a", "\b": "\\b", "\f": "\\f", "\n": "\\n", "\r": "\\r", "\t": "\\t", "\v": "\\v"}
+
+
+def numeric_escape(chance, character):
+    """A character by its number, in as many digits as its escape may have, so that none that follows belongs to it."""
+    code = ord(character)
+    forms = [f"\\U{code:08x}"]
+    if code <= 0xFFFF:
+        forms.append(f"\\u{code:04X}")
+    if code <= 0xFF:
+        forms += [f"\\x{code:02x}", f"\\{code:03o}"]
+    return chance.choice(forms)
+
+
+def escaped(chance, character):
+    """A character that is escaped, by a letter, by its number or by itself."""
+    if character in LETTER_ESCAPES and chance.random() < 0.7:
+        return LETTER_ESCAPES[character]
+    if character not in "\nabfnrtvxuU01234567" and chance.random() < 0.7:
+        return "\\" + character
+    return numeric_escape(chance, character)
+
+
+def spelled_by(chance, word, special):
+    """The characters of a word, of which the special ones are escaped, and others now and then."""
+    return "".join(
+        escaped(chance, character) if character in special or chance.random() < 0.02 else character
+        for character in word
+    )
+
+
+def bare(chance, word):
+    """A word that isn't empty, spelled bare."""
+    first = escaped(chance, word[0]) if word[0] in '{"#' else spelled_by(chance, word[0], SPACES + ";[$\\")
+    return first + spelled_by(chance, word[1:], SPACES + ";[$\\")
+
+
+def quoted(chance, word):
+    return '"' + spelled_by(chance, word, '"[$\\') + '"'
+
+
+def can_be_braced(word):
+    """Whether braces round a word leave it as it is."""
+    depth = 0
+    for character in word:
+        depth += {"{": 1, "}": -1}.get(character, 0)
+        if depth < 0 or character == "\\":
+            return False
+    return depth == 0 and word != "*"
+
+
+def spelled(chance, word):
+    """A word as a script spells it: bare, quoted or braced."""
+    if word == "":
+        return chance.choice(["{}", '""'])
+    kind = chance.random()
+    if kind < 0.2 and can_be_braced(word):
+        return "{" + word + "}"
+    if kind < 0.4:
+        return quoted(chance, word)
+    return bare(chance, word)
+
+
+def escaped_newline(chance):
+    """A backslash-newline with spaces and tabs after it."""
+    return "\\\n" + "".join(chance.choices(" \t", k=chance.randrange(0, 3)))
+
 
 def blanks(chance):
     """One blank or more, of every kind."""
     if chance.random() < 0.7:
         return " "
-    return "".join(chance.choices(" \t\r\v\f", k=chance.randrange(1, 5)))
+    kinds = [" ", "\t", "\r", "\v", "\f", escaped_newline(chance)]
+    return "".join(chance.choices(kinds, k=chance.randrange(1, 5)))
 
 
 def optional_blanks(chance):
     return blanks(chance) if chance.random() < 0.2 else ""
 
 
+def comment(chance):
+    """A comment with its newline."""
+    inside = ["a", " ", ";", "{", '"', "[", "$x", "\\\n", "\\\\", "\\a", "é", "#", "}"]
+    return "#" + "".join(chance.choices(inside, k=chance.randrange(0, 8))) + "\n"
+
+
 def command_end(chance):
-    """A newline or a semicolon, perhaps with commands without words around it."""
+    """A newline or a semicolon, perhaps with commands without words and comments around it."""
     ending = chance.choice("\n;")
     while chance.random() < 0.1:
-        ending += optional_blanks(chance) + chance.choice("\n;")
+        ending += optional_blanks(chance) + chance.choice(["\n", ";", comment(chance)])
     return ending
 
 
 def command(chance):
-    """One command as characters, without its end.
-
-    A `#` begins no command here, and `{` and a quote begin no word: these are faults, made below.
-    """
+    """One command as characters, without its end."""
     words = pick(chance, COMMANDS)
-    safe = [words[0].lstrip('#{"') or "a"] + [word.lstrip('{"') or "a" for word in words[1:]]
-    spelled = safe[0] + "".join(blanks(chance) + word for word in safe[1:])
-    return optional_blanks(chance) + spelled + optional_blanks(chance)
+    return optional_blanks(chance) + blanks(chance).join(spelled(chance, word) for word in words) + optional_blanks(chance)
 
 
 # ---------------------------------------------------------------------------------------------------
@@ -288,20 +378,33 @@ def bracket_fault(chance):
     return chance.choice([b"[", b"[foo]", b"[["])
 
 
-def backslash_fault(chance):
-    return chance.choice([b"\\", b"\\n", b"\\\n", b"\\\\", b"\\x41", b"\\\xff", b"\\ "])
+def expansion_fault(chance):
+    return chance.choice([b" {*}a", b" {*}{a}", b" {*}\\a", b" {*}$", b";{*}.t", b" {*}\xff", b" {*}\\\xff"])
 
 
-def comment_fault(chance):
-    return chance.choice([b";#", b"\n#", b"; # comment", b";\t#\xff", b"\n\n #\n"])
+def brace_fault(chance):
+    """A brace that is never closed, one that is closed too early, or a character behind one that closes a word."""
+    return chance.choice([b" {", b" {a", b" {{}", b" {\\}", b" {}a", b" {a}{b}", b' {}"', b" {}\\a", b" {}\\", b"\t{\xff", b" {}\xff"])
 
 
-def braced_word_fault(chance):
-    return chance.choice([b" {", b" {a}", b" {}", b" {*}", b"\t{\xff"])
+def quote_fault(chance):
+    return chance.choice([b' "', b' "a', b' "\\"', b' ""a', b' "a""b"', b' ""{', b' ""\\a', b' ""\\', b'\r"\xff', b' ""\xff'])
 
 
-def quoted_word_fault(chance):
-    return chance.choice([b' "', b' "a"', b' ""', b'\r"\xff'])
+def code_fault(chance):
+    """A number that is no character, or an escape before bytes that aren't UTF-8."""
+    return chance.choice([
+        b"\\uD800", b"\\uDFFF", b"\\ud9ab0", b"\\U0000D800", b"\\UDFFF ", b"\\UD800\xff", b"\\uD80\xff", b"\\uD800\xff",
+        b"\\x\xff", b"\\x4\xff", b"\\1\xff", b"\\\xff", b"\\U0010FFFF\xff",
+    ])
+
+
+def edge_bytes(chance):
+    """Spellings at the edges of a rule, which are no faults by themselves."""
+    return chance.choice([
+        b"\\400", b"\\377", b"\\8", b"\\1011", b"\\x414", b"\\xg", b"\\u12345", b"\\ug", b"\\U1100000", b"\\U00110000",
+        b"\\Ug", b" {*}", b" {*} ", b" {*};", b" {*}\\\n", b"\\", b"\\\n", b";#\\\n", b"\n#a\\\\\n", b" {\\\n \t}", b' "\\\n "', b"]", b"}",
+    ])
 
 
 NOT_UTF8 = [
@@ -319,10 +422,11 @@ def not_utf8_fault(chance):
 FAULTS = [
     (dollar_fault, 6),
     (bracket_fault, 1),
-    (backslash_fault, 2),
-    (comment_fault, 1),
-    (braced_word_fault, 1),
-    (quoted_word_fault, 1),
+    (expansion_fault, 2),
+    (brace_fault, 4),
+    (quote_fault, 4),
+    (code_fault, 4),
+    (edge_bytes, 6),
     (not_utf8_fault, 4),
 ]
 
@@ -376,7 +480,7 @@ def valid_commands(chance):
             lambda: [".t", "get", index(chance), index(chance)],
             lambda: [".t", "index", index(chance)],
         ])())
-    return "".join(blanks(chance).join(each) + command_end(chance) for each in words)
+    return "".join(blanks(chance).join(spelled(chance, word) for word in each) + command_end(chance) for each in words)
 
 
 def script(seed):

@@ -13,7 +13,7 @@ import scripts
 import worked
 from harness import Tally
 
-SEEDS = 300
+SEEDS = 900
 
 # Every fault that a script can bring about under the program's own limits, without a text of millions
 # of characters.
@@ -24,7 +24,12 @@ REACHED_FAULTS = [
     b'error: invalid command name "',
     b'error: window name "',
     b"error: a document exists",
+    b"error: missing close-brace",
+    b'error: missing "',
+    b"error: extra characters after close-brace",
+    b"error: extra characters after close-quote",
     b"error: substitution isn't supported",
+    b"error: bad character code",
     b"error: script isn't UTF-8",
 ]
 
@@ -39,6 +44,58 @@ def check_row(row, tally):
         f"row {row.name!r}\n  script {row.script!r}\n  wanted {row.output!r}, status {row.status}\n"
         f"  given  {run.output!r}, status {run.status}"
     )
+
+
+# Texts with the list that each spells; None where it spells none.
+LISTS = [
+    ("", []),
+    (" \t\n\r\v\f", []),
+    ("a {b c} d\\{", ["a", "b c", "d{"]),
+    ("{} {#} a# \\#", ["", "#", "a#", "#"]),
+    ("{a\\}b} {{c} d}", ["a\\}b", "{c} d"]),
+    ('"a b" "\\"" a"b', ["a b", '"', 'a"b']),
+    ("\\x41\\101\\u20ac \\a", ["AA€", "\a"]),
+    ("a\\\n  b {a\\\n b}", ["a b", "a\\\n b"]),
+    ("[a $b ;", ["[a", "$b", ";"]),
+    ("a\\", ["a\\"]),
+    ("{", None),
+    ('"', None),
+    ("{a}b", None),
+    ('"a"b', None),
+    ("{a}\\\n", None),
+    ("\\uD800", None),
+    ("{" * 100_000, None),
+]
+
+# Elements with the one way to write each.
+ELEMENTS = [
+    ("a", "a"),
+    ("", "{}"),
+    ("#", "{#}"),
+    ("#a", "{#a}"),
+    ("a#", "a#"),
+    ("b c", "{b c}"),
+    ("d{", "d\\{"),
+    ("}{", "\\}\\{"),
+    ("{}", "{{}}"),
+    ("a\\", "a\\\\"),
+    ("a\\ {}", "a\\\\\\ \\{\\}"),
+    ("#{", "\\#\\{"),
+    ("}\t\n\r\v\f ", "\\}\\t\\n\\r\\v\\f\\ "),
+    ("[", "{[}"),
+    ('"', '{"}'),
+    ("a;b", "{a;b}"),
+]
+
+
+def check_lists(tally):
+    """Lists are read and written as the rules say, and what is written is read back."""
+    for text, elements in LISTS:
+        tally.check(model.split_list(text) == elements, f"{text[:40]!r} spells {model.split_list(text)!r}")
+    for element, text in ELEMENTS:
+        tally.check(model.list_text([element]) == text, f"{element!r} is written {model.list_text([element])!r}")
+    whole = [element for element, _ in ELEMENTS]
+    tally.check(model.split_list(model.list_text(whole)) == whole, "a list isn't read back")
 
 
 def check_refused_command(tally):
@@ -65,6 +122,7 @@ def main():
     tally = Tally()
     for row in worked.ROWS:
         check_row(row, tally)
+    check_lists(tally)
     check_refused_command(tally)
     check_generator(tally)
     return tally.close()

@@ -4,7 +4,6 @@
 can be run by the program too.  `long_scripts` are for refused growth alone: what they print is the
 model's answer.
 
-Newlines can't be inserted in this stage, as words are bare, so every text here is one line.
 """
 
 from typing import NamedTuple
@@ -235,40 +234,127 @@ def command_faults():
     ]
 
 
-def substitution_row(ending):
+def quoting():
+    """Words as Tcl quotes them, and comments."""
+    return [
+        Row(
+            "a comment, braces and escapes",
+            b'# a comment \\\nstill the comment\ntext .t ; .t insert 1.0 {a{b}\\}c} ;.t insert end "\\x41\\u00e9\\101\\400"\n'
+            b".t get 1.0 1.end\n.t insert 1.0 $x\n",
+            lines(".t", "", "", "a{b}\\}cAéA 0", SUBSTITUTION),
+            2,
+        ),
+        Row(
+            "a text of several lines",
+            b'text .t; .t insert 1.0 "ab\\ncd"; .t index 1.end; .t index 1.99; .t index 99.0; .t index 0.5; '
+            b".t index 2.end; .t get 1.1 2.1; .t index end",
+            lines(".t", "", "1.2", "1.2", "3.0", "1.0", "2.2", "b\nc", "3.0"),
+            0,
+        ),
+        Row(
+            "escapes of letters, and characters that stand for themselves",
+            b'text .t; .t insert end "\\a\\b\\f\\n\\r\\t\\v\\q\\"\\[\\$\\\\"; .t get 1.0 end',
+            lines(".t", "", '\a\b\f\n\r\t\vq"[$\\\n'),
+            0,
+        ),
+        Row(
+            "escapes of digits",
+            b'text .t; .t insert end "\\7 \\377\\400\\8\\1011|\\x4|\\x414|\\xg|\\u4|\\u20ac1|\\ug|\\U1F600|\\U00110000|\\Ug"; .t get 1.0 1.end',
+            lines(".t", "", "\x07 \u00ff 08A1|\x04|A4|xg|\x04|€1|ug|😀|\U000110000|Ug"),
+            0,
+        ),
+        Row(
+            "an escaped newline",
+            b"text \\\n \t.t; .t insert end {a\\\n \tb}; .t insert end \"c\\\n d\"; .t \\\n  get 1.0\\\n 1.end",
+            lines(".t", "", "", "a bc d"),
+            0,
+        ),
+        Row(
+            "the empty word",
+            b'text .t; .t insert end {}; .t insert end ""; .t index {}; .t {}; {}; .t get 1.0 end',
+            lines(".t", "", "", 'error: bad text index ""', 'error: bad option ""', 'error: invalid command name ""', "\n"),
+            1,
+        ),
+        Row(
+            "braces and quotes inside bare words",
+            b'text .t; .t insert end a{b; .t insert end c}"d; .t insert end e"; .t get 1.0 1.end',
+            lines(".t", "", "", "", 'a{bc}"de"'),
+            0,
+        ),
+        Row(
+            "a star in braces",
+            b"text .t; .t insert end {*}; .t insert end {*}\\\n; .t insert end {*} ; .t get 1.0 1.end",
+            lines(".t", "", "", "", "***"),
+            0,
+        ),
+        Row(
+            "what ends a braced or quoted word",
+            b'{text} ".t";.t insert end {a};.t insert end "b"\n.t get 1.0\\\n{1.end}',
+            lines(".t", "", "", "ab"),
+            0,
+        ),
+        Row(
+            "comments end at a newline that isn't escaped",
+            b"text .t; # \\\\\n.t index end\n # \\\\\\\n.t get 1.0; .t foo\n;;#{\n.t index 1.0 ; #",
+            lines(".t", "2.0", "1.0"),
+            0,
+        ),
+        Row(
+            "a backslash at the end",
+            b"text .t; .t insert end a\\",
+            lines(".t", ""),
+            0,
+        ),
+    ]
+
+
+def fault_row(fault, ending):
     """The fault that a script ends in, after a command that is answered and one that is refused."""
-    name = f"substitution isn't supported: {ending.decode('utf-8')}"
-    return Row(name, b"text .t; .u\n" + ending, lines(".t", 'error: invalid command name ".u"', SUBSTITUTION), 2)
+    name = f"{fault}: {ending!r}"
+    return Row(name, b"text .t; .u\n" + ending, lines(".t", 'error: invalid command name ".u"', fault), 2)
+
+
+MISSING_BRACE = "error: missing close-brace"
+MISSING_QUOTE = 'error: missing "'
+EXTRA_AFTER_BRACE = "error: extra characters after close-brace"
+EXTRA_AFTER_QUOTE = "error: extra characters after close-quote"
+BAD_CHARACTER_CODE = "error: bad character code"
+
+FAULTY_ENDINGS = {
+    SUBSTITUTION: [
+        b"[", b".t [", b".t a[", b".t $a", b".t $Z", b".t $9", b".t $_", b".t ${", b".t $(", b".t $::", b".t a$::b",
+        b".t $$a", b".t $:$::", b".t get [;text .u", b'.t "a[b"', b'.t "$a"', b"{*}a", b".t {*}{a}", b".t {*}\\", b".t {*}\\a",
+        b".t {*}$", b".t [\xff",
+    ],
+    MISSING_BRACE: [b"{", b".t {a", b".t {{}", b".t {\\}", b".t {a\\", b".t {a;b\nc", b"{*"],
+    MISSING_QUOTE: [b'"', b'.t "a', b'.t "\\"', b'.t "a;b\nc', b'.t "a\\'],
+    EXTRA_AFTER_BRACE: [b"{}a", b".t {a}{b}", b'.t {a}"', b".t {a}[", b".t {a}\\", b".t {a}\\b", b".t {a}#", b".t {a}}"],
+    EXTRA_AFTER_QUOTE: [b'""a', b'.t "a""b"', b'.t "a"{', b'.t "a"$b', b'.t "a"\\', b'.t "a"\\b'],
+    BAD_CHARACTER_CODE: [b"\\uD800", b".t \\uDFFFx", b'.t "\\U0000D800"', b".t \\UDC00 ", b".t \\uD800\xff", b".t \\U0000D800\xff"],
+    NOT_UTF8: [
+        b"\xff", b"\x80", b".t\xe2\x82", b".t \xc0\xaf", b".t \xed\xa0\x80", b".t \xf4\x90\x80\x80", b".t $\xff", b".t $:\xff",
+        b"; \t\xff", b"#\xff", b"# a\\\xff", b"{ a b c; \xff", b'"\xff', b"{a}\xff", b'"a"\xff', b"{a}\\\xff", b"{*}\xff", b"{*}\\\xff",
+        b"a\\\xff", b"{\\\xff", b"\\1\xff", b"\\x\xff", b"\\u12\xff", b"\\UD800\xff", b"a\\\n \xff",
+    ],
+}
 
 
 def script_faults():
-    """Rows for the two faults that end a script, wherever they can stand."""
-    substitutions = [
-        b"[", b".t [", b".t a[", b"a\\", b"\\", b".t a\\ b", b"\\\n", b"#", b" # a comment", b"\t#;text .u",
-        b"{", b".t {a}", b'"', b'.t "a"', b".t $a", b".t $Z", b".t $9", b".t $_", b".t ${", b".t $(",
-        b".t $::", b".t a$::b", b".t $$a", b".t $:$::", b"; # end", b".t get [;text .u",
+    """Rows for the faults that end a script, wherever they can stand."""
+    rows = [fault_row(fault, ending) for fault, endings in FAULTY_ENDINGS.items() for ending in endings]
+    return rows + [
+        Row("a fault in the first command", b"text .u\xff", lines(NOT_UTF8), 2),
+        Row("100,000 open braces", b"text .t; .t insert 1.0 " + b"{" * 100_000, lines(".t", MISSING_BRACE), 2),
+        Row(
+            "100,000 braces, closed again",
+            b"text .t; .t insert 1.0 " + b"{" * 100_000 + b"}" * 100_000 + b"; .t index 1.end",
+            lines(".t", "", "1.199998"),
+            0,
+        ),
     ]
-    not_utf8 = [
-        ("a byte of no character", b"text .t\n\xff", lines(".t", NOT_UTF8)),
-        ("in the first command", b"text .u\xff", lines(NOT_UTF8)),
-        ("alone", b"\x80", lines(NOT_UTF8)),
-        ("cut off by the end", b"text .t;\xe2\x82", lines(".t", NOT_UTF8)),
-        ("a longer spelling than needed", b"text .t;.t \xc0\xaf", lines(".t", NOT_UTF8)),
-        ("a surrogate", b"text .t;.t \xed\xa0\x80", lines(".t", NOT_UTF8)),
-        ("above the last character", b"text .t;.t \xf4\x90\x80\x80", lines(".t", NOT_UTF8)),
-        ("after a dollar sign", b"text .t;.t $\xff", lines(".t", NOT_UTF8)),
-        ("after a dollar sign and a colon", b"text .t;.t $:\xff", lines(".t", NOT_UTF8)),
-        ("after a fault", b"text .t;.t [\xff", lines(".t", SUBSTITUTION)),
-        ("after a comment's sign", b"text .t;#\xff", lines(".t", SUBSTITUTION)),
-        ("after blanks", b"text .t; \t\xff", lines(".t", NOT_UTF8)),
-        ("far behind a fault", b"text .t;{ a b c; \xff", lines(".t", SUBSTITUTION)),
-    ]
-    rows = [substitution_row(ending) for ending in substitutions]
-    rows += [Row(f"script isn't UTF-8: {name}", script, output, 2) for name, script, output in not_utf8]
-    return rows
 
 
-ROWS = whole_runs() + command_faults() + script_faults()
+ROWS = whole_runs() + quoting() + command_faults() + script_faults()
 
 
 def long_scripts():
@@ -283,6 +369,8 @@ def long_scripts():
         ("long words that are refused", b"text .t;." + long_word + b";.t " + long_word + b";.t index " + long_word),
         ("a command of many words", b"text .t;" + many_words + b";.t index end"),
         ("long answers", b"text .t;.t insert 1.0 " + long_word + b";" + b".t get 1.0 end;" * 5),
+        ("a braced word of many lines", b"text .t;.t insert 1.0 {" + b"a line\n" * 700 + b"};.t get 1.0 end"),
+        ("a quoted word of many escapes", b'text .t;.t insert 1.0 "' + b"\\x41\\n" * 700 + b'";.t index end'),
         ("a script fault after long words", b"text .t;.t insert 1.0 " + long_word + b";.t get " + long_word + b"["),
     ]
 

@@ -26,7 +26,7 @@ pub const AMPLE: Numbers = Numbers {
     reads: 1_073_741_824,
 };
 
-pub static ROWS: [Row; 23] = [
+pub static ROWS: [Row; 34] = [
     Row {
         name: "the empty script",
         script: b"",
@@ -145,7 +145,84 @@ pub static ROWS: [Row; 23] = [
     },
     Row {
         name: "a comment",
-        script: b"text .t; # note",
+        script: b"# a comment \\\nstill the comment\ntext .t; # note",
+        numbers: AMPLE,
+        output: ".t\n",
+        status: 0,
+    },
+    Row {
+        name: "braces, quotes and escapes",
+        script: b"# a comment \\\nstill the comment\ntext .t ; .t insert 1.0 {a{b}\\}c} ;.t insert end \"\\x41\\u00e9\\101\\400\"\n.t get 1.0 1.end\n.t insert 1.0 $x\n",
+        numbers: AMPLE,
+        output: ".t\n\n\na{b}\\}cAéA 0\nerror: substitution isn't supported\n",
+        status: 2,
+    },
+    Row {
+        name: "lines in quotes",
+        script: b"text .t; .t insert 1.0 \"ab\\ncd\"; .t index 1.end; .t index 1.99; .t index 99.0; .t index 0.5; .t get 1.1 2.1",
+        numbers: AMPLE,
+        output: ".t\n\n1.2\n1.2\n3.0\n1.0\nb\nc\n",
+        status: 0,
+    },
+    Row {
+        name: "a line that goes on",
+        script: b"text .t; .t insert \\\n  1.0 {a\\\n\tb};.t get 1.0 1.end",
+        numbers: AMPLE,
+        output: ".t\n\na b\n",
+        status: 0,
+    },
+    Row {
+        name: "empty words",
+        script: b"{}; text .t; .t {}; .t get {}; .t get \"\" 1.0; .t insert 1.0 {}; .t get 1.0 1.end",
+        numbers: AMPLE,
+        output: "error: invalid command name \"\"\n.t\nerror: bad option \"\"\nerror: bad text index \"\"\nerror: bad text index \"\"\n\n\n",
+        status: 1,
+    },
+    Row {
+        name: "a word of several lines in a fault",
+        script: b"text .t; .t get {1\n2}",
+        numbers: AMPLE,
+        output: ".t\nerror: bad text index \"1\n2\"\n",
+        status: 1,
+    },
+    Row {
+        name: "a value that is no character",
+        script: b"text .t; .t insert 1.0 \"\\uD800\"",
+        numbers: AMPLE,
+        output: ".t\nerror: bad character code\n",
+        status: 2,
+    },
+    Row {
+        name: "text behind a closing brace",
+        script: b"text .t; .t get {1.0}x",
+        numbers: AMPLE,
+        output: ".t\nerror: extra characters after close-brace\n",
+        status: 2,
+    },
+    Row {
+        name: "text behind a closing quote",
+        script: b"text .t; .t get \"1.0\"x",
+        numbers: AMPLE,
+        output: ".t\nerror: extra characters after close-quote\n",
+        status: 2,
+    },
+    Row {
+        name: "no closing quote",
+        script: b"text .t; .t get \"1.0",
+        numbers: AMPLE,
+        output: ".t\nerror: missing \"\n",
+        status: 2,
+    },
+    Row {
+        name: "no closing brace",
+        script: b"text .t; .t insert 1.0 {x",
+        numbers: AMPLE,
+        output: ".t\nerror: missing close-brace\n",
+        status: 2,
+    },
+    Row {
+        name: "an expanded word",
+        script: b"text .t; .t get {*}{1.0 end}",
         numbers: AMPLE,
         output: ".t\nerror: substitution isn't supported\n",
         status: 2,

@@ -77,6 +77,26 @@ pub not_utf8 : chars (codes "error: script isn't UTF-8\n") ≡ error_line (liter
 unfolding chars
 not_utf8 = refl
 
+pub no_close_brace : chars (codes "error: missing close-brace\n") ≡ error_line (literal "missing close-brace")
+unfolding chars
+no_close_brace = refl
+
+pub no_quote : chars (codes "error: missing \"\n") ≡ error_line (literal "missing \"")
+unfolding chars
+no_quote = refl
+
+pub more_after_brace : chars (codes "error: extra characters after close-brace\n") ≡ error_line (literal "extra characters after close-brace")
+unfolding chars
+more_after_brace = refl
+
+pub more_after_quote : chars (codes "error: extra characters after close-quote\n") ≡ error_line (literal "extra characters after close-quote")
+unfolding chars
+more_after_quote = refl
+
+pub bad_code : chars (codes "error: bad character code\n") ≡ error_line (literal "bad character code")
+unfolding chars
+bad_code = refl
+
 pub answer_line : (text : List ℕ) → chars (codes "") ++ (text ++ chars (codes "\n")) ≡ text ++ 10 ∷ []
 unfolding chars
 answer_line text = refl

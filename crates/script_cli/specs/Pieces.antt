@@ -35,8 +35,13 @@ fault_text words TextTooLong = literal "text is too long"
 fault_text words Memory = literal "out of memory"
 
 abbrev pub script_fault_text : ScriptFault → List ℕ
+script_fault_text script.MissingBrace = literal "missing close-brace"
+script_fault_text script.MissingQuote = literal "missing \""
+script_fault_text script.ExtraAfterBrace = literal "extra characters after close-brace"
+script_fault_text script.ExtraAfterQuote = literal "extra characters after close-quote"
 script_fault_text script.Substitution = literal "substitution isn't supported"
 script_fault_text script.NotUtf8 = literal "script isn't UTF-8"
+script_fault_text script.BadCharacterCode = literal "bad character code"
 script_fault_text script.Memory = literal "out of memory"
 
 abbrev pub error_line : List ℕ → List ℕ

@@ -79,8 +79,17 @@ impl<'a> Piece<'a> {
         ensures { result ≡ encode_utf8_all (error_line (script_fault_text fault)) }
     {
         match fault {
+            ScriptFault::MissingBrace => Piece::plain("error: missing close-brace\n"),
+            ScriptFault::MissingQuote => Piece::plain("error: missing \"\n"),
+            ScriptFault::ExtraAfterBrace => {
+                Piece::plain("error: extra characters after close-brace\n")
+            }
+            ScriptFault::ExtraAfterQuote => {
+                Piece::plain("error: extra characters after close-quote\n")
+            }
             ScriptFault::Substitution => Piece::plain("error: substitution isn't supported\n"),
             ScriptFault::NotUtf8 => Piece::plain("error: script isn't UTF-8\n"),
+            ScriptFault::BadCharacterCode => Piece::plain("error: bad character code\n"),
             ScriptFault::Memory => Piece::plain("error: out of memory\n"),
         }
     }

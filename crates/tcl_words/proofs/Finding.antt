@@ -1,27 +1,29 @@
 -- What the bytes not yet given hold next, by a scan of their text.
-use Rattle.std.proofs.Common.{◌≡◌, ◌≢◌, IfOk, IfNone, Option, Some, None, encode_utf8, ℕ, zero, suc, ◌+◌, ◌-◌, ◌<◌, ◌≤◌, inl, inr, ⊎_elim, Bool, true, false, List, [], ◌∷◌, ◌++◌, map, length, take, drop, encode_utf8_all, IsUtf8, Ok, refl, sym, ap, ◌∙◌, arith, subst, append_assoc, append-nil, length-append, length-take, length-drop, take-append-drop, take-add}
-use Rattle.std.specs.Char.{IsScalar}
+use Rattle.std.proofs.Common.{◌≡◌, ◌≢◌, IfOk, IfNone, Option, Some, None, encode_utf8, ℕ, zero, suc, ◌+◌, ◌-◌, ◌<◌, ◌≤◌, inl, inr, ⊎_elim, Bool, true, false, List, [], ◌∷◌, ◌++◌, length, take, drop, chars, encode_utf8_all, IsUtf8, Ok, refl, sym, ap, ◌∙◌, arith, subst, append_assoc, append-nil, length-append, length-take, length-drop, take-append-drop, take-add}
 use Rattle.std.specs.Str.{all_scalars, StartsWithNoChar}
-use Rattle.std.proofs.lemmas.Str.{encodes-append, encode_ascii, IsUtf8-append, IsUtf8-encode}
-use Rattle.std.proofs.lemmas.List.{take-take, drop-drop, take_all, drop_all, append_cancel_right}
-use Rattle.tcl_words.specs.ScriptGrammar.{Ending, Ends, Breaks, Continues, First, Command, Nothing, Fault, Open, Between, first, MeetsFault, HoldsNoWhole, IsWholeCommand}
+use Rattle.std.proofs.lemmas.Str.{encodes-append, chars_from_encodes, IsUtf8-append, IsUtf8-encode, length-le-encodes}
+use Rattle.std.proofs.lemmas.List.{take-take, drop-drop, take_at}
+use Rattle.tcl_words.specs.ScriptGrammar.{Ending, Ends, Breaks, Continues, Command, Nothing, Fault, Open, first, Follows, MeetsFault, HoldsNoWhole, IsWholeCommand}
 use Rattle.tcl_words.specs.Scanning.{scanned, later, pieces_from}
+use Rattle.tcl_words.specs.Steps.{last_step, depth_of}
 use Rattle.tcl_words.specs.Encoding.{StopsAs, BeginsNoChar}
 use Rattle.tcl_words.specs.Unread.{IsNextCommand, HasFault, HasNoFault}
-use Rattle.tcl_words.specs.Progression.{IsProgress, IsCommandOf, IsNext, text_end, last_command}
+use Rattle.tcl_words.specs.Progression.{IsProgress, IsCommandOf, IsNext, text_end, last_found, last_command}
 use Rattle.tcl_words.specs.declared.fault.ScriptFault.{ScriptFault}
-use Rattle.tcl_words.specs.declared.fault.ScriptFault.TheVariants.{Substitution, NotUtf8}
+use Rattle.tcl_words.specs.declared.fault.ScriptFault.TheVariants.{NotUtf8, Memory}
 use Rattle.tcl_words.specs.declared.progress.Progress.{Progress}
 use Rattle.tcl_words.specs.declared.encoding.TextStop.{TextStop}
 use Rattle.tcl_words.specs.declared.encoding.TextStop.TheVariants.{AtEnd, WithinCharacter, Broken}
-use Rattle.tcl_words.specs.declared.scanner.Stage.{Stage}
-use Rattle.tcl_words.specs.declared.scanner.Stage.TheVariants.{BeforeCommand, AfterBlank, InWord, AfterDollar, AfterColon}
+use Rattle.tcl_words.specs.declared.stage.Stage.{Stage}
+use Rattle.tcl_words.specs.declared.stage.Stage.TheVariants.{BeforeCommand}
+use Rattle.tcl_words.specs.declared.stage.Next.{Next}
+use Rattle.tcl_words.specs.declared.stage.Next.TheVariants.{Go, End, Refuse}
 use Rattle.tcl_words.specs.declared.scanner.Scan.{Scan}
 use Rattle.tcl_words.specs.declared.scanner.Scan.TheVariants.{EndsAt, Refused, Reaches}
-use Rattle.tcl_words.proofs.Stages.{scanned-nil, at_end, Verdict, verdict}
-use Rattle.tcl_words.proofs.Spelling.{spelled, from_spelled, one_goes_on, no_char_nil, scalars_split, encode_not_nil, high_scanned, below_or}
+use Rattle.tcl_words.proofs.Verdicts.{IsMetAtEnd, met_at_end, at_last, Verdict, verdict, scanned-nil}
+use Rattle.tcl_words.proofs.Spelling.{broken_byte, widened, scan_widened, one_goes_on, no_char_nil, scalars_split, encode_not_nil}
 use Rattle.tcl_words.proofs.Readings.{extended, stays, whole_at, one_found, reads_before, reads_fault, reads_nothing}
-use Rattle.tcl_words.proofs.Scans.{scanned-append}
+use Rattle.tcl_words.proofs.Scans.{scanned-append, depth_reached}
 
 -- a text whose first n bytes are a command
 pub record WholeFront (text : List ℕ) (n : ℕ) : Type 0 where
@@ -29,95 +31,74 @@ pub record WholeFront (text : List ℕ) (n : ℕ) : Type 0 where
   pub within : n ≤ length text
   pub words : List (List ℕ)
   pub is : IsWholeCommand words (take n text)
-  pub spelled : pieces_from (take n text) Between ≡ map encode_utf8_all words
+  pub written : pieces_from (chars (take n text)) BeforeCommand ≡ words
   pub front : IsUtf8 (take n text)
-  pub back : IsUtf8 (drop n text)
 
 -- by the characters of the text, in which the command ends after m
-whole_front_by : (scan : Scan) (text cs : List ℕ) (n : ℕ) → all_scalars cs ≡ true → encode_utf8_all cs ≡ text → Verdict (EndsAt n) BeforeCommand text
-    → Verdict scan BeforeCommand cs → Command (pieces_from (take n text) Between) (drop n text) ≡ spelled (first Continues cs) → WholeFront text n
-whole_front_by (EndsAt m) text cs n scalars is v w found =
-    let here : first Continues cs ≡ Command (pieces_from (take m cs) Between) (drop m cs) = ap (first Continues) (sym (take-append-drop m cs)) ∙ w.2 Continues (drop m cs) in
-    let same = found ∙ ap spelled here in
-    let words : pieces_from (take n text) Between ≡ map encode_utf8_all (pieces_from (take m cs) Between) = cc in
-    let rest : drop n text ≡ encode_utf8_all (drop m cs) = cc in
-    let whole : encode_utf8_all (take m cs) ++ encode_utf8_all (drop m cs) ≡ take n text ++ encode_utf8_all (drop m cs) =
-    sym (encodes-append (take m cs) (drop m cs)) ∙ ap encode_utf8_all (take-append-drop m cs) ∙ is ∙ sym (take-append-drop n text) ∙ ap (λ l. take n text ++ l) rest in
-    let front : encode_utf8_all (take m cs) ≡ take n text = append_cancel_right (encode_utf8_all (take m cs)) (take n text) (encode_utf8_all (drop m cs)) whole in
+whole_front_by : (scan : Scan) (text cs : List ℕ) (n : ℕ) → all_scalars cs ≡ true → encode_utf8_all cs ≡ text
+    → Verdict scan BeforeCommand cs → EndsAt n ≡ widened scan cs → WholeFront text n
+whole_front_by (EndsAt m) text cs n scalars is v same =
+    let long : n ≡ length (encode_utf8_all (take m cs)) = cc in
+    let split : text ≡ encode_utf8_all (take m cs) ++ encode_utf8_all (drop m cs) =
+    sym is ∙ ap encode_utf8_all (sym (take-append-drop m cs)) ∙ encodes-append (take m cs) (drop m cs) in
+    let front : take n text ≡ encode_utf8_all (take m cs) = ap (take n) split ∙ take_at (encode_utf8_all (take m cs)) (encode_utf8_all (drop m cs)) n (sym long) in
     let both = scalars_split (take m cs) (drop m cs) (ap all_scalars (take-append-drop m cs) ∙ scalars) in
+    let text_of : IsUtf8 (take n text) = (take m cs, (both.0, sym front)) in
+    let some = v.1 in
+    let within = v.0 in
     record {
-      some = v.1;
-      within = v.0;
-      words = pieces_from (take m cs) Between;
-      is = subst (IsWholeCommand (pieces_from (take m cs) Between)) front (whole_at m cs scalars w);
-      spelled = words;
-      front = (take m cs, (both.0, front));
-      back = (drop m cs, (both.1, sym rest));
+      some = omega (arith, length-le-encodes (take m cs), length-take m cs);
+      within = omega (arith, ap length split, length-append (encode_utf8_all (take m cs)) (encode_utf8_all (drop m cs)));
+      words = pieces_from (take m cs) BeforeCommand;
+      is = subst (IsWholeCommand (pieces_from (take m cs) BeforeCommand)) (sym front) (whole_at m cs scalars v);
+      written = ap (λ l. pieces_from l BeforeCommand) (sym (chars_from_encodes (take m cs) (take n text) text_of (sym front)));
+      front = text_of;
     }
-whole_front_by Refused text cs n scalars is v w found =
-    let here : first Continues cs ≡ Fault Substitution = ap (first Continues) (sym (append-nil cs)) ∙ w Continues [] in
-    let no : Command (pieces_from (take n text) Between) (drop n text) ≡ Fault Substitution = found ∙ ap spelled here in absurd cc
-whole_front_by (Reaches last) text cs n scalars is v w found =
-    let no : Command (pieces_from (take n text) Between) (drop n text) ≡ Open = found ∙ ap spelled w.0 in absurd cc
+whole_front_by (Refused fault) text cs n scalars is v same = absurd cc
+whole_front_by (Reaches last) text cs n scalars is v same = absurd cc
+
+-- the scan of a text is that of its characters
+text_scan : (text : List ℕ) (u : IsUtf8 text) → scanned text BeforeCommand ≡ widened (scanned u.0 BeforeCommand) u.0
+text_scan text u = ap (λ l. scanned l BeforeCommand) (sym u.1.1) ∙ scan_widened u.0 BeforeCommand
 
 pub whole_front : (text : List ℕ) (n : ℕ) → IsUtf8 text → scanned text BeforeCommand ≡ EndsAt n → WholeFront text n
-whole_front text n u h =
-    let v : Verdict (EndsAt n) BeforeCommand text = subst (λ s. Verdict s BeforeCommand text) h (verdict text BeforeCommand) in
-    let found : first Continues text ≡ Command (pieces_from (take n text) Between) (drop n text) = ap (first Continues) (sym (take-append-drop n text)) ∙ v.2 Continues (drop n text) in
-    whole_front_by (scanned u.0 BeforeCommand) text u.0 n u.1.0 u.1.1 v (verdict u.0 BeforeCommand) (sym found ∙ ap (first Continues) (sym u.1.1) ∙ from_spelled u.0 BeforeCommand Continues)
+whole_front text n u h = whole_front_by (scanned u.0 BeforeCommand) text u.0 n u.1.0 u.1.1 (verdict u.0 BeforeCommand) (sym h ∙ text_scan text u)
 
-spelled_fault : (found : First) (fault : ScriptFault) → spelled found ≡ Fault fault → found ≡ Fault fault
-spelled_fault (Command words rest) fault h = cc
-spelled_fault Nothing fault h = cc
-spelled_fault (Fault met) fault h = h
-spelled_fault Open fault h = cc
+refused_by : (scan : Scan) (cs : List ℕ) (fault : ScriptFault) → Verdict scan BeforeCommand cs → Refused fault ≡ widened scan cs → Verdict (Refused fault) BeforeCommand cs
+refused_by (EndsAt m) cs fault v same = absurd cc
+refused_by (Refused met) cs fault v same = let e : met ≡ fault = cc in subst (λ f. Verdict (Refused f) BeforeCommand cs) e v
+refused_by (Reaches last) cs fault v same = absurd cc
 
-spelled_open : (found : First) → spelled found ≡ Open → found ≡ Open
-spelled_open (Command words rest) h = cc
-spelled_open Nothing h = cc
-spelled_open (Fault met) h = cc
-spelled_open Open h = h
+reached_by : (scan : Scan) (cs : List ℕ) (last : Stage) → Verdict scan BeforeCommand cs → Reaches last ≡ widened scan cs → Verdict (Reaches last) BeforeCommand cs
+reached_by (EndsAt m) cs last v same = absurd cc
+reached_by (Refused met) cs last v same = absurd cc
+reached_by (Reaches stage) cs last v same = let e : stage ≡ last = cc in subst (λ s. Verdict (Reaches s) BeforeCommand cs) e v
 
-spelled_nothing : (found : First) → spelled found ≡ Nothing → found ≡ Nothing
-spelled_nothing (Command words rest) h = cc
-spelled_nothing Nothing h = h
-spelled_nothing (Fault met) h = cc
-spelled_nothing Open h = cc
+-- what the scan of a text says of its characters
+text_refused : (text : List ℕ) (fault : ScriptFault) (u : IsUtf8 text) → scanned text BeforeCommand ≡ Refused fault → Verdict (Refused fault) BeforeCommand u.0
+text_refused text fault u h = refused_by (scanned u.0 BeforeCommand) u.0 fault (verdict u.0 BeforeCommand) (sym h ∙ text_scan text u)
 
-encodes_nil : (cs : List ℕ) → encode_utf8_all cs ≡ [] → cs ≡ []
-encodes_nil [] h = refl
-encodes_nil (c ∷ cs) h = absurd (encode_not_nil c (encode_utf8_all cs) h)
-
-spelled_command : (found : First) (pieces : List (List ℕ)) → spelled found ≡ Command pieces []
-    → (words : List (List ℕ)) × (found ≡ Command words []) × (pieces ≡ map encode_utf8_all words)
-spelled_command (Command words rest) pieces h =
-    let none : encode_utf8_all rest ≡ [] = cc in (words, ap (Command words) (encodes_nil rest none), cc)
-spelled_command Nothing pieces h = absurd cc
-spelled_command (Fault met) pieces h = absurd cc
-spelled_command Open pieces h = absurd cc
-
--- what is found in a text, by its characters
-found_in : (text : List ℕ) (e : Ending) (found : First) (u : IsUtf8 text) → first e text ≡ found → spelled (first e u.0) ≡ found
-found_in text e found u h = sym (from_spelled u.0 BeforeCommand e) ∙ ap (first e) u.1.1 ∙ h
+text_reached : (text : List ℕ) (last : Stage) (u : IsUtf8 text) → scanned text BeforeCommand ≡ Reaches last → Verdict (Reaches last) BeforeCommand u.0
+text_reached text last u h = reached_by (scanned u.0 BeforeCommand) u.0 last (verdict u.0 BeforeCommand) (sym h ∙ text_scan text u)
 
 -- The text meets the fault, whatever follows.
-pub refused_fault : (text back bytes : List ℕ) → IsUtf8 text → scanned text BeforeCommand ≡ Refused → bytes ≡ text ++ back → MeetsFault bytes Substitution
-refused_fault text back bytes u h split =
-    let v : Verdict Refused BeforeCommand text = subst (λ s. Verdict s BeforeCommand text) h (verdict text BeforeCommand) in
-    (text, back, u.0, Continues, split, u.1, tt, spelled_fault (first Continues u.0) Substitution (found_in text Continues (Fault Substitution) u (ap (first Continues) (sym (append-nil text)) ∙ v Continues [])))
+pub refused_fault : (text back bytes : List ℕ) (fault : ScriptFault) → IsUtf8 text → scanned text BeforeCommand ≡ Refused fault → bytes ≡ text ++ back → MeetsFault bytes fault
+refused_fault text back bytes fault u h split =
+    let v = text_refused text fault u h in
+    (text, back, u.0, Continues, split, u.1, tt, ap (first Continues) (sym (append-nil u.0)) ∙ v.1 Continues [])
 
 -- Behind the text no character begins.
 pub broken_fault : (text back bytes : List ℕ) (last : Stage) → IsUtf8 text → scanned text BeforeCommand ≡ Reaches last → bytes ≡ text ++ back → 0 < length back → StartsWithNoChar back
     → MeetsFault bytes NotUtf8
 broken_fault text back bytes last u h split some none =
-    let v : Verdict (Reaches last) BeforeCommand text = subst (λ s. Verdict s BeforeCommand text) h (verdict text BeforeCommand) in
-    (text, back, u.0, Breaks, split, u.1, (some, none), spelled_fault (first Breaks u.0) NotUtf8 (found_in text Breaks (Fault NotUtf8) u v.1))
+    let v = text_reached text last u h in
+    (text, back, u.0, Breaks, split, u.1, (some, none), v.1)
 
 -- No command is whole in the text.
 pub no_whole : (text back bytes : List ℕ) (last : Stage) → IsUtf8 text → scanned text BeforeCommand ≡ Reaches last → bytes ≡ text ++ back → StartsWithNoChar back → HoldsNoWhole bytes
 no_whole text back bytes last u h split none words used rest e w =
-    let v : Verdict (Reaches last) BeforeCommand text = subst (λ s. Verdict s BeforeCommand text) h (verdict text BeforeCommand) in
-    let undecided : first Continues u.0 ≡ Open = spelled_open (first Continues u.0) (found_in text Continues Open u v.0) in
+    let v = text_reached text last u h in
+    let undecided : first Continues u.0 ≡ Open = v.0 in
     ⊎_elim
     (λ g.
     let nil = no_char_nil g.0 rest (scalars_split u.0 g.0 (ap all_scalars (sym g.1) ∙ w.1.0)).1 (subst StartsWithNoChar g.2 none) in
@@ -159,16 +140,19 @@ command_of finished rest valid n within text h =
       within = omega arith;
       words = w.words;
       is = next_whole finished (drop n rest) w.words (take n rest) (subst (IsWholeCommand w.words) cut w.is);
-      spelled = ap (λ l. pieces_from l Between) (sym cut) ∙ w.spelled;
+      written = ap (λ l. pieces_from (chars l) BeforeCommand) (sym cut) ∙ w.written;
       text = subst IsUtf8 cut w.front;
     }
 
 split_at : (valid : ℕ) (rest more : List ℕ) → rest ++ more ≡ take valid rest ++ (drop valid rest ++ more)
 split_at valid rest more = ap (λ l. l ++ more) (sym (take-append-drop valid rest)) ∙ append_assoc (take valid rest) (drop valid rest) more
 
-pub refused_of : (finished : Bool) (rest : List ℕ) (valid : ℕ) → IsUtf8 (take valid rest) → scanned (take valid rest) BeforeCommand ≡ Refused → HasFault finished rest Substitution
-refused_of true rest valid text h = refused_fault (take valid rest) (drop valid rest) rest text h (sym (take-append-drop valid rest))
-refused_of false rest valid text h = λ more. refused_fault (take valid rest) (drop valid rest ++ more) (rest ++ more) text h (split_at valid rest more)
+pub refused_of : (finished : Bool) (rest : List ℕ) (valid : ℕ) (fault : ScriptFault) → IsUtf8 (take valid rest) → scanned (take valid rest) BeforeCommand ≡ Refused fault → HasFault finished rest fault
+refused_of true rest valid fault text h = refused_fault (take valid rest) (drop valid rest) rest fault text h (sym (take-append-drop valid rest))
+refused_of false rest valid fault text h = λ more. refused_fault (take valid rest) (drop valid rest ++ more) (rest ++ more) fault text h (split_at valid rest more)
+
+pub refused_met : (text : List ℕ) (fault : ScriptFault) → IsUtf8 text → scanned text BeforeCommand ≡ Refused fault → fault ≢ Memory
+refused_met text fault u h = (text_refused text fault u h).0.0
 
 broken_of : (finished : Bool) (rest : List ℕ) (valid : ℕ) (last : Stage) → IsUtf8 (take valid rest) → scanned (take valid rest) BeforeCommand ≡ Reaches last → BeginsNoChar (drop valid rest)
     → HasFault finished rest NotUtf8
@@ -184,33 +168,31 @@ nil_no_char bytes h c rest s e = encode_not_nil c rest (sym e ∙ h)
 all_taken : (valid : ℕ) (rest : List ℕ) → drop valid rest ≡ [] → take valid rest ≡ rest
 all_taken valid rest h = sym (append-nil (take valid rest)) ∙ ap (λ l. take valid rest ++ l) (sym h) ∙ take-append-drop valid rest
 
-no_scan : (valid : ℕ) (rest : List ℕ) (last : Stage) → scanned (take valid rest) BeforeCommand ≡ Reaches last → last ≢ BeforeCommand → 0 < valid
-no_scan zero rest last h other = absurd (other (let e = sym (scanned-nil BeforeCommand) ∙ h in cc))
-no_scan (suc valid) rest last h other = omega arith
+-- where nothing was read no command has begun
+no_scan : (valid : ℕ) (rest : List ℕ) (last : Stage) → scanned (take valid rest) BeforeCommand ≡ Reaches last → (last_step last).next ≡ End → 0 < valid
+no_scan zero rest last h ends =
+    let e : BeforeCommand ≡ last = (let k = sym (scanned-nil BeforeCommand) ∙ h in cc) in
+    let no : Go BeforeCommand ≡ End = ap (λ s. (last_step s).next) e ∙ ends in absurd cc
+no_scan (suc valid) rest last h ends = omega arith
 
-last_of : (rest : List ℕ) (valid : ℕ) (last : Stage) → valid ≤ length rest → IsUtf8 (take valid rest) → scanned (take valid rest) BeforeCommand ≡ Reaches last → drop valid rest ≡ []
-    → last ≢ BeforeCommand → at_end last (pieces_from (take valid rest) Between) ≡ Command (pieces_from (take valid rest) Between) [] → IsCommandOf true rest valid
-last_of rest valid last within text h none other ends =
-    let v : Verdict (Reaches last) BeforeCommand (take valid rest) = subst (λ s. Verdict s BeforeCommand (take valid rest)) h (verdict (take valid rest) BeforeCommand) in
-    let found = spelled_command (first Ends text.0) (pieces_from (take valid rest) Between) (found_in (take valid rest) Ends (Command (pieces_from (take valid rest) Between) []) text (v.2 ∙ ends)) in
-    record {
-      some = no_scan valid rest last h other;
-      within = within;
-      words = found.0;
-      is = inr (none, (text.0, text.1, found.1));
-      spelled = found.2;
-      text = text;
-    }
+finished_by : (next : Next) (rest : List ℕ) (valid : ℕ) (last : Stage) → (last_step last).next ≡ next → valid ≤ length rest → (u : IsUtf8 (take valid rest)) → scanned (take valid rest) BeforeCommand ≡ Reaches last → drop valid rest ≡ []
+    → first Ends u.0 ≡ at_last next (pieces_from u.0 BeforeCommand) → IsMetAtEnd next → IsNext true rest (last_found next valid)
+finished_by (Go stage) rest valid last e within u h none found met = (u.0, (u.1.0, u.1.1 ∙ all_taken valid rest none), found)
+finished_by End rest valid last e within u h none found met = record {
+  some = no_scan valid rest last h e;
+  within = within;
+  words = pieces_from u.0 BeforeCommand;
+  is = inr (none, (u.0, u.1, found));
+  written = ap (λ l. pieces_from l BeforeCommand) (sym (chars_from_encodes u.0 (take valid rest) u u.1.1));
+  text = u;
+}
+finished_by (Refuse fault) rest valid last e within u h none found met =
+    (met.0, (take valid rest, drop valid rest, u.0, Ends, sym (take-append-drop valid rest), u.1, none, found))
 
 finished_of : (rest : List ℕ) (valid : ℕ) (last : Stage) → valid ≤ length rest → IsUtf8 (take valid rest) → scanned (take valid rest) BeforeCommand ≡ Reaches last → drop valid rest ≡ []
-    → IsNext true rest (Ok (last_command last valid))
-finished_of rest valid BeforeCommand within text h none =
-    let v : Verdict (Reaches BeforeCommand) BeforeCommand (take valid rest) = subst (λ s. Verdict s BeforeCommand (take valid rest)) h (verdict (take valid rest) BeforeCommand) in
-    (text.0, (text.1.0, text.1.1 ∙ all_taken valid rest none), spelled_nothing (first Ends text.0) (found_in (take valid rest) Ends Nothing text v.2))
-finished_of rest valid AfterBlank within text h none = last_of rest valid AfterBlank within text h none (λ e. cc) refl
-finished_of rest valid InWord within text h none = last_of rest valid InWord within text h none (λ e. cc) refl
-finished_of rest valid AfterDollar within text h none = last_of rest valid AfterDollar within text h none (λ e. cc) refl
-finished_of rest valid AfterColon within text h none = last_of rest valid AfterColon within text h none (λ e. cc) refl
+    → IsNext true rest (last_command last valid)
+finished_of rest valid last within u h none =
+    finished_by (last_step last).next rest valid last refl within u h none (text_reached (take valid rest) last u h).2 (met_at_end last)
 
 pub reached_of : (stop : TextStop) (finished : Bool) (rest : List ℕ) (valid : ℕ) (last : Stage) → valid ≤ length rest → IsUtf8 (take valid rest) → scanned (take valid rest) BeforeCommand ≡ Reaches last
     → StopsAs stop (drop valid rest) → IsNext finished rest (text_end stop finished last valid)
@@ -225,6 +207,47 @@ reached_of Broken finished rest valid last within text h stops = ((λ e. cc), br
 
 -- where no fault is met
 
+-- A text whose bytes are all at hand is no broken text.
+
+broken_last : (next : Next) (words : List (List ℕ)) → IsMetAtEnd next → at_last next words ≡ Fault NotUtf8 → ⊥
+broken_last (Go stage) words met h = cc
+broken_last End words met h = cc
+broken_last (Refuse fault) words met h = let same : fault ≡ NotUtf8 = cc in met.1 same
+
+broken_in : (scan : Scan) (cs : List ℕ) (e : Ending) → Verdict scan BeforeCommand cs → e ≢ Breaks → first e cs ≡ Fault NotUtf8 → ⊥
+broken_in (EndsAt n) cs e v whole h =
+    let found : first e cs ≡ Command (pieces_from (take n cs) BeforeCommand) (drop n cs) = ap (first e) (sym (take-append-drop n cs)) ∙ v.2 e (drop n cs) in
+    let no : Command (pieces_from (take n cs) BeforeCommand) (drop n cs) ≡ Fault NotUtf8 = sym found ∙ h in cc
+broken_in (Refused fault) cs e v whole h =
+    let found : Fault fault ≡ Fault NotUtf8 = sym (ap (first e) (sym (append-nil cs)) ∙ v.1 e []) ∙ h in
+    let same : fault ≡ NotUtf8 = cc in v.0.1 same
+broken_in (Reaches last) cs Ends v whole h = broken_last (last_step last).next (pieces_from cs BeforeCommand) (met_at_end last) (sym v.2 ∙ h)
+broken_in (Reaches last) cs Breaks v whole h = whole refl
+broken_in (Reaches last) cs Continues v whole h = let no : Open ≡ Fault NotUtf8 = sym v.0 ∙ h in cc
+
+-- what bytes that aren't UTF-8 would follow in a text
+cut_text : (cs ds back : List ℕ) → all_scalars ds ≡ true → encode_utf8_all cs ++ back ≡ encode_utf8_all ds → 0 < length back → StartsWithNoChar back → ⊥
+cut_text cs ds back scalars h some none = ⊎_elim
+    (λ g.
+    let nil = no_char_nil g.0 [] (scalars_split cs g.0 (ap all_scalars (sym g.1) ∙ scalars)).1 (subst StartsWithNoChar g.2 none) in
+    let empty : back ≡ [] = g.2 ∙ ap (λ l. encode_utf8_all l ++ []) nil in
+    let long = ap length empty in omega arith)
+    (λ g. let long = ap length g.2 in omega (arith, length-append (encode_utf8_all g.0) back))
+    (one_goes_on cs ds back [] (h ∙ sym (append-nil (encode_utf8_all ds))))
+
+not_broken_by : (e : Ending) (text : List ℕ) → IsUtf8 text → (front back cs : List ℕ) → text ≡ front ++ back → (all_scalars cs ≡ true) × (encode_utf8_all cs ≡ front) → Follows e back → first e cs ≡ Fault NotUtf8 → ⊥
+not_broken_by Ends text u front back cs split spells follows h = broken_in (scanned cs BeforeCommand) cs Ends (verdict cs BeforeCommand) (λ e. cc) h
+not_broken_by Breaks text u front back cs split spells follows h =
+    cut_text cs u.0 back u.1.0 (ap (λ l. l ++ back) spells.1 ∙ sym split ∙ sym u.1.1) follows.0 follows.1
+not_broken_by Continues text u front back cs split spells follows h = broken_in (scanned cs BeforeCommand) cs Continues (verdict cs BeforeCommand) (λ e. cc) h
+
+-- A text never meets the fault of broken bytes.
+text_not_broken : (text : List ℕ) → IsUtf8 text → ¬ MeetsFault text NotUtf8
+text_not_broken text u m = not_broken_by m.3 text u m.0 m.1 m.2 m.4 m.5 m.6 m.7
+
+one_fault : (bytes : List ℕ) (fault other : ScriptFault) → MeetsFault bytes fault → MeetsFault bytes other → fault ≡ other
+one_fault bytes fault other m n = let same = one_found bytes (Fault fault) (Fault other) (reads_fault bytes fault m) (reads_fault bytes other n) in cc
+
 -- What the end of the script ends is no fault.
 clear_by : (bytes : List ℕ) (found : Option ℕ) → IsNext true bytes (Ok found) → (fault : ScriptFault) → ¬ MeetsFault bytes fault
 clear_by bytes None none fault m =
@@ -233,46 +256,34 @@ clear_by bytes (Some n) k fault m =
     let no = one_found bytes (Command k.words (drop n bytes)) (Fault fault)
     (reads_before bytes (take n bytes) (drop n bytes) k.words (sym (take-append-drop n bytes)) k.is) (reads_fault bytes fault m) in cc
 
-clear : (text : List ℕ) (last : Stage) → IsUtf8 text → scanned text BeforeCommand ≡ Reaches last → (fault : ScriptFault) → ¬ MeetsFault text fault
-clear text last u h =
-    let all : take (length text) text ≡ text = take_all (length text) text (omega arith) in
-    clear_by text (last_command last (length text)) (finished_of text (length text) last (omega arith) (subst IsUtf8 (sym all) u)
-    (ap (λ l. scanned l BeforeCommand) all ∙ h) (drop_all (length text) text (omega arith)))
+clear_at_end : (next : Next) (rest : List ℕ) (valid : ℕ) → IsNext true rest (last_found next valid) → IfOk (last_found next valid) (λ found. IfNone found (HasNoFault true rest))
+clear_at_end (Go stage) rest valid h = clear_by rest None h
+clear_at_end End rest valid h = tt
+clear_at_end (Refuse fault) rest valid h = tt
 
--- One more character that isn't ASCII is no fault.
-clear_cut : (text : List ℕ) (last : Stage) (c : ℕ) → IsUtf8 text → scanned text BeforeCommand ≡ Reaches last → IsScalar c → 128 ≤ c → (fault : ScriptFault) → ¬ MeetsFault (text ++ encode_utf8 c) fault
-clear_cut text last c u h s high =
-    clear (text ++ encode_utf8 c) InWord (IsUtf8-append text (encode_utf8 c) u (IsUtf8-encode c s))
-    (scanned-append text (encode_utf8 c) BeforeCommand last h ∙ ap (later (length text)) (high_scanned c last high))
-
-one_front : (c : ℕ) (front more : List ℕ) → 0 < length front → c ∷ [] ≡ front ++ more → front ≡ c ∷ []
-one_front c [] more some h = absurd (omega arith)
-one_front c (b ∷ []) more some h = cc
-one_front c (b ∷ d ∷ front) more some h = cc
-
--- a character of which bytes that begin none are the front
-high_front : (c : ℕ) (front more : List ℕ) → IsScalar c → 0 < length front → StartsWithNoChar front → encode_utf8 c ≡ front ++ more → 128 ≤ c
-high_front c front more s some none h = ⊎_elim
-    (λ low. let one = encode_ascii c low in absurd (none c [] s (one_front c front more some (sym one ∙ h) ∙ ap (λ l. l ++ []) (sym one))))
-    (λ high. high)
-    (below_or c)
+-- A fault that comes however the bytes go on comes with each way to go on.
+clear_before : (rest text back : List ℕ) (fault : ScriptFault) → MeetsFault (rest ++ back) NotUtf8 → (more : List ℕ) → rest ++ more ≡ text → IsUtf8 text
+    → ((others : List ℕ) → MeetsFault (rest ++ others) fault) → ⊥
+clear_before rest text back fault broken more whole u met =
+    let same = one_fault (rest ++ back) fault NotUtf8 (met back) broken in
+    text_not_broken text u (subst (λ l. MeetsFault l NotUtf8) whole (subst (MeetsFault (rest ++ more)) same (met more)))
 
 pub no_fault_of : (stop : TextStop) (finished : Bool) (rest : List ℕ) (valid : ℕ) (last : Stage) → valid ≤ length rest → IsUtf8 (take valid rest) → scanned (take valid rest) BeforeCommand ≡ Reaches last
     → StopsAs stop (drop valid rest) → IfOk (text_end stop finished last valid) (λ found. IfNone found (HasNoFault finished rest))
-no_fault_of AtEnd true rest valid BeforeCommand within text h stops = clear_by rest None (finished_of rest valid BeforeCommand within text h stops)
-no_fault_of AtEnd true rest valid AfterBlank within text h stops = tt
-no_fault_of AtEnd true rest valid InWord within text h stops = tt
-no_fault_of AtEnd true rest valid AfterDollar within text h stops = tt
-no_fault_of AtEnd true rest valid AfterColon within text h stops = tt
+no_fault_of AtEnd true rest valid last within text h stops = clear_at_end (last_step last).next rest valid (finished_of rest valid last within text h stops)
 no_fault_of AtEnd false rest valid last within text h stops = λ fault met.
-    clear (take valid rest) last text h fault (subst (λ l. MeetsFault l fault) (append-nil rest ∙ sym (all_taken valid rest stops)) (met []))
+    let all = all_taken valid rest stops in
+    clear_before rest (take valid rest) (128 ∷ []) fault
+    (broken_fault (take valid rest) (128 ∷ []) (rest ++ 128 ∷ []) last text h (ap (λ l. l ++ 128 ∷ []) (sym all)) (omega arith) broken_byte)
+    [] (append-nil rest ∙ sym all) text met
 no_fault_of WithinCharacter true rest valid last within text h stops = tt
 no_fault_of WithinCharacter false rest valid last within text h stops = λ fault met.
     let c = stops.2.0 in
     let more = stops.2.1 in
     let whole : rest ++ more ≡ take valid rest ++ encode_utf8 c = split_at valid rest more ∙ ap (λ l. take valid rest ++ l) (sym stops.2.3) in
-    clear_cut (take valid rest) last c text h stops.2.2 (high_front c (drop valid rest) more stops.2.2 stops.0 stops.1 stops.2.3) fault
-    (subst (λ l. MeetsFault l fault) whole (met more))
+    clear_before rest (take valid rest ++ encode_utf8 c) [] fault
+    (subst (λ l. MeetsFault l NotUtf8) (sym (append-nil rest)) (broken_fault (take valid rest) (drop valid rest) rest last text h (sym (take-append-drop valid rest)) stops.0 stops.1))
+    more whole (IsUtf8-append (take valid rest) (encode_utf8 c) text (IsUtf8-encode c stops.2.2)) met
 no_fault_of Broken finished rest valid last within text h stops = tt
 
 -- the steps of the search for the next command
@@ -304,3 +315,9 @@ progress_reaches rest progress stage p h = record {
 
 pub stops_after : (rest slice : List ℕ) (valid n : ℕ) (stop : TextStop) → slice ≡ drop valid rest → StopsAs stop (drop n slice) → StopsAs stop (drop (valid + n) rest)
 stops_after rest slice valid n stop is h = subst (StopsAs stop) (ap (drop n) is ∙ drop-drop n valid rest) h
+
+-- no more braces are open than bytes were read
+pub progress_depth : (rest : List ℕ) (progress : Progress) → IsProgress rest progress → depth_of progress.stage ≤ progress.seen
+progress_depth rest progress p =
+    let depth = depth_reached (take progress.seen rest) BeforeCommand progress.stage p.reached in
+    omega (arith, length-take progress.seen rest)

@@ -1,8 +1,11 @@
-pub mod Stages
-pub mod Spelling
-pub mod Readings
 pub mod Broken
 pub mod Completion
+pub mod Stages
+pub mod Verdicts
+pub mod Spelling
+pub mod Readings
 pub mod Scans
 pub mod Finding
 pub mod Splitting
+pub mod Plain
+pub mod Writing

@@ -8,15 +8,17 @@ use Rattle.tcl_words.proofs.Completion.{completed}
 use Rattle.std.proofs.lemmas.Str.{encodes-append, IsUtf8-from_is_utf8, is_utf8-from_IsUtf8, IsUtf8-append, IsUtf8-encode, IsUtf8-nil, length-le-encodes}
 use Rattle.std.proofs.lemmas.Bool.Decides.{leb_tells}
 use Rattle.std.proofs.lemmas.List.{take_at}
-use Rattle.tcl_words.specs.ScriptGrammar.{Ending, Ends, Breaks, Continues, First, Command, Nothing, Fault, Open, first, Follows, MeetsFault, HoldsNothing, IsWholeCommand, IsCommandBefore, ReadsScript, ReadsFront}
+use Rattle.tcl_words.specs.ScriptGrammar.{Ending, Ends, Breaks, Continues, First, Command, Nothing, Fault, Open, read, first, Follows, MeetsFault, HoldsNothing, IsWholeCommand, IsCommandBefore, ReadsScript, ReadsFront}
 use Rattle.tcl_words.specs.Scanning.{scanned, pieces_from}
+use Rattle.tcl_words.specs.Steps.{last_step}
 use Rattle.tcl_words.specs.declared.fault.ScriptFault.{ScriptFault}
-use Rattle.tcl_words.specs.declared.fault.ScriptFault.TheVariants.{Substitution, NotUtf8}
-use Rattle.tcl_words.specs.declared.scanner.Stage.{Stage}
-use Rattle.tcl_words.specs.declared.scanner.Stage.TheVariants.{BeforeCommand, AfterBlank, InWord, AfterDollar, AfterColon}
+use Rattle.tcl_words.specs.declared.fault.ScriptFault.TheVariants.{NotUtf8}
+use Rattle.tcl_words.specs.declared.stage.Stage.TheVariants.{BeforeCommand}
+use Rattle.tcl_words.specs.declared.stage.Next.{Next}
+use Rattle.tcl_words.specs.declared.stage.Next.TheVariants.{Go, End, Refuse}
 use Rattle.tcl_words.specs.declared.scanner.Scan.{Scan}
 use Rattle.tcl_words.specs.declared.scanner.Scan.TheVariants.{EndsAt, Refused, Reaches}
-use Rattle.tcl_words.proofs.Stages.{place_of, at_end, Verdict, verdict}
+use Rattle.tcl_words.proofs.Verdicts.{at_last, Verdict, verdict}
 use Rattle.tcl_words.proofs.Spelling.{one_goes_on, no_char_nil, scalars_split, encode_not_nil, encode_some}
 
 -- what is found, with more characters after it
@@ -36,11 +38,11 @@ stays_by : (scan : Scan) (cs more : List ℕ) (e : Ending) → Verdict scan Befo
     → first e (cs ++ more) ≡ extended (first Continues cs) more
 stays_by (EndsAt n) cs more e v decided =
     let cut = take-append-drop n cs in
-    let found : first Continues cs ≡ Command (pieces_from (take n cs) (place_of BeforeCommand)) (drop n cs) = ap (first Continues) (sym cut) ∙ v.2 Continues (drop n cs) in
+    let found : first Continues cs ≡ Command (pieces_from (take n cs) BeforeCommand) (drop n cs) = ap (first Continues) (sym cut) ∙ v.2 Continues (drop n cs) in
     ap (λ l. first e (l ++ more)) (sym cut) ∙ ap (first e) (append_assoc (take n cs) (drop n cs) more) ∙ v.2 e (drop n cs ++ more)
     ∙ ap (λ x. extended x more) (sym found)
-stays_by Refused cs more e v decided =
-    v e more ∙ ap (λ x. extended x more) (sym (ap (first Continues) (sym (append-nil cs)) ∙ v Continues []))
+stays_by (Refused fault) cs more e v decided =
+    v.1 e more ∙ ap (λ x. extended x more) (sym (ap (first Continues) (sym (append-nil cs)) ∙ v.1 Continues []))
 stays_by (Reaches last) cs more e v decided = absurd (decided v.0)
 
 -- What the characters decide stays, however they go on.
@@ -289,7 +291,7 @@ front_of bytes =
 
 -- a command that the characters hold whole
 pub whole_at : (n : ℕ) (cs : List ℕ) → all_scalars cs ≡ true → Verdict (EndsAt n) BeforeCommand cs
-    → IsWholeCommand (pieces_from (take n cs) (place_of BeforeCommand)) (encode_utf8_all (take n cs))
+    → IsWholeCommand (pieces_from (take n cs) BeforeCommand) (encode_utf8_all (take n cs))
 whole_at n cs s v = (
   take n cs,
   ((scalars_split (take n cs) (drop n cs) (ap all_scalars (take-append-drop n cs) ∙ s)).0, refl),
@@ -300,15 +302,14 @@ abbrev pub Reading : List ℕ → Type 0
 Reading bytes = (commands : List (List (List ℕ))) × (fault : Option ScriptFault) × ReadsScript bytes commands fault
 
 nothing_left : HoldsNothing []
-unfolding first
+unfolding read
 nothing_left = ([], (refl, refl), refl)
 
-reading_at_end : (last : Stage) (bytes cs : List ℕ) (words : List (List ℕ)) → bytes ≡ encode_utf8_all cs → all_scalars cs ≡ true → first Ends cs ≡ at_end last words → Reading bytes
-reading_at_end BeforeCommand bytes cs words e s h = ([], None, (cs, (s, sym e), h))
-reading_at_end AfterBlank bytes cs words e s h = (words ∷ [], None, (bytes, [], sym (append-nil bytes), inr (refl, (cs, (s, sym e), h)), nothing_left))
-reading_at_end InWord bytes cs words e s h = (words ∷ [], None, (bytes, [], sym (append-nil bytes), inr (refl, (cs, (s, sym e), h)), nothing_left))
-reading_at_end AfterDollar bytes cs words e s h = (words ∷ [], None, (bytes, [], sym (append-nil bytes), inr (refl, (cs, (s, sym e), h)), nothing_left))
-reading_at_end AfterColon bytes cs words e s h = (words ∷ [], None, (bytes, [], sym (append-nil bytes), inr (refl, (cs, (s, sym e), h)), nothing_left))
+reading_at_end : (next : Next) (bytes cs : List ℕ) (words : List (List ℕ)) → bytes ≡ encode_utf8_all cs → all_scalars cs ≡ true → first Ends cs ≡ at_last next words → Reading bytes
+reading_at_end (Go stage) bytes cs words e s h = ([], None, (cs, (s, sym e), h))
+reading_at_end End bytes cs words e s h = (words ∷ [], None, (bytes, [], sym (append-nil bytes), inr (refl, (cs, (s, sym e), h)), nothing_left))
+reading_at_end (Refuse fault) bytes cs words e s h =
+    ([], Some fault, (bytes, [], cs, Ends, sym (append-nil bytes), (s, sym e), refl, h))
 
 reading_step : (scan : Scan) (bytes : List ℕ) (f : FrontOf bytes) → Verdict scan BeforeCommand f.characters
     → ((rest : List ℕ) → length rest < length bytes → Reading rest) → Reading bytes
@@ -321,13 +322,13 @@ reading_step (EndsAt n) bytes f v smaller =
     let some = v.1 in
     let long = v.0 in
     let after = smaller rest (omega (arith, ap length split, length-append used rest, length-le-encodes (take n f.characters), length-take n f.characters)) in
-    (pieces_from (take n f.characters) (place_of BeforeCommand) ∷ after.0, after.1, (used, rest, split, inl (whole_at n f.characters f.scalars v), after.2))
-reading_step Refused bytes f v smaller =
-    ([], Some Substitution, (encode_utf8_all f.characters, f.back, f.characters, f.ending, f.split, (f.scalars, refl), f.follows, ap (first f.ending) (sym (append-nil f.characters)) ∙ v f.ending []))
+    (pieces_from (take n f.characters) BeforeCommand ∷ after.0, after.1, (used, rest, split, inl (whole_at n f.characters f.scalars v), after.2))
+reading_step (Refused fault) bytes f v smaller =
+    ([], Some fault, (encode_utf8_all f.characters, f.back, f.characters, f.ending, f.split, (f.scalars, refl), f.follows, ap (first f.ending) (sym (append-nil f.characters)) ∙ v.1 f.ending []))
 reading_step (Reaches last) bytes f v smaller = ⊎_elim
     (λ ends.
     let none : f.back ≡ [] = subst (λ e. Follows e f.back) ends f.follows in
-    reading_at_end last bytes f.characters (pieces_from f.characters (place_of BeforeCommand)) (f.split ∙ ap (λ l. encode_utf8_all f.characters ++ l) none ∙ append-nil (encode_utf8_all f.characters)) f.scalars v.2)
+    reading_at_end (last_step last).next bytes f.characters (pieces_from f.characters BeforeCommand) (f.split ∙ ap (λ l. encode_utf8_all f.characters ++ l) none ∙ append-nil (encode_utf8_all f.characters)) f.scalars v.2)
     (λ breaks. ([], Some NotUtf8, (encode_utf8_all f.characters, f.back, f.characters, Breaks, f.split, (f.scalars, refl), subst (λ e. Follows e f.back) breaks f.follows, v.1)))
     f.sure
 

@@ -1,20 +1,33 @@
 -- Characters and their bytes in UTF-8.
-use Rattle.std.proofs.Common.{◌≡◌, ℕ, ◌<◌, ◌≤◌, ◌⊎◌, inl, inr, ⊎_elim, Bool, true, false, cond, ◌&&◌, ltb, List, [], ◌∷◌, ◌++◌, map, length, encode_utf8, encode_utf8_all, refl, sym, ap, ◌∙◌, arith, append_assoc, true≢false, length-append}
+use Rattle.std.proofs.Common.{◌≡◌, ℕ, suc, ◌+◌, ◌<◌, ◌≤◌, ◌⊎◌, inl, inr, ⊎_elim, Bool, true, false, cond, ◌==◌, ◌||◌, ◌&&◌, ltb, List, [], ◌∷◌, ◌++◌, length, take, encode_utf8, encode_utf8_all, refl, sym, ap, ◌∙◌, arith, append_assoc, append-nil, add_assoc, true≢false, length-append, one-add}
 use Rattle.std.specs.Bool.{⊤}
+use Rattle.std.specs.Char.{is_digit}
 use Rattle.std.specs.Str.{all_scalars, StartsWithNoChar}
 use lib.Utf8.{scalar, encode}
 use Rattle.std.proofs.lemmas.Bool.Decides.{nat_tests, leb_tells}
 use Rattle.std.proofs.lemmas.Str.{encode_ascii, encode_same, length-encode, len_utf8_bounds}
-use Rattle.tcl_words.specs.ScriptGrammar.{Ending, Ends, Breaks, Continues, First, Command, Nothing, Fault, Open, Place, Between, Inside, onto_word, words_from, first}
-use Rattle.tcl_words.specs.Scanning.{is_separator, step_of, later, scan_step, scanned}
-use Rattle.tcl_words.specs.declared.fault.ScriptFault.{ScriptFault}
-use Rattle.tcl_words.specs.declared.fault.ScriptFault.TheVariants.{Substitution}
-use Rattle.tcl_words.specs.declared.scanner.Stage.{Stage}
-use Rattle.tcl_words.specs.declared.scanner.Stage.TheVariants.{BeforeCommand, AfterBlank, InWord, AfterDollar, AfterColon}
-use Rattle.tcl_words.specs.declared.scanner.Step.{Step}
-use Rattle.tcl_words.specs.declared.scanner.Step.TheVariants.{Go, End, Refuse}
-use Rattle.tcl_words.specs.declared.scanner.Scan.TheVariants.{Reaches}
-use Rattle.tcl_words.proofs.Stages.{from, place_of, put, arrive, from-step, scanned-nil, scanned-cons}
+use Rattle.tcl_words.specs.Characters.{is_end, is_blank, begins_name}
+use Rattle.tcl_words.specs.Escapes.{joins}
+use Rattle.tcl_words.specs.EscapeSteps.{base_of, limit_of, is_gap, is_letter, escape_step}
+use Rattle.tcl_words.specs.Steps.{fault_behind, text_step, inside_step, word_step, braced_step, step_by, step_of}
+use Rattle.tcl_words.specs.Scanning.{later, scan_next, scanned}
+use Rattle.tcl_words.specs.declared.fault.ScriptFault.TheVariants.{BadCharacterCode}
+use Rattle.tcl_words.specs.declared.escapes.Radix.{Radix}
+use Rattle.tcl_words.specs.declared.escapes.Radix.TheVariants.{Octal, Hexadecimal}
+use Rattle.tcl_words.specs.declared.escapes.EscapeStage.{EscapeStage}
+use Rattle.tcl_words.specs.declared.escapes.EscapeStage.TheVariants.{Backslash, Letter, Digits, Gap}
+use Rattle.tcl_words.specs.declared.escapes.EscapeStep.{EscapeStep}
+use Rattle.tcl_words.specs.declared.escapes.EscapeStep.TheVariants as escape_steps
+use Rattle.tcl_words.specs.declared.stage.TextWord.{TextWord}
+use Rattle.tcl_words.specs.declared.stage.TextWord.TheVariants.{Bare, Quoted}
+use Rattle.tcl_words.specs.declared.stage.Stage.{Stage}
+use Rattle.tcl_words.specs.declared.stage.Stage.TheVariants as stages
+use Rattle.tcl_words.specs.declared.stage.Next.{Next}
+use Rattle.tcl_words.specs.declared.stage.Next.TheVariants.{Go, End, Refuse}
+use Rattle.tcl_words.specs.declared.stage.Step.{Step}
+use Rattle.tcl_words.specs.declared.scanner.Scan.{Scan}
+use Rattle.tcl_words.specs.declared.scanner.Scan.TheVariants.{EndsAt, Refused, Reaches}
+use Rattle.tcl_words.proofs.Verdicts.{scanned-nil, scanned-cons}
 
 pub both : (x y : Bool) → (x && y) ≡ true → (x ≡ true) × (y ≡ true)
 both true y h = (refl, h)
@@ -60,45 +73,6 @@ no_char_nil [] t s h = refl
 no_char_nil (c ∷ more) t s h =
     absurd (h c (encode_utf8_all more ++ t) (both (scalar c) (all_scalars more) s).0 (append_assoc (encode_utf8 c) (encode_utf8_all more) t))
 
--- what is found, with each character in its bytes
-abbrev pub spelled : First → First
-spelled (Command words rest) = Command (map encode_utf8_all words) (encode_utf8_all rest)
-spelled Nothing = Nothing
-spelled (Fault fault) = Fault fault
-spelled Open = Open
-
--- bytes go onto the first word
-abbrev onto_all : List ℕ → First → First
-onto_all [] found = found
-onto_all (b ∷ bs) found = onto_word b (onto_all bs found)
-
-onto_all_word : (bs word : List ℕ) (words : List (List ℕ)) (rest : List ℕ) → onto_all bs (Command (word ∷ words) rest) ≡ Command ((bs ++ word) ∷ words) rest
-onto_all_word [] word words rest = refl
-onto_all_word (b ∷ bs) word words rest = ap (onto_word b) (onto_all_word bs word words rest)
-
-onto_all_none : (bs rest : List ℕ) → onto_all bs (Command [] rest) ≡ Command [] rest
-onto_all_none [] rest = refl
-onto_all_none (b ∷ bs) rest = ap (onto_word b) (onto_all_none bs rest)
-
-onto_all_nothing : (bs : List ℕ) → onto_all bs Nothing ≡ Nothing
-onto_all_nothing [] = refl
-onto_all_nothing (b ∷ bs) = ap (onto_word b) (onto_all_nothing bs)
-
-onto_all_fault : (bs : List ℕ) (fault : ScriptFault) → onto_all bs (Fault fault) ≡ Fault fault
-onto_all_fault [] fault = refl
-onto_all_fault (b ∷ bs) fault = ap (onto_word b) (onto_all_fault bs fault)
-
-onto_all_open : (bs : List ℕ) → onto_all bs Open ≡ Open
-onto_all_open [] = refl
-onto_all_open (b ∷ bs) = ap (onto_word b) (onto_all_open bs)
-
-onto_all_spelled : (c : ℕ) (found : First) → onto_all (encode_utf8 c) (spelled found) ≡ spelled (onto_word c found)
-onto_all_spelled c (Command [] rest) = onto_all_none (encode_utf8 c) (encode_utf8_all rest)
-onto_all_spelled c (Command (word ∷ words) rest) = onto_all_word (encode_utf8 c) (encode_utf8_all word) (map encode_utf8_all words) (encode_utf8_all rest)
-onto_all_spelled c Nothing = onto_all_nothing (encode_utf8 c)
-onto_all_spelled c (Fault fault) = onto_all_fault (encode_utf8 c) fault
-onto_all_spelled c Open = onto_all_open (encode_utf8 c)
-
 -- numbers that are not ASCII
 abbrev AllHigh : List ℕ → Type 0
 AllHigh [] = ⊤
@@ -115,97 +89,267 @@ encode_high c h =
     rw no (cond_high (ltb c 2048) _ _ (omega arith, (omega arith, tt))
     (cond_high (ltb c 65536) _ _ (omega arith, (omega arith, (omega arith, tt))) (omega arith, (omega arith, (omega arith, (omega arith, tt))))))
 
-high_separator : (c : ℕ) → 128 ≤ c → is_separator c ≡ false
-high_separator c h = grind (arith, nat_tests)
-
-high_step : (stage : Stage) (c : ℕ) → 128 ≤ c → step_of stage c ≡ Go InWord
-high_step BeforeCommand c h = grind (arith, nat_tests)
-high_step AfterBlank c h = grind (arith, nat_tests)
-high_step InWord c h = grind (arith, nat_tests)
-high_step AfterDollar c h = grind (arith, nat_tests)
-high_step AfterColon c h = grind (arith, nat_tests)
-
 pub below_or : (c : ℕ) → (c < 128) ⊎ (128 ≤ c)
 below_or c = ⊎_elim (λ h. inr h.1) (λ h. inl h.1) (leb_tells 128 c)
 
-high_one : (stage : Stage) (e : Ending) (c : ℕ) (cs : List ℕ) → 128 ≤ c → from stage e (c ∷ cs) ≡ onto_word c (from InWord e cs)
-high_one stage e c cs h =
-    from-step stage e c cs
-    ∙ ap (λ sep. put (place_of stage) sep c (arrive (step_of stage c) (λ next. from next e cs) cs)) (high_separator c h)
-    ∙ ap (λ step. onto_word c (arrive step (λ next. from next e cs) cs)) (high_step stage c h)
+-- The bytes of a character that isn't ASCII are ordinary.
 
-high_bytes : (stage : Stage) (e : Ending) (b : ℕ) (bs cs : List ℕ) → AllHigh (b ∷ bs) → from stage e ((b ∷ bs) ++ cs) ≡ onto_all (b ∷ bs) (from InWord e cs)
-high_bytes stage e b [] cs h = high_one stage e b cs h.0
-high_bytes stage e b (b' ∷ bs) cs h = high_one stage e b ((b' ∷ bs) ++ cs) h.0 ∙ ap (onto_word b) (high_bytes InWord e b' bs cs h.1)
+-- where such a byte leads
+abbrev settles : Stage → Next
+settles stages.BeforeCommand = Go (stages.Text Bare)
+settles stages.CommandBackslash = Go (stages.Text Bare)
+settles stages.Comment = Go stages.Comment
+settles stages.CommentBackslash = Go stages.Comment
+settles stages.BeforeWord = Go (stages.Text Bare)
+settles stages.WordBackslash = Go (stages.Text Bare)
+settles stages.BareBackslash = Go (stages.Text Bare)
+settles (stages.Text word) = Go (stages.Text word)
+settles (stages.AfterDollar word) = Go (stages.Text word)
+settles (stages.AfterColon word) = Go (stages.Text word)
+settles (stages.Escaped word Backslash) = Go (stages.Text word)
+settles (stages.Escaped word (Letter letter more)) = Go (stages.Text word)
+settles (stages.Escaped word (Digits radix value more)) = cond (scalar value) (Go (stages.Text word)) (Refuse BadCharacterCode)
+settles (stages.Escaped word Gap) = Go (stages.Text word)
+settles stages.AfterOpening = Go (stages.Braced 0)
+settles stages.AfterStar = Go (stages.Braced 0)
+settles (stages.Braced depth) = Go (stages.Braced depth)
+settles (stages.BracedBackslash depth) = Go (stages.Braced depth)
+settles (stages.BracedGap depth) = Go (stages.Braced depth)
+settles (stages.Behind closing) = Refuse (fault_behind closing)
+settles (stages.BehindBackslash closing) = Refuse (fault_behind closing)
 
-high_some : (stage : Stage) (e : Ending) (bs cs : List ℕ) → 0 < length bs → AllHigh bs → from stage e (bs ++ cs) ≡ onto_all bs (from InWord e cs)
-high_some stage e [] cs some h = absurd (omega arith)
-high_some stage e (b ∷ bs) cs some h = high_bytes stage e b bs cs h
+-- a test that such a byte doesn't pass
+skip_if : (test : Bool) (s t : Step) (next : Next) → test ≡ false → t.next ≡ next → (cond test s t).next ≡ next
+skip_if true s t next h k = absurd (true≢false h)
+skip_if false s t next h k = k
 
-high_scan : (b : ℕ) (bs : List ℕ) (stage : Stage) → AllHigh (b ∷ bs) → scanned (b ∷ bs) stage ≡ Reaches InWord
-high_scan b [] stage h =
-    scanned-cons b [] stage ∙ ap (λ step. scan_step step (scanned [])) (high_step stage b h.0) ∙ ap (later 1) (scanned-nil InWord)
-high_scan b (b' ∷ bs) stage h =
-    scanned-cons b (b' ∷ bs) stage ∙ ap (λ step. scan_step step (scanned (b' ∷ bs))) (high_step stage b h.0) ∙ ap (later 1) (high_scan b' bs InWord h.1)
+other : (c d : ℕ) → 128 ≤ c → d < 128 → (c == d) ≡ false
+other c d h k = grind (arith, nat_tests)
 
-high_scan_some : (bs : List ℕ) (stage : Stage) → 0 < length bs → AllHigh bs → scanned bs stage ≡ Reaches InWord
-high_scan_some [] stage some h = absurd (omega arith)
-high_scan_some (b ∷ bs) stage some h = high_scan b bs stage h
+no_end : (c : ℕ) → 128 ≤ c → is_end c ≡ false
+no_end c h = grind (arith, nat_tests)
 
--- a scan over a character that isn't ASCII
-pub high_scanned : (c : ℕ) (stage : Stage) → 128 ≤ c → scanned (encode_utf8 c) stage ≡ Reaches InWord
-high_scanned c stage h = high_scan_some (encode_utf8 c) stage (let bounds = len_utf8_bounds c in omega (arith, length-encode c)) (encode_high c h)
+no_blank : (c : ℕ) → 128 ≤ c → is_blank c ≡ false
+no_blank c h = grind (arith, nat_tests)
 
-put_spelled : (place : Place) (sep : Bool) (c : ℕ) (found : First) → encode_utf8 c ≡ c ∷ [] → put place sep c (spelled found) ≡ spelled (put place sep c found)
-put_spelled Between true c found h = refl
-put_spelled Inside true c (Command words rest) h = refl
-put_spelled Inside true c Nothing h = refl
-put_spelled Inside true c (Fault fault) h = refl
-put_spelled Inside true c Open h = refl
-put_spelled place false c (Command [] rest) h = refl
-put_spelled place false c (Command (word ∷ words) rest) h =
-    ap (λ l. Command ((l ++ encode_utf8_all word) ∷ map encode_utf8_all words) (encode_utf8_all rest)) (sym h)
-put_spelled place false c Nothing h = refl
-put_spelled place false c (Fault fault) h = refl
-put_spelled place false c Open h = refl
+no_separator : (c : ℕ) → 128 ≤ c → (is_end c || is_blank c) ≡ false
+no_separator c h = grind (arith, nat_tests)
 
-low_step : (step : Step) (place : Place) (sep : Bool) (e : Ending) (c : ℕ) (cs : List ℕ) → encode_utf8 c ≡ c ∷ []
-    → ((next : Stage) → from next e (encode_utf8_all cs) ≡ spelled (from next e cs))
-    → put place sep c (arrive step (λ next. from next e (encode_utf8_all cs)) (encode_utf8_all cs)) ≡ spelled (put place sep c (arrive step (λ next. from next e cs) cs))
-low_step (Go next) place sep e c cs h rest = ap (put place sep c) (rest next) ∙ put_spelled place sep c (from next e cs) h
-low_step End place sep e c cs h rest = put_spelled place sep c (Command [] cs) h
-low_step Refuse place sep e c cs h rest = put_spelled place sep c (Fault Substitution) h
+no_gap : (c : ℕ) → 128 ≤ c → is_gap c ≡ false
+no_gap c h = grind (arith, nat_tests)
 
-from_end : (stage : Stage) (e : Ending) → from stage e [] ≡ spelled (from stage e [])
-unfolding first words_from
-from_end BeforeCommand Ends = refl
-from_end BeforeCommand Breaks = refl
-from_end BeforeCommand Continues = refl
-from_end AfterBlank Ends = refl
-from_end AfterBlank Breaks = refl
-from_end AfterBlank Continues = refl
-from_end InWord Ends = refl
-from_end InWord Breaks = refl
-from_end InWord Continues = refl
-from_end AfterDollar Ends = refl
-from_end AfterDollar Breaks = refl
-from_end AfterDollar Continues = refl
-from_end AfterColon Ends = refl
-from_end AfterColon Breaks = refl
-from_end AfterColon Continues = refl
+no_name : (c : ℕ) → 128 ≤ c → begins_name c ≡ false
+no_name c h = grind (arith, nat_tests)
 
--- The bytes hold what their characters hold.
-pub from_spelled : (cs : List ℕ) (stage : Stage) (e : Ending) → from stage e (encode_utf8_all cs) ≡ spelled (from stage e cs)
-from_spelled [] stage e = from_end stage e
-from_spelled (c ∷ cs) stage e = ⊎_elim
+no_letter : (c : ℕ) → 128 ≤ c → is_letter c ≡ false
+no_letter c h = grind (arith, nat_tests)
+
+no_digit : (c radix : ℕ) → 128 ≤ c → radix ≤ 16 → is_digit c radix ≡ false
+no_digit c radix h k = grind (arith, nat_tests)
+
+high_text : (word : TextWord) (c : ℕ) → 128 ≤ c → (text_step word c).next ≡ Go (stages.Text word)
+high_text word c h =
+    skip_if (c == 91) _ _ _ (other c 91 h (omega arith)) (skip_if (c == 36) _ _ _ (other c 36 h (omega arith)) (skip_if (c == 92) _ _ _ (other c 92 h (omega arith)) refl))
+
+high_inside : (word : TextWord) (c : ℕ) → 128 ≤ c → (inside_step word c).next ≡ Go (stages.Text word)
+high_inside Bare c h =
+    skip_if (is_end c) _ _ _ (no_end c h) (skip_if (is_blank c) _ _ _ (no_blank c h) (skip_if (c == 92) _ _ _ (other c 92 h (omega arith)) (high_text Bare c h)))
+high_inside Quoted c h = skip_if (c == 34) _ _ _ (other c 34 h (omega arith)) (high_text Quoted c h)
+
+high_word : (c : ℕ) → 128 ≤ c → (word_step c).next ≡ Go (stages.Text Bare)
+high_word c h =
+    skip_if (is_end c) _ _ _ (no_end c h) (skip_if (is_blank c) _ _ _ (no_blank c h) (skip_if (c == 92) _ _ _ (other c 92 h (omega arith))
+    (skip_if (c == 123) _ _ _ (other c 123 h (omega arith)) (skip_if (c == 34) _ _ _ (other c 34 h (omega arith)) (high_text Bare c h)))))
+
+high_braced : (depth c : ℕ) → 128 ≤ c → (braced_step depth c).next ≡ Go (stages.Braced depth)
+high_braced depth c h =
+    skip_if (c == 125) _ _ _ (other c 125 h (omega arith)) (skip_if (c == 123) _ _ _ (other c 123 h (omega arith)) (skip_if (c == 92) _ _ _ (other c 92 h (omega arith)) refl))
+
+skip_escape : (word : TextWord) (c : ℕ) (test : Bool) (s t : EscapeStep) (next : Next) → test ≡ false → (step_by word c t).next ≡ next → (step_by word c (cond test s t)).next ≡ next
+skip_escape word c true s t next h k = absurd (true≢false h)
+skip_escape word c false s t next h k = k
+
+before_next : (test : Bool) (word : TextWord) (value c : ℕ) → (inside_step word c).next ≡ Go (stages.Text word)
+    → (step_by word c (cond test (escape_steps.Before value) escape_steps.NoCharacter)).next ≡ cond test (Go (stages.Text word)) (Refuse BadCharacterCode)
+before_next true word value c h = h
+before_next false word value c h = refl
+
+no_joining : (digit fits : Bool) → digit ≡ false → (digit && fits) ≡ false
+no_joining true fits h = absurd (true≢false h)
+no_joining false fits h = refl
+
+base_low : (radix : Radix) → base_of radix ≤ 16
+base_low Octal = omega arith
+base_low Hexadecimal = omega arith
+
+high_escape : (word : TextWord) (stage : EscapeStage) (c : ℕ) → 128 ≤ c → (step_by word c (escape_step stage c)).next ≡ settles (stages.Escaped word stage)
+high_escape word Backslash c h =
+    skip_escape word c (is_digit c 8) _ _ _ (no_digit c 8 h (omega arith)) (skip_escape word c (c == 120) _ _ _ (other c 120 h (omega arith))
+    (skip_escape word c (c == 117) _ _ _ (other c 117 h (omega arith)) (skip_escape word c (c == 85) _ _ _ (other c 85 h (omega arith))
+    (skip_escape word c (c == 10) _ _ _ (other c 10 h (omega arith)) (skip_escape word c (is_letter c) _ _ _ (no_letter c h) refl)))))
+high_escape word (Letter letter more) c h = skip_escape word c (is_digit c 16) _ _ _ (no_digit c 16 h (omega arith)) (high_inside word c h)
+high_escape word (Digits radix value more) c h =
+    skip_escape word c (joins (base_of radix) (limit_of radix) value c) _ _ _ (no_joining (is_digit c (base_of radix)) _ (no_digit c (base_of radix) h (base_low radix)))
+    (before_next (scalar value) word value c (high_inside word c h))
+high_escape word Gap c h = skip_escape word c (is_gap c) _ _ _ (no_gap c h) (high_inside word c h)
+
+high_step : (stage : Stage) (c : ℕ) → 128 ≤ c → (step_of stage c).next ≡ settles stage
+high_step stages.BeforeCommand c h =
+    skip_if (is_end c || is_blank c) _ _ _ (no_separator c h) (skip_if (c == 92) _ _ _ (other c 92 h (omega arith)) (skip_if (c == 35) _ _ _ (other c 35 h (omega arith)) (high_word c h)))
+high_step stages.CommandBackslash c h = skip_if (c == 10) _ _ _ (other c 10 h (omega arith)) (high_escape Bare Backslash c h)
+high_step stages.Comment c h = skip_if (c == 10) _ _ _ (other c 10 h (omega arith)) (skip_if (c == 92) _ _ _ (other c 92 h (omega arith)) refl)
+high_step stages.CommentBackslash c h = refl
+high_step stages.BeforeWord c h = high_word c h
+high_step stages.WordBackslash c h = skip_if (c == 10) _ _ _ (other c 10 h (omega arith)) (high_escape Bare Backslash c h)
+high_step stages.BareBackslash c h = skip_if (c == 10) _ _ _ (other c 10 h (omega arith)) (high_escape Bare Backslash c h)
+high_step (stages.Text word) c h = high_inside word c h
+high_step (stages.AfterDollar word) c h = skip_if (begins_name c) _ _ _ (no_name c h) (skip_if (c == 58) _ _ _ (other c 58 h (omega arith)) (high_inside word c h))
+high_step (stages.AfterColon word) c h = skip_if (c == 58) _ _ _ (other c 58 h (omega arith)) (high_inside word c h)
+high_step (stages.Escaped word stage) c h = high_escape word stage c h
+high_step stages.AfterOpening c h = skip_if (c == 42) _ _ _ (other c 42 h (omega arith)) (high_braced 0 c h)
+high_step stages.AfterStar c h = skip_if (c == 125) _ _ _ (other c 125 h (omega arith)) (high_braced 0 c h)
+high_step (stages.Braced depth) c h = high_braced depth c h
+high_step (stages.BracedBackslash depth) c h = skip_if (c == 10) _ _ _ (other c 10 h (omega arith)) refl
+high_step (stages.BracedGap depth) c h = skip_if (is_gap c) _ _ _ (no_gap c h) (high_braced depth c h)
+high_step (stages.Behind closing) c h =
+    skip_if (is_end c) _ _ _ (no_end c h) (skip_if (is_blank c) _ _ _ (no_blank c h) (skip_if (c == 92) _ _ _ (other c 92 h (omega arith)) refl))
+high_step (stages.BehindBackslash closing) c h = skip_if (c == 10) _ _ _ (other c 10 h (omega arith)) refl
+
+-- such a byte leads on to where it leads from
+abbrev Stays : Next → Type 0
+Stays (Go stage) = settles stage ≡ Go stage
+Stays End = ⊥
+Stays (Refuse fault) = ⊤
+
+stays_or : (test : Bool) (word : TextWord) → Stays (cond test (Go (stages.Text word)) (Refuse BadCharacterCode))
+stays_or true word = refl
+stays_or false word = tt
+
+stays : (stage : Stage) → Stays (settles stage)
+stays stages.BeforeCommand = refl
+stays stages.CommandBackslash = refl
+stays stages.Comment = refl
+stays stages.CommentBackslash = refl
+stays stages.BeforeWord = refl
+stays stages.WordBackslash = refl
+stays stages.BareBackslash = refl
+stays (stages.Text word) = refl
+stays (stages.AfterDollar word) = refl
+stays (stages.AfterColon word) = refl
+stays (stages.Escaped word Backslash) = refl
+stays (stages.Escaped word (Letter letter more)) = refl
+stays (stages.Escaped word (Digits radix value more)) = stays_or (scalar value) word
+stays (stages.Escaped word Gap) = refl
+stays stages.AfterOpening = refl
+stays stages.AfterStar = refl
+stays (stages.Braced depth) = refl
+stays (stages.BracedBackslash depth) = refl
+stays (stages.BracedGap depth) = refl
+stays (stages.Behind closing) = tt
+stays (stages.BehindBackslash closing) = tt
+
+-- a scan over such bytes
+
+pub later-later : (n m : ℕ) (scan : Scan) → later n (later m scan) ≡ later (n + m) scan
+later-later n m (EndsAt k) = ap EndsAt (sym (add_assoc n m k))
+later-later n m (Refused fault) = refl
+later-later n m (Reaches stage) = refl
+
+pub later-zero : (scan : Scan) → later 0 scan ≡ scan
+later-zero (EndsAt k) = let e : 0 + k ≡ k = omega arith in ap EndsAt e
+later-zero (Refused fault) = refl
+later-zero (Reaches stage) = refl
+
+high_more : (bs rest : List ℕ) (stage : Stage) → AllHigh bs → settles stage ≡ Go stage → scanned (bs ++ rest) stage ≡ later (length bs) (scanned rest stage)
+high_more [] rest stage h k = sym (later-zero (scanned rest stage))
+high_more (b ∷ bs) rest stage h k =
+    scanned-cons b (bs ++ rest) stage ∙ ap (λ next. scan_next next (scanned (bs ++ rest))) (high_step stage b h.0 ∙ k)
+    ∙ ap (later 1) (high_more bs rest stage h.1 k) ∙ later-later 1 (length bs) (scanned rest stage)
+    ∙ ap (λ n. later n (scanned rest stage)) (let e : 1 + length bs ≡ suc (length bs) = omega arith in e)
+
+-- the scan from a character on, of so many bytes
+abbrev wide_next : ℕ → Next → (Stage → Scan) → Scan
+wide_next n (Go stage) after = later n (after stage)
+wide_next n End after = EndsAt n
+wide_next n (Refuse fault) after = Refused fault
+
+high_by : (next : Next) (b : ℕ) (bs rest : List ℕ) → AllHigh bs → Stays next
+    → scan_next next (scanned (bs ++ rest)) ≡ wide_next (length (b ∷ bs)) next (scanned rest)
+high_by (Go stage) b bs rest h k =
+    ap (later 1) (high_more bs rest stage h k) ∙ later-later 1 (length bs) (scanned rest stage)
+    ∙ ap (λ n. later n (scanned rest stage)) (let e : 1 + length bs ≡ suc (length bs) = omega arith in e)
+high_by End b bs rest h k = absurd k
+high_by (Refuse fault) b bs rest h k = refl
+
+high_some : (bs rest : List ℕ) (stage : Stage) → 0 < length bs → AllHigh bs → scanned (bs ++ rest) stage ≡ wide_next (length bs) (settles stage) (scanned rest)
+high_some [] rest stage some h = absurd (omega arith)
+high_some (b ∷ bs) rest stage some h =
+    scanned-cons b (bs ++ rest) stage ∙ ap (λ next. scan_next next (scanned (bs ++ rest))) (high_step stage b h.0)
+    ∙ high_by (settles stage) b bs rest h.1 (stays stage)
+
+wide_one : (next : Next) (after : Stage → Scan) → scan_next next after ≡ wide_next 1 next after
+wide_one (Go stage) after = refl
+wide_one End after = refl
+wide_one (Refuse fault) after = refl
+
+-- a scan of a character's bytes
+scan_char : (c : ℕ) (rest : List ℕ) (stage : Stage) → scanned (encode_utf8 c ++ rest) stage ≡ wide_next (length (encode_utf8 c)) (step_of stage c).next (scanned rest)
+scan_char c rest stage = ⊎_elim
     (λ low. let one = encode_ascii c low in
-    ap (λ l. from stage e (l ++ encode_utf8_all cs)) one
-    ∙ from-step stage e c (encode_utf8_all cs)
-    ∙ low_step (step_of stage c) (place_of stage) (is_separator c) e c cs one (λ next. from_spelled cs next e)
-    ∙ ap spelled (sym (from-step stage e c cs)))
+    ap (λ l. scanned (l ++ rest) stage) one ∙ scanned-cons c rest stage ∙ wide_one (step_of stage c).next (scanned rest)
+    ∙ ap (λ l. wide_next (length l) (step_of stage c).next (scanned rest)) (sym one))
     (λ high.
-    high_some stage e (encode_utf8 c) (encode_utf8_all cs) (let bounds = len_utf8_bounds c in omega (arith, length-encode c)) (encode_high c high)
-    ∙ ap (onto_all (encode_utf8 c)) (from_spelled cs InWord e)
-    ∙ onto_all_spelled c (from InWord e cs)
-    ∙ ap spelled (sym (high_one stage e c cs high)))
+    high_some (encode_utf8 c) rest stage (let bounds = len_utf8_bounds c in omega (arith, length-encode c)) (encode_high c high)
+    ∙ ap (λ next. wide_next (length (encode_utf8 c)) next (scanned rest)) (sym (high_step stage c high)))
+    (below_or c)
+
+-- the scan of the characters, as one of their bytes
+abbrev pub widened : Scan → List ℕ → Scan
+widened (EndsAt n) cs = EndsAt (length (encode_utf8_all (take n cs)))
+widened (Refused fault) cs = Refused fault
+widened (Reaches stage) cs = Reaches stage
+
+wide_later : (c : ℕ) (cs : List ℕ) (scan : Scan) → later (length (encode_utf8 c)) (widened scan cs) ≡ widened (later 1 scan) (c ∷ cs)
+wide_later c cs (EndsAt n) =
+    rw (one-add n) (ap EndsAt (sym (length-append (encode_utf8 c) (encode_utf8_all (take n cs)))))
+wide_later c cs (Refused fault) = refl
+wide_later c cs (Reaches stage) = refl
+
+wide_step : (next : Next) (c : ℕ) (cs : List ℕ) → ((stage : Stage) → scanned (encode_utf8_all cs) stage ≡ widened (scanned cs stage) cs)
+    → wide_next (length (encode_utf8 c)) next (scanned (encode_utf8_all cs)) ≡ widened (scan_next next (scanned cs)) (c ∷ cs)
+wide_step (Go stage) c cs rest = ap (later (length (encode_utf8 c))) (rest stage) ∙ wide_later c cs (scanned cs stage)
+wide_step End c cs rest = ap EndsAt (ap length (sym (append-nil (encode_utf8 c))))
+wide_step (Refuse fault) c cs rest = refl
+
+-- The scan of bytes is that of their characters.
+pub scan_widened : (cs : List ℕ) (stage : Stage) → scanned (encode_utf8_all cs) stage ≡ widened (scanned cs stage) cs
+scan_widened [] stage = scanned-nil stage ∙ ap (λ scan. widened scan []) (sym (scanned-nil stage))
+scan_widened (c ∷ cs) stage =
+    scan_char c (encode_utf8_all cs) stage ∙ wide_step (step_of stage c).next c cs (λ next. scan_widened cs next)
+    ∙ ap (λ scan. widened scan (c ∷ cs)) (sym (scanned-cons c cs stage))
+
+-- A byte that begins no character: 128.
+
+abbrev HighHead : List ℕ → Type 0
+HighHead [] = ⊤
+HighHead (b ∷ bs) = 192 ≤ b
+
+head_if : (test : Bool) (xs ys : List ℕ) → HighHead xs → HighHead ys → HighHead (cond test xs ys)
+head_if true xs ys p q = p
+head_if false xs ys p q = q
+
+high_head : (c : ℕ) → 128 ≤ c → HighHead (encode c)
+unfolding encode
+high_head c h =
+    let no : ltb c 128 ≡ false = grind (arith, nat_tests) in
+    rw no (head_if (ltb c 2048) _ _ (omega arith) (head_if (ltb c 65536) _ _ (omega arith) (omega arith)))
+
+no_high_head : (bs rest : List ℕ) → 0 < length bs → HighHead bs → 128 ∷ [] ≡ bs ++ rest → ⊥
+no_high_head [] rest some h e = omega arith
+no_high_head (b ∷ bs) rest some h e = let same : 128 ≡ b = cc in omega arith
+
+pub broken_byte : StartsWithNoChar (128 ∷ [])
+broken_byte c rest s e = ⊎_elim
+    (λ low. let one = e ∙ ap (λ l. l ++ rest) (encode_ascii c low) in let same : 128 ≡ c = cc in omega arith)
+    (λ high. no_high_head (encode_utf8 c) rest (let bounds = len_utf8_bounds c in omega (arith, length-encode c)) (high_head c high) e)
     (below_or c)

@@ -1,18 +1,19 @@
 -- What the splitter takes from the bytes not yet given.
-use Rattle.std.proofs.Common.{◌≡◌, ℕ, ◌+◌, ◌-◌, ◌<◌, ◌≤◌, ◌||◌, inl, inr, ⊎_elim, Bool, true, false, cond, List, [], ◌∷◌, map, length, take, drop, None, String, string_bytes, chars, encode_utf8_all, IsUtf8, refl, sym, ap, ◌∙◌, arith, subst, length-drop, length-take, take-append-drop}
+use Rattle.std.proofs.Common.{◌≡◌, ℕ, zero, suc, ◌+◌, ◌-◌, ◌<◌, ◌≤◌, ◌==◌, ◌||◌, ◌&&◌, inl, inr, ⊎_elim, Bool, true, false, cond, List, [], ◌∷◌, map, length, take, drop, None, String, string_bytes, chars, encode_utf8_all, IsUtf8, refl, sym, ap, ◌∙◌, arith, subst, length-drop, length-take, take-append-drop}
 use Rattle.std.specs.Bool.{⊤}
 use Rattle.std.proofs.lemmas.Str.{IsUtf8-string_bytes, chars_from_encodes, IsUtf8-nil, IsUtf8-drop, IsCharBoundary-from_take}
 use Rattle.std.proofs.lemmas.Bool.Decides.{leb_tells}
 use Rattle.std.proofs.lemmas.List.{take-take, drop-take, drop-drop}
-use Rattle.tcl_words.specs.Characters.{is_end, is_blank, is_hash}
-use Rattle.tcl_words.specs.ScriptGrammar.{Ending, Ends, Breaks, Continues, First, Command, Nothing, Fault, Open, Between, Inside, is_refused, onto_word, end_word, at_stop, words_from, first, IsCommandBefore}
+use Rattle.tcl_words.specs.Characters.{is_end, is_blank, is_joint, is_expansion, names_variable}
+use Rattle.tcl_words.specs.Escapes.{Escape, Gives, NoCharacter, Undecided, escape, gap}
+use Rattle.tcl_words.specs.ScriptGrammar.{Ending, Ends, Breaks, Continues, is_last, First, Command, Nothing, Fault, Open, onto_word, end_word, at_stop, Where, AtCommand, InComment, AtWord, InBare, InQuotes, InBraces, Behind, at_end, escaped, text_rule, close_rule, kept_rule, open_rule, rule, read, first, IsCommandBefore}
 use Rattle.tcl_words.specs.Scanning.{pieces_from}
 use Rattle.tcl_words.specs.Unread.{Unread, IsNextCommand, HasNoCommand, TakesCommand, texts_of}
 use Rattle.tcl_words.specs.Progression.{IsProgress, IsCommandOf, starting_at}
 use Rattle.tcl_words.specs.declared.fault.ScriptFault.TheVariants.{Substitution}
 use Rattle.tcl_words.specs.declared.progress.Progress.{Progress}
-use Rattle.tcl_words.specs.declared.scanner.Stage.TheVariants.{BeforeCommand}
-use Rattle.tcl_words.proofs.Stages.{scanned-nil}
+use Rattle.tcl_words.specs.declared.stage.Stage.TheVariants.{BeforeCommand}
+use Rattle.tcl_words.proofs.Verdicts.{scanned-nil}
 use Rattle.tcl_words.proofs.Readings.{one_found, reads_nothing, reads_before}
 
 -- a command that is found has a word
@@ -22,49 +23,103 @@ HasWord Nothing = ⊤
 HasWord (Fault fault) = ⊤
 HasWord Open = ⊤
 
-has_word_cond : (test : Bool) (x y : First) → HasWord x → HasWord y → HasWord (cond test x y)
-has_word_cond true x y p q = p
-has_word_cond false x y p q = q
+word_if : (test : Bool) (x y : First) → HasWord x → HasWord y → HasWord (cond test x y)
+word_if true x y p q = p
+word_if false x y p q = q
 
-has_word_stop : (e : Ending) (found : First) → HasWord found → HasWord (at_stop e found)
-has_word_stop Ends found h = h
-has_word_stop Breaks found h = tt
-has_word_stop Continues found h = tt
+word_stop : (e : Ending) (found : First) → HasWord found → HasWord (at_stop e found)
+word_stop Ends found h = h
+word_stop Breaks found h = tt
+word_stop Continues found h = tt
 
-has_word_end : (found : First) → HasWord (end_word Inside found)
-has_word_end (Command words rest) = omega arith
-has_word_end Nothing = tt
-has_word_end (Fault fault) = tt
-has_word_end Open = tt
+word_end : (found : First) → HasWord (end_word found)
+word_end (Command words rest) = omega arith
+word_end Nothing = tt
+word_end (Fault fault) = tt
+word_end Open = tt
 
-has_word_onto : (c : ℕ) (found : First) → HasWord found → HasWord (onto_word c found)
-has_word_onto c (Command [] rest) h = h
-has_word_onto c (Command (word ∷ words) rest) h = omega arith
-has_word_onto c Nothing h = tt
-has_word_onto c (Fault fault) h = tt
-has_word_onto c Open h = tt
+word_onto : (c : ℕ) (found : First) → HasWord found → HasWord (onto_word c found)
+word_onto c (Command [] rest) h = h
+word_onto c (Command (word ∷ words) rest) h = omega arith
+word_onto c Nothing h = tt
+word_onto c (Fault fault) h = tt
+word_onto c Open h = tt
 
-has_word_inside : (e : Ending) (cs : List ℕ) → HasWord (words_from Inside e cs)
-unfolding words_from
-has_word_inside e [] = has_word_stop e (Command ([] ∷ []) []) (omega arith)
-has_word_inside e (c ∷ cs) =
-    let ends : HasWord (end_word Inside (Command [] cs)) = has_word_end (Command [] cs) in
-    has_word_cond (is_end c) _ _ ends (has_word_cond (is_blank c) _ _ (has_word_end (words_from Between e cs))
-    (has_word_cond (is_refused Inside (c ∷ cs)) _ _ tt (has_word_onto c (words_from Inside e cs) (has_word_inside e cs))))
+-- the places where no word has begun, or one is under way
+abbrev Counts : Where → Type 0
+Counts AtCommand = ⊤
+Counts InComment = ⊤
+Counts AtWord = ⊥
+Counts InBare = ⊤
+Counts InQuotes = ⊤
+Counts (InBraces depth) = ⊤
+Counts (Behind fault) = ⊥
 
-has_word_tests : (end blank hash : Bool) (found ended blanked words : First) → HasWord found → HasWord words
-    → HasWord (cond (end || blank) found (cond hash (Fault Substitution) (cond end ended (cond blank blanked words))))
-has_word_tests true blank hash found ended blanked words p q = p
-has_word_tests false true hash found ended blanked words p q = p
-has_word_tests false false true found ended blanked words p q = tt
-has_word_tests false false false found ended blanked words p q = q
+word_escaped : (e : Ending) (go : ℕ → First) (escape : Escape) → ((n : ℕ) → HasWord (go n)) → HasWord (escaped e go escape)
+word_escaped e go (Gives c n) h = word_onto c (go n) (h n)
+word_escaped e go NoCharacter h = tt
+word_escaped e go Undecided h = word_stop e Open tt
+
+word_text : (e : Ending) (c : ℕ) (cs : List ℕ) (go : ℕ → First) → ((n : ℕ) → HasWord (go n)) → HasWord (text_rule e c cs go)
+word_text e c cs go h =
+    word_if (c == 91 || (c == 36 && names_variable cs)) _ _ tt
+    (word_if (c == 92) _ _ (word_escaped e go (escape (is_last e) cs) h) (word_onto c (go 0) (h 0)))
+
+word_close : (depth c : ℕ) (go : ℕ → Where → First) → ((n : ℕ) (place : Where) → Counts place → HasWord (go n place)) → HasWord (close_rule depth c go)
+word_close zero c go h = word_end (go 0 _)
+word_close (suc depth) c go h = word_onto c (go 0 (InBraces depth)) (h 0 (InBraces depth) tt)
+
+word_kept : (depth : ℕ) (cs : List ℕ) (go : ℕ → Where → First) → ((n : ℕ) (place : Where) → Counts place → HasWord (go n place)) → HasWord (kept_rule depth cs go)
+word_kept depth [] go h = word_onto 92 (go 0 (InBraces depth)) (h 0 (InBraces depth) tt)
+word_kept depth (c ∷ cs) go h =
+    word_if (c == 10) _ _ (word_onto 32 (go (suc (gap cs)) (InBraces depth)) (h (suc (gap cs)) (InBraces depth) tt))
+    (word_onto 92 (onto_word c (go 1 (InBraces depth))) (word_onto c (go 1 (InBraces depth)) (h 1 (InBraces depth) tt)))
+
+word_open : (cs : List ℕ) (go : ℕ → Where → First) → ((n : ℕ) (place : Where) → Counts place → HasWord (go n place)) → HasWord (open_rule cs go)
+word_open cs go h =
+    word_if (is_expansion cs) _ _ (word_onto 42 (end_word (go 2 (Behind Substitution))) (word_end (go 2 (Behind Substitution)))) (h 0 (InBraces 0) tt)
+
+word_command : (end blank joint hash : Bool) (again joined comment ended blanked other words : First) → HasWord again → HasWord joined → HasWord comment → HasWord words
+    → HasWord (cond (end || blank) again (cond joint joined (cond hash comment (cond end ended (cond blank blanked (cond joint other words))))))
+word_command true blank joint hash again joined comment ended blanked other words p q r s = p
+word_command false true joint hash again joined comment ended blanked other words p q r s = p
+word_command false false true hash again joined comment ended blanked other words p q r s = q
+word_command false false false true again joined comment ended blanked other words p q r s = r
+word_command false false false false again joined comment ended blanked other words p q r s = s
+
+word_rules : (place : Where) (e : Ending) (c : ℕ) (cs : List ℕ) (go : ℕ → Where → First) → Counts place → ((n : ℕ) (place : Where) → Counts place → HasWord (go n place)) → HasWord (rule e place c cs go)
+word_rules AtCommand e c cs go k h =
+    word_command (is_end c) (is_blank c) (is_joint c cs) (c == 35) (go 0 AtCommand) (go 1 AtCommand) (go 0 InComment) (Command [] cs) (go 0 AtWord) (go 1 AtWord) _
+    (h 0 AtCommand tt) (h 1 AtCommand tt) (h 0 InComment tt)
+    (word_if (c == 123) _ _ (word_open cs go h) (word_if (c == 34) _ _ (h 0 InQuotes tt) (word_text e c cs (λ n. go n InBare) (λ n. h n InBare tt))))
+word_rules InComment e c cs go k h = word_if (c == 10) _ _ (h 0 AtCommand tt) (word_if (c == 92) _ _ (h 1 InComment tt) (h 0 InComment tt))
+word_rules AtWord e c cs go k h = absurd k
+word_rules InBare e c cs go k h =
+    word_if (is_end c) _ _ (word_end (Command [] cs)) (word_if (is_blank c) _ _ (word_end (go 0 AtWord)) (word_if (is_joint c cs) _ _ (word_end (go 1 AtWord))
+    (word_text e c cs (λ n. go n InBare) (λ n. h n InBare tt))))
+word_rules InQuotes e c cs go k h = word_if (c == 34) _ _ (word_end (go 0 _)) (word_text e c cs (λ n. go n InQuotes) (λ n. h n InQuotes tt))
+word_rules (InBraces depth) e c cs go k h =
+    word_if (c == 125) _ _ (word_close depth c go h) (word_if (c == 123) _ _ (word_onto c (go 0 (InBraces (suc depth))) (h 0 (InBraces (suc depth)) tt))
+    (word_if (c == 92) _ _ (word_kept depth cs go h) (word_onto c (go 0 (InBraces depth)) (h 0 (InBraces depth) tt))))
+word_rules (Behind fault) e c cs go k h = absurd k
+
+word_at_end : (place : Where) → Counts place → HasWord (at_end place)
+word_at_end AtCommand k = tt
+word_at_end InComment k = tt
+word_at_end AtWord k = absurd k
+word_at_end InBare k = omega arith
+word_at_end InQuotes k = tt
+word_at_end (InBraces depth) k = tt
+word_at_end (Behind fault) k = absurd k
+
+has_word : (cs : List ℕ) (e : Ending) (n : ℕ) (place : Where) → Counts place → HasWord (read cs e n place)
+unfolding read
+has_word [] e n place k = word_stop e (at_end place) (word_at_end place k)
+has_word (c ∷ cs) e (suc n) place k = has_word cs e n place k
+has_word (c ∷ cs) e zero place k = word_rules place e c cs (read cs e) k (λ n other l. has_word cs e n other l)
 
 has_word_first : (e : Ending) (cs : List ℕ) → HasWord (first e cs)
-unfolding first words_from
-has_word_first e [] = has_word_stop e Nothing tt
-has_word_first e (c ∷ cs) = has_word_tests (is_end c) (is_blank c) (is_hash c) (first e cs) (Command [] cs) (words_from Between e cs)
-    (cond (is_refused Between (c ∷ cs)) (Fault Substitution) (onto_word c (words_from Inside e cs))) (has_word_first e cs)
-    (has_word_cond (is_refused Between (c ∷ cs)) (Fault Substitution) (onto_word c (words_from Inside e cs)) tt (has_word_onto c (words_from Inside e cs) (has_word_inside e cs)))
+has_word_first e cs = has_word cs e 0 AtCommand tt
 
 before_has_word : (rest bytes : List ℕ) (words : List (List ℕ)) → IsCommandBefore rest words bytes → 0 < length words
 before_has_word rest bytes words (inl w) = subst HasWord w.2 (has_word_first Continues w.0)
@@ -136,9 +191,9 @@ takes old between new len words same k e w =
 
 -- the strings of a command's pieces
 pub texts_found : {Z : Type 0} (finished : Bool) (rest slice : List ℕ) (len : ℕ) (strings : List (String Z)) (k : IsCommandOf finished rest len) → slice ≡ take len rest
-    → map (λ s. string_bytes s) strings ≡ pieces_from slice Between → (texts_of strings ≡ k.words) × (0 < length strings)
+    → map (λ s. string_bytes s) strings ≡ map encode_utf8_all (pieces_from (chars slice) BeforeCommand) → (texts_of strings ≡ k.words) × (0 < length strings)
 texts_found finished rest slice len strings k same h =
-    let spelled = h ∙ ap (λ l. pieces_from l Between) same ∙ k.spelled in
+    let spelled = h ∙ ap (λ l. map encode_utf8_all (pieces_from (chars l) BeforeCommand)) same ∙ ap (map encode_utf8_all) k.written in
     (texts_are strings k.words spelled, strings_some strings k.words spelled (has_words finished rest len k))
 
 -- the progress after the next bytes of all are left behind

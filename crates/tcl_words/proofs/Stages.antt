@@ -1,301 +1,425 @@
--- What a scan says of the grammar, whatever follows the bytes.
-use Rattle.std.proofs.Common.{◌≡◌, ℕ, ◌<◌, ◌≤◌, ◌==◌, Bool, true, false, cond, ◌||◌, ◌&&◌, List, [], ◌∷◌, ◌++◌, length, take, refl, sym, ap, ◌∙◌, arith, subst, true≢false, one-add}
+-- What each stage of a scan says of the grammar.
+use Rattle.std.proofs.Common.{◌≡◌, ℕ, zero, suc, ◌+◌, ◌*◌, ◌-◌, ◌==◌, Bool, true, false, cond, ◌||◌, ◌&&◌, Option, Some, None, List, [], ◌∷◌, refl, sym, ap, ◌∙◌, arith, true≢false}
 use Rattle.std.proofs.lemmas.Bool.Decides.{nat_tests}
-use Rattle.std.specs.Bool.{⊤}
-use Rattle.tcl_words.specs.Characters.{is_end, is_blank, is_hash, names_variable, begins_with_colon}
-use Rattle.tcl_words.specs.ScriptGrammar.{Ending, Ends, Breaks, Continues, First, Command, Nothing, Fault, Open, Place, Between, Inside, onto_word, end_word, words_from, first}
-use Rattle.tcl_words.specs.Scanning.{is_separator, names_byte, inside_step, between_step, command_step, dollar_step, colon_step, step_of, later, scan_step, scanned, end_piece, onto_piece, pieces_from}
+use Rattle.std.specs.Char.{is_digit, digit_value}
+use lib.Utf8.{scalar}
+use Rattle.tcl_words.specs.Characters.{is_end, is_blank, begins_name, begins_with, names_variable}
+use Rattle.tcl_words.specs.Escapes.{Escape, Gives, NoCharacter, Undecided, further, valued, joins, numeral, hexadecimal, gap, letter_value, escape}
+use Rattle.tcl_words.specs.EscapeSteps.{base_of, limit_of, given, before, is_gap, is_letter, plain_step, escape_step}
+use Rattle.tcl_words.specs.ScriptGrammar.{Ending, is_last, First, Command, Fault, at_stop, onto_word, end_word, Where, AtCommand, InComment, AtWord, InBare, InQuotes, InBraces, Behind, escaped, text_rule, bare_rule, quoted_rule, close_rule, kept_rule, braced_rule, open_rule, word_rule, behind_rule, command_rule, rule, read, is_nil}
+use Rattle.tcl_words.specs.Steps.{passes, keeps, closes, ends_here, refuses, after, fault_behind, text_step, bare_step, quoted_step, inside_step, word_step, command_step, close_step, braced_step, behind_step, step_by, opening_step, step_of}
 use Rattle.tcl_words.specs.declared.fault.ScriptFault.{ScriptFault}
-use Rattle.tcl_words.specs.declared.fault.ScriptFault.TheVariants.{Substitution, NotUtf8}
-use Rattle.tcl_words.specs.declared.scanner.Stage.{Stage}
-use Rattle.tcl_words.specs.declared.scanner.Stage.TheVariants.{BeforeCommand, AfterBlank, InWord, AfterDollar, AfterColon}
-use Rattle.tcl_words.specs.declared.scanner.Step.{Step}
-use Rattle.tcl_words.specs.declared.scanner.Step.TheVariants.{Go, End, Refuse}
-use Rattle.tcl_words.specs.declared.scanner.Scan.{Scan}
-use Rattle.tcl_words.specs.declared.scanner.Scan.TheVariants.{EndsAt, Refused, Reaches}
+use Rattle.tcl_words.specs.declared.fault.ScriptFault.TheVariants.{Substitution}
+use Rattle.tcl_words.specs.declared.escapes.Radix.{Radix}
+use Rattle.tcl_words.specs.declared.escapes.Radix.TheVariants.{Octal, Hexadecimal}
+use Rattle.tcl_words.specs.declared.escapes.EscapeStage.{EscapeStage}
+use Rattle.tcl_words.specs.declared.escapes.EscapeStage.TheVariants.{Backslash, Letter, Digits, Gap}
+use Rattle.tcl_words.specs.declared.escapes.EscapeStep.{EscapeStep}
+use Rattle.tcl_words.specs.declared.escapes.EscapeStep.TheVariants as escape_steps
+use Rattle.tcl_words.specs.declared.stage.TextWord.{TextWord}
+use Rattle.tcl_words.specs.declared.stage.TextWord.TheVariants.{Bare, Quoted}
+use Rattle.tcl_words.specs.declared.stage.Closing.{Closing}
+use Rattle.tcl_words.specs.declared.stage.Closing.TheVariants.{Quote, Expansion}
+use Rattle.tcl_words.specs.declared.stage.Stage.{Stage}
+use Rattle.tcl_words.specs.declared.stage.Stage.TheVariants as stages
+use Rattle.tcl_words.specs.declared.stage.Next.{Next}
+use Rattle.tcl_words.specs.declared.stage.Next.TheVariants.{Go, End, Refuse}
+use Rattle.tcl_words.specs.declared.stage.Output.{Output}
+use Rattle.tcl_words.specs.declared.stage.Step.{Step}
+
+-- Escapes.
+
+-- what an escape gives, from a stage on
+abbrev pub escape_from : EscapeStage → Bool → List ℕ → Escape
+escape_from Backslash ends cs = escape ends cs
+escape_from (Letter letter more) ends cs = hexadecimal letter (suc more) ends cs
+escape_from (Digits radix value more) ends cs = numeral (base_of radix) (limit_of radix) ends cs (suc more) value
+escape_from Gap ends cs = Gives 32 (gap cs)
+
+-- what a step gives, before what follows
+abbrev pub escape_by : EscapeStep → ℕ → (EscapeStage → Escape) → Escape
+escape_by (escape_steps.Goes stage) c go = further (go stage)
+escape_by (escape_steps.Gives d) c go = Gives d 1
+escape_by escape_steps.Keeps c go = Gives c 1
+escape_by (escape_steps.Before d) c go = Gives d 0
+escape_by escape_steps.NoCharacter c go = NoCharacter
+
+given_by : (test : Bool) (value c : ℕ) (go : EscapeStage → Escape)
+    → further (cond test (Gives value 0) NoCharacter) ≡ escape_by (cond test (escape_steps.Gives value) escape_steps.NoCharacter) c go
+given_by true value c go = refl
+given_by false value c go = refl
+
+before_by : (test : Bool) (value c : ℕ) (go : EscapeStage → Escape)
+    → cond test (Gives value 0) NoCharacter ≡ escape_by (cond test (escape_steps.Before value) escape_steps.NoCharacter) c go
+before_by true value c go = refl
+before_by false value c go = refl
+
+digit_tests : (joined : Bool) (radix : Radix) (value added more c : ℕ) (ends : Bool) (cs : List ℕ)
+    → cond joined (further (numeral (base_of radix) (limit_of radix) ends cs more added)) (valued value)
+    ≡ escape_by (cond joined (cond (more == 0) (given added) (escape_steps.Goes (Digits radix added (more - 1)))) (before value)) c (λ s. escape_from s ends cs)
+unfolding numeral
+digit_tests true radix value added zero c ends cs = given_by (scalar added) added c (λ s. escape_from s ends cs)
+digit_tests true radix value added (suc more) c ends cs =
+    let e : suc more - 1 ≡ more = omega arith in
+    let some : (suc more == 0) ≡ false = grind (arith, nat_tests) in
+    rw (some, e) refl
+digit_tests false radix value added more c ends cs = before_by (scalar value) value c (λ s. escape_from s ends cs)
+
+letter_tests : (digit : Bool) (letter value more c : ℕ) (ends : Bool) (cs : List ℕ)
+    → cond digit (further (numeral 16 1114111 ends cs (suc more) value)) (Gives letter 0)
+    ≡ escape_by (cond digit (escape_steps.Goes (Digits Hexadecimal value more)) (escape_steps.Before letter)) c (λ s. escape_from s ends cs)
+letter_tests true letter value more c ends cs = refl
+letter_tests false letter value more c ends cs = refl
+
+plain_tests : (letter : Bool) (value c : ℕ) (go : EscapeStage → Escape) → (letter ≡ false → value ≡ c)
+    → Gives value 1 ≡ escape_by (cond letter (escape_steps.Gives value) escape_steps.Keeps) c go
+plain_tests true value c go same = refl
+plain_tests false value c go same = ap (λ v. Gives v 1) (same refl)
+
+backslash_tests : (octal x u long newline : Bool) (c value : ℕ) (ends : Bool) (cs : List ℕ) (plain : Escape) (step : EscapeStep)
+    → plain ≡ escape_by step c (λ s. escape_from s ends cs)
+    → cond octal (further (numeral 8 255 ends cs 2 value)) (cond x (further (hexadecimal c 1 ends cs)) (cond u (further (hexadecimal c 3 ends cs)) (cond long (further (hexadecimal c 7 ends cs)) (cond newline (Gives 32 (suc (gap cs))) plain))))
+    ≡ escape_by (cond octal (escape_steps.Goes (Digits Octal value 1)) (cond x (escape_steps.Goes (Letter c 0)) (cond u (escape_steps.Goes (Letter c 2)) (cond long (escape_steps.Goes (Letter c 6)) (cond newline (escape_steps.Goes Gap) step))))) c (λ s. escape_from s ends cs)
+backslash_tests true x u long newline c value ends cs plain step h = refl
+backslash_tests false true u long newline c value ends cs plain step h = refl
+backslash_tests false false true long newline c value ends cs plain step h = refl
+backslash_tests false false false true newline c value ends cs plain step h = refl
+backslash_tests false false false false true c value ends cs plain step h = refl
+backslash_tests false false false false false c value ends cs plain step h = h
+
+letter_itself : (c : ℕ) → is_letter c ≡ false → letter_value c ≡ c
+letter_itself c h = grind (arith, nat_tests)
+
+gap_tests : (blank : Bool) (c : ℕ) (ends : Bool) (cs : List ℕ)
+    → Gives 32 (cond blank (suc (gap cs)) 0) ≡ escape_by (cond blank (escape_steps.Goes Gap) (escape_steps.Before 32)) c (λ s. escape_from s ends cs)
+gap_tests true c ends cs = refl
+gap_tests false c ends cs = refl
+
+-- what an escape gives from a character on, by its step
+pub escape-step : (stage : EscapeStage) (ends : Bool) (c : ℕ) (cs : List ℕ)
+    → escape_from stage ends (c ∷ cs) ≡ escape_by (escape_step stage c) c (λ s. escape_from s ends cs)
+unfolding numeral
+escape-step Backslash ends c cs =
+    backslash_tests (is_digit c 8) (c == 120) (c == 117) (c == 85) (c == 10) c (digit_value c) ends cs (Gives (letter_value c) 1) (plain_step c)
+    (plain_tests (is_letter c) (letter_value c) c (λ s. escape_from s ends cs) (letter_itself c))
+escape-step (Letter letter more) ends c cs = letter_tests (is_digit c 16) letter (digit_value c) more c ends cs
+escape-step (Digits radix value more) ends c cs =
+    digit_tests (joins (base_of radix) (limit_of radix) value c) radix value (value * base_of radix + digit_value c) more c ends cs
+escape-step Gap ends c cs = gap_tests (is_gap c) c ends cs
+
+-- Commands and words.
+
+abbrev pub place_of : TextWord → Where
+place_of Bare = InBare
+place_of Quoted = InQuotes
 
 -- what the characters hold first, from a stage on
 abbrev pub from : Stage → Ending → List ℕ → First
-from BeforeCommand e cs = first e cs
-from AfterBlank e cs = words_from Between e cs
-from InWord e cs = words_from Inside e cs
-from AfterDollar e cs = cond (names_variable cs) (Fault Substitution) (words_from Inside e cs)
-from AfterColon e cs = cond (begins_with_colon cs) (Fault Substitution) (words_from Inside e cs)
+from stages.BeforeCommand e cs = read cs e 0 AtCommand
+from stages.CommandBackslash e cs = rule e AtCommand 92 cs (read cs e)
+from stages.Comment e cs = read cs e 0 InComment
+from stages.CommentBackslash e cs = read cs e 1 InComment
+from stages.BeforeWord e cs = read cs e 0 AtWord
+from stages.WordBackslash e cs = rule e AtWord 92 cs (read cs e)
+from stages.BareBackslash e cs = rule e InBare 92 cs (read cs e)
+from (stages.Text word) e cs = read cs e 0 (place_of word)
+from (stages.AfterDollar word) e cs = cond (names_variable cs) (Fault Substitution) (read cs e 0 (place_of word))
+from (stages.AfterColon word) e cs = cond (begins_with 58 cs) (Fault Substitution) (read cs e 0 (place_of word))
+from (stages.Escaped word stage) e cs = escaped e (λ n. read cs e n (place_of word)) (escape_from stage (is_last e) cs)
+from stages.AfterOpening e cs = open_rule cs (read cs e)
+from stages.AfterStar e cs = cond (begins_with 125 cs) (end_word (read cs e 1 (Behind Substitution))) (read cs e 0 (InBraces 0))
+from (stages.Braced depth) e cs = read cs e 0 (InBraces depth)
+from (stages.BracedBackslash depth) e cs = kept_rule depth cs (read cs e)
+from (stages.BracedGap depth) e cs = read cs e (gap cs) (InBraces depth)
+from (stages.Behind closing) e cs = read cs e 0 (Behind (fault_behind closing))
+from (stages.BehindBackslash closing) e cs = rule e (Behind (fault_behind closing)) 92 cs (read cs e)
 
--- whether a word is under way at a stage
-abbrev pub place_of : Stage → Place
-place_of BeforeCommand = Between
-place_of AfterBlank = Between
-place_of InWord = Inside
-place_of AfterDollar = Inside
-place_of AfterColon = Inside
+-- what a character adds goes before what is found
 
--- a character, which may be a separator, goes before what is found
-abbrev pub put : Place → Bool → ℕ → First → First
-put place true c found = end_word place found
-put place false c found = onto_word c found
+abbrev pub onto_given : Option ℕ → First → First
+onto_given None found = found
+onto_given (Some c) found = onto_word c found
 
--- what a step leads to, before the characters
-abbrev pub arrive : Step → (Stage → First) → List ℕ → First
-arrive (Go next) go cs = go next
+abbrev pub put : Output → ℕ → First → First
+put output c found = onto_given output.given (cond output.kept (onto_word c (cond output.ended (end_word found) found)) (cond output.ended (end_word found) found))
+
+abbrev pub arrive : Next → (Stage → First) → List ℕ → First
+arrive (Go stage) go cs = go stage
 arrive End go cs = Command [] cs
-arrive Refuse go cs = Fault Substitution
-
-inside_tests : (end blank bracket dollar named : Bool) (c : ℕ) (cs : List ℕ) (go : Stage → First)
-    → go AfterDollar ≡ cond named (Fault Substitution) (go InWord)
-    → cond end (Command ([] ∷ []) cs) (cond blank (end_word Inside (go AfterBlank)) (cond (bracket || (dollar && named)) (Fault Substitution) (onto_word c (go InWord))))
-    ≡ put Inside (end || blank) c (arrive (cond end End (cond blank (Go AfterBlank) (cond bracket Refuse (cond dollar (Go AfterDollar) (Go InWord))))) go cs)
-inside_tests true blank bracket dollar named c cs go h = refl
-inside_tests false true bracket dollar named c cs go h = refl
-inside_tests false false true dollar named c cs go h = refl
-inside_tests false false false true true c cs go h = ap (onto_word c) (sym h)
-inside_tests false false false true false c cs go h = ap (onto_word c) (sym h)
-inside_tests false false false false named c cs go h = refl
-
-from_inside : (e : Ending) (c : ℕ) (cs : List ℕ)
-    → words_from Inside e (c ∷ cs) ≡ put Inside (is_separator c) c (arrive (inside_step c) (λ next. from next e cs) cs)
-unfolding words_from
-from_inside e c cs = inside_tests (is_end c) (is_blank c) (c == 91 || c == 92) (c == 36) (names_variable cs) c cs (λ next. from next e cs) refl
-
--- a fault stays
-put_any_fault : (place : Place) (sep : Bool) (c : ℕ) (fault : ScriptFault) → put place sep c (Fault fault) ≡ Fault fault
-put_any_fault Between true c fault = refl
-put_any_fault Inside true c fault = refl
-put_any_fault place false c fault = refl
-
-put_fault : (place : Place) (sep : Bool) (c : ℕ) → put place sep c (Fault Substitution) ≡ Fault Substitution
-put_fault place sep c = put_any_fault place sep c Substitution
-
-between_tests : (mark end blank bracket dollar named : Bool) (c : ℕ) (cs : List ℕ) (go : Stage → First)
-    → go AfterDollar ≡ cond named (Fault Substitution) (go InWord) → (mark ≡ true → end ≡ false) → (mark ≡ true → blank ≡ false)
-    → cond end (Command [] cs) (cond blank (go AfterBlank) (cond (mark || (bracket || (dollar && named))) (Fault Substitution) (onto_word c (go InWord))))
-    ≡ put Between (end || blank) c (arrive (cond mark Refuse (cond end End (cond blank (Go AfterBlank) (cond bracket Refuse (cond dollar (Go AfterDollar) (Go InWord)))))) go cs)
-between_tests true true blank bracket dollar named c cs go h p q = absurd (true≢false (p refl))
-between_tests true false true bracket dollar named c cs go h p q = absurd (true≢false (q refl))
-between_tests true false false bracket dollar named c cs go h p q = refl
-between_tests false true blank bracket dollar named c cs go h p q = refl
-between_tests false false true bracket dollar named c cs go h p q = refl
-between_tests false false false true dollar named c cs go h p q = refl
-between_tests false false false false true true c cs go h p q = ap (onto_word c) (sym h)
-between_tests false false false false true false c cs go h p q = ap (onto_word c) (sym h)
-between_tests false false false false false named c cs go h p q = refl
-
-mark_no_end : (c : ℕ) → (c == 123 || c == 34) ≡ true → is_end c ≡ false
-mark_no_end c h = grind (arith, nat_tests)
-
-mark_no_blank : (c : ℕ) → (c == 123 || c == 34) ≡ true → is_blank c ≡ false
-mark_no_blank c h = grind (arith, nat_tests)
-
-from_between : (e : Ending) (c : ℕ) (cs : List ℕ)
-    → words_from Between e (c ∷ cs) ≡ put Between (is_separator c) c (arrive (between_step c) (λ next. from next e cs) cs)
-unfolding words_from
-from_between e c cs = between_tests (c == 123 || c == 34) (is_end c) (is_blank c) (c == 91 || c == 92) (c == 36) (names_variable cs) c cs (λ next. from next e cs) refl (mark_no_end c) (mark_no_blank c)
-
-command_tests : (sep hash : Bool) (step : Step) (c : ℕ) (cs : List ℕ) (go : Stage → First) (words : First)
-    → words ≡ put Between sep c (arrive step go cs)
-    → cond sep (go BeforeCommand) (cond hash (Fault Substitution) words)
-    ≡ put Between sep c (arrive (cond sep (Go BeforeCommand) (cond hash Refuse step)) go cs)
-command_tests true hash step c cs go words h = refl
-command_tests false true step c cs go words h = refl
-command_tests false false step c cs go words h = h
-
-from_command : (e : Ending) (c : ℕ) (cs : List ℕ)
-    → first e (c ∷ cs) ≡ put Between (is_separator c) c (arrive (command_step c) (λ next. from next e cs) cs)
-unfolding first
-from_command e c cs = command_tests (is_separator c) (is_hash c) (between_step c) c cs (λ next. from next e cs) (words_from Between e (c ∷ cs)) (from_between e c cs)
-
-dollar_tests : (names colon colons sep : Bool) (step : Step) (c : ℕ) (cs : List ℕ) (go : Stage → First) (words : First)
-    → words ≡ put Inside sep c (arrive step go cs) → (colon ≡ true → step ≡ Go InWord)
-    → go AfterColon ≡ cond colons (Fault Substitution) (go InWord)
-    → cond (names || (colon && colons)) (Fault Substitution) words
-    ≡ put Inside sep c (arrive (cond names Refuse (cond colon (Go AfterColon) step)) go cs)
-dollar_tests true colon colons sep step c cs go words h i w = sym (put_fault Inside sep c)
-dollar_tests false true true sep step c cs go words h i w = sym (put_fault Inside sep c) ∙ ap (put Inside sep c) (sym w)
-dollar_tests false true false sep step c cs go words h i w = h ∙ ap (λ s. put Inside sep c (arrive s go cs)) (i refl) ∙ ap (put Inside sep c) (sym w)
-dollar_tests false false colons sep step c cs go words h i w = h
-
-colon_inside : (c : ℕ) → (c == 58) ≡ true → inside_step c ≡ Go InWord
-colon_inside c h = let e : c ≡ 58 = grind (arith, nat_tests) in rw e refl
-
-from_dollar : (e : Ending) (c : ℕ) (cs : List ℕ)
-    → from AfterDollar e (c ∷ cs) ≡ put Inside (is_separator c) c (arrive (dollar_step c) (λ next. from next e cs) cs)
-from_dollar e c cs = dollar_tests (names_byte c) (c == 58) (begins_with_colon cs) (is_separator c) (inside_step c) c cs (λ next. from next e cs) (words_from Inside e (c ∷ cs)) (from_inside e c cs) (colon_inside c) refl
-
-colon_tests : (colon sep : Bool) (step : Step) (c : ℕ) (cs : List ℕ) (go : Stage → First) (words : First)
-    → words ≡ put Inside sep c (arrive step go cs)
-    → cond colon (Fault Substitution) words ≡ put Inside sep c (arrive (cond colon Refuse step) go cs)
-colon_tests true sep step c cs go words h = sym (put_fault Inside sep c)
-colon_tests false sep step c cs go words h = h
-
-from_colon : (e : Ending) (c : ℕ) (cs : List ℕ)
-    → from AfterColon e (c ∷ cs) ≡ put Inside (is_separator c) c (arrive (colon_step c) (λ next. from next e cs) cs)
-from_colon e c cs = colon_tests (c == 58) (is_separator c) (inside_step c) c cs (λ next. from next e cs) (words_from Inside e (c ∷ cs)) (from_inside e c cs)
+arrive (Refuse fault) go cs = Fault fault
 
 -- what is found from a character on, by its step
-pub from-step : (stage : Stage) (e : Ending) (c : ℕ) (cs : List ℕ)
-    → from stage e (c ∷ cs) ≡ put (place_of stage) (is_separator c) c (arrive (step_of stage c) (λ next. from next e cs) cs)
-from-step BeforeCommand e c cs = from_command e c cs
-from-step AfterBlank e c cs = from_between e c cs
-from-step InWord e c cs = from_inside e c cs
-from-step AfterDollar e c cs = from_dollar e c cs
-from-step AfterColon e c cs = from_colon e c cs
+abbrev pub does : Step → ℕ → List ℕ → (Stage → First) → First
+does step c cs go = put step.output c (arrive step.next go cs)
 
-put_open : (place : Place) (sep : Bool) (c : ℕ) → put place sep c Open ≡ Open
-put_open Between true c = refl
-put_open Inside true c = refl
-put_open place false c = refl
+text_tests : (bracket dollar named back : Bool) (word : TextWord) (c : ℕ) (cs : List ℕ) (go : Stage → First)
+    → go (stages.AfterDollar word) ≡ cond named (Fault Substitution) (go (stages.Text word)) → (dollar ≡ true → back ≡ false)
+    → cond (bracket || (dollar && named)) (Fault Substitution) (cond back (go (stages.Escaped word Backslash)) (onto_word c (go (stages.Text word))))
+    ≡ does (cond bracket (refuses Substitution) (cond dollar (keeps (stages.AfterDollar word)) (cond back (passes (stages.Escaped word Backslash)) (keeps (stages.Text word))))) c cs go
+text_tests true dollar named back word c cs go h other = refl
+text_tests false true true back word c cs go h other = ap (onto_word c) (sym h)
+text_tests false true false true word c cs go h other = absurd (true≢false (other refl))
+text_tests false true false false word c cs go h other = ap (onto_word c) (sym h)
+text_tests false false named true word c cs go h other = refl
+text_tests false false named false word c cs go h other = refl
 
--- the same of the words alone
-abbrev put_piece : Place → Bool → ℕ → List (List ℕ) → List (List ℕ)
-put_piece place true c words = end_piece place words
-put_piece place false c words = onto_piece c words
+dollar_other : (c : ℕ) → (c == 36) ≡ true → (c == 92) ≡ false
+dollar_other c h = grind (arith, nat_tests)
 
-put_command : (place : Place) (sep : Bool) (c : ℕ) (words : List (List ℕ)) (rest : List ℕ)
-    → put place sep c (Command words rest) ≡ Command (put_piece place sep c words) rest
-put_command Between true c words rest = refl
-put_command Inside true c words rest = refl
-put_command place false c [] rest = refl
-put_command place false c (word ∷ words) rest = refl
+from_text : (word : TextWord) (e : Ending) (c : ℕ) (cs : List ℕ)
+    → text_rule e c cs (λ n. read cs e n (place_of word)) ≡ does (text_step word c) c cs (λ stage. from stage e cs)
+from_text word e c cs = text_tests (c == 91) (c == 36) (names_variable cs) (c == 92) word c cs (λ stage. from stage e cs) refl (dollar_other c)
 
--- what the end of the script makes of the stage where the characters end
-abbrev pub at_end : Stage → List (List ℕ) → First
-at_end BeforeCommand words = Nothing
-at_end AfterBlank words = Command words []
-at_end InWord words = Command words []
-at_end AfterDollar words = Command words []
-at_end AfterColon words = Command words []
+-- the rules that ask for a backslash-newline
+joint_tests : (end blank back newline : Bool) (c : ℕ) (cs : List ℕ) (go : Stage → First) (ended spaced joined other : First) (end_step blank_step back_step step : Step)
+    → ended ≡ does end_step c cs go → spaced ≡ does blank_step c cs go → (back ≡ true → cond newline joined other ≡ does back_step c cs go) → (back ≡ false → other ≡ does step c cs go)
+    → cond end ended (cond blank spaced (cond (back && newline) joined other)) ≡ does (cond end end_step (cond blank blank_step (cond back back_step step))) c cs go
+joint_tests true blank back newline c cs go ended spaced joined other end_step blank_step back_step step p q r s = p
+joint_tests false true back newline c cs go ended spaced joined other end_step blank_step back_step step p q r s = q
+joint_tests false false true newline c cs go ended spaced joined other end_step blank_step back_step step p q r s = r refl
+joint_tests false false false newline c cs go ended spaced joined other end_step blank_step back_step step p q r s = s refl
 
-put_at_end : (last : Stage) (place : Place) (sep : Bool) (c : ℕ) (words : List (List ℕ))
-    → put place sep c (at_end last words) ≡ at_end last (put_piece place sep c words)
-put_at_end BeforeCommand Between true c words = refl
-put_at_end BeforeCommand Inside true c words = refl
-put_at_end BeforeCommand place false c words = refl
-put_at_end AfterBlank place sep c words = put_command place sep c words []
-put_at_end InWord place sep c words = put_command place sep c words []
-put_at_end AfterDollar place sep c words = put_command place sep c words []
-put_at_end AfterColon place sep c words = put_command place sep c words []
+same_char : (c d : ℕ) → (c == d) ≡ true → c ≡ d
+same_char c d h = grind (arith, nat_tests)
 
--- a step ends a word just where the byte separates
-abbrev Agrees : Step → Bool → Type 0
-Agrees (Go next) sep = place_of next ≡ cond sep Between Inside
-Agrees End sep = sep ≡ true
-Agrees Refuse sep = ⊤
+from_bare : (e : Ending) (c : ℕ) (cs : List ℕ) → bare_rule e c cs (read cs e) ≡ does (bare_step c) c cs (λ stage. from stage e cs)
+from_bare e c cs =
+    joint_tests (is_end c) (is_blank c) (c == 92) (begins_with 10 cs) c cs (λ stage. from stage e cs)
+    (end_word (Command [] cs)) (end_word (read cs e 0 AtWord)) (end_word (read cs e 1 AtWord)) (text_rule e c cs (λ n. read cs e n InBare))
+    (closes End) (closes (Go stages.BeforeWord)) (passes stages.BareBackslash) (text_step Bare c)
+    refl refl
+    (λ h. ap (λ d. cond (begins_with 10 cs) (end_word (read cs e 1 AtWord)) (text_rule e d cs (λ n. read cs e n InBare))) (same_char c 92 h))
+    (λ h. from_text Bare e c cs)
 
-inside_agrees : (end blank bracket dollar : Bool)
-    → Agrees (cond end End (cond blank (Go AfterBlank) (cond bracket Refuse (cond dollar (Go AfterDollar) (Go InWord))))) (end || blank)
-inside_agrees true blank bracket dollar = refl
-inside_agrees false true bracket dollar = refl
-inside_agrees false false true dollar = tt
-inside_agrees false false false true = refl
-inside_agrees false false false false = refl
+quoted_tests : (quote : Bool) (c : ℕ) (cs : List ℕ) (go : Stage → First) (text : First) (step : Step) → text ≡ does step c cs go
+    → cond quote (end_word (go (stages.Behind Quote))) text ≡ does (cond quote (closes (Go (stages.Behind Quote))) step) c cs go
+quoted_tests true c cs go text step h = refl
+quoted_tests false c cs go text step h = h
 
-refuse_agrees : (test : Bool) (step : Step) (sep : Bool) → Agrees step sep → Agrees (cond test Refuse step) sep
-refuse_agrees true step sep h = tt
-refuse_agrees false step sep h = h
+from_quoted : (e : Ending) (c : ℕ) (cs : List ℕ) → quoted_rule e c cs (read cs e) ≡ does (quoted_step c) c cs (λ stage. from stage e cs)
+from_quoted e c cs =
+    quoted_tests (c == 34) c cs (λ stage. from stage e cs) (text_rule e c cs (λ n. read cs e n InQuotes)) (text_step Quoted c) (from_text Quoted e c cs)
 
-command_agrees : (hash : Bool) (step : Step) (sep : Bool) → Agrees step sep → Agrees (cond sep (Go BeforeCommand) (cond hash Refuse step)) sep
-command_agrees hash step true h = refl
-command_agrees hash step false h = refuse_agrees hash step false h
+from_inside : (word : TextWord) (e : Ending) (c : ℕ) (cs : List ℕ) → rule e (place_of word) c cs (read cs e) ≡ does (inside_step word c) c cs (λ stage. from stage e cs)
+from_inside Bare e c cs = from_bare e c cs
+from_inside Quoted e c cs = from_quoted e c cs
 
-colon_agrees : (colon : Bool) (step : Step) (sep : Bool) → (colon ≡ true → step ≡ Go InWord) → Agrees step sep → Agrees (cond colon (Go AfterColon) step) sep
-colon_agrees true step sep i h = subst (λ s. Agrees s sep) (i refl) h
-colon_agrees false step sep i h = h
+word_tests : (brace quote : Bool) (c : ℕ) (cs : List ℕ) (go : Stage → First) (text : First) (step : Step) → text ≡ does step c cs go
+    → cond brace (go stages.AfterOpening) (cond quote (go (stages.Text Quoted)) text)
+    ≡ does (cond brace (passes stages.AfterOpening) (cond quote (passes (stages.Text Quoted)) step)) c cs go
+word_tests true quote c cs go text step h = refl
+word_tests false true c cs go text step h = refl
+word_tests false false c cs go text step h = h
 
-inside_step_agrees : (c : ℕ) → Agrees (inside_step c) (is_separator c)
-inside_step_agrees c = inside_agrees (is_end c) (is_blank c) (c == 91 || c == 92) (c == 36)
+abbrev word_begin : Ending → List ℕ → ℕ → First
+word_begin e cs c =
+    cond (c == 123) (open_rule cs (read cs e)) (cond (c == 34) (read cs e 0 InQuotes) (text_rule e c cs (λ n. read cs e n InBare)))
 
-between_step_agrees : (c : ℕ) → Agrees (between_step c) (is_separator c)
-between_step_agrees c = refuse_agrees (c == 123 || c == 34) (inside_step c) (is_separator c) (inside_step_agrees c)
+from_word : (e : Ending) (c : ℕ) (cs : List ℕ) → word_rule e c cs (read cs e) ≡ does (word_step c) c cs (λ stage. from stage e cs)
+from_word e c cs =
+    joint_tests (is_end c) (is_blank c) (c == 92) (begins_with 10 cs) c cs (λ stage. from stage e cs)
+    (Command [] cs) (read cs e 0 AtWord) (read cs e 1 AtWord) (word_begin e cs c)
+    ends_here (passes stages.BeforeWord) (passes stages.WordBackslash) (cond (c == 123) (passes stages.AfterOpening) (cond (c == 34) (passes (stages.Text Quoted)) (text_step Bare c)))
+    refl refl
+    (λ h. ap (λ d. cond (begins_with 10 cs) (read cs e 1 AtWord) (word_begin e cs d)) (same_char c 92 h))
+    (λ h. word_tests (c == 123) (c == 34) c cs (λ stage. from stage e cs) (text_rule e c cs (λ n. read cs e n InBare)) (text_step Bare c) (from_text Bare e c cs))
 
-step_agrees : (stage : Stage) (c : ℕ) → Agrees (step_of stage c) (is_separator c)
-step_agrees BeforeCommand c = command_agrees (is_hash c) (between_step c) (is_separator c) (between_step_agrees c)
-step_agrees AfterBlank c = between_step_agrees c
-step_agrees InWord c = inside_step_agrees c
-step_agrees AfterDollar c = refuse_agrees (names_byte c) (cond (c == 58) (Go AfterColon) (inside_step c)) (is_separator c) (colon_agrees (c == 58) (inside_step c) (is_separator c) (colon_inside c) (inside_step_agrees c))
-step_agrees AfterColon c = refuse_agrees (c == 58) (inside_step c) (is_separator c) (inside_step_agrees c)
+hash_tests : (hash : Bool) (c : ℕ) (cs : List ℕ) (go : Stage → First) (words : First) (step : Step) → words ≡ does step c cs go
+    → cond hash (go stages.Comment) words ≡ does (cond hash (passes stages.Comment) step) c cs go
+hash_tests true c cs go words step h = refl
+hash_tests false c cs go words step h = h
 
-pub pieces-cons : (c : ℕ) (cs : List ℕ) (place : Place)
-    → pieces_from (c ∷ cs) place ≡ cond (is_separator c) (end_piece place (pieces_from cs Between)) (onto_piece c (pieces_from cs Inside))
-unfolding pieces_from
-pieces-cons c cs place = refl
+abbrev command_begin : Ending → List ℕ → ℕ → First
+command_begin e cs c = cond (c == 35) (read cs e 0 InComment) (word_rule e c cs (read cs e))
 
-pub pieces-nil : (place : Place) → pieces_from [] place ≡ end_piece place []
-unfolding pieces_from
-pieces-nil place = refl
+from_command : (e : Ending) (c : ℕ) (cs : List ℕ) → command_rule e c cs (read cs e) ≡ does (command_step c) c cs (λ stage. from stage e cs)
+from_command e c cs =
+    joint_tests (is_end c || is_blank c) false (c == 92) (begins_with 10 cs) c cs (λ stage. from stage e cs)
+    (read cs e 0 AtCommand) (Fault Substitution) (read cs e 1 AtCommand) (command_begin e cs c)
+    (passes stages.BeforeCommand) (refuses Substitution) (passes stages.CommandBackslash) (cond (c == 35) (passes stages.Comment) (word_step c))
+    refl refl
+    (λ h. ap (λ d. cond (begins_with 10 cs) (read cs e 1 AtCommand) (command_begin e cs d)) (same_char c 92 h))
+    (λ h. hash_tests (c == 35) c cs (λ stage. from stage e cs) (word_rule e c cs (read cs e)) (word_step c) (from_word e c cs))
 
-pieces_put : (sep : Bool) (c : ℕ) (cs : List ℕ) (place next : Place) → next ≡ cond sep Between Inside
-    → cond sep (end_piece place (pieces_from cs Between)) (onto_piece c (pieces_from cs Inside)) ≡ put_piece place sep c (pieces_from cs next)
-pieces_put true c cs place next h = ap (λ p. end_piece place (pieces_from cs p)) (sym h)
-pieces_put false c cs place next h = ap (λ p. onto_piece c (pieces_from cs p)) (sym h)
+comment_tests : (newline back : Bool) (c : ℕ) (cs : List ℕ) (go : Stage → First)
+    → cond newline (go stages.BeforeCommand) (cond back (go stages.CommentBackslash) (go stages.Comment))
+    ≡ does (cond newline (passes stages.BeforeCommand) (cond back (passes stages.CommentBackslash) (passes stages.Comment))) c cs go
+comment_tests true back c cs go = refl
+comment_tests false true c cs go = refl
+comment_tests false false c cs go = refl
 
-pieces_last : (sep : Bool) (c : ℕ) (place : Place) → sep ≡ true
-    → cond sep (end_piece place (pieces_from [] Between)) (onto_piece c (pieces_from [] Inside)) ≡ put_piece place sep c []
-pieces_last true c place h = ap (end_piece place) (pieces-nil Between)
-pieces_last false c place h = absurd (true≢false (sym h))
+braced_tests : (close opens back : Bool) (depth c : ℕ) (cs : List ℕ) (go : Stage → First) (closed : First) → closed ≡ does (close_step depth) c cs go
+    → cond close closed (cond opens (onto_word c (go (stages.Braced (suc depth)))) (cond back (go (stages.BracedBackslash depth)) (onto_word c (go (stages.Braced depth)))))
+    ≡ does (cond close (close_step depth) (cond opens (keeps (stages.Braced (suc depth))) (cond back (passes (stages.BracedBackslash depth)) (keeps (stages.Braced depth))))) c cs go
+braced_tests true opens back depth c cs go closed h = h
+braced_tests false true back depth c cs go closed h = refl
+braced_tests false false true depth c cs go closed h = refl
+braced_tests false false false depth c cs go closed h = refl
 
--- what a scan says of the characters, whatever follows them
-abbrev pub Verdict : Scan → Stage → List ℕ → Type 0
-Verdict (EndsAt n) stage cs = (n ≤ length cs) × (0 < n)
-    × ((e : Ending) (tail : List ℕ) → from stage e (take n cs ++ tail) ≡ Command (pieces_from (take n cs) (place_of stage)) tail)
-Verdict Refused stage cs = (e : Ending) (tail : List ℕ) → from stage e (cs ++ tail) ≡ Fault Substitution
-Verdict (Reaches last) stage cs = (from stage Continues cs ≡ Open) × (from stage Breaks cs ≡ Fault NotUtf8)
-    × (from stage Ends cs ≡ at_end last (pieces_from cs (place_of stage)))
+from_close : (depth : ℕ) (e : Ending) (c : ℕ) (cs : List ℕ) → close_rule depth c (read cs e) ≡ does (close_step depth) c cs (λ stage. from stage e cs)
+from_close zero e c cs = refl
+from_close (suc depth) e c cs = refl
 
-verdict_go : (stage next : Stage) (sep : Bool) (c : ℕ) (cs : List ℕ)
-    → ((e : Ending) (xs : List ℕ) → from stage e (c ∷ xs) ≡ put (place_of stage) sep c (from next e xs))
-    → ((xs : List ℕ) → pieces_from (c ∷ xs) (place_of stage) ≡ put_piece (place_of stage) sep c (pieces_from xs (place_of next)))
-    → (scan : Scan) → Verdict scan next cs → Verdict (later 1 scan) stage (c ∷ cs)
-verdict_go stage next sep c cs goes pieces (EndsAt n) v = let long = v.0 in
-    rw (one-add n) (
-      omega arith,
-      omega arith,
-      λ e tail.
-          goes e (take n cs ++ tail) ∙ ap (put (place_of stage) sep c) (v.2 e tail)
-          ∙ put_command (place_of stage) sep c (pieces_from (take n cs) (place_of next)) tail
-          ∙ ap (λ words. Command words tail) (sym (pieces (take n cs))),
-    )
-verdict_go stage next sep c cs goes pieces Refused v =
-    λ e tail. goes e (cs ++ tail) ∙ ap (put (place_of stage) sep c) (v e tail) ∙ put_fault (place_of stage) sep c
-verdict_go stage next sep c cs goes pieces (Reaches last) v = (
-  goes Continues cs ∙ ap (put (place_of stage) sep c) v.0 ∙ put_open (place_of stage) sep c,
-  goes Breaks cs ∙ ap (put (place_of stage) sep c) v.1 ∙ put_any_fault (place_of stage) sep c NotUtf8,
-  goes Ends cs ∙ ap (put (place_of stage) sep c) v.2 ∙ put_at_end last (place_of stage) sep c (pieces_from cs (place_of next))
-      ∙ ap (at_end last) (sym (pieces cs)),
-)
+from_braced : (depth : ℕ) (e : Ending) (c : ℕ) (cs : List ℕ) → braced_rule depth c cs (read cs e) ≡ does (braced_step depth c) c cs (λ stage. from stage e cs)
+from_braced depth e c cs =
+    braced_tests (c == 125) (c == 123) (c == 92) depth c cs (λ stage. from stage e cs) (close_rule depth c (read cs e)) (from_close depth e c cs)
 
-verdict_step : (stage : Stage) (step : Step) (sep : Bool) (c : ℕ) (cs : List ℕ) (after : Stage → Scan) → Agrees step sep
-    → ((e : Ending) (xs : List ℕ) → from stage e (c ∷ xs) ≡ put (place_of stage) sep c (arrive step (λ next. from next e xs) xs))
-    → ((xs : List ℕ) → pieces_from (c ∷ xs) (place_of stage) ≡ cond sep (end_piece (place_of stage) (pieces_from xs Between)) (onto_piece c (pieces_from xs Inside)))
-    → ((next : Stage) → Verdict (after next) next cs) → Verdict (scan_step step after) stage (c ∷ cs)
-verdict_step stage (Go next) sep c cs after agrees goes pieces rest =
-    verdict_go stage next sep c cs goes (λ xs. pieces xs ∙ pieces_put sep c xs (place_of stage) (place_of next) agrees) (after next) (rest next)
-verdict_step stage End sep c cs after agrees goes pieces rest = (
-  omega arith,
-  omega arith,
-  λ e tail.
-      goes e tail ∙ put_command (place_of stage) sep c [] tail
-      ∙ ap (λ words. Command words tail) (sym (pieces [] ∙ pieces_last sep c (place_of stage) agrees)),
-)
-verdict_step stage Refuse sep c cs after agrees goes pieces rest = λ e tail. goes e (cs ++ tail) ∙ put_fault (place_of stage) sep c
+kept_tests : (newline : Bool) (depth c : ℕ) (cs : List ℕ) (go : Stage → First)
+    → cond newline (onto_word 32 (go (stages.BracedGap depth))) (onto_word 92 (onto_word c (go (stages.Braced depth))))
+    ≡ does (cond newline (after 32 (passes (stages.BracedGap depth))) (after 92 (keeps (stages.Braced depth)))) c cs go
+kept_tests true depth c cs go = refl
+kept_tests false depth c cs go = refl
 
-from_end : (stage : Stage) → (from stage Continues [] ≡ Open) × (from stage Breaks [] ≡ Fault NotUtf8) × (from stage Ends [] ≡ at_end stage (end_piece (place_of stage) []))
-unfolding first words_from
-from_end BeforeCommand = (refl, refl, refl)
-from_end AfterBlank = (refl, refl, refl)
-from_end InWord = (refl, refl, refl)
-from_end AfterDollar = (refl, refl, refl)
-from_end AfterColon = (refl, refl, refl)
+behind_joint_tests : (newline : Bool) (closing : Closing) (c : ℕ) (cs : List ℕ) (go : Stage → First)
+    → cond newline (go stages.BeforeWord) (Fault (fault_behind closing)) ≡ does (cond newline (passes stages.BeforeWord) (refuses (fault_behind closing))) c cs go
+behind_joint_tests true closing c cs go = refl
+behind_joint_tests false closing c cs go = refl
 
-pub scanned-nil : (stage : Stage) → scanned [] stage ≡ Reaches stage
-unfolding scanned
-scanned-nil stage = refl
+abbrev behind_other : Ending → ScriptFault → List ℕ → ℕ → First
+behind_other e fault cs c = cond (c == 92 && is_nil cs) (at_stop e (Fault fault)) (Fault fault)
 
-pub scanned-cons : (c : ℕ) (cs : List ℕ) (stage : Stage) → scanned (c ∷ cs) stage ≡ scan_step (step_of stage c) (scanned cs)
-unfolding scanned
-scanned-cons c cs stage = refl
+behind_plain : (back nil : Bool) (found : First) (fault : ScriptFault) → back ≡ false → cond (back && nil) found (Fault fault) ≡ Fault fault
+behind_plain true nil found fault h = absurd (true≢false h)
+behind_plain false nil found fault h = refl
 
-pub verdict : (cs : List ℕ) (stage : Stage) → Verdict (scanned cs stage) stage cs
-verdict [] stage = let ended = from_end stage in
-    rw (scanned-nil stage) (ended.0, ended.1, ended.2 ∙ ap (at_end stage) (sym (pieces-nil (place_of stage))))
-verdict (c ∷ cs) stage = rw (scanned-cons c cs stage) (verdict_step stage (step_of stage c) (is_separator c) c cs (scanned cs) (step_agrees stage c)
-    (λ e xs. from-step stage e c xs) (λ xs. pieces-cons c xs (place_of stage)) (λ next. verdict cs next))
+from_behind : (closing : Closing) (e : Ending) (c : ℕ) (cs : List ℕ)
+    → behind_rule e (fault_behind closing) c cs (read cs e) ≡ does (behind_step closing c) c cs (λ stage. from stage e cs)
+from_behind closing e c cs =
+    joint_tests (is_end c) (is_blank c) (c == 92) (begins_with 10 cs) c cs (λ stage. from stage e cs)
+    (Command [] cs) (read cs e 0 AtWord) (read cs e 1 AtWord) (behind_other e (fault_behind closing) cs c)
+    ends_here (passes stages.BeforeWord) (passes (stages.BehindBackslash closing)) (refuses (fault_behind closing))
+    refl refl
+    (λ h. ap (λ d. cond (begins_with 10 cs) (read cs e 1 AtWord) (behind_other e (fault_behind closing) cs d)) (same_char c 92 h))
+    (λ h. behind_plain (c == 92) (is_nil cs) (at_stop e (Fault (fault_behind closing))) (fault_behind closing) h)
+
+dollar_tests : (names colon colons : Bool) (word : TextWord) (c : ℕ) (cs : List ℕ) (go : Stage → First) (words : First) (step : Step)
+    → words ≡ does step c cs go → (colon ≡ true → step ≡ keeps (stages.Text word))
+    → go (stages.AfterColon word) ≡ cond colons (Fault Substitution) (go (stages.Text word))
+    → cond (names || (colon && colons)) (Fault Substitution) words
+    ≡ does (cond names (refuses Substitution) (cond colon (keeps (stages.AfterColon word)) step)) c cs go
+dollar_tests true colon colons word c cs go words step h i w = refl
+dollar_tests false true true word c cs go words step h i w = ap (onto_word c) (sym w)
+dollar_tests false true false word c cs go words step h i w = h ∙ ap (λ s. does s c cs go) (i refl) ∙ ap (onto_word c) (sym w)
+dollar_tests false false colons word c cs go words step h i w = h
+
+colon_inside : (word : TextWord) (c : ℕ) → (c == 58) ≡ true → inside_step word c ≡ keeps (stages.Text word)
+colon_inside Bare c h = ap (inside_step Bare) (same_char c 58 h)
+colon_inside Quoted c h = ap (inside_step Quoted) (same_char c 58 h)
+
+colon_tests : (colon : Bool) (c : ℕ) (cs : List ℕ) (go : Stage → First) (words : First) (step : Step) → words ≡ does step c cs go
+    → cond colon (Fault Substitution) words ≡ does (cond colon (refuses Substitution) step) c cs go
+colon_tests true c cs go words step h = refl
+colon_tests false c cs go words step h = h
+
+-- escapes in words
+
+escaped_further : (e : Ending) (c : ℕ) (cs : List ℕ) (place : Where) (escape : Escape)
+    → escaped e (λ n. read (c ∷ cs) e n place) (further escape) ≡ escaped e (λ n. read cs e n place) escape
+unfolding read
+escaped_further e c cs place (Gives d n) = refl
+escaped_further e c cs place NoCharacter = refl
+escaped_further e c cs place Undecided = refl
+
+given_none : (b : Bool) (s t : Step) → s.output.given ≡ None → t.output.given ≡ None → (cond b s t).output.given ≡ None
+given_none true s t h k = h
+given_none false s t h k = k
+
+text_given : (word : TextWord) (c : ℕ) → (text_step word c).output.given ≡ None
+text_given word c = given_none (c == 91) _ _ refl (given_none (c == 36) _ _ refl (given_none (c == 92) _ _ refl refl))
+
+inside_given : (word : TextWord) (c : ℕ) → (inside_step word c).output.given ≡ None
+inside_given Bare c = given_none (is_end c) _ _ refl (given_none (is_blank c) _ _ refl (given_none (c == 92) _ _ refl (text_given Bare c)))
+inside_given Quoted c = given_none (c == 34) _ _ refl (text_given Quoted c)
+
+does_after : (d : ℕ) (step : Step) (c : ℕ) (cs : List ℕ) (go : Stage → First) → step.output.given ≡ None
+    → onto_word d (does step c cs go) ≡ does (after d step) c cs go
+does_after d step c cs go h =
+    ap (λ g. onto_word d (onto_given g (cond step.output.kept (onto_word c (cond step.output.ended (end_word (arrive step.next go cs)) (arrive step.next go cs))) (cond step.output.ended (end_word (arrive step.next go cs)) (arrive step.next go cs))))) h
+
+abbrev escaped_in : TextWord → Ending → List ℕ → Escape → First
+escaped_in word e cs found = escaped e (λ n. read cs e n (place_of word)) found
+
+from_by : (step : EscapeStep) (word : TextWord) (e : Ending) (c : ℕ) (cs : List ℕ)
+    → escaped_in word e (c ∷ cs) (escape_by step c (λ s. escape_from s (is_last e) cs)) ≡ does (step_by word c step) c cs (λ stage. from stage e cs)
+unfolding read
+from_by (escape_steps.Goes stage) word e c cs = escaped_further e c cs (place_of word) (escape_from stage (is_last e) cs)
+from_by (escape_steps.Gives d) word e c cs = refl
+from_by escape_steps.Keeps word e c cs = refl
+from_by (escape_steps.Before d) word e c cs =
+    ap (onto_word d) (from_inside word e c cs) ∙ does_after d (inside_step word c) c cs (λ stage. from stage e cs) (inside_given word c)
+from_by escape_steps.NoCharacter word e c cs = refl
+
+from_escaped : (word : TextWord) (stage : EscapeStage) (e : Ending) (c : ℕ) (cs : List ℕ)
+    → from (stages.Escaped word stage) e (c ∷ cs) ≡ does (step_by word c (escape_step stage c)) c cs (λ stage. from stage e cs)
+from_escaped word stage e c cs =
+    ap (escaped_in word e (c ∷ cs)) (escape-step stage (is_last e) c cs) ∙ from_by (escape_step stage c) word e c cs
+
+blank_tests : (newline : Bool) (c : ℕ) (cs : List ℕ) (go : Stage → First) (joined other : First) (blank step : Step)
+    → joined ≡ does blank c cs go → other ≡ does step c cs go → cond newline joined other ≡ does (cond newline blank step) c cs go
+blank_tests true c cs go joined other blank step h k = h
+blank_tests false c cs go joined other blank step h k = k
+
+opening_tests : (star brace : Bool) (c : ℕ) (cs : List ℕ) (go : Stage → First) (closed plain braced : First) (step : Step)
+    → braced ≡ does step c cs go → go stages.AfterStar ≡ cond brace closed plain → (star ≡ true → braced ≡ onto_word c plain)
+    → cond (star && brace) (onto_word c closed) braced ≡ does (cond star (keeps stages.AfterStar) step) c cs go
+opening_tests true true c cs go closed plain braced step h k i = ap (onto_word c) (sym k)
+opening_tests true false c cs go closed plain braced step h k i = i refl ∙ ap (onto_word c) (sym k)
+opening_tests false brace c cs go closed plain braced step h k i = h
+
+star_of : (star brace : Bool) (c : ℕ) (closed braced : First) → (star ≡ true → c ≡ 42)
+    → cond (star && brace) (onto_word 42 closed) braced ≡ cond (star && brace) (onto_word c closed) braced
+star_of true true c closed braced h = ap (λ d. onto_word d closed) (sym (h refl))
+star_of true false c closed braced h = refl
+star_of false brace c closed braced h = refl
+
+from_opening : (e : Ending) (c : ℕ) (cs : List ℕ) → from stages.AfterOpening e (c ∷ cs) ≡ does (opening_step c) c cs (λ stage. from stage e cs)
+unfolding read
+from_opening e c cs =
+    star_of (c == 42) (begins_with 125 cs) c (end_word (read cs e 1 (Behind Substitution))) (braced_rule 0 c cs (read cs e)) (same_char c 42)
+    ∙ opening_tests (c == 42) (begins_with 125 cs) c cs (λ stage. from stage e cs) (end_word (read cs e 1 (Behind Substitution))) (read cs e 0 (InBraces 0)) (braced_rule 0 c cs (read cs e)) (braced_step 0 c)
+    (from_braced 0 e c cs) refl (λ h. ap (λ d. braced_rule 0 d cs (read cs e)) (same_char c 42 h) ∙ ap (λ d. onto_word d (read cs e 0 (InBraces 0))) (sym (same_char c 42 h)))
+
+gap_step_tests : (blank : Bool) (depth : ℕ) (e : Ending) (c : ℕ) (cs : List ℕ)
+    → read (c ∷ cs) e (cond blank (suc (gap cs)) 0) (InBraces depth) ≡ does (cond blank (passes (stages.BracedGap depth)) (braced_step depth c)) c cs (λ stage. from stage e cs)
+unfolding read
+gap_step_tests true depth e c cs = refl
+gap_step_tests false depth e c cs = from_braced depth e c cs
+
+asked_again : (test : Bool) (x y z : First) → cond test x (cond test y z) ≡ cond test x z
+asked_again true x y z = refl
+asked_again false x y z = refl
+
+-- what is found from a character on, by its step
+pub from-step : (stage : Stage) (e : Ending) (c : ℕ) (cs : List ℕ) → from stage e (c ∷ cs) ≡ does (step_of stage c) c cs (λ stage. from stage e cs)
+unfolding read
+from-step stages.BeforeCommand e c cs = from_command e c cs
+from-step stages.CommandBackslash e c cs =
+    asked_again (c == 10) (read cs e 0 AtCommand) (read cs e 0 AtWord) (from (stages.Escaped Bare Backslash) e (c ∷ cs))
+    ∙ blank_tests (c == 10) c cs (λ stage. from stage e cs) (read cs e 0 AtCommand) (from (stages.Escaped Bare Backslash) e (c ∷ cs)) (passes stages.BeforeCommand) (step_by Bare c (escape_step Backslash c))
+    refl (from_escaped Bare Backslash e c cs)
+from-step stages.Comment e c cs = comment_tests (c == 10) (c == 92) c cs (λ stage. from stage e cs)
+from-step stages.CommentBackslash e c cs = refl
+from-step stages.BeforeWord e c cs = from_word e c cs
+from-step stages.WordBackslash e c cs =
+    blank_tests (c == 10) c cs (λ stage. from stage e cs) (read cs e 0 AtWord) (from (stages.Escaped Bare Backslash) e (c ∷ cs)) (passes stages.BeforeWord) (step_by Bare c (escape_step Backslash c))
+    refl (from_escaped Bare Backslash e c cs)
+from-step stages.BareBackslash e c cs =
+    blank_tests (c == 10) c cs (λ stage. from stage e cs) (end_word (read cs e 0 AtWord)) (from (stages.Escaped Bare Backslash) e (c ∷ cs)) (closes (Go stages.BeforeWord)) (step_by Bare c (escape_step Backslash c))
+    refl (from_escaped Bare Backslash e c cs)
+from-step (stages.Text Bare) e c cs = from_bare e c cs
+from-step (stages.Text Quoted) e c cs = from_quoted e c cs
+from-step (stages.AfterDollar word) e c cs =
+    dollar_tests (begins_name c) (c == 58) (begins_with 58 cs) word c cs (λ stage. from stage e cs) (read (c ∷ cs) e 0 (place_of word)) (inside_step word c)
+    (from_inside word e c cs) (colon_inside word c) refl
+from-step (stages.AfterColon word) e c cs =
+    colon_tests (c == 58) c cs (λ stage. from stage e cs) (read (c ∷ cs) e 0 (place_of word)) (inside_step word c) (from_inside word e c cs)
+from-step (stages.Escaped word stage) e c cs = from_escaped word stage e c cs
+from-step stages.AfterOpening e c cs = from_opening e c cs
+from-step stages.AfterStar e c cs =
+    blank_tests (c == 125) c cs (λ stage. from stage e cs) (end_word (read cs e 0 (Behind Substitution))) (braced_rule 0 c cs (read cs e)) (closes (Go (stages.Behind Expansion))) (braced_step 0 c)
+    refl (from_braced 0 e c cs)
+from-step (stages.Braced depth) e c cs = from_braced depth e c cs
+from-step (stages.BracedBackslash depth) e c cs = kept_tests (c == 10) depth c cs (λ stage. from stage e cs)
+from-step (stages.BracedGap depth) e c cs = gap_step_tests (is_gap c) depth e c cs
+from-step (stages.Behind closing) e c cs = from_behind closing e c cs
+from-step (stages.BehindBackslash closing) e c cs = behind_joint_tests (c == 10) closing c cs (λ stage. from stage e cs)

@@ -10,27 +10,25 @@ is_end c = c == 10 || c == 59
 abbrev pub is_blank : ℕ → Bool
 is_blank c = c == 32 || c == 9 || c == 13 || c == 11 || c == 12
 
--- a number sign, which begins a comment where a command would begin
-abbrev pub is_hash : ℕ → Bool
-is_hash c = c == 35
+-- what stands here begins with this character
+abbrev pub begins_with : ℕ → List ℕ → Bool
+begins_with d [] = false
+begins_with d (c ∷ cs) = c == d
 
--- a brace or a quote, which mean something where a word would begin, stands here
-abbrev pub begins_word_by_mark : List ℕ → Bool
-begins_word_by_mark [] = false
-begins_word_by_mark (c ∷ cs) = c == 123 || c == 34
+-- a letter or digit of ASCII, an underscore, an open brace or an open parenthesis
+abbrev pub begins_name : ℕ → Bool
+begins_name c = is_ascii_alphanumeric c || c == 95 || c == 123 || c == 40
 
--- what stands here begins with a colon
-abbrev pub begins_with_colon : List ℕ → Bool
-begins_with_colon [] = false
-begins_with_colon (c ∷ cs) = c == 58
-
--- What follows a dollar sign names a variable: a letter or digit of ASCII, an underscore, an open brace,
--- an open parenthesis or two colons.
+-- What follows a dollar sign names a variable: a character that begins a name, or two colons.
 abbrev pub names_variable : List ℕ → Bool
 names_variable [] = false
-names_variable (c ∷ cs) = is_ascii_alphanumeric c || c == 95 || c == 123 || c == 40 || (c == 58 && begins_with_colon cs)
+names_variable (c ∷ cs) = begins_name c || (c == 58 && begins_with 58 cs)
 
--- a command in brackets, a variable or a backslash begins here
-abbrev pub begins_substitution : List ℕ → Bool
-begins_substitution [] = false
-begins_substitution (c ∷ cs) = c == 91 || c == 92 || (c == 36 && names_variable cs)
+-- What follows an open brace is `*}`, which would expand a word.
+abbrev pub is_expansion : List ℕ → Bool
+is_expansion [] = false
+is_expansion (c ∷ cs) = c == 42 && begins_with 125 cs
+
+-- a backslash before a newline
+abbrev pub is_joint : ℕ → List ℕ → Bool
+is_joint c cs = c == 92 && begins_with 10 cs

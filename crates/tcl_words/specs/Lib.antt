@@ -1,6 +1,10 @@
 pub mod Characters
 pub mod Encoding
+pub mod EscapeSteps
+pub mod Escapes
 pub mod Progression
+pub mod Runs
 pub mod Scanning
 pub mod ScriptGrammar
+pub mod Steps
 pub mod Unread

@@ -1,95 +1,75 @@
--- How a scan goes over the bytes of a command one by one, and the words between its separators.
-use Rattle.std.specs.Prelude.{ℕ, ◌+◌, Bool, ◌||◌, ◌==◌, if◌then◌else◌, List, [], ◌∷◌}
-use Rattle.std.specs.Char.{is_ascii_alphanumeric}
-use Rattle.tcl_words.specs.Characters.{is_end, is_blank, is_hash}
-use Rattle.tcl_words.specs.ScriptGrammar.{Place, Between, Inside}
-use Rattle.tcl_words.specs.declared.scanner.Stage.{Stage}
-use Rattle.tcl_words.specs.declared.scanner.Stage.TheVariants.{BeforeCommand, AfterBlank, InWord, AfterDollar, AfterColon}
-use Rattle.tcl_words.specs.declared.scanner.Step.{Step}
-use Rattle.tcl_words.specs.declared.scanner.Step.TheVariants.{Go, End, Refuse}
+-- How a scan goes over a command one by one, and what it writes.
+use Rattle.std.specs.Prelude.{ℕ, ◌+◌, Bool, if◌then◌else◌, List, [], ◌∷◌, ◌++◌, Option, Some, None, encode_utf8}
+use Rattle.tcl_words.specs.Steps.{step_of, last_step}
+use Rattle.tcl_words.specs.declared.stage.Stage.{Stage}
+use Rattle.tcl_words.specs.declared.stage.Next.{Next}
+use Rattle.tcl_words.specs.declared.stage.Next.TheVariants.{Go, End, Refuse}
+use Rattle.tcl_words.specs.declared.stage.Output.{Output}
 use Rattle.tcl_words.specs.declared.scanner.Scan.{Scan}
 use Rattle.tcl_words.specs.declared.scanner.Scan.TheVariants.{EndsAt, Refused, Reaches}
-
--- a byte that separates words or commands
-abbrev pub is_separator : ℕ → Bool
-is_separator c = is_end c || is_blank c
-
--- a byte that makes a variable of a dollar sign before it, by itself
-abbrev pub names_byte : ℕ → Bool
-names_byte c = is_ascii_alphanumeric c || c == 95 || c == 123 || c == 40
-
--- what a byte does inside a word
-abbrev pub inside_step : ℕ → Step
-inside_step c =
-    if is_end c then End
-    else (if is_blank c then Go AfterBlank
-    else (if c == 91 || c == 92 then Refuse
-    else (if c == 36 then Go AfterDollar
-    else Go InWord)))
-
--- where a word may begin
-abbrev pub between_step : ℕ → Step
-between_step c = if c == 123 || c == 34 then Refuse else inside_step c
-
--- where a command may begin
-abbrev pub command_step : ℕ → Step
-command_step c =
-    if is_end c || is_blank c then Go BeforeCommand
-    else (if is_hash c then Refuse
-    else between_step c)
-
--- after a dollar sign
-abbrev pub dollar_step : ℕ → Step
-dollar_step c =
-    if names_byte c then Refuse
-    else (if c == 58 then Go AfterColon
-    else inside_step c)
-
--- after a dollar sign and a colon
-abbrev pub colon_step : ℕ → Step
-colon_step c = if c == 58 then Refuse else inside_step c
-
-abbrev pub step_of : Stage → ℕ → Step
-step_of BeforeCommand c = command_step c
-step_of AfterBlank c = between_step c
-step_of InWord c = inside_step c
-step_of AfterDollar c = dollar_step c
-step_of AfterColon c = colon_step c
 
 -- a scan that begins so many bytes later
 abbrev pub later : ℕ → Scan → Scan
 later n (EndsAt m) = EndsAt (n + m)
-later n Refused = Refused
+later n (Refused fault) = Refused fault
 later n (Reaches stage) = Reaches stage
 
 -- the scan from a byte on, and the scan of the bytes after it from each stage
-abbrev pub scan_step : Step → (Stage → Scan) → Scan
-scan_step (Go next) after = later 1 (after next)
-scan_step End after = EndsAt 1
-scan_step Refuse after = Refused
+abbrev pub scan_next : Next → (Stage → Scan) → Scan
+scan_next (Go stage) after = later 1 (after stage)
+scan_next End after = EndsAt 1
+scan_next (Refuse fault) after = Refused fault
 
 unfoldable pub scanned : List ℕ → Stage → Scan
 scanned [] stage = Reaches stage
-scanned (c ∷ cs) stage = scan_step (step_of stage c) (scanned cs)
+scanned (c ∷ cs) stage = scan_next (step_of stage c).next (scanned cs)
 
--- a word that is under way ends before the words that follow
-abbrev pub end_piece : Place → List (List ℕ) → List (List ℕ)
-end_piece Between words = words
-end_piece Inside words = [] ∷ words
-
--- the byte goes onto the first word
+-- the character goes onto the first word
 abbrev pub onto_piece : ℕ → List (List ℕ) → List (List ℕ)
 onto_piece c [] = []
 onto_piece c (word ∷ words) = (c ∷ word) ∷ words
 
--- the words between separators
-unfoldable pub pieces_from : List ℕ → Place → List (List ℕ)
-pieces_from [] place = end_piece place []
-pieces_from (c ∷ cs) place =
-    if is_separator c then end_piece place (pieces_from cs Between)
-    else onto_piece c (pieces_from cs Inside)
+abbrev pub given_onto : Option ℕ → List (List ℕ) → List (List ℕ)
+given_onto None words = words
+given_onto (Some c) words = onto_piece c words
 
--- the word of these bytes, if there are any
-abbrev pub some_piece : List ℕ → List (List ℕ)
-some_piece [] = []
-some_piece (c ∷ cs) = (c ∷ cs) ∷ []
+abbrev pub kept_onto : Bool → ℕ → List (List ℕ) → List (List ℕ)
+kept_onto kept c words = if kept then onto_piece c words else words
+
+abbrev pub ended_before : Bool → List (List ℕ) → List (List ℕ)
+ended_before ended words = if ended then [] ∷ words else words
+
+-- what a character adds goes before the words that follow
+abbrev pub written : Output → ℕ → List (List ℕ) → List (List ℕ)
+written output c words = given_onto output.given (kept_onto output.kept c (ended_before output.ended words))
+
+-- the words after a character, and those of what follows from each stage
+abbrev pub words_next : Next → (Stage → List (List ℕ)) → List (List ℕ)
+words_next (Go stage) after = after stage
+words_next End after = []
+words_next (Refuse fault) after = []
+
+-- the words of a command's characters
+unfoldable pub pieces_from : List ℕ → Stage → List (List ℕ)
+pieces_from [] stage = written (last_step stage).output 0 []
+pieces_from (c ∷ cs) stage = written (step_of stage c).output c (words_next (step_of stage c).next (pieces_from cs))
+
+-- What is written so far: the bytes of the words that ended, and of the one that is under way.
+
+abbrev pub given_bytes : Option ℕ → List ℕ
+given_bytes None = []
+given_bytes (Some c) = encode_utf8 c
+
+abbrev pub kept_bytes : Bool → ℕ → List ℕ
+kept_bytes kept c = if kept then encode_utf8 c else []
+
+-- the word with what a character adds
+abbrev pub word_with : Output → ℕ → List ℕ → List ℕ
+word_with output c word = (word ++ given_bytes output.given) ++ kept_bytes output.kept c
+
+-- the words after it, and the word that is under way then
+abbrev pub words_after : Bool → List ℕ → List (List ℕ) → List (List ℕ)
+words_after ended word words = if ended then words ++ word ∷ [] else words
+
+abbrev pub word_after : Bool → List ℕ → List ℕ
+word_after ended word = if ended then [] else word

@@ -2,12 +2,18 @@
 #![tactic(auto)]
 
 mod encoding;
+mod escapes;
 mod fault;
 pub mod laws;
 mod pieces;
 mod progress;
+mod runs;
 mod scanner;
+#[cfg(test)]
+mod scripts;
 mod splitter;
+mod stage;
+mod steps;
 #[cfg(test)]
 mod tests;
 

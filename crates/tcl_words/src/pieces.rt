@@ -1,42 +1,76 @@
-ghost use Rattle.std.specs.Prelude.{◌≡◌, ◌++◌, IfOk, OnOk, IsUtf8, map, string_bytes};
-ghost use Rattle.tcl_words.specs.Scanning.{is_separator, some_piece, pieces_from};
-ghost use Rattle.tcl_words.specs.ScriptGrammar.{Between};
+ghost use Rattle.std.specs.Prelude.{◌≡◌, ◌<◌, ◌∷◌, ◌++◌, ℕ, List, IfOk, OnOk, map, chars, length, string_bytes, encode_utf8, encode_utf8_all};
+ghost use Rattle.tcl_words.specs.Scanning.{pieces_from, word_with, words_after, word_after};
+ghost use Rattle.tcl_words.specs.declared.stage.Stage.TheVariants.{BeforeCommand};
 
-use crate::scanner::{is_blank, is_end};
+use crate::runs::plain_run;
+use crate::stage::{Next, Output, Stage};
+use crate::steps::{last_from, step_from};
 use std::alloc::{AllocError, Global};
 
-fn is_separator(byte: u8) -> bool
-    ensures { result ≡ is_separator byte }
-{
-    is_end(byte) || is_blank(byte)
+// Words that were written, and one that is under way.
+#[derive(Drop)]
+struct Writer {
+    words: Vec<String>,
+    word: String,
 }
 
-// Adds the bytes as a word, unless there are none.
-fn push_word(words: &mut Vec<String>, alloc: Global, bytes: &[u8]) -> Result<(), AllocError>
-    requires { IsUtf8 bytes.now }
-    ensures { OnOk result (map (λ word. string_bytes word) words.new.items
-        ≡ map (λ word. string_bytes word) words.old.items ++ some_piece bytes.now) }
-{
-    if !bytes.is_empty() {
-        let text = str::from_utf8(bytes).unwrap();
-        words.push(String::from_str(alloc, text)?)?;
+impl Writer {
+    // Writes what a character adds.
+    fn write(&mut self, alloc: Global, output: Output, c: char) -> Result<(), AllocError>
+        ensures word { OnOk result (string_bytes self.new.word
+            ≡ word_after output.ended (word_with output c (string_bytes self.old.word))) }
+        ensures words { OnOk result (map (λ word. string_bytes word) self.new.words.items
+            ≡ words_after output.ended (word_with output c (string_bytes self.old.word)) (map (λ word. string_bytes word) self.old.words.items)) }
+    {
+        if let Some(given) = output.given {
+            self.word.push(given)?;
+        }
+        if output.kept {
+            self.word.push(c)?;
+        }
+        if output.ended {
+            self.words
+                .push(String::from_str(alloc, self.word.as_str())?)?;
+            self.word.clear();
+        }
+        Ok(())
     }
-    Ok(())
+}
+
+// The first character of a text.
+fn first_char(text: &str) -> char
+    requires { 0 < length text.now }
+    ensures { (rest : List ℕ) × (text.now ≡ encode_utf8 result ++ rest) × (chars text.now ≡ result ∷ chars rest) }
+{
+    text.chars().next().unwrap()
 }
 
 /// The words of a command's text.
-pub fn words_of(alloc: Global, text: &[u8]) -> Result<Vec<String>, AllocError>
-    requires { IsUtf8 text.now }
-    ensures { IfOk result (λ words. map (λ word. string_bytes word) words.items ≡ pieces_from text.now Between) }
+pub fn words_of(alloc: Global, text: &str) -> Result<Vec<String>, AllocError>
+    ensures { IfOk result (λ words. map (λ word. string_bytes word) words.items ≡ map encode_utf8_all (pieces_from (chars text.now) BeforeCommand)) }
 {
-    let mut words = Vec::new(alloc);
-    let mut start = 0;
-    for (index, byte) in text.iter().enumerate() {
-        if is_separator(*byte) {
-            push_word(&mut words, alloc, &text[start..index])?;
-            start = index + 1;
+    let mut writer = Writer {
+        words: Vec::new(alloc),
+        word: String::with_capacity(alloc, text.len())?,
+    };
+    let mut stage = Stage::BeforeCommand;
+    let mut rest = text;
+    while !rest.is_empty() {
+        let run = plain_run(stage, rest.as_bytes());
+        if run > 0 {
+            writer.word.push_str(&rest[..run])?;
+            rest = &rest[run..];
+            continue;
         }
+        let c = first_char(rest);
+        let step = step_from(stage, c);
+        writer.write(alloc, step.output, c)?;
+        match step.next {
+            Next::Go(next) => stage = next,
+            Next::End | Next::Refuse(_) => return Ok(writer.words),
+        }
+        rest = &rest[c.len_utf8()..];
     }
-    push_word(&mut words, alloc, &text[start..])?;
-    Ok(words)
+    writer.write(alloc, last_from(stage).output, '\0')?;
+    Ok(writer.words)
 }

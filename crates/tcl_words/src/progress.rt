@@ -4,7 +4,9 @@ ghost use Rattle.tcl_words.specs.Unread.{HasNoFault};
 
 use crate::encoding::{TextStop, text_front};
 use crate::fault::ScriptFault;
-use crate::scanner::{Scan, Stage, scan_bytes};
+use crate::scanner::{Scan, scan_bytes};
+use crate::stage::{Next, Stage};
+use crate::steps::last_from;
 
 /// How far the bytes not yet given were read, so that none is read twice.
 #[derive(Clone, Copy)]
@@ -43,7 +45,7 @@ impl Progress {
         self.valid += front.len;
         match scan_bytes(&rest[self.seen..self.valid], self.stage) {
             Scan::EndsAt(len) => Ok(Some(self.seen + len)),
-            Scan::Refused => Err(ScriptFault::Substitution),
+            Scan::Refused(fault) => Err(fault),
             Scan::Reaches(stage) => {
                 self.seen = self.valid;
                 self.stage = stage;
@@ -63,11 +65,11 @@ fn at_text_end(
     ensures { result ≡ text_end stop finished stage len }
 {
     match stop {
-        TextStop::AtEnd => Ok(if finished {
+        TextStop::AtEnd => if finished {
             last_command(stage, len)
         } else {
-            None
-        }),
+            Ok(None)
+        },
         TextStop::WithinCharacter => if finished {
             Err(ScriptFault::NotUtf8)
         } else {
@@ -78,11 +80,12 @@ fn at_text_end(
 }
 
 // The command that the end of the script ends, if one has begun.
-fn last_command(stage: Stage, len: usize) -> Option<usize>
+fn last_command(stage: Stage, len: usize) -> Result<Option<usize>, ScriptFault>
     ensures { result ≡ last_command stage len }
 {
-    match stage {
-        Stage::BeforeCommand => None,
-        _ => Some(len),
+    match last_from(stage).next {
+        Next::Go(_) => Ok(None),
+        Next::End => Ok(Some(len)),
+        Next::Refuse(fault) => Err(fault),
     }
 }

@@ -90,7 +90,7 @@ impl Splitter {
         let Some(len) = self.find_command()? else {
             return Ok(None);
         };
-        let words = words_of(*self.script.allocator(), &self.rest()[..len])?;
+        let words = words_of(*self.script.allocator(), self.front(len))?;
         self.pass(len);
         Ok(Some(words))
     }
@@ -113,11 +113,14 @@ impl Splitter {
         Ok(true)
     }
 
-    // The bytes that aren't given as commands yet.
-    fn rest(&self) -> &[u8]
-        ensures { result.now ≡ self.now.rest }
+    // So many of the bytes that aren't given as commands yet, as text.
+    fn front(&self, len: usize) -> &str
+        requires within { len ≤ length self.now.rest }
+        requires text { IsUtf8 (take len self.now.rest) }
+        ensures { result.now ≡ take len self.now.rest }
     {
-        &self.script[self.given..]
+        let rest = &self.script[self.given..];
+        str::from_utf8(&rest[..len]).unwrap()
     }
 
     // How many bytes the next command has, if there is one. A fault is kept.

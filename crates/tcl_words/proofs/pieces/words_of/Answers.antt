@@ -1,29 +1,66 @@
-use Rattle.std.proofs.Common.{map, string_bytes, ap}
+use Rattle.std.proofs.Common.{◌++◌, ◌∙◌, map, chars, string_bytes, sym, ap, subst, arith, IsUtf8}
 use Rattle.std.proofs.lemmas.Str.{IsUtf8-drop}
-use Rattle.std.proofs.lemmas.List.{take_rest}
-use Rattle.tcl_words.proofs.Scans.{cut_starts, cut_passes, cut_ends, cut_text, cut_last}
+use Rattle.tcl_words.proofs.Scans.{depth_on}
+use Rattle.tcl_words.proofs.Plain.{run_at, front_range, char_boundary, after_char, none_left}
+use Rattle.tcl_words.proofs.Writing.{writing_starts, writing_runs, writing_goes, writing_stops, writing_ends, is_last}
 use Rattle.tcl_words.proofs.pieces.words_of.Goals as goal
-use Rattle.tcl_words.proofs.pieces.words_of.Goals.{then-is_separator+in_ok-push_word, else-is_separator}
 
-pub loop-index-init : goal.loop-index-init
-loop-index-init c = cut_starts c.args.text.now _ c.requires (ap (map (λ word. string_bytes word)) c.new-words.ensures.items)
+pub loop-rest-init : goal.loop-rest-init
+loop-rest-init c = record {
+  utf8 = c.utf8.text;
+  written = writing_starts (chars c.args.text.now) _ _ (ap (map (λ word. string_bytes word)) c.new.ensures.items) c.in_ok-with_capacity.ensures.bytes;
+  depth = omega arith;
+}
 
-pub push_word-requires : goal.push_word-requires
-push_word-requires c = cut_text c.args.text.now c.loop-index.start c.loop-index.index _ c.requires c.loop-index.invariant c.loop-index-test.true cc
+pub range-requires : goal.range-requires
+range-requires c =
+    let run = run_at c.loop-rest.stage c.loop-rest.rest.now _ c.plain_run-run.result c.as_bytes.ensures.value c.loop-rest.invariant.utf8 c.if-run-gt0.true
+    c.plain_run-run.ensures.within c.plain_run-run.ensures.plain c.plain_run-run.ensures.end in
+    record { start_le_end = omega arith; start_boundary = λ h. absurd (omega arith); end_boundary = run.0 }
 
-pub loop-index-preserved : goal.loop-index-preserved
-loop-index-preserved c =
-    elim c.if-is_separator.branch [
-      | then-is_separator+in_ok-push_word w ↦
-          rw (w.words-is, w.start-is) (cut_ends c.args.text.now c.loop-index.start c.loop-index.index _ _ c.requires c.loop-index.invariant c.loop-index-test.true (cc) w.in_ok-push_word.ensures)
-      | else-is_separator w ↦ rw (w.words-is, w.start-is) (cut_passes c.args.text.now c.loop-index.start c.loop-index.index _ c.loop-index.invariant cc)
-    ]
+pub loop-rest-preserved-then-run-gt0 : goal.loop-rest-preserved-then-run-gt0
+loop-rest-preserved-then-run-gt0 c =
+    let rest = c.loop-rest.rest.now in
+    let n = c.plain_run-run.result in
+    let run = run_at c.loop-rest.stage rest _ n c.as_bytes.ensures.value c.loop-rest.invariant.utf8 c.if-run-gt0.true
+    c.plain_run-run.ensures.within c.plain_run-run.ensures.plain c.plain_run-run.ensures.end in
+    let after = c.range_from-rest.ensures.value in
+    let depth = c.loop-rest.invariant.depth in
+    let long = c.range_from-rest.ensures.len in
+    record {
+      utf8 = subst IsUtf8 (sym after) (IsUtf8-drop rest n c.loop-rest.invariant.utf8 run.0);
+      written = rw after (writing_runs (chars c.args.text.now) rest n c.loop-rest.stage _ _ _ c.loop-rest.invariant.written run.1
+          (c.in_ok-push_str.ensures.bytes ∙ ap (λ l. string_bytes c.loop-rest.writer.word ++ l) (c.range.ensures.value ∙ front_range n rest)));
+      depth = omega arith;
+    }
 
-pub push_word-requires-2 : goal.push_word-requires-2
-push_word-requires-2 c =
-    rw (take_rest c.args.text.now c.loop-index.start) (IsUtf8-drop c.args.text.now c.loop-index.start c.requires c.loop-index.invariant.boundary)
+pub returns-in-End : goal.returns-in-End
+returns-in-End c =
+    writing_stops (chars c.args.text.now) (chars c.loop-rest.rest.now) _ c.loop-rest.stage _ _ _ _ c.step_from-step.result c.first_char-c.result c.loop-rest.invariant.written
+    c.first_char-c.ensures.2 c.step_from-step.ensures (is_last c.step_from-step.result.next c.in-End.is) c.in_ok-write.ensures.words c.in_ok-write.ensures.word
+
+pub range_from-rest-requires-in-loop-rest : goal.range_from-rest-requires-in-loop-rest
+range_from-rest-requires-in-loop-rest c =
+    λ h. char_boundary c.loop-rest.rest.now c.first_char-c.ensures.0 c.first_char-c.result c.len_utf8.result c.loop-rest.invariant.utf8 c.first_char-c.ensures.1 c.len_utf8.ensures.value
+
+pub loop-rest-preserved : goal.loop-rest-preserved
+loop-rest-preserved c =
+    let rest = c.loop-rest.rest.now in
+    let n = c.len_utf8.result in
+    let boundary = char_boundary rest c.first_char-c.ensures.0 c.first_char-c.result n c.loop-rest.invariant.utf8 c.first_char-c.ensures.1 c.len_utf8.ensures.value in
+    let after = c.range_from-rest-in-loop-rest.ensures.value in
+    let behind = after ∙ after_char rest c.first_char-c.ensures.0 c.first_char-c.result n c.first_char-c.ensures.1 c.len_utf8.ensures.len in
+    let deeper = depth_on c.loop-rest.stage c.in-Go.next _ _ c.in-Go.is c.step_from-step.ensures in
+    let depth = c.loop-rest.invariant.depth in
+    let long = c.range_from-rest-in-loop-rest.ensures.len in
+    let some = c.len_utf8.ensures.lower_bound in
+    record {
+      utf8 = subst IsUtf8 (sym after) (IsUtf8-drop rest n c.loop-rest.invariant.utf8 boundary);
+      written = rw behind (writing_goes (chars c.args.text.now) (chars rest) _ c.loop-rest.stage c.in-Go.next _ _ _ _ c.step_from-step.result c.first_char-c.result c.loop-rest.invariant.written
+          c.first_char-c.ensures.2 c.step_from-step.ensures c.in-Go.is c.in_ok-write.ensures.words c.in_ok-write.ensures.word);
+      depth = omega arith;
+    }
 
 pub returns : goal.returns
 returns c =
-    cut_last c.args.text.now c.loop-index.start c.loop-index.index _ _ c.loop-index.invariant c.loop-index-test.false
-    (rw (take_rest c.args.text.now c.loop-index.start) at c.in_ok-push_word-2.ensures)
+    writing_ends (chars c.args.text.now) c.loop-rest.rest.now c.loop-rest.stage _ _ _ c.last_from.result c.loop-rest.invariant.written (none_left c.loop-rest.rest.now c.is_empty.result c.is_empty.ensures c.loop-rest-test.false) c.last_from.ensures c.in_ok-write-2.ensures.words

@@ -1,6 +1,14 @@
-use Rattle.std.proofs.Common.{◌≡◌, drop}
+use Rattle.std.proofs.Common.{◌≡◌, ◌+◌, ◌-◌, ◌≤◌, length, drop}
 use Rattle.tcl_words.specs.Scanning.{scanned, later}
+use Rattle.tcl_words.specs.Steps.{depth_of}
 use Rattle.tcl_words.proofs.scanner.scan_bytes.Given as goal
 
 abbrev pub invariant-loop-index : goal.invariant-loop-index
-invariant-loop-index l = scanned l.bytes l.fn.from ≡ later l.index (scanned (drop l.index l.bytes) l.stage)
+invariant-loop-index l = record {
+  scans : scanned l.bytes l.fn.from ≡ later l.index (scanned (drop l.index l.bytes) l.stage);
+  depth : depth_of l.stage ≤ depth_of l.fn.from + l.index;
+  within : l.index ≤ length l.bytes;
+}
+
+abbrev pub decreases-loop-index : goal.decreases-loop-index
+decreases-loop-index l = length l.bytes - l.index

@@ -1,8 +1,14 @@
-use Rattle.std.proofs.Common.{◌∙◌, ap, arith}
+use Rattle.std.proofs.Common.{◌+◌, ◌-◌, ◌∙◌, ap, arith, drop, length-take, length-drop}
 use Rattle.std.proofs.lemmas.List.{take_rest}
 use Rattle.tcl_words.specs.Scanning.{later}
-use Rattle.tcl_words.proofs.Finding.{progress_more, progress_scan, progress_reaches, command_of, refused_of, reached_of, no_fault_of, stops_after}
+use Rattle.tcl_words.proofs.Finding.{progress_more, progress_scan, progress_reaches, progress_depth, command_of, refused_of, refused_met, reached_of, no_fault_of, stops_after}
 use Rattle.tcl_words.proofs.progress.Progress.find_command.Goals as goal
+
+pub scan_bytes-requires : goal.scan_bytes-requires
+scan_bytes-requires c =
+    let depth = progress_depth c.args.rest.now c.args.self.now c.requires in
+    let order = c.requires.order in
+    omega (arith, length-take (c.args.self.now.valid + c.text_front-front.result.len - c.args.self.now.seen) (drop c.args.self.now.seen c.args.rest.now), length-drop c.args.self.now.seen c.args.rest.now)
 
 pub overflow_add-result : goal.overflow_add-result
 overflow_add-result c =
@@ -37,7 +43,8 @@ returns-in-Refused-clause-next c =
     let rest = c.args.rest.now in
     let self = c.args.self.now in
     let p = progress_more rest _ self c.text_front-front.result.len c.requires (take_rest rest self.valid) c.text_front-front.ensures.within c.text_front-front.ensures.text in
-    ((λ e. cc), refused_of c.args.finished rest _ p.text (progress_scan rest _ _ p c.scan_bytes.ensures ∙ ap (later self.seen) c.in-Refused.is))
+    let scan = progress_scan rest _ _ p c.scan_bytes.ensures ∙ ap (later self.seen) c.in-Refused.is in
+    (refused_met _ c.in-Refused.fault p.text scan, refused_of c.args.finished rest _ c.in-Refused.fault p.text scan)
 
 pub returns-in-Reaches-clause-progress : goal.returns-in-Reaches-clause-progress
 returns-in-Reaches-clause-progress c =

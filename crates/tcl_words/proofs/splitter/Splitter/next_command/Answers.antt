@@ -11,12 +11,12 @@ returns-in_err-words-clause-memory c =
 pub returns-clause-command : goal.returns-clause-command
 returns-clause-command c =
     let k = rw c.in-Some.is at c.in_ok-len.ensures.found in
-    let texts = texts_found c.args.self.now.finished c.args.self.now.rest _ c.in-Some.len c.in_ok-words.words.items k (ap (take c.in-Some.len) (c.rest.ensures ∙ ap (λ (u : Unread). u.rest) c.in_ok-len.ensures.same.0)) c.in_ok-words.ensures in
+    let texts = texts_found c.args.self.now.finished c.args.self.now.rest _ c.in-Some.len c.in_ok-words.words.items k (c.front.ensures ∙ ap (λ (u : Unread). take c.in-Some.len u.rest) c.in_ok-len.ensures.same.0) c.in_ok-words.ensures in
     takes c.args.self.now c.find_command.new.self c.pass.new.self c.in-Some.len _ c.in_ok-len.ensures.same k c.pass.ensures texts.0
 
 pub returns-clause-words : goal.returns-clause-words
 returns-clause-words c =
     let k = rw c.in-Some.is at c.in_ok-len.ensures.found in
-    let texts = texts_found c.args.self.now.finished c.args.self.now.rest _ c.in-Some.len c.in_ok-words.words.items k (ap (take c.in-Some.len) (c.rest.ensures ∙ ap (λ (u : Unread). u.rest) c.in_ok-len.ensures.same.0)) c.in_ok-words.ensures in
+    let texts = texts_found c.args.self.now.finished c.args.self.now.rest _ c.in-Some.len c.in_ok-words.words.items k (c.front.ensures ∙ ap (λ (u : Unread). take c.in-Some.len u.rest) c.in_ok-len.ensures.same.0) c.in_ok-words.ensures in
     let some = texts.1 in
     omega arith

@@ -1,0 +1,140 @@
+-- Steps of the loop that writes the words of a command.
+use Rattle.std.proofs.Common.{◌≡◌, ℕ, ◌⊎◌, inl, inr, Bool, true, false, Option, Some, None, List, [], ◌∷◌, ◌++◌, map, length, take, drop, chars, encode_utf8, encode_utf8_all, refl, sym, ap, ◌∙◌, arith, subst, append_assoc, append-nil}
+use Rattle.std.proofs.lemmas.Str.{chars-nil}
+use Rattle.tcl_words.specs.Steps.{step_of, last_step}
+use Rattle.tcl_words.specs.Scanning.{onto_piece, given_onto, kept_onto, ended_before, written, words_next, pieces_from, given_bytes, kept_bytes, word_with, words_after, word_after}
+use Rattle.tcl_words.specs.declared.fault.ScriptFault.{ScriptFault}
+use Rattle.tcl_words.specs.declared.stage.Stage.{Stage}
+use Rattle.tcl_words.specs.declared.stage.Stage.TheVariants.{BeforeCommand}
+use Rattle.tcl_words.specs.declared.stage.Next.{Next}
+use Rattle.tcl_words.specs.declared.stage.Next.TheVariants.{Go, End, Refuse}
+use Rattle.tcl_words.specs.declared.stage.Output.{Output}
+use Rattle.tcl_words.specs.declared.stage.Step.{Step}
+use Rattle.tcl_words.proofs.Verdicts.{pieces-nil, pieces-cons}
+use Rattle.tcl_words.proofs.Plain.{AllPlain, plain_step, RunOf}
+
+-- bytes go onto the first word
+abbrev pub prefixed : List ℕ → List (List ℕ) → List (List ℕ)
+prefixed bytes [] = []
+prefixed bytes (word ∷ words) = (bytes ++ word) ∷ words
+
+-- words in their bytes
+abbrev pub spelled : List (List ℕ) → List (List ℕ)
+spelled words = map encode_utf8_all words
+
+prefixed_onto : (c : ℕ) (bytes : List ℕ) (words : List (List ℕ)) → prefixed bytes (spelled (onto_piece c words)) ≡ prefixed (bytes ++ encode_utf8 c) (spelled words)
+prefixed_onto c bytes [] = refl
+prefixed_onto c bytes (word ∷ words) = ap (λ l. l ∷ spelled words) (sym (append_assoc bytes (encode_utf8 c) (encode_utf8_all word)))
+
+prefixed_given : (given : Option ℕ) (bytes : List ℕ) (words : List (List ℕ)) → prefixed bytes (spelled (given_onto given words)) ≡ prefixed (bytes ++ given_bytes given) (spelled words)
+prefixed_given None bytes words = ap (λ l. prefixed l (spelled words)) (sym (append-nil bytes))
+prefixed_given (Some c) bytes words = prefixed_onto c bytes words
+
+prefixed_kept : (kept : Bool) (c : ℕ) (bytes : List ℕ) (words : List (List ℕ)) → prefixed bytes (spelled (kept_onto kept c words)) ≡ prefixed (bytes ++ kept_bytes kept c) (spelled words)
+prefixed_kept true c bytes words = prefixed_onto c bytes words
+prefixed_kept false c bytes words = ap (λ l. prefixed l (spelled words)) (sym (append-nil bytes))
+
+prefixed_nil : (words : List (List ℕ)) → prefixed [] words ≡ words
+prefixed_nil [] = refl
+prefixed_nil (word ∷ words) = refl
+
+prefixed_ended : (ended : Bool) (word : List ℕ) (words others : List (List ℕ))
+    → words ++ prefixed word (spelled (ended_before ended others)) ≡ words_after ended word words ++ prefixed (word_after ended word) (spelled others)
+prefixed_ended true word words others =
+    ap (λ l. words ++ l ∷ spelled others) (append-nil word) ∙ sym (append_assoc words (word ∷ []) (spelled others))
+    ∙ ap (λ l. (words ++ word ∷ []) ++ l) (sym (prefixed_nil (spelled others)))
+prefixed_ended false word words others = refl
+
+-- what a character adds is written
+written_more : (output : Output) (c : ℕ) (word : List ℕ) (words others : List (List ℕ))
+    → words ++ prefixed word (spelled (written output c others))
+    ≡ words_after output.ended (word_with output c word) words ++ prefixed (word_after output.ended (word_with output c word)) (spelled others)
+written_more output c word words others =
+    ap (λ l. words ++ l) (prefixed_given output.given word (kept_onto output.kept c (ended_before output.ended others))
+    ∙ prefixed_kept output.kept c (word ++ given_bytes output.given) (ended_before output.ended others))
+    ∙ prefixed_ended output.ended (word_with output c word) words others
+
+-- The characters before the rest led to the stage, and these words and this one that is under way were written.
+pub record IsWritten (cs rest : List ℕ) (stage : Stage) (words : List (List ℕ)) (word : List ℕ) : Type 0 where
+  pub pieces : spelled (pieces_from cs BeforeCommand) ≡ words ++ prefixed word (spelled (pieces_from rest stage))
+
+pub writing_starts : (cs : List ℕ) (words : List (List ℕ)) (word : List ℕ) → words ≡ [] → word ≡ [] → IsWritten cs cs BeforeCommand words word
+writing_starts cs words word none empty = record {
+  pieces = sym (ap (λ l. l ++ prefixed word (spelled (pieces_from cs BeforeCommand))) none ∙ ap (λ l. prefixed l (spelled (pieces_from cs BeforeCommand))) empty
+      ∙ prefixed_nil (spelled (pieces_from cs BeforeCommand)));
+}
+
+-- a run is written
+run_written : (stage : Stage) (run rest : List ℕ) (word : List ℕ) → AllPlain stage run
+    → prefixed word (spelled (pieces_from (run ++ rest) stage)) ≡ prefixed (word ++ encode_utf8_all run) (spelled (pieces_from rest stage))
+run_written stage [] rest word h = ap (λ l. prefixed l (spelled (pieces_from rest stage))) (sym (append-nil word))
+run_written stage (c ∷ run) rest word h =
+    ap (λ l. prefixed word (spelled l)) (pieces-cons c (run ++ rest) stage)
+    ∙ ap (λ (s : Step). prefixed word (spelled (written s.output c (words_next s.next (pieces_from (run ++ rest)))))) (plain_step stage c h.0)
+    ∙ prefixed_onto c word (pieces_from (run ++ rest) stage) ∙ run_written stage run rest (word ++ encode_utf8 c) h.1
+    ∙ ap (λ l. prefixed l (spelled (pieces_from rest stage))) (append_assoc word (encode_utf8 c) (encode_utf8_all run))
+
+pub writing_runs : (cs : List ℕ) (bytes : List ℕ) (n : ℕ) (stage : Stage) (words : List (List ℕ)) (word more : List ℕ) → IsWritten cs (chars bytes) stage words word
+    → RunOf stage bytes n → more ≡ word ++ take n bytes → IsWritten cs (chars (drop n bytes)) stage words more
+writing_runs cs bytes n stage words word more w r e = record {
+  pieces = w.pieces ∙ ap (λ l. words ++ prefixed word (spelled (pieces_from l stage))) r.split
+      ∙ ap (λ l. words ++ l) (run_written stage r.run (chars (drop n bytes)) word r.plain)
+      ∙ ap (λ l. words ++ prefixed l (spelled (pieces_from (chars (drop n bytes)) stage))) (ap (λ l. word ++ l) (sym r.spelled) ∙ sym e);
+}
+
+-- the pieces after one more character
+pieces_more : (cs now later : List ℕ) (stage : Stage) (words more : List (List ℕ)) (word rest : List ℕ) (step : Step) (c : ℕ) → IsWritten cs now stage words word
+    → now ≡ c ∷ later → step ≡ step_of stage c
+    → more ≡ words_after step.output.ended (word_with step.output c word) words → rest ≡ word_after step.output.ended (word_with step.output c word)
+    → spelled (pieces_from cs BeforeCommand) ≡ more ++ prefixed rest (spelled (words_next step.next (pieces_from later)))
+pieces_more cs now later stage words more word rest step c w here does e f =
+    w.pieces ∙ ap (λ l. words ++ prefixed word (spelled (pieces_from l stage))) here
+    ∙ ap (λ l. words ++ prefixed word (spelled l)) (pieces-cons c later stage)
+    ∙ ap (λ (s : Step). words ++ prefixed word (spelled (written s.output c (words_next s.next (pieces_from later))))) (sym does)
+    ∙ written_more step.output c word words (words_next step.next (pieces_from later))
+    ∙ ap (λ l. l ++ prefixed (word_after step.output.ended (word_with step.output c word)) (spelled (words_next step.next (pieces_from later)))) (sym e)
+    ∙ ap (λ l. more ++ prefixed l (spelled (words_next step.next (pieces_from later)))) (sym f)
+
+pub writing_goes : (cs now later : List ℕ) (stage next : Stage) (words more : List (List ℕ)) (word rest : List ℕ) (step : Step) (c : ℕ) → IsWritten cs now stage words word
+    → now ≡ c ∷ later → step ≡ step_of stage c → step.next ≡ Go next
+    → more ≡ words_after step.output.ended (word_with step.output c word) words → rest ≡ word_after step.output.ended (word_with step.output c word)
+    → IsWritten cs later next more rest
+writing_goes cs now later stage next words more word rest step c w here does goes e f = record {
+  pieces = pieces_more cs now later stage words more word rest step c w here does e f
+      ∙ ap (λ s. more ++ prefixed rest (spelled (words_next s (pieces_from later)))) goes;
+}
+
+-- the command's end
+abbrev pub IsLast : Next → Type 0
+IsLast (Go stage) = ⊥
+IsLast End = Unit {0}
+IsLast (Refuse fault) = Unit {0}
+
+pub is_last : (next : Next) → (next ≡ End) ⊎ ((fault : ScriptFault) × (next ≡ Refuse fault)) → IsLast next
+is_last next (inl h) = subst IsLast (sym h) tt
+is_last next (inr h) = subst IsLast (sym h.1) tt
+
+no_more : (next : Next) (after : Stage → List (List ℕ)) → IsLast next → words_next next after ≡ []
+no_more (Go stage) after h = absurd h
+no_more End after h = refl
+no_more (Refuse fault) after h = refl
+
+pub writing_stops : (cs now later : List ℕ) (stage : Stage) (words more : List (List ℕ)) (word rest : List ℕ) (step : Step) (c : ℕ) → IsWritten cs now stage words word
+    → now ≡ c ∷ later → step ≡ step_of stage c → IsLast step.next
+    → more ≡ words_after step.output.ended (word_with step.output c word) words → rest ≡ word_after step.output.ended (word_with step.output c word)
+    → more ≡ spelled (pieces_from cs BeforeCommand)
+writing_stops cs now later stage words more word rest step c w here does last e f =
+    sym (pieces_more cs now later stage words more word rest step c w here does e f
+    ∙ ap (λ l. more ++ prefixed rest (spelled l)) (no_more step.next (pieces_from later) last) ∙ append-nil more)
+
+-- the end of the text
+pub writing_ends : (cs bytes : List ℕ) (stage : Stage) (words more : List (List ℕ)) (word : List ℕ) (step : Step) → IsWritten cs (chars bytes) stage words word
+    → length bytes ≡ 0 → step ≡ last_step stage
+    → more ≡ words_after step.output.ended (word_with step.output 0 word) words
+    → more ≡ spelled (pieces_from cs BeforeCommand)
+writing_ends cs [] stage words more word step w h does e =
+    sym (w.pieces ∙ ap (λ l. words ++ prefixed word (spelled (pieces_from l stage))) chars-nil
+    ∙ ap (λ l. words ++ prefixed word (spelled l)) (pieces-nil stage)
+    ∙ ap (λ (s : Step). words ++ prefixed word (spelled (written s.output 0 []))) (sym does)
+    ∙ written_more step.output 0 word words [] ∙ append-nil _ ∙ sym e)
+writing_ends cs (b ∷ bytes) stage words more word step w h does e = absurd (omega arith)

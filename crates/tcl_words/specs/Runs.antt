@@ -1,0 +1,24 @@
+-- Characters that go onto a word as they are.
+use Rattle.std.specs.Prelude.{ℕ, Bool, true, false, ◌==◌, if◌then◌else◌}
+use Rattle.tcl_words.specs.Characters.{is_end, is_blank}
+use Rattle.tcl_words.specs.declared.stage.TextWord.TheVariants.{Bare, Quoted}
+use Rattle.tcl_words.specs.declared.stage.Stage.{Stage}
+use Rattle.tcl_words.specs.declared.stage.Stage.TheVariants.{Text, Braced}
+
+abbrev pub is_ordinary : ℕ → Bool
+is_ordinary c = if c == 91 then false else (if c == 36 then false else (if c == 92 then false else true))
+
+abbrev pub is_bare : ℕ → Bool
+is_bare c = if is_end c then false else (if is_blank c then false else (if c == 92 then false else is_ordinary c))
+
+abbrev pub is_quoted : ℕ → Bool
+is_quoted c = if c == 34 then false else is_ordinary c
+
+abbrev pub is_braced : ℕ → Bool
+is_braced c = if c == 125 then false else (if c == 123 then false else (if c == 92 then false else true))
+
+abbrev pub is_plain : Stage → ℕ → Bool
+is_plain (Text Bare) c = is_bare c
+is_plain (Text Quoted) c = is_quoted c
+is_plain (Braced depth) c = is_braced c
+is_plain _ c = false
