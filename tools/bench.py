@@ -68,6 +68,14 @@ def long_words(size):
     return ["text .t"] + [".t insert end " + "a" * size] * 20
 
 
+PROSE = "the quick brown fox jumps over the lazy dog, and "
+
+
+def spelled_words(before, after, piece):
+    """Commands that are refused, each with a word of about twenty times `size` characters between these two."""
+    return lambda size: ["text .t"] + [".u " + before + piece * (20 * size // len(piece)) + after] * 20
+
+
 def spread_places(size):
     """`size` places from 0 to `size`, not in order."""
     return [number * 7_919 % size for number in range(size)]
@@ -81,6 +89,10 @@ KINDS = [
     Kind("get one character", character_queries),
     Kind("a refused command", refused_commands),
     Kind("20 words of that length", long_words),
+    Kind("20 bare words, 20 x", spelled_words("", "", PROSE.replace(" ", "_"))),
+    Kind("20 quoted words, 20 x", spelled_words('"', '"', PROSE)),
+    Kind("20 braced words, 20 x", spelled_words("{", "}", PROSE)),
+    Kind("20 escaped words, 20 x", spelled_words('"', '"', "a\\x41\\n\\u00e9")),
 ]
 
 
