@@ -9,3 +9,5 @@ pub mod Finding
 pub mod Splitting
 pub mod Plain
 pub mod Writing
+pub mod ListStages
+pub mod ListWriting

@@ -5,6 +5,8 @@ mod encoding;
 mod escapes;
 mod fault;
 pub mod laws;
+mod list_steps;
+mod lists;
 mod pieces;
 mod progress;
 mod runs;
@@ -18,4 +20,5 @@ mod steps;
 mod tests;
 
 pub use fault::ScriptFault;
+pub use lists::{ListFault, split_list};
 pub use splitter::Splitter;
