@@ -11,3 +11,4 @@ pub mod Plain
 pub mod Writing
 pub mod ListStages
 pub mod ListWriting
+pub mod SpellsBack
