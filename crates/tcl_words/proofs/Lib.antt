@@ -12,3 +12,4 @@ pub mod Writing
 pub mod ListStages
 pub mod ListWriting
 pub mod SpellsBack
+pub mod ListForms

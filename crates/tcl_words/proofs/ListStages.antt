@@ -1,12 +1,11 @@
 -- What each stage of reading a list says of the list.
-use Rattle.std.proofs.Common.{◌≡◌, ℕ, zero, suc, ◌==◌, Bool, true, false, cond, ◌||◌, Option, Some, None, List, [], ◌∷◌, refl, sym, ap, ◌∙◌}
+use Rattle.std.proofs.Common.{◌≡◌, ℕ, zero, suc, ◌==◌, Bool, true, false, cond, Option, Some, None, List, [], ◌∷◌, refl, ap, ◌∙◌}
 use lib.Utf8.{scalar}
 use Rattle.tcl_words.specs.Escapes.{Escape, Gives, NoCharacter, Undecided, further, numeral, escape}
-use Rattle.tcl_words.specs.EscapeSteps.{escape_step, last_given}
-use Rattle.tcl_words.specs.ListText.{is_white, Spot, AtElement, InElement, InQuotes, InBraces, Closed, onto_element, end_element, escaped_element, element_rule, bare_element, quoted_element, close_element, kept_element, braced_element, begin_element, list_rule, read_list}
-use Rattle.tcl_words.specs.ListSteps.{list_passes, list_keeps, list_closes, no_list, list_after, text_element, step_in_element, step_at_element, close_brace, step_in_braces, element_by, list_step, last_in_element, last_element_by, last_list_step}
+use Rattle.tcl_words.specs.EscapeSteps.{escape_step}
+use Rattle.tcl_words.specs.ListText.{is_white, Spot, AtElement, InElement, InQuotes, InBraces, Closed, onto_element, end_element, escaped_element, element_rule, close_element, kept_element, braced_element, begin_element, list_rule, read_list}
+use Rattle.tcl_words.specs.ListSteps.{list_passes, list_keeps, list_closes, no_list, list_after, text_element, step_in_element, step_at_element, close_brace, step_in_braces, element_by, list_step, last_element_by, last_list_step}
 use Rattle.tcl_words.specs.Scanning.{onto_piece, given_onto, kept_onto, ended_before, written}
-use Rattle.tcl_words.specs.declared.escapes.EscapeStage.{EscapeStage}
 use Rattle.tcl_words.specs.declared.escapes.EscapeStage.TheVariants.{Backslash, Letter, Digits, Gap}
 use Rattle.tcl_words.specs.declared.escapes.EscapeStep.{EscapeStep}
 use Rattle.tcl_words.specs.declared.escapes.EscapeStep.TheVariants as escape_steps

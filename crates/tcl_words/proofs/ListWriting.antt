@@ -1,20 +1,18 @@
 -- Steps of the loop that reads a list's elements.
-use Rattle.std.proofs.Common.{◌≡◌, ℕ, zero, suc, ◌+◌, ◌<◌, ◌≤◌, ◌==◌, ◌||◌, Bool, true, false, cond, Option, Some, None, List, [], ◌∷◌, ◌++◌, map, length, take, drop, chars, String, string_bytes, encode_utf8, encode_utf8_all, refl, sym, ap, ◌∙◌, arith, subst, append_assoc, append-nil, true≢false}
+use Rattle.std.proofs.Common.{◌≡◌, ℕ, zero, suc, ◌≤◌, ◌==◌, Bool, true, false, cond, Some, None, List, [], ◌∷◌, ◌++◌, map, length, take, drop, chars, String, string_bytes, encode_utf8, encode_utf8_all, refl, sym, ap, ◌∙◌, arith, subst, append_assoc, append-nil, true≢false}
 use Rattle.std.specs.Bool.{⊤}
 use Rattle.std.proofs.lemmas.Bool.Decides.{nat_tests}
 use Rattle.std.proofs.lemmas.Str.{chars-nil}
 use Rattle.tcl_words.specs.EscapeSteps.{escape_step}
 use Rattle.tcl_words.specs.ListText.{is_white, AtElement, onto_element, read_list, ReadsList}
-use Rattle.tcl_words.specs.ListSteps.{list_keeps, list_closes, list_passes, no_list, text_element, step_in_element, step_at_element, close_brace, step_in_braces, element_by, list_step, last_list_step, open_braces, script_stage}
+use Rattle.tcl_words.specs.ListSteps.{list_keeps, text_element, step_in_element, close_brace, element_by, list_step, last_list_step, open_braces, script_stage}
 use Rattle.tcl_words.specs.Runs.{is_bare, is_quoted, is_braced, is_plain}
-use Rattle.tcl_words.specs.Scanning.{onto_piece, word_with, words_after, word_after}
+use Rattle.tcl_words.specs.Scanning.{word_with, words_after, word_after}
 use Rattle.tcl_words.specs.Unread.{texts_of}
-use Rattle.tcl_words.specs.declared.escapes.EscapeStage.{EscapeStage}
 use Rattle.tcl_words.specs.declared.escapes.EscapeStep.{EscapeStep}
 use Rattle.tcl_words.specs.declared.escapes.EscapeStep.TheVariants as escape_steps
 use Rattle.tcl_words.specs.declared.stage.TextWord.{TextWord}
 use Rattle.tcl_words.specs.declared.stage.TextWord.TheVariants.{Bare, Quoted}
-use Rattle.tcl_words.specs.declared.stage.Stage.{Stage}
 use Rattle.tcl_words.specs.declared.stage.Output.{Output}
 use Rattle.tcl_words.specs.declared.list_steps.ListStage.{ListStage}
 use Rattle.tcl_words.specs.declared.list_steps.ListStage.TheVariants as stages

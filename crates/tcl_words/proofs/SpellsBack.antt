@@ -1,8 +1,8 @@
 -- What is written spells its list.
-use Rattle.std.proofs.Common.{◌≡◌, ℕ, zero, suc, ◌+◌, ◌<◌, ◌==◌, ◌||◌, ◌⊎◌, inl, inr, ⊎_elim, Bool, true, false, cond, Option, Some, None, List, [], ◌∷◌, ◌++◌, length, refl, sym, ap, ◌∙◌, arith, subst, append_assoc, append-nil, true≢false}
+use Rattle.std.proofs.Common.{◌≡◌, ℕ, zero, suc, ◌==◌, ◌||◌, ◌⊎◌, inl, inr, ⊎_elim, Bool, true, false, cond, Some, List, [], ◌∷◌, ◌++◌, refl, sym, ap, ◌∙◌, arith, subst, append_assoc, append-nil, true≢false}
 use Rattle.std.proofs.lemmas.Bool.Decides.{nat_tests}
-use Rattle.tcl_words.specs.Escapes.{Escape, Gives, escape}
-use Rattle.tcl_words.specs.ListText.{is_white, is_special, has_special, needs_quotes, less, balances, white_letter, backslashed, with_backslashes, element_text, list_text, Spot, AtElement, InElement, InQuotes, InBraces, Closed, onto_element, end_element, escaped_element, close_element, read_list, ReadsList}
+use Rattle.tcl_words.specs.Escapes.{Gives, escape}
+use Rattle.tcl_words.specs.ListText.{is_white, is_special, has_special, needs_quotes, less, balances, white_letter, backslashed, with_backslashes, element_text, list_text, Spot, AtElement, InElement, InBraces, Closed, onto_element, end_element, escaped_element, close_element, read_list, ReadsList}
 use Rattle.tcl_words.proofs.ListStages.{Found}
 
 -- tests

@@ -1,5 +1,5 @@
 -- Lists as text (Tcl(n); list(n), lindex(n)).
-use Rattle.std.specs.Prelude.{◌≡◌, ℕ, zero, suc, Bool, true, false, ◌||◌, ◌&&◌, ◌==◌, if◌then◌else◌, List, [], ◌∷◌, ◌++◌, Option, Some, None}
+use Rattle.std.specs.Prelude.{◌≡◌, ℕ, zero, suc, Bool, true, false, ◌||◌, ◌==◌, if◌then◌else◌, List, [], ◌∷◌, ◌++◌, length, Option, Some, None}
 use Rattle.tcl_words.specs.Escapes.{Escape, Gives, NoCharacter, Undecided, escape}
 
 -- a space, tab, newline, carriage return, vertical tab or form feed
@@ -66,6 +66,10 @@ abbrev pub list_text : List (List ℕ) → List ℕ
 list_text [] = []
 list_text (x ∷ []) = element_text x
 list_text (x ∷ y ∷ xs) = element_text x ++ 32 ∷ list_text (y ∷ xs)
+
+-- what stands between the bytes of a list's text and one more element
+abbrev pub space_behind : List ℕ → List ℕ
+space_behind bytes = if length bytes == 0 then [] else 32 ∷ []
 
 -- Reading.
 
