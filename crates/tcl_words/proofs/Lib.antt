@@ -9,3 +9,7 @@ pub mod Finding
 pub mod Splitting
 pub mod Plain
 pub mod Writing
+pub mod ListStages
+pub mod ListWriting
+pub mod SpellsBack
+pub mod ListForms

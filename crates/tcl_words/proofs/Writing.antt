@@ -22,7 +22,7 @@ prefixed bytes (word ∷ words) = (bytes ++ word) ∷ words
 abbrev pub spelled : List (List ℕ) → List (List ℕ)
 spelled words = map encode_utf8_all words
 
-prefixed_onto : (c : ℕ) (bytes : List ℕ) (words : List (List ℕ)) → prefixed bytes (spelled (onto_piece c words)) ≡ prefixed (bytes ++ encode_utf8 c) (spelled words)
+pub prefixed_onto : (c : ℕ) (bytes : List ℕ) (words : List (List ℕ)) → prefixed bytes (spelled (onto_piece c words)) ≡ prefixed (bytes ++ encode_utf8 c) (spelled words)
 prefixed_onto c bytes [] = refl
 prefixed_onto c bytes (word ∷ words) = ap (λ l. l ∷ spelled words) (sym (append_assoc bytes (encode_utf8 c) (encode_utf8_all word)))
 
@@ -34,7 +34,7 @@ prefixed_kept : (kept : Bool) (c : ℕ) (bytes : List ℕ) (words : List (List �
 prefixed_kept true c bytes words = prefixed_onto c bytes words
 prefixed_kept false c bytes words = ap (λ l. prefixed l (spelled words)) (sym (append-nil bytes))
 
-prefixed_nil : (words : List (List ℕ)) → prefixed [] words ≡ words
+pub prefixed_nil : (words : List (List ℕ)) → prefixed [] words ≡ words
 prefixed_nil [] = refl
 prefixed_nil (word ∷ words) = refl
 
@@ -46,7 +46,7 @@ prefixed_ended true word words others =
 prefixed_ended false word words others = refl
 
 -- what a character adds is written
-written_more : (output : Output) (c : ℕ) (word : List ℕ) (words others : List (List ℕ))
+pub written_more : (output : Output) (c : ℕ) (word : List ℕ) (words others : List (List ℕ))
     → words ++ prefixed word (spelled (written output c others))
     ≡ words_after output.ended (word_with output c word) words ++ prefixed (word_after output.ended (word_with output c word)) (spelled others)
 written_more output c word words others =

@@ -2,6 +2,8 @@ pub mod Characters
 pub mod Encoding
 pub mod EscapeSteps
 pub mod Escapes
+pub mod ListSteps
+pub mod ListText
 pub mod Progression
 pub mod Runs
 pub mod Scanning

@@ -1,7 +1,8 @@
-//! Laws of the script grammar, each the contract of a function that does nothing.
+//! Laws of the script grammar and of list text, each the contract of a function that does nothing.
 
 ghost use Rattle.std.specs.Prelude.{◌≡◌, ◌∷◌, ◌++◌, List, ℕ, Option};
 ghost use Rattle.tcl_words.specs.declared.fault.ScriptFault.{ScriptFault};
+ghost use Rattle.tcl_words.specs.ListText.{list_text, ReadsList};
 ghost use Rattle.tcl_words.specs.ScriptGrammar.{ReadsScript, ReadsFront, IsWholeCommand};
 
 /// A script has at most one reading.
@@ -32,4 +33,10 @@ pub fn front_stays()
     ensures fault { (front more : List ℕ) (commands all : List (List (List ℕ))) (met : ScriptFault) (fault : Option ScriptFault) →
         ReadsFront front commands (Some met) → ReadsScript (front ++ more) all fault →
         (all ≡ commands) × (fault ≡ Some met) }
+{}
+
+/// What is written for a list spells that list, and no other.
+pub fn spells_back()
+    ensures { (list : List (List ℕ)) → ReadsList (list_text list) list
+        × ((other : List (List ℕ)) → ReadsList (list_text list) other → other ≡ list) }
 {}

@@ -1,10 +1,15 @@
-//! Commands and their words out of the bytes of a script, as Tcl(n) quotes them.
+//! Commands and their words out of the bytes of a script, as Tcl(n) quotes them, and lists as text.
 #![tactic(auto)]
 
 mod encoding;
 mod escapes;
 mod fault;
 pub mod laws;
+mod list_steps;
+#[cfg(test)]
+mod list_tests;
+mod list_writing;
+mod lists;
 mod pieces;
 mod progress;
 mod runs;
@@ -18,4 +23,6 @@ mod steps;
 mod tests;
 
 pub use fault::ScriptFault;
+pub use list_writing::push_element;
+pub use lists::{ListFault, split_list};
 pub use splitter::Splitter;

@@ -1,4 +1,4 @@
-ghost use Rattle.std.specs.Prelude.{◌≡◌, ◌<◌, ◌∷◌, ◌++◌, ℕ, List, IfOk, OnOk, map, chars, length, string_bytes, encode_utf8, encode_utf8_all};
+ghost use Rattle.std.specs.Prelude.{◌≡◌, ◌<◌, [], ◌∷◌, ◌++◌, ℕ, List, IfOk, OnOk, map, chars, length, string_bytes, encode_utf8, encode_utf8_all};
 ghost use Rattle.tcl_words.specs.Scanning.{pieces_from, word_with, words_after, word_after};
 ghost use Rattle.tcl_words.specs.declared.stage.Stage.TheVariants.{BeforeCommand};
 
@@ -7,16 +7,27 @@ use crate::stage::{Next, Output, Stage};
 use crate::steps::{last_from, step_from};
 use std::alloc::{AllocError, Global};
 
-// Words that were written, and one that is under way.
+/// Words that were written, and one that is under way.
 #[derive(Drop)]
-struct Writer {
-    words: Vec<String>,
-    word: String,
+pub struct Writer {
+    pub words: Vec<String>,
+    pub word: String,
 }
 
 impl Writer {
-    // Writes what a character adds.
-    fn write(&mut self, alloc: Global, output: Output, c: char) -> Result<(), AllocError>
+    /// Nothing written, with room for a word of so many bytes.
+    pub fn new(alloc: Global, room: usize) -> Result<Self, AllocError>
+        ensures words { IfOk result (λ writer. writer.words.items ≡ []) }
+        ensures word { IfOk result (λ writer. string_bytes writer.word ≡ []) }
+    {
+        Ok(Writer {
+            words: Vec::new(alloc),
+            word: String::with_capacity(alloc, room)?,
+        })
+    }
+
+    /// Writes what a character adds.
+    pub fn write(&mut self, alloc: Global, output: Output, c: char) -> Result<(), AllocError>
         ensures word { OnOk result (string_bytes self.new.word
             ≡ word_after output.ended (word_with output c (string_bytes self.old.word))) }
         ensures words { OnOk result (map (λ word. string_bytes word) self.new.words.items
@@ -37,8 +48,8 @@ impl Writer {
     }
 }
 
-// The first character of a text.
-fn first_char(text: &str) -> char
+/// The first character of a text.
+pub fn first_char(text: &str) -> char
     requires { 0 < length text.now }
     ensures { (rest : List ℕ) × (text.now ≡ encode_utf8 result ++ rest) × (chars text.now ≡ result ∷ chars rest) }
 {
@@ -49,10 +60,7 @@ fn first_char(text: &str) -> char
 pub fn words_of(alloc: Global, text: &str) -> Result<Vec<String>, AllocError>
     ensures { IfOk result (λ words. map (λ word. string_bytes word) words.items ≡ map encode_utf8_all (pieces_from (chars text.now) BeforeCommand)) }
 {
-    let mut writer = Writer {
-        words: Vec::new(alloc),
-        word: String::with_capacity(alloc, text.len())?,
-    };
+    let mut writer = Writer::new(alloc, text.len())?;
     let mut stage = Stage::BeforeCommand;
     let mut rest = text;
     while !rest.is_empty() {

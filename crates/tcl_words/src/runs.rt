@@ -1,6 +1,6 @@
 //! Runs of bytes that go onto a word as they are.
 
-ghost use Rattle.std.specs.Prelude.{◌≡◌, ◌<◌, ◌≤◌, ℕ, length, true, slice_index};
+ghost use Rattle.std.specs.Prelude.{◌≡◌, ◌<◌, ◌≤◌, ℕ, length, true, false, slice_index};
 ghost use Rattle.tcl_words.specs.Runs.{is_plain, is_bare, is_quoted, is_braced};
 
 use crate::stage::{Stage, TextWord};
@@ -32,6 +32,7 @@ fn is_braced(byte: u8) -> bool
 fn bare_run(bytes: &[u8]) -> usize
     ensures within { result ≤ length bytes.now }
     ensures plain { (k : ℕ) → k < result → is_bare (slice_index bytes.now k) ≡ true }
+    ensures longest { result < length bytes.now → is_bare (slice_index bytes.now result) ≡ false }
     ensures end { result < length bytes.now → slice_index bytes.now result < 128 }
 {
     for (index, byte) in bytes.iter().enumerate() {
@@ -45,6 +46,7 @@ fn bare_run(bytes: &[u8]) -> usize
 fn quoted_run(bytes: &[u8]) -> usize
     ensures within { result ≤ length bytes.now }
     ensures plain { (k : ℕ) → k < result → is_quoted (slice_index bytes.now k) ≡ true }
+    ensures longest { result < length bytes.now → is_quoted (slice_index bytes.now result) ≡ false }
     ensures end { result < length bytes.now → slice_index bytes.now result < 128 }
 {
     for (index, byte) in bytes.iter().enumerate() {
@@ -58,6 +60,7 @@ fn quoted_run(bytes: &[u8]) -> usize
 fn braced_run(bytes: &[u8]) -> usize
     ensures within { result ≤ length bytes.now }
     ensures plain { (k : ℕ) → k < result → is_braced (slice_index bytes.now k) ≡ true }
+    ensures longest { result < length bytes.now → is_braced (slice_index bytes.now result) ≡ false }
     ensures end { result < length bytes.now → slice_index bytes.now result < 128 }
 {
     for (index, byte) in bytes.iter().enumerate() {
@@ -72,6 +75,7 @@ fn braced_run(bytes: &[u8]) -> usize
 pub fn plain_run(stage: Stage, bytes: &[u8]) -> usize
     ensures within { result ≤ length bytes.now }
     ensures plain { (k : ℕ) → k < result → is_plain stage (slice_index bytes.now k) ≡ true }
+    ensures longest { result < length bytes.now → is_plain stage (slice_index bytes.now result) ≡ false }
     ensures end { 0 < result → result < length bytes.now → slice_index bytes.now result < 128 }
 {
     match stage {

@@ -8,7 +8,7 @@ use Rattle.tcl_words.proofs.pieces.words_of.Goals as goal
 pub loop-rest-init : goal.loop-rest-init
 loop-rest-init c = record {
   utf8 = c.utf8.text;
-  written = writing_starts (chars c.args.text.now) _ _ (ap (map (λ word. string_bytes word)) c.new.ensures.items) c.in_ok-with_capacity.ensures.bytes;
+  written = writing_starts (chars c.args.text.now) _ _ (ap (map (λ word. string_bytes word)) c.in_ok-writer.ensures.words) c.in_ok-writer.ensures.word;
   depth = omega arith;
 }
 
