@@ -1,0 +1,3 @@
+pub mod ListLaws
+pub mod PlaceLaws
+pub mod ViewLaws
