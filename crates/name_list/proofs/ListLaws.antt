@@ -6,7 +6,7 @@ use Rattle.std.proofs.lemmas.Bool.{cases_lt, cases_eq}
 use Rattle.std.proofs.lemmas.Bool.Decides.{nat_tests}
 use Rattle.std.proofs.lemmas.Option.{none-some, same_Some, slice_get-get_or, slice_get_within, get_or_from_slice_get, slice_get_past}
 use Rattle.std.proofs.lemmas.List.Edits.{length-remove, length-insert}
-use Rattle.indexmap.specs.IndexMap.{move_index}
+use Rattle.name_list.specs.Moves.{move_index}
 use Rattle.name_list.specs.Names.{AreApart, IsLeastFree}
 
 -- it stands somewhere in the list

@@ -7,7 +7,7 @@ use Rattle.std.proofs.lemmas.Bool.Decides.{nat_tests}
 use Rattle.std.proofs.lemmas.Option.{none-some, same_Some, slice_get-get_or, slice_get_within, slice_get_past}
 use Rattle.std.proofs.lemmas.List.{append-nil, take_all, drop_all, length-replicate}
 use Rattle.std.proofs.lemmas.List.Edits.{length-remove, length-insert}
-use Rattle.indexmap.specs.IndexMap.{move_index}
+use Rattle.name_list.specs.Moves.{move_index}
 use Rattle.name_list.specs.Names.{AreApart, IsLeastFree}
 use Rattle.name_list.specs.Places.{is_taken, IsIndex, IsIndexTo, AreKept}
 use Rattle.name_list.proofs.ListLaws.{Stands, stands_from_Contains, Contains-from_stands, get_push, get_pushed, get_push_cases, get_set, get_set_other, get_remove, get_remove_other, before_removal, removed_is_gone, AreApart-remove, AreApart-insert, get_inserted, get_insert_cases, stands_insert, room_of_numbers}
@@ -111,42 +111,44 @@ IsIndexTo-remove numbers places i number index here =
       ];
     }
 
--- before the places are noted anew: a name is moved
-module _ (numbers : List ℕ) (from to number : ℕ) (here : slice_get numbers from ≡ Some number) (within : to < length numbers) where
-  moves : move_index numbers from to ≡ insert (remove numbers from) to number
-  moves = ap (λ o. option_map_or (λ x. insert (remove numbers from) to x) o numbers) here
+-- an element that is moved
+module _ {A : Type 0} (xs : List A) (from to : ℕ) (x : A) (here : slice_get xs from ≡ Some x) (within : to < length xs) where
+  moves : move_index xs from to ≡ insert (remove xs from) to x
+  moves = ap (λ o. option_map_or (λ y. insert (remove xs from) to y) o xs) here
 
-  room : to ≤ length (remove numbers from)
-  room = let e = length-remove numbers from (slice_get_within numbers from number here) in omega arith
+  room : to ≤ length (remove xs from)
+  room = let e = length-remove xs from (slice_get_within xs from x here) in omega arith
 
-  pub AreApart-move : AreApart numbers → AreApart (move_index numbers from to)
-  AreApart-move apart = subst AreApart (sym moves) (AreApart-insert (remove numbers from) to number room (removed_is_gone numbers from number apart here) (AreApart-remove numbers from (slice_get_within numbers from number here) apart))
+  pub AreApart-move : AreApart xs → AreApart (move_index xs from to)
+  AreApart-move apart = subst AreApart (sym moves) (AreApart-insert (remove xs from) to x room (removed_is_gone xs from x apart here) (AreApart-remove xs from (slice_get_within xs from x here) apart))
 
-  pub stands_move : (x : ℕ) → Stands numbers x → Stands (move_index numbers from to) x
-  stands_move x (at, is) = subst (λ xs. Stands xs x) (sym moves) (elim (cases_eq at from) [
-      | inl same ↦ (to, get_inserted (remove numbers from) to number room ∙ sym here ∙ ap (slice_get numbers) (sym same) ∙ is)
-      | inr other ↦ stands_insert (remove numbers from) to number x room (get_remove_other numbers from at x (slice_get_within numbers from number here) other is)
+  pub stands_move : (y : A) → Stands xs y → Stands (move_index xs from to) y
+  stands_move y (at, is) = subst (λ zs. Stands zs y) (sym moves) (elim (cases_eq at from) [
+      | inl same ↦ (to, get_inserted (remove xs from) to x room ∙ sym here ∙ ap (slice_get xs) (sym same) ∙ is)
+      | inr other ↦ stands_insert (remove xs from) to x y room (get_remove_other xs from at y (slice_get_within xs from x here) other is)
     ])
 
-  pub stood_before_move : (x : ℕ) → Stands (move_index numbers from to) x → Stands numbers x
-  stood_before_move x (at, is) = elim (get_insert_cases (remove numbers from) to number at x room (sym (ap (λ xs. slice_get xs at) moves) ∙ is)) [
+  pub stood_before_move : (y : A) → Stands (move_index xs from to) y → Stands xs y
+  stood_before_move y (at, is) = elim (get_insert_cases (remove xs from) to x at y room (sym (ap (λ zs. slice_get zs at) moves) ∙ is)) [
       | inl new ↦ (from, here ∙ ap (λ m. Some m) new.1)
-      | inr old ↦ (before_removal from old.0, sym (get_remove numbers from old.0 (slice_get_within numbers from number here)) ∙ old.1)
+      | inr old ↦ (before_removal from old.0, sym (get_remove xs from old.0 (slice_get_within xs from x here)) ∙ old.1)
     ]
 
-  pub length-move : length (move_index numbers from to) ≡ length numbers
-  length-move = ap length moves ∙ length-insert (remove numbers from) to number room ∙ length-remove numbers from (slice_get_within numbers from number here)
+  pub length-move : length (move_index xs from to) ≡ length xs
+  length-move = ap length moves ∙ length-insert (remove xs from) to x room ∙ length-remove xs from (slice_get_within xs from x here)
 
+-- before the places are noted anew: a name is moved
+module _ (numbers : List ℕ) (from to number : ℕ) (here : slice_get numbers from ≡ Some number) (within : to < length numbers) where
   pub IsIndexTo-move : (places : List (Option ℕ)) → IsIndex numbers places → IsIndexTo (move_index numbers from to) 0 places
   IsIndexTo-move places index = record {
     placed = λ at n below is. absurd (omega arith);
-    listed = λ at n is. stands_move n (at, index.there at n is);
+    listed = λ at n is. stands_move numbers from to number here within n (at, index.there at n is);
   }
 
   pub IsLeastFree-move : (free : ℕ) → IsLeastFree numbers free → IsLeastFree (move_index numbers from to) free
   IsLeastFree-move free least = record {
-    free = λ has. least.free (Contains-from_stands numbers free (stood_before_move free (stands_from_Contains _ free has)));
-    below = λ k less. Contains-from_stands _ k (stands_move k (stands_from_Contains numbers k (least.below k less)));
+    free = λ has. least.free (Contains-from_stands numbers free (stood_before_move numbers from to number here within free (stands_from_Contains _ free has)));
+    below = λ k less. Contains-from_stands _ k (stands_move numbers from to number here within k (stands_from_Contains numbers k (least.below k less)));
   }
 
 -- the least free number is below the limit where there is room

@@ -1,5 +1,5 @@
 ghost use Rattle.std.specs.Prelude.{◌≡◌, ◌<◌, ◌≤◌, ◌↔◌, ◌∷◌, [], ◌++◌, length, remove, slice_get, chars, string_bytes, None, Some, Contains, IsNone, IfOk, IfSome, OnErr, MatchOption};
-ghost use Rattle.indexmap.specs.IndexMap.{move_index};
+ghost use Rattle.name_list.specs.Moves.{move_index};
 ghost use Rattle.name_list.specs.Names.{Names, place_of, names_of, numbers_of, IsFull, IsLeastFree, AreNames};
 
 use crate::places::{next_free, note_places};
@@ -78,7 +78,8 @@ impl NameList {
     /// The number of the name at a place.
     pub fn number(&self, place: usize) -> u16
         requires { place < length self.now.entries }
-        ensures { slice_get (numbers_of self.now.entries) place ≡ Some result }
+        ensures value { slice_get (numbers_of self.now.entries) place ≡ Some result }
+        ensures below { result < self.now.limit }
     {
         self.numbers[place]
     }
@@ -90,6 +91,7 @@ impl NameList {
         ensures full { IfOk result (λ made. IsNone made ↔ IsFull self.old) }
         ensures refused { IfOk result (λ made. IsNone made → self.new ≡ self.old) }
         ensures least { IfOk result (λ made. IfSome made (IsLeastFree (numbers_of self.old.entries))) }
+        ensures below { IfOk result (λ made. IfSome made (λ number. number < self.old.limit)) }
         ensures last { IfOk result (λ made. IfSome made (λ number. self.new ≡
             record self.old { entries = self.old.entries ++ record { name = chars (string_bytes name); number = number } ∷ [] })) }
         ensures err { OnErr result (self.new ≡ self.old) }

@@ -1,13 +1,8 @@
-// A library with one function.
+//! The tags of a document, in the order of their priority.
 #![tactic(auto)]
 
-ghost use Rattle.std.specs.Prelude.{◌≡◌};
-ghost use Rattle.tag_table.specs.Echo.{echo_of};
+mod faults;
+mod tags;
 
-// The `ensures` clause is the contract: what `echo` returns is `echo_of` of its argument, a definition
-// in `specs/Echo.antt`, which a caller's clause can cite too.
-pub fn echo(x: usize) -> usize
-    ensures { result ≡ echo_of x }
-{
-    x
-}
+pub use faults::NoSuchTag;
+pub use tags::TagTable;

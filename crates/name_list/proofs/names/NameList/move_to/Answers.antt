@@ -1,6 +1,6 @@
 use Rattle.std.proofs.Common.{◌≡◌, ◌<◌, ℕ, List, Option, None, Some, length, get_or, sym, ap, ap₂, ◌∙◌, subst, slice_get, map, arith}
 use Rattle.std.specs.Map.{values_of}
-use Rattle.indexmap.specs.IndexMap.{move_index}
+use Rattle.name_list.specs.Moves.{move_index}
 use Rattle.name_list.specs.Names.{AreApart}
 use Rattle.name_list.specs.Places.{AreKept, IsIndex, IsIndexTo, named}
 use Rattle.name_list.proofs.ListLaws.{Stands}
