@@ -1,13 +1,8 @@
-// A library with one function.
+//! The marks that the widgets of a document share, and the order of the marks that a widget can use.
 #![tactic(auto)]
 
-ghost use Rattle.std.specs.Prelude.{◌≡◌};
-ghost use Rattle.mark_table.specs.Echo.{echo_of};
+mod faults;
+mod marks;
 
-// The `ensures` clause is the contract: what `echo` returns is `echo_of` of its argument, a definition
-// in `specs/Echo.antt`, which a caller's clause can cite too.
-pub fn echo(x: usize) -> usize
-    ensures { result ≡ echo_of x }
-{
-    x
-}
+pub use faults::NoSuchMark;
+pub use marks::MarkTable;

@@ -4,7 +4,7 @@ use Rattle.std.specs.Prelude.{insert, remove}
 use Rattle.std.specs.Option.{option_map}
 use Rattle.std.proofs.lemmas.Bool.{cases_lt, cases_eq}
 use Rattle.std.proofs.lemmas.Bool.Decides.{nat_tests}
-use Rattle.std.proofs.lemmas.Option.{none-some, same_Some, slice_get-get_or, slice_get_within, get_or_from_slice_get, slice_get_past}
+use Rattle.std.proofs.lemmas.Option.{none-some, same_Some, slice_get-map, slice_get-get_or, slice_get_within, get_or_from_slice_get, slice_get_past}
 use Rattle.std.proofs.lemmas.List.Edits.{length-remove, length-insert}
 use Rattle.name_list.specs.Moves.{move_index}
 use Rattle.name_list.specs.Names.{AreApart, IsLeastFree}
@@ -18,6 +18,24 @@ stands_from_Contains xs x (at, within, is) = (at, slice_get-get_or xs at x withi
 
 pub Contains-from_stands : {A : Type 0} (xs : List A) (x : A) → Stands xs x → Contains xs x
 Contains-from_stands xs x (at, is) = (at, slice_get_within xs at x is, get_or_from_slice_get xs at x x is)
+
+-- what stands in a list stands in what is seen of it, and the other way round
+pub stands_map : {A B : Type 0} (f : A → B) (xs : List A) (x : A) → Stands xs x → Stands (map f xs) (f x)
+stands_map f xs x (at, is) = (at, slice_get-map f xs at ∙ ap (option_map f) is)
+
+pub stood_at : {A B : Type 0} (f : A → B) (xs : List A) (at : ℕ) (y : B) → slice_get (map f xs) at ≡ Some y → (x : A) × (slice_get xs at ≡ Some x) × (f x ≡ y)
+stood_at f [] at y is = absurd (none-some y is)
+stood_at f (x ∷ xs) zero y is = (x, refl, same_Some (f x) y is)
+stood_at f (x ∷ xs) (suc at) y is = stood_at f xs at y is
+
+-- two functions that agree on the elements of a list
+pub map-same : {A B : Type 0} (f g : A → B) (xs : List A) → ((at : ℕ) (x : A) → slice_get xs at ≡ Some x → f x ≡ g x) → map f xs ≡ map g xs
+map-same f g [] same = refl
+map-same f g (x ∷ xs) same = λ i. same 0 x refl i ∷ map-same f g xs (λ at y is. same (suc at) y is) i
+
+pub map-map : {A B C : Type 0} (f : B → C) (g : A → B) (xs : List A) → map f (map g xs) ≡ map (λ x. f (g x)) xs
+map-map f g [] = refl
+map-map f g (x ∷ xs) = ap (λ ys. f (g x) ∷ ys) (map-map f g xs)
 
 -- a push
 pub get_push : {A : Type 0} (xs : List A) (y : A) (at : ℕ) (x : A) → slice_get xs at ≡ Some x → slice_get (xs ++ y ∷ []) at ≡ Some x

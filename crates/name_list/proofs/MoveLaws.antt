@@ -86,6 +86,12 @@ module _ {A : Type 0} (test : A → Bool) where
       by None is = refl
       by (Some i) is = absurd (none-some _ (sym none ∙ find-position xs ∙ ap (option_and_then (slice_get xs)) is ∙ (first_is xs i is).1))
 
+  pub found_at : (xs : List A) (i : ℕ) → position test xs ≡ Some i → find test xs ≡ slice_get xs i
+  found_at xs i is = find-position xs ∙ ap (option_and_then (slice_get xs)) is
+
+  pub not_found : (xs : List A) → position test xs ≡ None → find test xs ≡ None
+  not_found xs is = find-position xs ∙ ap (option_and_then (slice_get xs)) is
+
   -- the first that passes is taken out at its place
   pub without-remove : (xs : List A) (i : ℕ) → position test xs ≡ Some i → without test xs ≡ remove xs i
   without-remove [] i is = absurd (none-some i is)

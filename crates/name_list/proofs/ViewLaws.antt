@@ -15,8 +15,9 @@ use Rattle.std.proofs.lemmas.Str.{encodes-chars, IsUtf8-string_bytes}
 use Rattle.indexmap.specs.IndexMap.{IndexMap, move_index, insert_entry}
 use Rattle.indexmap.proofs.CallerLemmas.{insert_entry-new}
 use Rattle.indexmap.proofs.MapLemmas.{Missing-position}
-use Rattle.name_list.specs.Names.{Named, Names, names_of, numbers_of, place_of, AreApart}
-use Rattle.name_list.specs.Places.{named, names_kept}
+use Rattle.name_list.specs.Names.{Named, Names, names_of, numbers_of, place_of, AreApart, AreNames}
+use Rattle.name_list.specs.Places.{AreKept, named, names_kept}
+use Rattle.name_list.proofs.PlaceLaws.{AreApart-index, within_index}
 
 -- two texts are the same exactly where their characters are
 pub bytes_eq-chars : (a b : List ℕ) → IsUtf8 a → IsUtf8 b → bytes_eq a b ≡ bytes_eq (chars a) (chars b)
@@ -102,3 +103,12 @@ number_at {Z} es limit names at seen within =
     let kept : at < length (map (named {Z = Z}) es) = subst (λ (ns : Names). at < length ns.entries) (sym seen) within in
     let here : at < length (values_of es) = omega (arith, length-map es (named {Z = Z}), length-map es (λ e. e.1)) in
     (here, slice_get-get_or (values_of es) at 0 here)
+
+-- the laws of a list
+pub AreNames-kept : {Z : Type 0} (es : List (String Z × ℕ)) (places : List (Option ℕ)) (free : ℕ) → IsDistinct string_eq (keys_of es) → AreKept (values_of es) places free → AreNames (names_kept {Z = Z} es (length places))
+AreNames-kept {Z} es places free distinct kept = record {
+  names_apart = AreApart-names es distinct;
+  numbers_apart = rw (numbers_seen es) (AreApart-index (values_of es) places kept.index);
+  below = rw (numbers_seen es) (within_index (values_of es) places kept.index);
+  room = let fits = kept.room in rw (length-map es (named {Z = Z})) (rw (length-map es (λ e. e.1)) at fits);
+}

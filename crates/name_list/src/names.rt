@@ -53,6 +53,7 @@ impl NameList {
     pub fn place(&self, name: &str) -> Option<usize>
         ensures value { result ≡ place_of (chars name.now) self.now.entries }
         ensures within { IfSome result (λ place. place < length self.now.entries) }
+        ensures sound { AreNames self.now }
     {
         self.numbers.get_index_of(name)
     }

@@ -13,8 +13,8 @@ use Rattle.name_list.specs.Names as list
 use Rattle.name_list.specs.Names.{Named, Names, AreNames, AreApart, place_of}
 use Rattle.name_list.proofs.PlaceLaws.{stands_move}
 use Rattle.name_list.proofs.ViewLaws.{bytes_eq-chars}
-use Rattle.name_list.proofs.ListLaws.{get_push, get_remove_other, Stands, stands_from_Contains, Contains-from_stands}
-use Rattle.name_list.proofs.MoveLaws.{position-passes, position-some, position-map, position-remove, first_is, none_found, find-position, without-remove, without_none, put_behind-insert, put_before-insert, insert-remove, moved_at, moved_last}
+use Rattle.name_list.proofs.ListLaws.{get_push, get_remove_other, Stands, stands_map, stood_at, stands_from_Contains, Contains-from_stands}
+use Rattle.name_list.proofs.MoveLaws.{position-passes, position-some, position-map, position-remove, first_is, none_found, found_at, not_found, without-remove, without_none, put_behind-insert, put_before-insert, insert-remove, moved_at, moved_last}
 use Rattle.tag_table.specs.declared.faults.NoSuchTag.{NoSuchTag}
 use Rattle.tag_table.specs.declared.faults.NoSuchTag.TheVariants.{Moved, Neighbour}
 use Rattle.tag_table.specs.Kept.{AreKept, tag, tags_kept, slot_of_number, place_above, above_place, place_below, below_place}
@@ -48,14 +48,6 @@ back_slot k own = grind (arith, nat_tests)
 slot_bounds : (number slot limit : ℕ) → slot_of_number number ≡ slot → slot ≢ 0 → number < limit → 0 < limit → (64 ≤ slot) × (slot < 64 + (limit - 1))
 slot_bounds number slot limit is some below positive = (grind (arith, nat_tests), grind (arith, nat_tests))
 
-stands_map : {A B : Type 0} (f : A → B) (xs : List A) (x : A) → Stands xs x → Stands (map f xs) (f x)
-stands_map f xs x (at, is) = (at, slice_get-map f xs at ∙ ap (option_map f) is)
-
-stood : {A B : Type 0} (f : A → B) (xs : List A) (at : ℕ) (y : B) → slice_get (map f xs) at ≡ Some y → (x : A) × (slice_get xs at ≡ Some x) × (f x ≡ y)
-stood f [] at y is = absurd (none-some y is)
-stood f (x ∷ xs) zero y is = (x, refl, same_Some (f x) y is)
-stood f (x ∷ xs) (suc at) y is = stood f xs at y is
-
 -- a new slot
 pub IsLeastFree-slot : (es : List Named) (number : ℕ) → Contains (list.numbers_of es) 0 → list.IsLeastFree (list.numbers_of es) number → IsLeastFree (slots_of (map tag es)) (slot_of_number number)
 IsLeastFree-slot es number taken least =
@@ -65,7 +57,7 @@ IsLeastFree-slot es number taken least =
       own = own_slot number some;
       free = λ has.
         let slot = stands_from_Contains (map slot_of_number numbers) _ has in
-        let old = stood slot_of_number numbers slot.0 _ slot.1 in
+        let old = stood_at slot_of_number numbers slot.0 _ slot.1 in
         least.free (Contains-from_stands numbers number (slot.0, old.1 ∙ ap (λ n. Some n) (slots_apart old.0 number old.2)));
       below = λ k own less.
         let old = stands_from_Contains numbers (k - 63) (least.below (k - 63) (below_slot number k some own less)) in
@@ -82,7 +74,7 @@ selection_slot es apart (at, is) =
     let here = slice_get-map (λ (e : Named). e.name) es first.0 ∙ ap (option_map (λ (e : Named). e.name)) entry.1 ∙ ap (λ n. Some n) (sym named) in
     let there = slice_get-map (λ (e : Named). e.name) es at ∙ ap (option_map (λ (e : Named). e.name)) is in
     let same = apart first.0 at sel here there in
-    ap (option_map (λ (t : Tag). t.slot)) (find-position (is_named sel) (map tag es) ∙ ap (option_and_then (slice_get (map tag es))) (place_seen sel es ∙ first.1 ∙ ap (λ i. Some i) same) ∙ slice_get-map tag es at ∙ ap (option_map tag) is)
+    ap (option_map (λ (t : Tag). t.slot)) (found_at (is_named sel) (map tag es) at (place_seen sel es ∙ first.1 ∙ ap (λ i. Some i) same) ∙ slice_get-map tag es at ∙ ap (option_map tag) is)
 
 -- the laws of a table
 pub AreTags-kept : (names : Names) → AreNames names → AreKept names → AreTags (tags_kept names)
@@ -92,12 +84,12 @@ AreTags-kept names are kept =
     record {
       names_apart = rw (names_seen es) are.names_apart;
       slots_apart = λ i j slot is also.
-        let one = stood slot_of_number (list.numbers_of es) i slot (ap (λ ss. slice_get ss i) (sym (slots_seen es)) ∙ is) in
-        let two = stood slot_of_number (list.numbers_of es) j slot (ap (λ ss. slice_get ss j) (sym (slots_seen es)) ∙ also) in
+        let one = stood_at slot_of_number (list.numbers_of es) i slot (ap (λ ss. slice_get ss i) (sym (slots_seen es)) ∙ is) in
+        let two = stood_at slot_of_number (list.numbers_of es) j slot (ap (λ ss. slice_get ss j) (sym (slots_seen es)) ∙ also) in
         are.numbers_apart i j one.0 one.1 (two.1 ∙ ap (λ n. Some n) (slots_apart two.0 one.0 (two.2 ∙ sym one.2)));
       selection = selection_slot es are.names_apart selection;
       others = λ at slot is some.
-        let old = stood slot_of_number (list.numbers_of es) at slot (ap (λ ss. slice_get ss at) (sym (slots_seen es)) ∙ is) in
+        let old = stood_at slot_of_number (list.numbers_of es) at slot (ap (λ ss. slice_get ss at) (sym (slots_seen es)) ∙ is) in
         let below = are.below at old.0 old.1 in
         slot_bounds old.0 slot names.limit old.2 some below kept.some;
       room = let fits = are.room in let some = kept.some in rw length-map (omega arith);
@@ -106,24 +98,24 @@ AreTags-kept names are kept =
 
 -- the slot of a tag is that at its place
 pub slot_at : (name : List ℕ) (tags : List Tag) (at : ℕ) → position (is_named name) tags ≡ Some at → slot_of name tags ≡ slice_get (slots_of tags) at
-slot_at name tags at is = ap (option_map (λ (t : Tag). t.slot)) (find-position (is_named name) tags ∙ ap (option_and_then (slice_get tags)) is) ∙ sym (slice_get-map (λ (t : Tag). t.slot) tags at)
+slot_at name tags at is = ap (option_map (λ (t : Tag). t.slot)) (found_at (is_named name) tags at is) ∙ sym (slice_get-map (λ (t : Tag). t.slot) tags at)
 
 pub no_slot : (name : List ℕ) (tags : List Tag) → position (is_named name) tags ≡ None → slot_of name tags ≡ None
-no_slot name tags none = ap (option_map (λ (t : Tag). t.slot)) (find-position (is_named name) tags ∙ ap (option_and_then (slice_get tags)) none)
+no_slot name tags none = ap (option_map (λ (t : Tag). t.slot)) (not_found (is_named name) tags none)
 
 pub no_place : (name : List ℕ) (es : List Named) → slot_of name (map tag es) ≡ None → place_of name es ≡ None
-no_place name es none = sym (place_seen name es) ∙ none_found (is_named name) (map tag es) (not_found (find (is_named name) (map tag es)) none)
+no_place name es none = sym (place_seen name es) ∙ none_found (is_named name) (map tag es) (no_tag (find (is_named name) (map tag es)) none)
   where
-    not_found : (o : Option Tag) → option_map (λ (t : Tag). t.slot) o ≡ None → o ≡ None
-    not_found None e = refl
-    not_found (Some t) e = absurd (none-some t.slot (sym e))
+    no_tag : (o : Option Tag) → option_map (λ (t : Tag). t.slot) o ≡ None → o ≡ None
+    no_tag None e = refl
+    no_tag (Some t) e = absurd (none-some t.slot (sym e))
 
 -- a tag that isn't there can't move
 pub raised-unknown : (name : List ℕ) (above : Option (List ℕ)) (tags : List Tag) → position (is_named name) tags ≡ None → raised name above tags ≡ Err Moved
-raised-unknown name above tags none = ap (λ t. raised_tag t name above tags) (find-position (is_named name) tags ∙ ap (option_and_then (slice_get tags)) none)
+raised-unknown name above tags none = ap (λ t. raised_tag t name above tags) (not_found (is_named name) tags none)
 
 pub lowered-unknown : (name : List ℕ) (below : Option (List ℕ)) (tags : List Tag) → position (is_named name) tags ≡ None → lowered name below tags ≡ Err Moved
-lowered-unknown name below tags none = ap (λ t. lowered_tag t name below tags) (find-position (is_named name) tags ∙ ap (option_and_then (slice_get tags)) none)
+lowered-unknown name below tags none = ap (λ t. lowered_tag t name below tags) (not_found (is_named name) tags none)
 
 not_ok : {A E : Type 0} (e : E) (x : A) → Err e ≡ Ok x → ⊥
 not_ok e x is = cc
@@ -151,13 +143,13 @@ other_name name other tags from at is also apart = by (bytes_eq name other) refl
 
 module _ (name : List ℕ) (tags : List Tag) (from : ℕ) (is : position (is_named name) tags ≡ Some from) where
   known : (other : List ℕ) (at : ℕ) → position (is_named other) tags ≡ Some at → is_some (find (is_named other) tags) ≡ true
-  known other at also = let found = first_is (is_named other) tags at also in ap is_some (find-position (is_named other) tags ∙ ap (option_and_then (slice_get tags)) also ∙ found.1)
+  known other at also = let found = first_is (is_named other) tags at also in ap is_some (found_at (is_named other) tags at also ∙ found.1)
 
   unknown : (other : List ℕ) → position (is_named other) tags ≡ None → is_some (find (is_named other) tags) ≡ false
-  unknown other also = ap is_some (find-position (is_named other) tags ∙ ap (option_and_then (slice_get tags)) also)
+  unknown other also = ap is_some (not_found (is_named other) tags also)
 
   found : (x : Tag) × (slice_get tags from ≡ Some x) × (find (is_named name) tags ≡ Some x)
-  found = let first = first_is (is_named name) tags from is in (first.0, first.1, find-position (is_named name) tags ∙ ap (option_and_then (slice_get tags)) is ∙ first.1)
+  found = let first = first_is (is_named name) tags from is in (first.0, first.1, found_at (is_named name) tags from is ∙ first.1)
 
   rest : without (is_named name) tags ≡ remove tags from
   rest = without-remove (is_named name) tags from is
