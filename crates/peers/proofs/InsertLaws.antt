@@ -1,20 +1,26 @@
 -- A lone document after an insertion.
-use Rattle.std.proofs.Common.{Bool, ◌≡◌, ℕ, zero, suc, ◌+◌, ◌<◌, ◌≤◌, false, List, [], ◌∷◌, ◌++◌, Option, None, Some, length, map, take, drop, refl, sym, ap, ◌∙◌, arith, length-drop}
+use Rattle.std.proofs.Common.{Bool, ◌≡◌, ℕ, zero, suc, ◌+◌, ◌<◌, ◌≤◌, false, List, [], ◌∷◌, ◌++◌, Option, None, Some, length, map, take, drop, refl, sym, ap, subst, ◌∙◌, arith, length-drop}
 use Rattle.std.specs.Prelude.{slice_get, option_map, nat_lt, if◌then◌else◌}
+use Rattle.std.specs.Char.{IsScalar}
 use Rattle.std.specs.FinSet as set
+use Rattle.std.specs.List.{All}
 use Rattle.std.proofs.lemmas.List.{take-map, drop-map, map-append, length-map}
 use Rattle.std.proofs.lemmas.Option.{slice_get-map}
 use Rattle.text_model.specs.declared.cells.Cell.{Cell}
 use Rattle.text_model.specs.Content as model
 use Rattle.text_model.specs.Content.{Content}
+use Rattle.text_model.specs.Documents.{IsDocument}
+use Rattle.text_model.specs.declared.limits.TheConstants.Limits.{MOST_CHARS}
 use Rattle.text_model.specs.Splices.{inserted}
 use Rattle.text_model.specs.Steps.{cells_of, after_insertion}
-use Rattle.text_model.proofs.SpliceLaws.{length-inserted, length-cells_of}
+use Rattle.text_model.proofs.CellLaws.{characters-inserted}
+use Rattle.text_model.proofs.DocumentLaws.{IsDocument-inserted}
+use Rattle.text_model.proofs.SpliceLaws.{length-cells_inserted}
 use Rattle.peers.specs.Keys.{keys_of}
 use Rattle.text_model.specs.LimitTable.{LimitTable}
 use Rattle.peers.specs.declared.answers.Answer.TheVariants.{Empty}
 use Rattle.peers.specs.declared.answers.Fault.TheVariants.{TextTooLong}
-use Rattle.peers.specs.Kept.{IsKept, ends_in_newline}
+use Rattle.peers.specs.Kept.{IsKept}
 use Rattle.peers.specs.World.{KeyedCell, keyed, lone_document}
 use Rattle.peers.specs.Command.{common_keys, keys_between, with_text, insert_at, refused, answered}
 use Rattle.peers.proofs.ViewLaws.{length-keyed}
@@ -54,32 +60,8 @@ with_text-lone cells at text =
     ∙ ap (λ new. inserted at new (keyed [] cells)) (sym (keyed-cells_of text))
     ∙ sym (keyed-inserted cells (cells_of text set.empty) at)
 
-ends_in_newline-append : (xs ys : List ℕ) → 0 < length ys → ends_in_newline (xs ++ ys) ≡ ends_in_newline ys
-ends_in_newline-append [] ys some = refl
-ends_in_newline-append (x ∷ []) [] some = absurd (omega arith)
-ends_in_newline-append (x ∷ []) (y ∷ ys) some = refl
-ends_in_newline-append (x ∷ next ∷ xs) ys some = ends_in_newline-append (next ∷ xs) ys some
-
-ends_in_newline-drop : (at : ℕ) (text : List ℕ) → at < length text → ends_in_newline (drop at text) ≡ ends_in_newline text
-ends_in_newline-drop zero text within = refl
-ends_in_newline-drop (suc at) [] within = absurd (omega arith)
-ends_in_newline-drop (suc at) (x ∷ []) within = absurd (omega arith)
-ends_in_newline-drop (suc at) (x ∷ next ∷ text) within = ends_in_newline-drop at (next ∷ text) (omega arith)
-
--- the last newline stays
-pub ends_in_newline-inserted : (cells new : List Cell) (at : ℕ) → at < length cells → ends_in_newline (model.characters (inserted at new cells)) ≡ ends_in_newline (model.characters cells)
-ends_in_newline-inserted cells new at within =
-    let character = λ (cell : Cell). cell.character in
-    let front = take at cells ++ new in
-    let rest : drop at (model.characters cells) ≡ model.characters (drop at cells) = drop-map character at cells in
-    let some : 0 < length (model.characters (drop at cells)) = omega (arith, length-map (drop at cells) character, length-drop at cells) in
-    ap ends_in_newline (map-append character front (drop at cells))
-    ∙ ends_in_newline-append (model.characters front) (model.characters (drop at cells)) some
-    ∙ ap ends_in_newline (sym rest)
-    ∙ ends_in_newline-drop at (model.characters cells) (omega (arith, length-map cells character))
-
 length-after : (content : Content) (at : ℕ) (text : List ℕ) → at < length content.cells → length (after_insertion at text set.empty content).cells ≡ length content.cells + length text
-length-after content at text within = length-inserted at (cells_of text set.empty) content.cells (omega arith) ∙ ap (λ n. length content.cells + n) (length-cells_of text set.empty)
+length-after content at text within = length-cells_inserted at text set.empty content.cells (omega arith)
 
 -- how long a store's text is after an insertion
 pub length-after_insertion : (content after : Content) (at : ℕ) (text : List ℕ) → at < length content.cells → after ≡ after_insertion at text set.empty content
@@ -88,10 +70,12 @@ length-after_insertion content after at text within is = ap (λ (c : Content). l
 
 -- what holds of a document's text at any time holds after an insertion
 pub IsKept-inserted : (name : List ℕ) (content after : Content) (at : ℕ) (text : List ℕ) → IsKept name content.cells → at < length content.cells
-    → length content.cells + length text ≤ 16777216 → after ≡ after_insertion at text set.empty content → IsKept name after.cells
-IsKept-inserted name content after at text kept within short is = record {
+    → length content.cells + length text ≤ MOST_CHARS → All IsScalar text → after ≡ after_insertion at text set.empty content → IsKept name after.cells
+IsKept-inserted name content after at text kept within short scalars is = record {
   named = kept.named;
-  newline = ap (λ (c : Content). ends_in_newline (model.characters c.cells)) is ∙ ends_in_newline-inserted content.cells (cells_of text set.empty) at within ∙ kept.newline;
+  text =
+    subst IsDocument (sym (ap (λ (c : Content). model.characters c.cells) is ∙ characters-inserted at text set.empty content.cells))
+    (IsDocument-inserted at text (model.characters content.cells) (omega (arith, within, length-map content.cells (λ (cell : Cell). cell.character))) scalars kept.text);
   short = omega (arith, length-after_insertion content after at text within is);
 }
 

@@ -1,5 +1,5 @@
 -- A lone document is well formed.
-use Rattle.std.proofs.Common.{ℕ, ◌≤◌, false, List, [], ◌∷◌, length, refl, sym, ap, ◌∙◌, arith}
+use Rattle.std.proofs.Common.{ℕ, ◌≤◌, false, List, [], ◌∷◌, length, refl, sym, ap, subst, ◌∙◌, arith}
 use Rattle.std.proofs.lemmas.Bool.{false≢true}
 use Rattle.std.proofs.lemmas.Slice.Eq.{bytes_eq-Decides}
 use Rattle.std.specs.List.{IsDistinct, AllByRecursion}
@@ -7,9 +7,10 @@ use Rattle.std.specs.Prelude.{◌||◌}
 use Rattle.std.specs.FinSet as set
 use Rattle.text_model.specs.declared.cells.Cell.{Cell}
 use Rattle.text_model.specs.Content.{Content}
+use Rattle.text_model.specs.Documents.{IsDocument}
 use Rattle.text_model.specs.LimitTable.{LimitTable}
 use Rattle.peers.specs.Keys.{key_cmp}
-use Rattle.peers.specs.Kept.{IsKept, ends_in_newline}
+use Rattle.peers.specs.Kept.{IsKept}
 use Rattle.peers.specs.Words.{is_same}
 use Rattle.peers.specs.World.{Document, keyed, lone_document, sel}
 use Rattle.peers.specs.WellFormed.{HasItsKeys, IsWellFormedDocument}
@@ -30,7 +31,7 @@ distinct_none = tt
 pub IsWellFormedDocument-lone : (limits : LimitTable) (name : List ℕ) (content : Content) → IsKept name content.cells → length content.cells ≤ limits.chars
     → IsWellFormedDocument limits (lone_document name content)
 IsWellFormedDocument-lone limits name content kept fits = record {
-  newline = ap ends_in_newline (characters-keyed [] content.cells) ∙ kept.newline;
+  text = subst IsDocument (sym (characters-keyed [] content.cells)) kept.text;
   fits = omega (arith, length-keyed [] content.cells);
   keys = no_keys (lone_document name content) content.cells;
   shown = omega arith;

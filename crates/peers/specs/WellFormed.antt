@@ -3,13 +3,14 @@ use Rattle.std.specs.Prelude.{◌≡◌, ℕ, ◌+◌, ◌<◌, ◌≤◌, Bool,
 use Rattle.std.specs.List.{AllByRecursion, IsDistinct, list_any}
 use Rattle.std.specs.Option.{ForSome}
 use Rattle.std.specs.FinSet as set
+use Rattle.text_model.specs.Documents.{IsDocument}
 use Rattle.text_model.specs.Lines.{line_of, line_start}
 use Rattle.text_model.specs.LimitTable.{LimitTable, AreLimits}
 use Rattle.peers.specs.Keys.{Key}
 use Rattle.peers.specs.World.{World, Document, Widget, SharedMark, KeyedCell, characters, sel}
 use Rattle.peers.specs.View.{view_start, view_end}
 use Rattle.peers.specs.Words.{is_same}
-use Rattle.peers.specs.Kept.{is_window_name, ends_in_newline}
+use Rattle.peers.specs.Kept.{is_window_name}
 use Rattle.peers.specs.History.{FitsText}
 
 abbrev pub is_among : List ℕ → List (List ℕ) → Bool
@@ -38,7 +39,7 @@ pub record IsPlaced (document : Document) (widget : Widget) : Type 0 where
   pub current : widget.current.offset ≤ length document.cells
 
 pub record IsWellFormedDocument (limits : LimitTable) (document : Document) : Type 0 where
-  pub newline : ends_in_newline (characters document.cells) ≡ true
+  pub text : IsDocument (characters document.cells)
   pub fits : length document.cells ≤ limits.chars
   pub keys : AllByRecursion (HasItsKeys document) document.cells
   pub shown : 0 < length document.widgets

@@ -45,9 +45,9 @@ impl<S: TextStore> Model for Document<S> {
 
 /// Whether a document of so many characters is too long with a text more.
 fn is_too_long(limits: &Limits, len: usize, text: &str) -> bool
-    requires { len ≤ 16777216 }
+    requires { len ≤ Limits.MOST_CHARS }
     ensures value { result ≡ nat_lt limits.now.chars (len + length (chars text.now)) }
-    ensures short { result ≡ false → len + length (chars text.now) ≤ 16777216 }
+    ensures short { result ≡ false → len + length (chars text.now) ≤ Limits.MOST_CHARS }
     ensures fits { result ≡ false → len + length (chars text.now) ≤ limits.now.chars }
 {
     let count = text.chars().count();

@@ -3,13 +3,13 @@ ghost use Rattle.std.specs.FinSet as set;
 ghost use Rattle.text_model.specs.Steps.{after_insertion};
 
 use std::alloc::{AllocError, Global};
-use text_model::{Edit, Step, Steps, TagSet, Text, TextStore};
+use text_model::{Edit, Step, StepList, TagSet, Text, TextStore};
 
 /// An edit that puts a text in before the character at an offset.
 fn insertion(alloc: Global, at: usize, text: &str) -> Result<Edit, AllocError>
     ensures { IfOk result (λ edit. edit.steps ≡ Step.Insert at (chars text.now) set.empty ∷ []) }
 {
-    let mut steps = Steps::new(alloc);
+    let mut steps = StepList::new(alloc);
     let text = Text::new(String::from_str(alloc, text)?);
     steps.push(Step::Insert(at, text, TagSet::empty()))?;
     Ok(Edit { steps })

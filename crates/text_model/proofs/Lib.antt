@@ -1,6 +1,11 @@
+pub mod CellLaws
+pub mod ChangeLaws
+pub mod DocumentLaws
 pub mod LineLaws
+pub mod MarkOrderLaws
 pub mod PlaceLaws
 pub mod PlainLaws
 pub mod SpliceLaws
-pub mod TextLaws
+pub mod StepLaws
 pub mod TagSteps
+pub mod TextLaws

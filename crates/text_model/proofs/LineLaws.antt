@@ -1,12 +1,15 @@
--- Where the lines of a text begin.
-use Rattle.std.proofs.Common.{◌≡◌, ◌≢◌, ℕ, zero, suc, ◌+◌, ◌-◌, ◌<◌, ◌≤◌, Bool, true, false, cond, List, [], ◌∷◌, length, take, drop, get_or, refl, sym, ap, ◌∙◌, arith, map, add_assoc}
-use Rattle.std.specs.Prelude.{if◌then◌else◌}
+-- Where the lines of a text begin, and the lines before an offset after an insertion and a removal.
+use Rattle.std.proofs.Common.{◌≡◌, ◌≢◌, ℕ, zero, suc, ◌+◌, ◌-◌, ◌<◌, ◌≤◌, Bool, true, false, cond, List, [], ◌∷◌, ◌++◌, length, take, drop, get_or, refl, sym, ap, ◌∙◌, arith, map, add_assoc}
+use Rattle.std.specs.Prelude.{slice_range, if◌then◌else◌}
 use Rattle.std.proofs.lemmas.Grind.{common_steps}
 use Rattle.std.proofs.lemmas.List.{drop_more, get_or-map, length-map}
-use Rattle.std.proofs.lemmas.List.Sums.{sum_by-cons, count_by-le-length}
+use Rattle.std.proofs.lemmas.List.Sums.{sum_by-append, sum_by-cons, sum_by-take-drop, count_by-le-length}
 use Rattle.std.proofs.lemmas.Bool.Decides.{nat_tests}
+use Rattle.std.proofs.lemmas.List.Edits.{split_between}
 use Rattle.text_model.specs.declared.cells.Cell.{Cell}
 use Rattle.text_model.specs.Content.{characters}
+use Rattle.text_model.specs.Splices.{inserted, removed}
+use Rattle.text_model.proofs.SpliceLaws.{take-inserted, drop-inserted, take-removed, drop-removed}
 use Rattle.text_model.specs.Lines.{is_newline, lines, line_of, line_start}
 
 -- past a character, one newline fewer is to be passed if it is one
@@ -58,3 +61,34 @@ lines-le-length text = count_by-le-length is_newline text
 pub line_start-before : (text : List ℕ) (line : ℕ) → 0 < line → line ≤ lines text → line_start (line - 1) text < line_start line text
 line_start-before text zero some within = absurd (omega arith)
 line_start-before text (suc line) some within = let same : suc line - 1 ≡ line = omega arith in rw same (line_start-rises text line within)
+
+pub lines-append : (xs ys : List ℕ) → lines (xs ++ ys) ≡ lines xs + lines ys
+lines-append xs ys = sum_by-append (λ x. cond (is_newline x) 1 0) xs ys
+
+lines-parts : (text : List ℕ) (at : ℕ) → lines (take at text) + lines (drop at text) ≡ lines text
+lines-parts text at = sum_by-take-drop (λ x. cond (is_newline x) 1 0) text at
+
+pub lines-inserted : (at : ℕ) (new text : List ℕ) → lines (inserted at new text) ≡ lines text + lines new
+lines-inserted at new text = omega (arith, lines-append (take at text ++ new) (drop at text), lines-append (take at text) new, lines-parts text at)
+
+pub lines-removed : (from to : ℕ) (text : List ℕ) → from ≤ to → lines (removed from to text) + lines (slice_range text from to) ≡ lines text
+lines-removed from to text ordered =
+    let middle = slice_range text from to in
+    omega (arith, lines-append (take from text) (drop to text), ap lines (split_between text from to ordered),
+      lines-append (take from text) (middle ++ drop to text), lines-append middle (drop to text))
+
+-- the lines before an offset: before the step and behind it
+pub line_of-inserted_before : (at : ℕ) (new text : List ℕ) (offset : ℕ) → at ≤ length text → offset ≤ at → line_of (inserted at new text) offset ≡ line_of text offset
+line_of-inserted_before at new text offset within before = ap lines (take-inserted at new text offset within before)
+
+pub line_of-inserted_behind : (at : ℕ) (new text : List ℕ) (offset : ℕ) → at ≤ length text → at ≤ offset → line_of (inserted at new text) (offset + length new) ≡ line_of text offset + lines new
+line_of-inserted_behind at new text offset within behind =
+    omega (arith, lines-parts (inserted at new text) (offset + length new), ap lines (drop-inserted at new text offset within behind), lines-inserted at new text, lines-parts text offset)
+
+pub line_of-removed_before : (from to : ℕ) (text : List ℕ) (offset : ℕ) → from ≤ length text → offset ≤ from → line_of (removed from to text) offset ≡ line_of text offset
+line_of-removed_before from to text offset within before = ap lines (take-removed from to text offset within before)
+
+pub line_of-removed_behind : (from to : ℕ) (text : List ℕ) (offset : ℕ) → from ≤ to → to ≤ length text → from ≤ offset
+    → line_of (removed from to text) offset + lines (slice_range text from to) ≡ line_of text (offset + (to - from))
+line_of-removed_behind from to text offset ordered within behind =
+    omega (arith, lines-parts (removed from to text) offset, ap lines (drop-removed from to text offset (omega arith) ordered behind), lines-removed from to text ordered, lines-parts text (offset + (to - from)))

@@ -1,5 +1,5 @@
 -- What a text store keeps: cells, each a character with a set of tag slots, and marks by their numbers.
-use Rattle.std.specs.Prelude.{◌≡◌, ℕ, List, [], ◌∷◌, ◌++◌, map}
+use Rattle.std.specs.Prelude.{ℕ, Bool, List, [], ◌∷◌, map}
 use Rattle.std.specs.FinSet as set
 use Rattle.std.specs.FinMap as finite
 use Rattle.std.specs.Ordering.{nat_cmp}
@@ -19,13 +19,17 @@ pub record Content : Type 0 where
 abbrev pub characters : List Cell → List ℕ
 characters cells = map (λ (cell : Cell). cell.character) cells
 
+-- the slots of each cell
+abbrev pub slot_sets : List Cell → List Slots
+slot_sets cells = map (λ (cell : Cell). cell.tags) cells
+
+-- whether each cell has a slot
+abbrev pub flags : ℕ → List Cell → List Bool
+flags slot cells = map (λ (cell : Cell). set.contains cell.tags slot) cells
+
 -- a new text: one newline, and no marks
 abbrev pub new_content : Content
 new_content = record { cells = record { character = 10; tags = set.empty } ∷ []; marks = finite.empty }
-
--- a document's last cell is a newline
-abbrev pub IsDocument : List Cell → Type 0
-IsDocument cells = (front : List Cell) × (last : Cell) × (cells ≡ front ++ last ∷ []) × (last.character ≡ 10)
 
 -- each mark where a function puts it
 abbrev pub map_marks : (Place → Place) → Marks → Marks

@@ -1,6 +1,9 @@
+pub mod Changes
 pub mod Content
+pub mod Documents
 pub mod LimitTable
 pub mod Lines
+pub mod MarkOrder
 pub mod Plain
 pub mod Splices
 pub mod Steps

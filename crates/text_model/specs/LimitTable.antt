@@ -1,5 +1,6 @@
 -- The limits of a program: numbers above which it refuses to grow.
 use Rattle.std.specs.Prelude.{ℕ, ◌<◌, ◌≤◌}
+use Rattle.text_model.specs.declared.limits.TheConstants.Limits.{MOST_CHARS, MOST_TAGS, MOST_MARKS, MOST_WIDGETS}
 
 pub record LimitTable : Type 0 where
   pub chars : ℕ
@@ -11,7 +12,7 @@ pub record LimitTable : Type 0 where
 -- one character at least, the last newline, and no more than the greatest of each number
 pub record AreLimits (limits : LimitTable) : Type 0 where
   pub some : 0 < limits.chars
-  pub chars : limits.chars ≤ 16777216
-  pub tags : limits.tags ≤ 192
-  pub marks : limits.marks ≤ 4096
-  pub widgets : limits.widgets ≤ 64
+  pub chars : limits.chars ≤ MOST_CHARS
+  pub tags : limits.tags ≤ MOST_TAGS
+  pub marks : limits.marks ≤ MOST_MARKS
+  pub widgets : limits.widgets ≤ MOST_WIDGETS

@@ -1,5 +1,5 @@
--- What an insertion and a removal do to a list and to a place in it.
-use Rattle.std.specs.Prelude.{ℕ, ◌+◌, ◌-◌, Bool, true, false, ◌||◌, ◌&&◌, ◌==◌, nat_lt, min, List, ◌++◌, take, drop, if◌then◌else◌}
+-- What an insertion, a removal and a change do to a list, and the first two to a place in it.
+use Rattle.std.specs.Prelude.{ℕ, ◌+◌, ◌-◌, Bool, true, false, ◌||◌, ◌&&◌, ◌==◌, nat_lt, min, List, ◌++◌, map, take, drop, slice_range, if◌then◌else◌}
 use Rattle.text_model.specs.declared.places.Gravity.{Gravity}
 use Rattle.text_model.specs.declared.places.Gravity.TheVariants.{Left, Right}
 use Rattle.text_model.specs.declared.places.Place.{Place}
@@ -11,6 +11,10 @@ inserted at new xs = take at xs ++ new ++ drop at xs
 -- the list without the elements from one offset to another
 abbrev pub removed : {A : Type 0} → ℕ → ℕ → List A → List A
 removed from to xs = take from xs ++ drop to xs
+
+-- the list with the elements from one offset to another changed by a function
+abbrev pub changed : {A : Type 0} → (A → A) → ℕ → ℕ → List A → List A
+changed f from to xs = take from xs ++ map f (slice_range xs from to) ++ drop to xs
 
 abbrev pub is_right : Gravity → Bool
 is_right Left = false

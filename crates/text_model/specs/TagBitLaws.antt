@@ -1,6 +1,6 @@
 -- Which slots are those of words, and that the slots give the words back.
 use Rattle.std.proofs.Common.{◌≡◌, ℕ, zero, suc, ◌+◌, ◌*◌, ◌/◌, ◌%◌, ◌^◌, ◌<◌, Bool, true, false, cond, ◌&&◌, ◌||◌, nat_lt, ◌==◌, List, slice_index, sym, ap, ap₂, ◌∙◌, arith, le-ltb, lt-ltb, mod-eq_of_lt}
-use Rattle.std.proofs.lemmas.Grind.{same_number_lists}
+use Rattle.std.proofs.lemmas.List.FromFn.{fill_by_all}
 use Rattle.std.proofs.lemmas.Bool.Decides.{nat_tests}
 use Rattle.std.proofs.lemmas.Nat.{mod-pow-add}
 use Rattle.std.proofs.lemmas.Nat.Bits.{bit_at-lt}
@@ -8,7 +8,8 @@ use Rattle.std.specs.Cmp.{nat_cmp_total, unsigned_tied}
 use Rattle.std.specs.FinSet as set
 use Rattle.std.specs.Int.{bit_at}
 use Rattle.std.specs.Ordering.{nat_cmp}
-use Rattle.text_model.specs.TagBits.{AreWords, has_bit, slots_below, slots_of, word_below, words_of}
+use Rattle.text_model.specs.declared.tag_set.TheConstants.{WORDS}
+use Rattle.text_model.specs.TagBits.{AreWords, has_bit, slot_count, slots_below, slots_of, word_below, words_of}
 
 -- what an inserted slot adds, in the words of a test of numbers
 pub contains_inserted : (slots : set.FinSet nat_cmp) (k q : ℕ) → set.contains (set.insert slots k) q ≡ (q == k || set.contains slots q)
@@ -37,25 +38,19 @@ word_of_bits (suc n) slots from word bits =
     ∙ sym (mod-pow-add word 1 n)
     ∙ ap (λ k. word % 2 ^ k) (omega arith)
 
-bit_of_word : (words : List ℕ) (i j : ℕ) → i < 4 → j < 64 → set.contains (slots_of words) (64 * i + j) ≡ (bit_at (slice_index words i) j == 1)
+bit_of_word : (words : List ℕ) (i j : ℕ) → i < WORDS → j < 64 → set.contains (slots_of words) (64 * i + j) ≡ (bit_at (slice_index words i) j == 1)
 bit_of_word words i j small below =
     let k = 64 * i + j in
     let row : k / 64 ≡ i = omega arith in
     let column : k % 64 ≡ j = omega arith in
-    contains-slots_below 256 words k
-    ∙ ap (λ b. b && has_bit words k) (lt-ltb k 256 (omega arith))
+    contains-slots_below slot_count words k
+    ∙ ap (λ b. b && has_bit words k) (lt-ltb k slot_count (omega arith))
     ∙ ap₂ (λ r c. bit_at (slice_index words r) c == 1) row column
 
-word_of_slots : (words : List ℕ) → AreWords words → (i : ℕ) → i < 4 → word_below 64 (slots_of words) (64 * i) ≡ slice_index words i
+word_of_slots : (words : List ℕ) → AreWords words → (i : ℕ) → i < WORDS → word_below 64 (slots_of words) (64 * i) ≡ slice_index words i
 word_of_slots words are i small = word_of_bits 64 (slots_of words) (64 * i) (slice_index words i) (λ j below. bit_of_word words i j small below) ∙ mod-eq_of_lt (are.each i small)
 
-same_words : (words : List ℕ) → AreWords words → (i : ℕ) → i < 4 → slice_index (words_of (slots_of words)) i ≡ slice_index words i
-same_words words are zero small = word_of_slots words are 0 small
-same_words words are (suc zero) small = word_of_slots words are 1 small
-same_words words are (suc (suc zero)) small = word_of_slots words are 2 small
-same_words words are (suc (suc (suc zero))) small = word_of_slots words are 3 small
-same_words words are (suc (suc (suc (suc i)))) small = omega arith
-
--- four words of 64 bits are those of their slots
+-- words of 64 bits are those of their slots
 pub words_of-slots_of : (words : List ℕ) → AreWords words → words_of (slots_of words) ≡ words
-words_of-slots_of words are = same_number_lists (words_of (slots_of words)) words (sym are.four) (same_words words are)
+words_of-slots_of words are =
+    sym (fill_by_all (λ i. word_below 64 (slots_of words) (64 * i)) words WORDS 0 are.count (λ i small. sym (word_of_slots words are i small)))

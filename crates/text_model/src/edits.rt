@@ -1,5 +1,6 @@
 ghost use Rattle.std.specs.Prelude.{◌≡◌, ◌∷◌, [], ◌++◌, OnOk, OnErr};
 
+use crate::places::{MarkNo, Place, TagSlot};
 use crate::tag_set::TagSet;
 use crate::texts::Text;
 use std::alloc::{AllocError, Global};
@@ -8,17 +9,29 @@ use std::marker::Model;
 /// A step of an edit.
 #[derive(Drop)]
 pub enum Step {
+    /// Takes out the characters from one offset to another. A mark goes behind the kept characters before it.
+    Remove(usize, usize),
     /// Puts a text, with these slots on each of its characters, before the character at an offset.
     Insert(usize, Text, TagSet),
+    /// Sets a slot on the characters from one offset to another, or takes it off them.
+    SetTag(usize, usize, TagSlot, bool),
+    /// Takes all slots off the character at an offset.
+    ClearTags(usize),
+    /// Takes a slot off all characters.
+    ClearSlot(TagSlot),
+    /// Puts the mark of a number at a place, wherever it stood, if it did.
+    PutMark(MarkNo, Place),
+    /// Takes the mark of a number away, if there is one.
+    TakeMark(MarkNo),
 }
 
 /// The steps of an edit, which contracts see as a list.
 #[derive(Drop)]
-pub struct Steps {
+pub struct StepList {
     steps: Vec<Step>,
 }
 
-impl Model for Steps {
+impl Model for StepList {
     ghost use Rattle.std.specs.Prelude.{List};
     ghost use Rattle.text_model.specs.declared.edits.Step.{Step};
     ghost use Rattle.text_model.specs.contracts.tag_set.TagSet as tag_set;
@@ -31,12 +44,12 @@ impl Model for Steps {
     ghost view = { λ a. a.steps.items };
 }
 
-impl Steps {
+impl StepList {
     /// No steps.
-    pub fn new(alloc: Global) -> Steps
+    pub fn new(alloc: Global) -> StepList
         ensures { result ≡ [] }
     {
-        Steps {
+        StepList {
             steps: Vec::new(alloc),
         }
     }
@@ -60,19 +73,18 @@ impl Steps {
 /// An edit of a text: steps that are made in order, all or none.
 #[derive(Drop)]
 pub struct Edit {
-    pub steps: Steps,
+    pub steps: StepList,
 }
 
 #[cfg(test)]
 mod tests {
     use super::*;
-    use crate::places::TagSlot;
     use std::test::Fail;
 
     #[test]
     fn steps_stand_in_order(rt: HostRuntime) -> Result<(), Fail> {
         let alloc = rt.alloc();
-        let mut steps = Steps::new(alloc);
+        let mut steps = StepList::new(alloc);
         assert!(rt; steps.as_slice().is_empty());
         for (at, text) in [(7, "a"), (0, "bc")] {
             let text = Text::new(String::from_str(alloc, text)?);

@@ -11,7 +11,7 @@ mod tag_set;
 mod texts;
 
 pub use cells::Cell;
-pub use edits::{Edit, Step, Steps};
+pub use edits::{Edit, Step, StepList};
 pub use limits::Limits;
 pub use places::{Gravity, MarkNo, Place, TagSlot};
 pub use plain_store::PlainStore;

@@ -1,6 +1,6 @@
-ghost use Rattle.std.specs.Prelude.{◌≡◌, ◌+◌, ◌^◌, ◌<◌};
+ghost use Rattle.std.specs.Prelude.{◌≡◌, ◌+◌, ◌^◌, ◌<◌, ◌≤◌};
 
-/// The number by which a store knows a tag, below 256.
+/// The number by which a store knows a tag, below `TagSet::SLOTS`.
 #[derive(Clone, Copy, Debug, PartialEq, Eq)]
 pub struct TagSlot(pub u16);
 
@@ -24,7 +24,7 @@ pub struct Place {
 }
 
 impl Place {
-    ghost use Rattle.text_model.specs.Splices.{moved};
+    ghost use Rattle.text_model.specs.Splices.{moved, drawn};
 
     /// Where the mark stands after so many characters are inserted at an offset.
     pub fn moved(self, at: usize, count: usize) -> Place
@@ -37,6 +37,18 @@ impl Place {
         }
         Place {
             offset: self.offset + count,
+            gravity: self.gravity,
+        }
+    }
+
+    /// Where the mark stands after the characters from one offset to another are taken out: behind the kept
+    /// characters before it.
+    pub fn drawn(self, from: usize, to: usize) -> Place
+        requires { from ≤ to }
+        ensures { result ≡ drawn from to self }
+    {
+        Place {
+            offset: self.offset.min(from) + self.offset.saturating_sub(to),
             gravity: self.gravity,
         }
     }

@@ -1,13 +1,18 @@
-ghost use Rattle.std.specs.Prelude.{◌≡◌, ◌+◌, ◌++◌, ◌∷◌, [], ◌^◌, ◌<◌, ◌≤◌, ⊤, map, vec_len, length, OnOk, IfOk, chars, string_bytes, option_map};
-ghost use Rattle.text_model.specs.Content.{characters};
+ghost use Rattle.std.specs.Prelude.{◌≡◌, ◌+◌, ◌-◌, ◌++◌, ◌∷◌, [], ◌^◌, ◌<◌, ◌≤◌, ℕ, ⊤, map, vec_len, length, max, get_or, slice_get, OnOk, IfOk, None, Some, chars, string_bytes, option_map};
+ghost use Rattle.std.specs.List.{prefix_len, suffix_len};
+ghost use Rattle.text_model.specs.Changes.{is_alike};
+ghost use Rattle.text_model.specs.Content.{characters, flags};
 ghost use Rattle.text_model.specs.Lines.{lines, line_start};
-ghost use Rattle.text_model.specs.Steps.{cells_of, StepFits, after_step, after_insertion};
-ghost use Rattle.text_model.specs.Splices.{inserted, moved};
-ghost use Rattle.text_model.specs.Plain.{plain_content, StandWithin};
+ghost use Rattle.text_model.specs.MarkOrder.{marks_at, next_mark, previous_mark};
+ghost use Rattle.text_model.specs.Plain.{plain_content, plain_marks, stands_at, with_next, with_previous, IsPlain};
+ghost use Rattle.text_model.specs.Splices.{inserted, removed, moved, drawn};
+ghost use Rattle.text_model.specs.Steps.{cells_of, with_slot, StepFits, after_step};
+ghost use Rattle.text_model.specs.TagBits.{slot_count};
+ghost use Rattle.std.specs.FinMap as finite;
 
 use crate::cells::Cell;
 use crate::edits::{Edit, Step};
-use crate::places::Place;
+use crate::places::{MarkNo, Place, TagSlot};
 use crate::store::TextStore;
 use crate::tag_set::TagSet;
 use crate::texts::Text;
@@ -20,7 +25,7 @@ pub struct PlainStore {
     alloc: Global,
     cells: Vec<Cell>,
     places: Vec<Option<Place>>,
-    ghost within: { StandWithin places.items (vec_len cells) },
+    ghost plain: { IsPlain cells.items places.items },
 }
 
 /// Adds a character to a text.
@@ -29,59 +34,6 @@ fn push_char(text: &mut String, character: char) -> Result<(), AllocError>
 {
     text.push(character)?;
     Ok(())
-}
-
-/// Adds the characters of a text as cells with these tags.
-fn push_cells(cells: &mut Vec<Cell>, text: &str, tags: TagSet) -> Result<(), AllocError>
-    ensures { OnOk result (cells.new.items ≡ cells.old.items ++ cells_of (chars text.now) tags) }
-{
-    for character in text.chars() {
-        cells.push(Cell { character, tags })?;
-    }
-    Ok(())
-}
-
-/// The cells after a text with these tags is put in before the cell at an offset.
-fn inserted_cells(
-    alloc: Global,
-    cells: &[Cell],
-    at: usize,
-    text: &Text,
-    tags: TagSet,
-) -> Result<Vec<Cell>, AllocError>
-    requires { at ≤ length cells.now }
-    ensures { IfOk result (λ found. found.items ≡ inserted at (cells_of text.now tags) cells.now) }
-{
-    let text = text.as_str();
-    // A character takes one byte or more, so no cell that follows wants more room.
-    let mut found = Vec::with_capacity(alloc, cells.len().saturating_add(text.len()))?;
-    found.extend_from_slice(&cells[..at])?;
-    push_cells(&mut found, text, tags)?;
-    found.extend_from_slice(&cells[at..])?;
-    Ok(found)
-}
-
-/// The places after so many characters are inserted at an offset of a text of `end` characters.
-fn moved_places(
-    alloc: Global,
-    places: &[Option<Place>],
-    at: usize,
-    count: usize,
-    end: usize,
-) -> Result<Vec<Option<Place>>, AllocError>
-    requires within { StandWithin places.now end }
-    requires fits { end + count < 2 ^ 64 }
-    ensures { IfOk result (λ found. found.items ≡ map (option_map (moved at count)) places.now) }
-{
-    let mut found = Vec::with_capacity(alloc, places.len())?;
-    for place in places {
-        let place = match *place {
-            None => None,
-            Some(place) => Some(place.moved(at, count)),
-        };
-        found.push(place)?;
-    }
-    Ok(found)
 }
 
 /// How many of the cells are newlines.
@@ -108,49 +60,255 @@ fn find_line(cells: &[Cell], line: usize) -> usize
     cells.len()
 }
 
-impl PlainStore {
-    /// The store after a text is put in before the cell at an offset.
-    fn after_insertion(
-        &self,
-        at: usize,
-        text: &Text,
-        tags: TagSet,
-    ) -> Result<PlainStore, AllocError>
-        requires { at < vec_len self.now.cells }
-        ensures { IfOk result (λ store. plain_content store.cells.items store.places.items
-            ≡ after_insertion at text.now tags (plain_content self.now.cells.items self.now.places.items)) }
-    {
-        let cells = inserted_cells(self.alloc, &self.cells, at, text, tags)?;
-        let count = cells.len() - self.cells.len();
-        let places = moved_places(self.alloc, &self.places, at, count, self.cells.len())?;
-        Ok(PlainStore {
-            alloc: self.alloc,
-            cells,
-            places,
-        })
-    }
-
-    /// The store after a step.
-    fn after_step(&self, step: &Step) -> Result<PlainStore, AllocError>
-        requires { StepFits step.now (plain_content self.now.cells.items self.now.places.items) }
-        ensures { IfOk result (λ store. plain_content store.cells.items store.places.items
-            ≡ after_step step.now (plain_content self.now.cells.items self.now.places.items)) }
-    {
-        match step {
-            Step::Insert(at, text, tags) => self.after_insertion(*at, text, *tags),
+/// How many cells from the first on all have a tag, or all lack it.
+fn alike_from_first(cells: &[Cell], slot: TagSlot, is_on: bool) -> usize
+    requires { slot.0 < slot_count }
+    ensures { result ≡ prefix_len (is_alike is_on) (flags slot.0 cells.now) }
+{
+    for (count, cell) in cells.iter().enumerate() {
+        if cell.tags.has(slot) != is_on {
+            return count;
         }
     }
+    cells.len()
+}
 
-    fn try_clone(&self) -> Result<PlainStore, AllocError>
-        ensures { IfOk result (λ store. plain_content store.cells.items store.places.items
-            ≡ plain_content self.now.cells.items self.now.places.items) }
-    {
-        Ok(PlainStore {
-            alloc: self.alloc,
-            cells: Vec::from_slice(self.alloc, &self.cells)?,
-            places: Vec::from_slice(self.alloc, &self.places)?,
-        })
+/// How many cells from the last back all have a tag, or all lack it.
+fn alike_from_last(cells: &[Cell], slot: TagSlot, is_on: bool) -> usize
+    requires { slot.0 < slot_count }
+    ensures { result ≡ suffix_len (is_alike is_on) (flags slot.0 cells.now) }
+{
+    let mut start = cells.len();
+    while start > 0 && cells[start - 1].tags.has(slot) == is_on {
+        start -= 1;
     }
+    cells.len() - start
+}
+
+/// Adds the characters of a text as cells with these tags.
+fn push_cells(cells: &mut Vec<Cell>, text: &str, tags: TagSet) -> Result<(), AllocError>
+    ensures { OnOk result (cells.new.items ≡ cells.old.items ++ cells_of (chars text.now) tags) }
+{
+    for character in text.chars() {
+        cells.push(Cell { character, tags })?;
+    }
+    Ok(())
+}
+
+/// Puts a text with these tags in before the cell at an offset.
+fn insert_cells(cells: &mut Vec<Cell>, at: usize, text: &Text, tags: TagSet) -> Result<(), AllocError>
+    requires { at ≤ vec_len cells.old }
+    ensures { OnOk result (cells.new.items ≡ inserted at (cells_of text.now tags) cells.old.items) }
+{
+    let end = cells.len();
+    push_cells(cells, text.as_str(), tags)?;
+    cells[at..].rotate_left(end - at);
+    Ok(())
+}
+
+/// Takes out the cells from one offset to another.
+fn remove_cells(cells: &mut Vec<Cell>, from: usize, to: usize)
+    requires ordered { from ≤ to }
+    requires within { to ≤ vec_len cells.old }
+    ensures { cells.new.items ≡ removed from to cells.old.items }
+{
+    let end = cells.len();
+    cells[from..].rotate_left(to - from);
+    cells.truncate(end - (to - from));
+}
+
+/// Sets a slot on cells, or takes it off them.
+fn set_tag(cells: &mut [Cell], slot: TagSlot, is_on: bool)
+    requires { slot.0 < slot_count }
+    ensures { cells.new ≡ map (with_slot slot.0 is_on) cells.old }
+{
+    for cell in cells.iter_mut() {
+        cell.tags = if is_on { cell.tags.with(slot) } else { cell.tags.without(slot) };
+    }
+}
+
+/// Moves places as an insertion of so many characters at an offset of a text of `end` characters does.
+fn move_places(places: &mut [Option<Place>], at: usize, count: usize, end: usize)
+    requires within { (number : ℕ) (place : Place) → get_or places.old number None ≡ Some place → place.offset ≤ end }
+    requires fits { end + count < 2 ^ 64 }
+    ensures { places.new ≡ map (option_map (moved at count)) places.old }
+{
+    for place in places.iter_mut() {
+        *place = match *place {
+            None => None,
+            Some(place) => Some(place.moved(at, count)),
+        };
+    }
+}
+
+/// Draws places as the removal of the characters from one offset to another does.
+fn draw_places(places: &mut [Option<Place>], from: usize, to: usize)
+    requires { from ≤ to }
+    ensures { places.new ≡ map (option_map (drawn from to)) places.old }
+{
+    for place in places.iter_mut() {
+        *place = match *place {
+            None => None,
+            Some(place) => Some(place.drawn(from, to)),
+        };
+    }
+}
+
+/// Puts the mark of a number at a place.
+fn put_place(places: &mut Vec<Option<Place>>, number: MarkNo, place: Place) -> Result<(), AllocError>
+    ensures marks { OnOk result (plain_marks places.new.items ≡ finite.insert (plain_marks places.old.items) number.0 place) }
+    ensures few { OnOk result (vec_len places.new ≤ max (vec_len places.old) (2 ^ 16)) }
+{
+    let index = number.0 as usize;
+    if places.len() <= index {
+        places.resize(index + 1, None)?;
+    }
+    places[index] = Some(place);
+    Ok(())
+}
+
+/// Takes the mark of a number away.
+fn take_place(places: &mut [Option<Place>], number: MarkNo)
+    ensures { plain_marks places.new ≡ finite.remove (plain_marks places.old) number.0 }
+{
+    let index = number.0 as usize;
+    if index < places.len() {
+        places[index] = None;
+    }
+}
+
+/// Makes a step in the cells and the places of a plain store.
+fn make_step(cells: &mut Vec<Cell>, places: &mut Vec<Option<Place>>, step: &Step) -> Result<(), AllocError>
+    requires plain { IsPlain cells.old.items places.old.items }
+    requires fits { StepFits step.now (plain_content cells.old.items places.old.items) }
+    ensures plain { OnOk result (IsPlain cells.new.items places.new.items) }
+    ensures made { OnOk result (plain_content cells.new.items places.new.items
+        ≡ after_step step.now (plain_content cells.old.items places.old.items)) }
+{
+    match step {
+        Step::Remove(from, to) => {
+            remove_cells(cells, *from, *to);
+            draw_places(places, *from, *to);
+        }
+        Step::Insert(at, text, tags) => {
+            let end = cells.len();
+            insert_cells(cells, *at, text, *tags)?;
+            move_places(places, *at, cells.len() - end, end);
+        }
+        Step::SetTag(from, to, slot, is_on) => set_tag(&mut cells[*from..*to], *slot, *is_on),
+        Step::ClearTags(at) => cells[*at].tags = TagSet::empty(),
+        Step::ClearSlot(slot) => set_tag(cells, *slot, false),
+        Step::PutMark(number, place) => put_place(places, *number, *place)?,
+        Step::TakeMark(number) => take_place(places, *number),
+    }
+    Ok(())
+}
+
+/// How many cells the steps put in, at most: a character takes one byte or more.
+fn most_new_cells(steps: &[Step]) -> usize {
+    let mut most = 0usize;
+    for step in steps {
+        if let Step::Insert(_, text, _) = step {
+            most = most.saturating_add(text.as_str().len());
+        }
+    }
+    most
+}
+
+/// How many places there are after the steps, where there were so many before.
+fn places_after(steps: &[Step], before: usize) -> usize {
+    let mut count = before;
+    for step in steps {
+        if let Step::PutMark(number, _) = step {
+            count = count.max(number.0 as usize + 1);
+        }
+    }
+    count
+}
+
+/// A copy that grows to so many elements without memory.
+fn copy_with_room<T: Copy>(alloc: Global, items: &[T], capacity: usize) -> Result<Vec<T>, AllocError>
+    ensures { IfOk result (λ copy. copy.items ≡ items.now) }
+{
+    let mut copy = Vec::with_capacity(alloc, capacity)?;
+    copy.extend_from_slice(items)?;
+    Ok(copy)
+}
+
+/// The least of offsets at or above one, with a place more.
+fn with_next(next: Option<usize>, offset: usize, place: Option<Place>) -> Option<usize>
+    ensures { result ≡ with_next next offset place }
+{
+    match place {
+        Some(place) if offset <= place.offset => Some(match next {
+            None => place.offset,
+            Some(least) => least.min(place.offset),
+        }),
+        _ => next,
+    }
+}
+
+/// The greatest of offsets below one, with a place more.
+fn with_previous(previous: Option<usize>, offset: usize, place: Option<Place>) -> Option<usize>
+    ensures { result ≡ with_previous previous offset place }
+{
+    match place {
+        Some(place) if place.offset < offset => Some(match previous {
+            None => place.offset,
+            Some(greatest) => greatest.max(place.offset),
+        }),
+        _ => previous,
+    }
+}
+
+/// Whether a mark is there, and stands at an offset.
+fn stands_at(place: Option<Place>, offset: usize) -> bool
+    ensures { result ≡ stands_at place offset }
+{
+    match place {
+        None => false,
+        Some(place) => place.offset == offset,
+    }
+}
+
+/// The least offset at or above this one among the places.
+fn find_next(places: &[Option<Place>], offset: usize) -> Option<usize>
+    ensures { result ≡ next_mark offset (plain_marks places.now) }
+{
+    let mut next = None;
+    for place in places {
+        next = with_next(next, offset, *place);
+    }
+    next
+}
+
+/// The greatest offset below this one among the places.
+fn find_previous(places: &[Option<Place>], offset: usize) -> Option<usize>
+    ensures { result ≡ previous_mark offset (plain_marks places.now) }
+{
+    let mut previous = None;
+    for place in places {
+        previous = with_previous(previous, offset, *place);
+    }
+    previous
+}
+
+/// Of the numbers of the places at an offset, the one at an index.
+fn find_mark(places: &[Option<Place>], offset: usize, index: usize) -> Option<MarkNo>
+    requires { length places.now ≤ 2 ^ 16 }
+    ensures { result ≡ slice_get (marks_at offset (plain_marks places.now)) index }
+{
+    let mut left = index;
+    for (number, place) in places.iter().enumerate() {
+        if !stands_at(*place, offset) {
+            continue;
+        }
+        if left == 0 {
+            return Some(MarkNo(number as u16));
+        }
+        left -= 1;
+    }
+    None
 }
 
 impl TextStore for PlainStore {
@@ -195,6 +353,43 @@ impl TextStore for PlainStore {
         self.cells[offset].character
     }
 
+    fn has_tag(&self, offset: usize, slot: TagSlot) -> bool {
+        self.cells[offset].tags.has(slot)
+    }
+
+    fn tags_at(&self, offset: usize) -> TagSet {
+        self.cells[offset].tags
+    }
+
+    fn next_change(&self, offset: usize, slot: TagSlot) -> usize {
+        let is_on = self.cells[offset].tags.has(slot);
+        offset + alike_from_first(&self.cells[offset..], slot, is_on)
+    }
+
+    fn previous_change(&self, offset: usize, slot: TagSlot) -> usize {
+        let is_on = self.cells[offset - 1].tags.has(slot);
+        offset - alike_from_last(&self.cells[..offset], slot, is_on)
+    }
+
+    fn mark_place(&self, number: MarkNo) -> Option<Place> {
+        match self.places.get(number.0 as usize) {
+            Some(place) => *place,
+            None => None,
+        }
+    }
+
+    fn next_mark(&self, offset: usize) -> Option<usize> {
+        find_next(&self.places, offset)
+    }
+
+    fn previous_mark(&self, offset: usize) -> Option<usize> {
+        find_previous(&self.places, offset)
+    }
+
+    fn mark_at(&self, offset: usize, index: usize) -> Option<MarkNo> {
+        find_mark(&self.places, offset, index)
+    }
+
     fn copy_text(&self, start: usize, end: usize) -> Result<String, AllocError> {
         let mut text = String::with_capacity(self.alloc, end - start)?;
         for cell in &self.cells[start..end] {
@@ -204,14 +399,19 @@ impl TextStore for PlainStore {
     }
 
     fn prepare(&mut self, edit: &Edit) -> Result<PlainStore, AllocError> {
-        let [first, others @ ..] = edit.steps.as_slice() else {
-            return self.try_clone();
-        };
-        let mut prepared = self.after_step(first)?;
-        for step in others {
-            prepared = prepared.after_step(step)?;
+        let steps = edit.steps.as_slice();
+        let most_cells = self.cells.len().saturating_add(most_new_cells(steps));
+        let mut cells = copy_with_room(self.alloc, &self.cells, most_cells)?;
+        let most_places = places_after(steps, self.places.len());
+        let mut places = copy_with_room(self.alloc, &self.places, most_places)?;
+        for step in steps {
+            make_step(&mut cells, &mut places, step)?;
         }
-        Ok(prepared)
+        Ok(PlainStore {
+            alloc: self.alloc,
+            cells,
+            places,
+        })
     }
 
     fn commit(&mut self, prepared: PlainStore) {
@@ -222,7 +422,7 @@ impl TextStore for PlainStore {
 #[cfg(test)]
 mod tests {
     use super::*;
-    use crate::edits::Steps;
+    use crate::edits::StepList;
     use std::process::Abort;
     use std::test::Fail;
 
@@ -235,7 +435,7 @@ mod tests {
         text: &str,
     ) -> Result<(), AllocError> {
         assert!(rt; at < store.len());
-        let mut steps = Steps::new(alloc);
+        let mut steps = StepList::new(alloc);
         let text = Text::new(String::from_str(alloc, text)?);
         steps.push(Step::Insert(at, text, TagSet::empty()))?;
         let prepared = store.prepare(&Edit { steps })?;
@@ -257,7 +457,7 @@ mod tests {
     fn check_two_steps<S: TextStore>(rt: &impl Abort, alloc: Global) -> Result<(), AllocError> {
         let mut store = S::new(alloc)?;
         assert!(rt; store.len() == 1);
-        let mut steps = Steps::new(alloc);
+        let mut steps = StepList::new(alloc);
         let last = Text::new(String::from_str(alloc, "b")?);
         steps.push(Step::Insert(0, last, TagSet::empty()))?;
         let first = Text::new(String::from_str(alloc, "a")?);

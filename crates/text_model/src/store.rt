@@ -1,9 +1,15 @@
-ghost use Rattle.std.specs.Prelude.{◌≡◌, ◌-◌, ◌<◌, ◌≤◌, length, take, drop, slice_get, Some, IfOk, chars, string_bytes};
-ghost use Rattle.text_model.specs.Content.{Content, characters, new_content};
+ghost use Rattle.std.specs.Prelude.{◌≡◌, ◌-◌, ◌<◌, ◌≤◌, length, slice_range, slice_get, Some, IfOk, IfSome, chars, string_bytes};
+ghost use Rattle.std.specs.FinMap as finite;
+ghost use Rattle.text_model.specs.Changes.{next_change, previous_change};
+ghost use Rattle.text_model.specs.Content.{Content, characters, flags, new_content, slot_sets};
 ghost use Rattle.text_model.specs.Lines.{lines, line_of, line_start};
+ghost use Rattle.text_model.specs.MarkOrder.{marks_at, next_mark, previous_mark};
 ghost use Rattle.text_model.specs.Steps.{Fits, after};
+ghost use Rattle.text_model.specs.TagBits.{slot_count};
 
 use crate::edits::Edit;
+use crate::places::{MarkNo, Place, TagSlot};
+use crate::tag_set::TagSet;
 use std::alloc::{AllocError, Global};
 
 /// What keeps a text: tagged characters, of which the last is a newline, and marks as positions.
@@ -52,12 +58,61 @@ pub trait TextStore: Drop {
         requires { offset < length (content self.now).cells }
         ensures { slice_get (characters (content self.now).cells) offset ≡ Some result };
 
+    /// Whether the character at an offset has a tag.
+    fn has_tag(&self, offset: usize, slot: TagSlot) -> bool
+        requires within { offset < length (content self.now).cells }
+        requires known { slot.0 < slot_count }
+        ensures { slice_get (flags slot.0 (content self.now).cells) offset ≡ Some result };
+
+    /// The tags of the character at an offset.
+    fn tags_at(&self, offset: usize) -> TagSet
+        requires { offset < length (content self.now).cells }
+        ensures { slice_get (slot_sets (content self.now).cells) offset ≡ Some result };
+
+    /// Where the run of characters that are like the one at an offset in a tag ends: the least offset above it at
+    /// which the tag differs, else the length.
+    fn next_change(&self, offset: usize, slot: TagSlot) -> usize
+        requires within { offset < length (content self.now).cells }
+        requires known { slot.0 < slot_count }
+        ensures value { result ≡ next_change (flags slot.0 (content self.now).cells) offset }
+        ensures above { offset < result }
+        ensures bound { result ≤ length (content self.now).cells };
+
+    /// Where the run of characters that are like the one before an offset in a tag begins.
+    fn previous_change(&self, offset: usize, slot: TagSlot) -> usize
+        requires some { 0 < offset }
+        requires within { offset ≤ length (content self.now).cells }
+        requires known { slot.0 < slot_count }
+        ensures value { result ≡ previous_change (flags slot.0 (content self.now).cells) offset }
+        ensures below { result < offset };
+
+    /// The place of the mark of a number, if there is one.
+    fn mark_place(&self, number: MarkNo) -> Option<Place>
+        ensures value { result ≡ finite.get (content self.now).marks number.0 }
+        ensures bound { IfSome result (λ place. place.offset ≤ length (content self.now).cells) };
+
+    /// The least offset at or above this one at which a mark stands.
+    fn next_mark(&self, offset: usize) -> Option<usize>
+        ensures value { result ≡ next_mark offset (content self.now).marks }
+        ensures above { IfSome result (λ next. offset ≤ next) }
+        ensures bound { IfSome result (λ next. next ≤ length (content self.now).cells) };
+
+    /// The greatest offset below this one at which a mark stands.
+    fn previous_mark(&self, offset: usize) -> Option<usize>
+        ensures value { result ≡ previous_mark offset (content self.now).marks }
+        ensures below { IfSome result (λ previous. previous < offset) }
+        ensures bound { IfSome result (λ previous. previous ≤ length (content self.now).cells) };
+
+    /// Of the marks that stand at an offset, in the order of their numbers, the one at an index.
+    fn mark_at(&self, offset: usize, index: usize) -> Option<MarkNo>
+        ensures { result ≡ slice_get (marks_at offset (content self.now).marks) index };
+
     /// The characters from one offset to another.
     fn copy_text(&self, start: usize, end: usize) -> Result<String, AllocError>
         requires ordered { start ≤ end }
         requires within { end ≤ length (content self.now).cells }
         ensures { IfOk result (λ text.
-            chars (string_bytes text) ≡ take (end - start) (drop start (characters (content self.now).cells))) };
+            chars (string_bytes text) ≡ slice_range (characters (content self.now).cells) start end) };
 
     /// Takes the memory for an edit. The text and its marks stay as they are, also where memory is refused.
     fn prepare(&mut self, edit: &Edit) -> Result<Self::Prepared, AllocError>

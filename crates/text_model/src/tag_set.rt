@@ -1,13 +1,17 @@
 ghost use Rattle.std.specs.Prelude.{◌≡◌, ◌<◌};
 ghost use Rattle.std.specs.FinSet as set;
+ghost use Rattle.text_model.specs.TagBits.{slot_count};
 
 use crate::places::TagSlot;
 use std::marker::Model;
 
-/// A set of tag slots, below 256. It takes no memory of its own.
+/// How many words of 64 slots a set has.
+const WORDS: usize = 4;
+
+/// A set of tag slots. It takes no memory of its own.
 #[derive(Clone, Copy)]
 pub struct TagSet {
-    words: [u64; 4],
+    words: [u64; WORDS],
 }
 
 impl Model for TagSet {
@@ -32,16 +36,19 @@ impl Model for TagSet {
 }
 
 impl TagSet {
+    /// How many slots there are: those below this number.
+    pub const SLOTS: u16 = 64 * WORDS as u16;
+
     /// The set without slots.
     pub fn empty() -> TagSet
         ensures { result ≡ set.empty }
     {
-        TagSet { words: [0; 4] }
+        TagSet { words: [0; WORDS] }
     }
 
     /// This set with one slot more.
     pub fn with(self, slot: TagSlot) -> TagSet
-        requires { slot.0 < 256 }
+        requires { slot.0 < slot_count }
         ensures { result ≡ set.insert self slot.0 }
     {
         let mut words = self.words;
@@ -49,9 +56,19 @@ impl TagSet {
         TagSet { words }
     }
 
+    /// This set without a slot.
+    pub fn without(self, slot: TagSlot) -> TagSet
+        requires { slot.0 < slot_count }
+        ensures { result ≡ set.remove self slot.0 }
+    {
+        let mut words = self.words;
+        words[slot.0 as usize / 64] &= !(1 << (slot.0 % 64));
+        TagSet { words }
+    }
+
     /// Whether the slot is in the set.
     pub fn has(&self, slot: TagSlot) -> bool
-        requires { slot.0 < 256 }
+        requires { slot.0 < slot_count }
         ensures { result ≡ set.contains self.now slot.0 }
     {
         self.words[slot.0 as usize / 64] >> (slot.0 % 64) & 1 == 1
@@ -61,14 +78,12 @@ impl TagSet {
     pub fn common(&self, other: &TagSet) -> TagSet
         ensures { result ≡ set.intersection self.now other.now }
     {
-        TagSet {
-            words: [
-                self.words[0] & other.words[0],
-                self.words[1] & other.words[1],
-                self.words[2] & other.words[2],
-                self.words[3] & other.words[3],
-            ],
+        let mut words = self.words;
+        let others = other.words;
+        for index in 0..WORDS {
+            words[index] &= others[index];
         }
+        TagSet { words }
     }
 }
 

@@ -1,5 +1,7 @@
 use Rattle.std.proofs.Common.{◌≡◌, ◌≤◌, ◌<◌, ◌+◌, [], length, sym, ap, ◌∙◌, arith}
 use Rattle.std.specs.Prelude.{chars, string_bytes}
+use Rattle.text_model.specs.declared.limits.TheConstants.Limits.{MOST_CHARS}
+use Rattle.text_model.proofs.TextLaws.{chars-scalars}
 use Rattle.peers.specs.World.{Document}
 use Rattle.peers.specs.Command.{insert_at}
 use Rattle.peers.proofs.InsertLaws.{length-after_insertion, IsKept-inserted, insert_at-lone, has_room}
@@ -12,8 +14,8 @@ invariant_of-self-2 g c =
     let old = g.S.TextStore.content c.self.inside.store in
     let same : length c.args.self.now.cells ≡ length old.cells = ap (λ (document : Document). length document.cells) (sym c.self.view_is) ∙ length-keyed [] old.cells in
     let within : c.args.at < length old.cells = omega (arith, same) in
-    let short : length old.cells + length (chars c.args.text.now) ≤ 16777216 = omega (arith, c.is_too_long.ensures.short c.if-is_too_long.false) in
-    IsKept-inserted _ old _ c.args.at (chars c.args.text.now) c.self.invariant within short c.in_ok-insert_text.ensures.ok
+    let short : length old.cells + length (chars c.args.text.now) ≤ MOST_CHARS = omega (arith, c.is_too_long.ensures.short c.if-is_too_long.false) in
+    IsKept-inserted _ old _ c.args.at (chars c.args.text.now) c.self.invariant within short (chars-scalars c.args.text.now c.utf8.text) c.in_ok-insert_text.ensures.ok
 
 pub returns-clause-document : goal.returns-clause-document
 returns-clause-document g c =
@@ -33,7 +35,7 @@ returns-clause-well_formed g c =
     let text = chars c.args.text.now in
     let same : length c.args.self.now.cells ≡ length old.cells = ap (λ (document : Document). length document.cells) (sym c.self.view_is) ∙ length-keyed [] old.cells in
     let within : c.args.at < length old.cells = omega (arith, same) in
-    let short : length old.cells + length text ≤ 16777216 = omega (arith, c.is_too_long.ensures.short c.if-is_too_long.false) in
+    let short : length old.cells + length text ≤ MOST_CHARS = omega (arith, c.is_too_long.ensures.short c.if-is_too_long.false) in
     let fits : length old.cells + length text ≤ c.args.limits.now.chars = omega (arith, c.is_too_long.ensures.fits c.if-is_too_long.false) in
-    λ _. IsWellFormedDocument-lone c.args.limits.now name new (IsKept-inserted name old new c.args.at text c.self.invariant within short c.in_ok-insert_text.ensures.ok)
+    λ _. IsWellFormedDocument-lone c.args.limits.now name new (IsKept-inserted name old new c.args.at text c.self.invariant within short (chars-scalars c.args.text.now c.utf8.text) c.in_ok-insert_text.ensures.ok)
     (omega (arith, fits, length-after_insertion old new c.args.at text within c.in_ok-insert_text.ensures.ok))

@@ -1,7 +1,9 @@
-use Rattle.std.proofs.Common.{◌≡◌, length, ap, ◌∙◌, arith}
+use Rattle.std.proofs.Common.{◌≡◌, length, subst, sym, ap, ◌∙◌, arith}
 use Rattle.std.specs.Prelude.{chars, string_bytes}
+use Rattle.text_model.specs.Documents.{IsDocument}
+use Rattle.text_model.proofs.DocumentLaws.{IsDocument-new}
 use Rattle.text_model.specs.Content.{Content, characters}
-use Rattle.peers.specs.Kept.{IsKept, is_window_name, ends_in_newline}
+use Rattle.peers.specs.Kept.{IsKept, is_window_name}
 use Rattle.peers.proofs.WellFormedLaws.{IsWellFormedDocument-lone}
 use Rattle.peers.proofs.documents.Document.new.Goals as goal
 
@@ -12,7 +14,7 @@ returns-clause-well_formed g c =
     let one : length content.cells ≡ 1 = ap (λ (x : Content). length x.cells) c.in_ok-new.ensures in
     let kept : IsKept name content.cells = record {
       named = ap (λ bytes. is_window_name (chars bytes)) c.in_ok-from_str.ensures.ok ∙ c.requires;
-      newline = ap (λ (x : Content). ends_in_newline (characters x.cells)) c.in_ok-new.ensures;
+      text = subst IsDocument (ap (λ (x : Content). characters x.cells) (sym c.in_ok-new.ensures)) IsDocument-new;
       short = omega arith;
     } in
     λ limits are. IsWellFormedDocument-lone limits name content kept (omega (arith, are.some))

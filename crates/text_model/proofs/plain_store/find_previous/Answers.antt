@@ -1,0 +1,5 @@
+use Rattle.text_model.proofs.MarkOrderLaws.{previous_mark_from}
+use Rattle.text_model.proofs.plain_store.find_previous.Goals as goal
+
+pub loop-place-init : goal.loop-place-init
+loop-place-init c = previous_mark_from c.args.offset c.args.places.now
