@@ -1,1 +1,3 @@
 pub mod MarkLaws
+pub mod OneOffset
+pub mod StoreLaws

@@ -1,7 +1,7 @@
 -- Marks as a list of names with numbers, and a gravity for each number.
 use Rattle.std.proofs.Common.{◌≡◌, ◌≢◌, ℕ, ◌+◌, ◌-◌, ◌<◌, ◌≤◌, Bool, true, false, if◌then◌else◌, Option, None, Some, List, [], ◌∷◌, ◌++◌, length, map, slice_get, slice_set, Contains, refl, sym, ap, ap₂, ◌∙◌, subst, inl, inr, arith, true≢false}
 use Rattle.std.specs.Prelude.{position, find, remove, bytes_eq, unwrap_or}
-use Rattle.std.specs.Option.{option_map, option_and_then}
+use Rattle.std.specs.Option.{MatchOption, SomeIff, option_map, option_and_then}
 use Rattle.std.proofs.lemmas.Bool.{cases_eq}
 use Rattle.std.proofs.lemmas.List.{length-map, map_push}
 use Rattle.std.proofs.lemmas.Option.{none-some, same_Some, slice_get-map, slice_get_within}
@@ -154,3 +154,29 @@ marks-keep marks name none = sym (without_none (is_named name) marks none)
 
 pub gravity_known : (name : List ℕ) (marks : List Mark) (at : ℕ) → position (is_named name) marks ≡ Some at → (gravity : Gravity) × (gravity_of name marks ≡ Some gravity)
 gravity_known name marks at is = let first = first_is (is_named name) marks at is in (first.0.gravity, ap (option_map (λ (m : Mark). m.gravity)) (found_at (is_named name) marks at is ∙ first.1))
+
+-- the mark of a number
+pub mark_with : (gravities : List Gravity) (es : List Named) (number own : ℕ) (found : Option ℕ) → first_number + own ≡ number
+    → MatchOption found (¬ Contains (list.numbers_of es) own) (λ place. slice_get (list.numbers_of es) place ≡ Some own)
+    → MatchOption found (¬ Contains (numbers_of (map (mark gravities) es)) number) (λ place. slice_get (numbers_of (map (mark gravities) es)) place ≡ Some number)
+mark_with gravities es number own None same gone = rw (numbers_seen gravities es) (λ has.
+    let at = stands_from_Contains (map (λ n. first_number + n) (list.numbers_of es)) number has in
+    let old = stood_at (λ n. first_number + n) (list.numbers_of es) at.0 number at.1 in
+    let own_is : old.0 ≡ own = let e = old.2 in omega arith in
+    gone (Contains-from_stands (list.numbers_of es) own (at.0, old.1 ∙ ap (λ n. Some n) own_is)))
+mark_with gravities es number own (Some place) same is = rw (numbers_seen gravities es) (slice_get-map (λ n. first_number + n) (list.numbers_of es) place ∙ ap (option_map (λ n. first_number + n)) is ∙ ap (λ n. Some n) same)
+
+-- no shared mark has one of the numbers before
+pub no_mark_with : (gravities : List Gravity) (es : List Named) (number : ℕ) → number < first_number → ¬ Contains (numbers_of (map (mark gravities) es)) number
+no_mark_with gravities es number below = rw (numbers_seen gravities es) (λ has.
+    let at = stands_from_Contains (map (λ n. first_number + n) (list.numbers_of es)) number has in
+    let old = stood_at (λ n. first_number + n) (list.numbers_of es) at.0 number at.1 in
+    let e = old.2 in absurd (omega arith))
+
+pub taken_off : (number : ℕ) (rest : Option ℕ) → SomeIff rest (first_number ≤ number) (number - first_number) → (own : ℕ) → rest ≡ Some own → first_number + own ≡ number
+taken_off number None h own is = absurd (none-some own is)
+taken_off number (Some own) h other is = let same = same_Some own other is in let e = h.1 in let f = h.0 in omega arith
+
+pub not_taken_off : (number : ℕ) (rest : Option ℕ) → SomeIff rest (first_number ≤ number) (number - first_number) → rest ≡ None → number < first_number
+not_taken_off number None h is = omega arith
+not_taken_off number (Some own) h is = absurd (none-some own (sym is))

@@ -3,6 +3,9 @@
 
 mod faults;
 mod marks;
+mod order;
+mod walk;
 
 pub use faults::NoSuchMark;
 pub use marks::MarkTable;
+pub use order::{MarkView, Origin, WidgetMark};

@@ -1,4 +1,4 @@
-ghost use Rattle.std.specs.Prelude.{◌≡◌, ◌<◌, ◌≤◌, ◌+◌, ◌↔◌, ◌∷◌, [], ◌++◌, length, slice_get, chars, string_bytes, None, Some, IsNone, IsSome, IfOk, IfSome, OnOk, OnErr, MatchResult};
+ghost use Rattle.std.specs.Prelude.{◌≡◌, ◌<◌, ◌≤◌, ◌+◌, ◌↔◌, ◌∷◌, [], ◌++◌, length, slice_get, chars, string_bytes, None, Some, Contains, IsNone, IsSome, IfOk, IfSome, OnOk, OnErr, MatchOption, MatchResult};
 ghost use Rattle.std.specs.Option.{option_map};
 ghost use Rattle.name_list.specs.Moves.{without};
 ghost use Rattle.text_model.specs.declared.limits.TheConstants.Limits.{MOST_MARKS};
@@ -76,6 +76,16 @@ impl MarkTable {
         ensures { slice_get (numbers_of self.now.marks) place ≡ Some result.0 }
     {
         mark_number(self.names.number(place))
+    }
+
+    /// The place of the mark that has a number.
+    pub fn place(&self, number: MarkNo) -> Option<usize>
+        ensures { MatchOption result (¬ Contains (numbers_of self.now.marks) number.0)
+            (λ place. slice_get (numbers_of self.now.marks) place ≡ Some number.0) }
+    {
+        let names = &self.names;
+        let number = number.0.checked_sub(2 * Limits::MOST_WIDGETS)?;
+        names.place_with(number)
     }
 
     /// The number of a mark.

@@ -1,0 +1,36 @@
+use Rattle.std.proofs.Common.{◌≡◌, ◌<◌, Some, List, length, sym, ◌∙◌, arith, slice_get, subst}
+use Rattle.std.proofs.lemmas.List.{length-map}
+use Rattle.std.proofs.lemmas.Option.{slice_get_within}
+use Rattle.text_model.specs.declared.places.MarkNo.{MarkNo}
+use Rattle.text_model.specs.MarkOrder.{marks_at}
+use Rattle.mark_table.specs.SharedMarks.{Mark, numbers_of}
+use Rattle.mark_table.proofs.StoreLaws.{mark_at_index}
+use Rattle.mark_table.proofs.OneOffset.{Greatest-all, last_within}
+use Rattle.mark_table.proofs.marks.MarkTable.last_at.Goals as goal
+
+pub overflow_add-index : goal.overflow_add-index
+overflow_add-index g c =
+    let low = mark_at_index c.args.offset c.loop-number.index (g.S.TextStore.content c.args.store.now).marks c.in-Some.number (sym c.mark_at.ensures ∙ c.in-Some.is) in
+    let small = c.places_before.ensures.fits in
+    omega arith
+
+pub loop-number-smaller : goal.loop-number-smaller
+loop-number-smaller g c =
+    let within = slice_get_within (marks_at c.args.offset (g.S.TextStore.content c.args.store.now).marks) c.loop-number.index c.in-Some.number (sym c.mark_at.ensures ∙ c.in-Some.is) in
+    omega arith
+
+pub returns-clause-last : goal.returns-clause-last
+returns-clause-last g c =
+    let at = marks_at c.args.offset (g.S.TextStore.content c.args.store.now).marks in
+    let i = c.loop-number.invariant in
+    Greatest-all at (numbers_of c.args.self.now.marks) c.args.upto c.loop-number.places c.loop-number.index c.checked_sub.result c.checked_sub.ensures (sym c.mark_at.ensures ∙ c.in_default.is) i.found i.greatest
+
+pub returns-clause-small : goal.returns-clause-small
+returns-clause-small g c =
+    let at = marks_at c.args.offset (g.S.TextStore.content c.args.store.now).marks in
+    let i = c.loop-number.invariant in
+    let room = c.len-len.ensures.sound.room in
+    let few = c.len-len.ensures.sound.limit in
+    let count = length-map c.args.self.now.marks (λ (m : Mark). m.number) in
+    last_within at (numbers_of c.args.self.now.marks) c.args.upto 4096 c.checked_sub.result (omega arith)
+    (Greatest-all at (numbers_of c.args.self.now.marks) c.args.upto c.loop-number.places c.loop-number.index c.checked_sub.result c.checked_sub.ensures (sym c.mark_at.ensures ∙ c.in_default.is) i.found i.greatest)
