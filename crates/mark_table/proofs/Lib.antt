@@ -1,3 +1,4 @@
 pub mod MarkLaws
 pub mod OneOffset
+pub mod SharedWalk
 pub mod StoreLaws

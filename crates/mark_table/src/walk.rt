@@ -66,4 +66,58 @@ impl MarkTable {
         }
         places.checked_sub(1)
     }
+    // The first of the shared marks in the order that isn't before a bound.
+    fn next_shared<S: TextStore>(&self, store: &S, view: MarkView, bound: Shown) -> Option<Shown>
+        ensures { IsFirst (shared_marks view (S.content store.now).marks 2 (numbers_of self.now.marks)) bound result }
+    {
+        let mut offset = bound.place.max(view.start);
+        let mut from = if offset == bound.place {
+            bound.rank.saturating_sub(2)
+        } else {
+            0
+        };
+        while offset <= view.end {
+            if let Some(place) = self.first_at(store, offset, from) {
+                return Some(Shown {
+                    place: offset,
+                    rank: 2 + place,
+                });
+            }
+            if offset == view.end {
+                return None;
+            }
+            offset = store.next_mark(offset + 1)?;
+            from = 0;
+        }
+        None
+    }
+
+    // The last of the shared marks in the order that is before a bound.
+    fn previous_shared<S: TextStore>(
+        &self,
+        store: &S,
+        view: MarkView,
+        bound: Shown,
+    ) -> Option<Shown>
+        ensures { IsLast (shared_marks view (S.content store.now).marks 2 (numbers_of self.now.marks)) bound result }
+    {
+        let len = self.len();
+        let mut offset = bound.place.min(view.end);
+        let mut upto = if offset == bound.place {
+            bound.rank.saturating_sub(2)
+        } else {
+            len
+        };
+        while view.start <= offset {
+            if let Some(place) = self.last_at(store, offset, upto) {
+                return Some(Shown {
+                    place: offset,
+                    rank: 2 + place,
+                });
+            }
+            offset = store.previous_mark(offset)?;
+            upto = len;
+        }
+        None
+    }
 }
