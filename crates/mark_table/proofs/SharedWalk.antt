@@ -48,7 +48,7 @@ in_view start end offset above below = grind (arith, nat_tests)
 view_of : (start end offset : ℕ) → (nat_le start offset && nat_le offset end) ≡ true → (start ≤ offset) × (offset ≤ end)
 view_of start end offset is = (grind (arith, nat_tests), grind (arith, nat_tests))
 
-one_shared : (view : MarkView) (rank : ℕ) (place : Place) → view.start ≤ place.offset → place.offset ≤ view.end → shared_mark view rank (Some place) ≡ record { place = place.offset; rank = rank } ∷ []
+pub one_shared : (view : MarkView) (rank : ℕ) (place : Place) → view.start ≤ place.offset → place.offset ≤ view.end → shared_mark view rank (Some place) ≡ record { place = place.offset; rank = rank } ∷ []
 one_shared view rank place above below = ap (λ b. if b then record { place = place.offset; rank = rank } ∷ [] else []) (in_view view.start view.end place.offset above below)
 
 pub shared-in : (view : MarkView) (marks : Marks) (rank : ℕ) (numbers : List ℕ) (at number : ℕ) (place : Place) → slice_get numbers at ≡ Some number → finite.get marks number ≡ Some place → view.start ≤ place.offset → place.offset ≤ view.end
@@ -62,7 +62,7 @@ shared-in view marks rank (n ∷ numbers) (suc at) number place is has above bel
     stands_right (shared_mark view rank (finite.get marks n)) (shared_marks view marks (rank + 1) numbers) _
     (subst (λ r. Stands (shared_marks view marks (rank + 1) numbers) (record { place = place.offset; rank = r })) (let e : rank + 1 + at ≡ rank + suc at = omega arith in e) (shared-in view marks (rank + 1) numbers at number place is has above below))
 
-one-out : (view : MarkView) (rank : ℕ) (found : Option Place) (shown : Shown) → Stands (shared_mark view rank found) shown → (place : Place) × (found ≡ Some place) × (place.offset ≡ shown.place) × (view.start ≤ shown.place) × (shown.place ≤ view.end) × (shown.rank ≡ rank)
+pub one-out : (view : MarkView) (rank : ℕ) (found : Option Place) (shown : Shown) → Stands (shared_mark view rank found) shown → (place : Place) × (found ≡ Some place) × (place.offset ≡ shown.place) × (view.start ≤ shown.place) × (shown.place ≤ view.end) × (shown.rank ≡ rank)
 one-out view rank None shown has = absurd (none-some shown has.1)
 one-out view rank (Some place) shown has = by (nat_le view.start place.offset && nat_le place.offset view.end) refl has
   where

@@ -94,7 +94,7 @@ found_entry (e ∷ es) q place is = by (q == e.0) refl (λ rest. found_entry es 
     by false apart rest = let old = rest (sym (ap (λ t. cond t (Some e.1) (find nat_cmp q es)) (tied q e.0 false apart)) ∙ is) in (suc old.0, old.1)
 
 -- what a filter keeps
-kept_entry : {A : Type 0} (p : A → Bool) (xs : List A) (x : A) → Stands xs x → p x ≡ true → Stands (filter p xs) x
+pub kept_entry : {A : Type 0} (p : A → Bool) (xs : List A) (x : A) → Stands xs x → p x ≡ true → Stands (filter p xs) x
 kept_entry p [] x (i, is) passes = absurd (none-some x is)
 kept_entry p (y ∷ xs) x (zero, is) passes = (0, ap (λ t. slice_get (cond t (y ∷ filter p xs) (filter p xs)) 0) (ap p (same_Some y x is) ∙ passes) ∙ is)
 kept_entry p (y ∷ xs) x (suc i, is) passes =
