@@ -10,7 +10,7 @@ use Rattle.name_list.specs.Moves.{without}
 use Rattle.name_list.specs.Names as list
 use Rattle.name_list.specs.Names.{Named, Names, AreNames, AreApart, place_of}
 use Rattle.name_list.proofs.ListLaws.{Stands, stands_from_Contains, Contains-from_stands, stands_map, stood_at, map-same, map-map, get_set, get_set_other}
-use Rattle.name_list.proofs.MoveLaws.{position-map, position-passes, first_is, found_at, not_found, none_found, without-remove, without_none}
+use Rattle.name_list.proofs.MoveLaws.{position-map, position-passes, first_is, found_at, not_found, none_found, without-push, without-remove, without_none}
 use Rattle.name_list.proofs.ViewLaws.{map-remove}
 use Rattle.text_model.specs.declared.places.Gravity.{Gravity}
 use Rattle.text_model.specs.declared.places.Gravity.TheVariants.{Right}
@@ -180,3 +180,7 @@ taken_off number (Some own) h other is = let same = same_Some own other is in le
 pub not_taken_off : (number : ℕ) (rest : Option ℕ) → SomeIff rest (first_number ≤ number) (number - first_number) → rest ≡ None → number < first_number
 not_taken_off number None h is = omega arith
 not_taken_off number (Some own) h is = absurd (none-some own (sym is))
+
+-- the mark that was created last is what is taken out
+pub marks-back : (marks : List Mark) (name : List ℕ) (number : ℕ) (gravity : Gravity) → position (is_named name) marks ≡ None → without (is_named name) (marks ++ record { name = name; number = number; gravity = gravity } ∷ []) ≡ marks
+marks-back marks name number gravity none = without-push (is_named name) marks (record { name = name; number = number; gravity = gravity }) none ((bytes_eq-Decides name name).1 refl)

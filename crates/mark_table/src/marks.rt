@@ -104,6 +104,8 @@ impl MarkTable {
         ensures least { IfOk result (λ made. IfSome made (λ number. IsLeastFree (numbers_of self.old.marks) number.0)) }
         ensures last { IfOk result (λ made. IfSome made (λ number. self.new ≡ record self.old {
             marks = self.old.marks ++ record { name = chars (string_bytes name); number = number.0; gravity = Gravity.Right } ∷ [] })) }
+        // To take it out again gives back the marks before it.
+        ensures back { IfOk result (λ made. IfSome made (λ _. without (is_named (chars (string_bytes name))) self.new.marks ≡ self.old.marks)) }
         ensures err { OnErr result (self.new ≡ self.old) }
     {
         let Some(number) = self.names.create(name)? else {

@@ -112,6 +112,20 @@ module _ {A : Type 0} (test : A → Bool) where
       by old true passes e = absurd (none-some 0 (sym e ∙ ap (λ b. cond b (Some 0) (option_map (λ i. suc i) (position test xs))) passes))
       by old false fails e = ap (λ b. if b then xs else x ∷ without test xs) fails ∙ ap (λ ys. x ∷ ys) (old (rest (position test xs) (ap (λ b. cond b (Some 0) (option_map (λ i. suc i) (position test xs))) (sym fails) ∙ e)))
 
+  -- what was put last is what is taken out, if nothing before it passes
+  pub without-push : (xs : List A) (x : A) → position test xs ≡ None → test x ≡ true → without test (xs ++ x ∷ []) ≡ xs
+  without-push [] x none passes = ap (λ b. if b then [] else x ∷ []) passes
+  without-push (y ∷ xs) x none passes = by (test y) refl (sym (position-cons y xs) ∙ none) (λ rest. without-push xs x rest passes)
+    where
+      rest_none : (o : Option ℕ) → option_map (λ i. suc i) o ≡ None → o ≡ None
+      rest_none None e = refl
+      rest_none (Some i) e = absurd (none-some (suc i) (sym e))
+
+      by : (b : Bool) → test y ≡ b → cond (test y) (Some 0) (option_map (λ i. suc i) (position test xs)) ≡ None → (position test xs ≡ None → without test (xs ++ x ∷ []) ≡ xs) → without test (y ∷ xs ++ x ∷ []) ≡ y ∷ xs
+      by true found e rest = absurd (none-some 0 (sym e ∙ ap (λ b. cond b (Some 0) (option_map (λ i. suc i) (position test xs))) found))
+      by false fails e rest = ap (λ b. if b then xs ++ x ∷ [] else y ∷ without test (xs ++ x ∷ [])) fails
+          ∙ ap (λ ys. y ∷ ys) (rest (rest_none (position test xs) (ap (λ b. cond b (Some 0) (option_map (λ i. suc i) (position test xs))) (sym fails) ∙ e)))
+
   pub put_behind-insert : (new : A) (xs : List A) (i : ℕ) → position test xs ≡ Some i → put_behind test new xs ≡ insert xs (i + 1) new
   put_behind-insert new [] i is = absurd (none-some i is)
   put_behind-insert new (x ∷ xs) i is = elim (position_cases x xs i is) [

@@ -14,7 +14,7 @@ use Rattle.name_list.specs.Names.{Named, Names, AreNames, AreApart, place_of}
 use Rattle.name_list.proofs.PlaceLaws.{stands_move}
 use Rattle.name_list.proofs.ViewLaws.{bytes_eq-chars}
 use Rattle.name_list.proofs.ListLaws.{get_push, get_remove_other, Stands, stands_map, stood_at, stands_from_Contains, Contains-from_stands}
-use Rattle.name_list.proofs.MoveLaws.{position-passes, position-some, position-map, position-remove, first_is, none_found, found_at, not_found, without-remove, without_none, put_behind-insert, put_before-insert, insert-remove, moved_at, moved_last}
+use Rattle.name_list.proofs.MoveLaws.{position-passes, position-some, position-map, position-remove, first_is, none_found, found_at, not_found, without-push, without-remove, without_none, put_behind-insert, put_before-insert, insert-remove, moved_at, moved_last}
 use Rattle.tag_table.specs.declared.faults.NoSuchTag.{NoSuchTag}
 use Rattle.tag_table.specs.declared.faults.NoSuchTag.TheVariants.{Moved, Neighbour}
 use Rattle.tag_table.specs.Kept.{AreKept, tag, tags_kept, slot_of_number, place_above, above_place, place_below, below_place}
@@ -313,3 +313,16 @@ deleted-none name tags other is = ap (λ b. if b then tags else without (is_name
 
 pub sel_number : (names : Names) → AreKept names → Contains (list.numbers_of names.entries) 0
 sel_number names kept = let at = kept.selection in Contains-from_stands _ 0 (at.0, slice_get-map (λ (e : Named). e.number) names.entries at.0 ∙ ap (option_map (λ (e : Named). e.number)) at.1)
+
+-- the tag that was created last is what is taken out
+pub deleted-push : (names : Names) (name : List ℕ) (number : ℕ) → AreKept names → place_of name names.entries ≡ None → deleted name (map tag names.entries ++ record { name = name; slot = slot_of_number number } ∷ []) ≡ map tag names.entries
+deleted-push names name number kept none = by (bytes_eq name sel) refl
+  where
+    by : (b : Bool) → bytes_eq name sel ≡ b → deleted name (map tag names.entries ++ record { name = name; slot = slot_of_number number } ∷ []) ≡ map tag names.entries
+    by true is =
+        let selection = kept.selection in
+        let there = position-some (λ (e : Named). bytes_eq name e.name) names.entries selection.0 _ selection.1 is in
+        absurd (none-some there.0 (sym none ∙ there.1))
+    by false other =
+        ap (λ b. if b then map tag names.entries ++ record { name = name; slot = slot_of_number number } ∷ [] else without (is_named name) (map tag names.entries ++ record { name = name; slot = slot_of_number number } ∷ [])) other
+        ∙ without-push (is_named name) (map tag names.entries) (record { name = name; slot = slot_of_number number }) (place_seen name names.entries ∙ none) ((bytes_eq-Decides name name).1 refl)

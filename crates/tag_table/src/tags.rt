@@ -97,6 +97,8 @@ impl TagTable {
         ensures least { IfOk result (λ made. IfSome made (λ slot. IsLeastFree (slots_of self.old.tags) slot.0)) }
         ensures last { IfOk result (λ made. IfSome made (λ slot. self.new ≡
             record self.old { tags = self.old.tags ++ record { name = chars (string_bytes name); slot = slot.0 } ∷ [] })) }
+        // To take it out again gives back the tags before it.
+        ensures back { IfOk result (λ made. IfSome made (λ _. deleted (chars (string_bytes name)) self.new.tags ≡ self.old.tags)) }
         ensures err { OnErr result (self.new ≡ self.old) }
     {
         let Some(number) = self.names.create(name)? else {
