@@ -1,0 +1,5 @@
+pub mod MarkLaws
+pub mod OneOffset
+pub mod OrderLaws
+pub mod SharedWalk
+pub mod StoreLaws

@@ -1,0 +1,41 @@
+use Rattle.std.proofs.Common.{length, sym, ◌∙◌, arith}
+use Rattle.std.proofs.lemmas.List.{length-map}
+use Rattle.std.proofs.lemmas.Option.{slice_get_within}
+use Rattle.text_model.specs.MarkOrder.{marks_at}
+use Rattle.mark_table.specs.SharedMarks.{Mark, numbers_of}
+use Rattle.mark_table.proofs.StoreLaws.{mark_at_index}
+use Rattle.mark_table.proofs.OneOffset.{Found-more, Least-more, IsFirstAt-all}
+use Rattle.mark_table.proofs.marks.MarkTable.first_at.Goals as goal
+
+pub overflow_add-index : goal.overflow_add-index
+overflow_add-index g c =
+    let low = mark_at_index c.args.offset c.loop-number.index (g.S.TextStore.content c.args.store.now).marks c.in-Some.number (sym c.mark_at.ensures ∙ c.in-Some.is) in
+    let small = c.place_from.ensures.fits in
+    omega arith
+
+pub loop-number-smaller : goal.loop-number-smaller
+loop-number-smaller g c =
+    let within = slice_get_within (marks_at c.args.offset (g.S.TextStore.content c.args.store.now).marks) c.loop-number.index c.in-Some.number (sym c.mark_at.ensures ∙ c.in-Some.is) in
+    omega arith
+
+pub loop-number-preserved : goal.loop-number-preserved
+loop-number-preserved g c =
+    let at = marks_at c.args.offset (g.S.TextStore.content c.args.store.now).marks in
+    let numbers = numbers_of c.args.self.now.marks in
+    let i = c.loop-number.invariant in
+    let p = c.place_from.ensures in
+    let is = sym c.mark_at.ensures ∙ c.in-Some.is in
+    let within = i.within in
+    rw c.min-first.ensures (record {
+      within = omega arith;
+      found = Found-more at numbers c.args.from (length c.args.self.now.marks) c.loop-number.first c.place_from.result c.loop-number.index c.in-Some.number is i.found p.found;
+      least = Least-more at numbers c.args.from c.loop-number.first c.place_from.result c.loop-number.index c.in-Some.number is i.least p.least;
+    })
+
+pub returns-clause-first : goal.returns-clause-first
+returns-clause-first g c =
+    let at = marks_at c.args.offset (g.S.TextStore.content c.args.store.now).marks in
+    let numbers = numbers_of c.args.self.now.marks in
+    let i = c.loop-number.invariant in
+    let len = c.len-len.ensures.value in
+    rw (c.then_some.ensures, len) (IsFirstAt-all at numbers c.args.from (length c.args.self.now.marks) c.loop-number.first c.loop-number.index (length-map c.args.self.now.marks (λ (m : Mark). m.number)) (sym c.mark_at.ensures ∙ c.in_default.is) i.within i.found i.least)

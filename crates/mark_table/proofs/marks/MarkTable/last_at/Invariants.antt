@@ -1,0 +1,16 @@
+use Rattle.std.proofs.Common.{◌≡◌, ◌-◌, ◌<◌, ◌≤◌, ℕ, Some, length, slice_get}
+use Rattle.text_model.specs.declared.places.MarkNo.{MarkNo}
+use Rattle.text_model.specs.MarkOrder.{marks_at}
+use Rattle.mark_table.specs.SharedMarks.{numbers_of}
+use Rattle.mark_table.specs.Walk.{IsAt}
+use Rattle.mark_table.proofs.marks.MarkTable.last_at.Given as goal
+
+abbrev pub invariant-loop-number : goal.invariant-loop-number
+invariant-loop-number g l = record {
+  found : 0 < l.places → (l.places ≤ l.upto) × IsAt (marks_at l.offset (g.S.TextStore.content l.store).marks) (numbers_of l.self.marks) (l.places - 1);
+  greatest : (index place : ℕ) (number : MarkNo) → index < l.index → slice_get (marks_at l.offset (g.S.TextStore.content l.store).marks) index ≡ Some number
+      → slice_get (numbers_of l.self.marks) place ≡ Some number.0 → place < l.upto → place < l.places;
+}
+
+abbrev pub decreases-loop-number : goal.decreases-loop-number
+decreases-loop-number g l = length (marks_at l.offset (g.S.TextStore.content l.store).marks) - l.index

@@ -1,0 +1,9 @@
+use Rattle.std.proofs.Common.{ap, ◌∙◌, ◌+◌, Some, sym}
+use Rattle.std.specs.Option.{option_map}
+use Rattle.std.proofs.lemmas.Option.{slice_get-map}
+use Rattle.mark_table.specs.SharedMarks.{first_number}
+use Rattle.mark_table.proofs.MarkLaws.{numbers_seen}
+use Rattle.mark_table.proofs.marks.MarkTable.number.Goals as goal
+
+pub returns : goal.returns
+returns c = rw (← c.self.view_is) (rw (numbers_seen c.self.inside.gravities.items c.self.inside.names.entries) (slice_get-map (λ n. first_number + n) _ c.args.place ∙ ap (option_map (λ n. first_number + n)) c.number.ensures.value ∙ ap (λ s. Some s) (sym c.mark_number.ensures)))

@@ -1,0 +1,4 @@
+pub mod ListLaws
+pub mod MoveLaws
+pub mod PlaceLaws
+pub mod ViewLaws

@@ -1,0 +1,6 @@
+use Rattle.std.specs.HashMap.{values}
+use Rattle.name_list.specs.Places.{IsIndexTo}
+use Rattle.name_list.proofs.places.note_places.Given as goal
+
+abbrev pub invariant-loop-place : goal.invariant-loop-place
+invariant-loop-place l = IsIndexTo (values l.numbers) l.place l.places

@@ -1,0 +1,30 @@
+-- A list of names as it is kept: a map in order, and for each number the place of the name that has it.
+use Rattle.std.specs.Prelude.{◌≡◌, ℕ, ◌<◌, ◌≤◌, ◌^◌, Bool, Option, Some, List, map, length, is_some, option_and_then, slice_get, chars, string_bytes, String}
+use Rattle.name_list.specs.Names.{Named, Names, IsLeastFree}
+
+abbrev pub named : {Z : Type 0} → String Z × ℕ → Named
+named entry = record { name = chars (string_bytes entry.0); number = entry.1 }
+
+abbrev pub names_kept : {Z : Type 0} → List (String Z × ℕ) → ℕ → Names
+names_kept {Z} entries limit = record { entries = map (named {Z = Z}) entries; limit = limit }
+
+-- whether a number has a place
+abbrev pub is_taken : List (Option ℕ) → ℕ → Bool
+is_taken places number = is_some (option_and_then (λ place. place) (slice_get places number))
+
+-- the places are those at which the numbers stand
+pub record IsIndex (numbers : List ℕ) (places : List (Option ℕ)) : Type 0 where
+  pub placed : (at number : ℕ) → slice_get numbers at ≡ Some number → slice_get places number ≡ Some (Some at)
+  pub there : (at number : ℕ) → slice_get places number ≡ Some (Some at) → slice_get numbers at ≡ Some number
+
+-- the places of the first so many numbers are right, and no other number has a place but those that are listed
+pub record IsIndexTo (numbers : List ℕ) (upto : ℕ) (places : List (Option ℕ)) : Type 0 where
+  pub placed : (at number : ℕ) → at < upto → slice_get numbers at ≡ Some number → slice_get places number ≡ Some (Some at)
+  pub listed : (at number : ℕ) → slice_get places number ≡ Some (Some at) → (i : ℕ) × (slice_get numbers i ≡ Some number)
+
+-- how the fields belong together: `free` is the least number that no name has
+pub record AreKept (numbers : List ℕ) (places : List (Option ℕ)) (free : ℕ) : Type 0 where
+  pub index : IsIndex numbers places
+  pub least : IsLeastFree numbers free
+  pub room : length numbers ≤ length places
+  pub small : length places < 2 ^ 16

@@ -1,0 +1,180 @@
+ghost use Rattle.std.specs.Prelude.{◌≡◌, ◌<◌, ◌≤◌, ◌↔◌, ◌∷◌, [], ◌++◌, length, remove, slice_get, chars, string_bytes, None, Some, Contains, IsNone, IfOk, IfSome, OnErr, MatchOption};
+ghost use Rattle.name_list.specs.Moves.{move_index};
+ghost use Rattle.name_list.specs.Names.{Names, place_of, names_of, numbers_of, IsFull, IsLeastFree, AreNames};
+
+use crate::places::{next_free, note_places};
+use indexmap::IndexMap;
+use std::alloc::{AllocError, Global};
+use std::marker::Model;
+
+/// Names in an order, each with a number: the least from 0 on that no other name of the list has. There is a limit on
+/// how many names there may be. Places in the order count from 0.
+#[derive(Drop)]
+pub struct NameList {
+    numbers: IndexMap<String, u16>,
+    places: Vec<Option<u16>>,
+    free: usize,
+}
+
+impl Model for NameList {
+    ghost use Rattle.std.specs.Prelude.{length};
+    ghost use Rattle.indexmap.specs.IndexMap.{values};
+    ghost use Rattle.name_list.specs.Names.{Names};
+    ghost use Rattle.name_list.specs.Places.{names_kept, AreKept};
+
+    ghost Value = { Names };
+
+    ghost view = { λ a. names_kept a.numbers.entries (length a.places.items) };
+
+    ghost invariant = { λ a. AreKept (values a.numbers) a.places.items a.free };
+}
+
+impl NameList {
+    /// A list without names, which may hold so many.
+    pub fn new(alloc: Global, limit: u16) -> Result<NameList, AllocError>
+        ensures { IfOk result (λ names. names ≡ record { entries = []; limit = limit }) }
+    {
+        Ok(NameList {
+            numbers: IndexMap::new(alloc),
+            places: vec![in alloc; None; limit as usize]?,
+            free: 0,
+        })
+    }
+
+    /// How many names there are.
+    pub fn len(&self) -> usize
+        ensures value { result ≡ length self.now.entries }
+        ensures sound { AreNames self.now }
+    {
+        self.numbers.len()
+    }
+
+    /// The place of a name.
+    pub fn place(&self, name: &str) -> Option<usize>
+        ensures value { result ≡ place_of (chars name.now) self.now.entries }
+        ensures within { IfSome result (λ place. place < length self.now.entries) }
+        ensures sound { AreNames self.now }
+    {
+        self.numbers.get_index_of(name)
+    }
+
+    /// The place of the name that has a number.
+    pub fn place_with(&self, number: u16) -> Option<usize>
+        ensures { MatchOption result (¬ Contains (numbers_of self.now.entries) number)
+            (λ place. slice_get (numbers_of self.now.entries) place ≡ Some number) }
+    {
+        let place = *self.places.get(number as usize)?;
+        Some(place? as usize)
+    }
+
+    /// The name at a place.
+    pub fn name(&self, place: usize) -> &str
+        requires { place < length self.now.entries }
+        ensures { slice_get (names_of self.now.entries) place ≡ Some (chars result.now) }
+    {
+        let (name, _) = self.numbers.get_index(place).unwrap();
+        name.as_str()
+    }
+
+    /// The number of the name at a place.
+    pub fn number(&self, place: usize) -> u16
+        requires { place < length self.now.entries }
+        ensures value { slice_get (numbers_of self.now.entries) place ≡ Some result }
+        ensures below { result < self.now.limit }
+    {
+        self.numbers[place]
+    }
+
+    /// Puts a new name last, and gives it the least number that no name has. `None` only where the list is full; the
+    /// name is then dropped.
+    pub fn create(&mut self, name: String) -> Result<Option<u16>, AllocError>
+        requires { place_of (chars (string_bytes name)) self.old.entries ≡ None }
+        ensures full { IfOk result (λ made. IsNone made ↔ IsFull self.old) }
+        ensures refused { IfOk result (λ made. IsNone made → self.new ≡ self.old) }
+        ensures least { IfOk result (λ made. IfSome made (IsLeastFree (numbers_of self.old.entries))) }
+        ensures below { IfOk result (λ made. IfSome made (λ number. number < self.old.limit)) }
+        ensures last { IfOk result (λ made. IfSome made (λ number. self.new ≡
+            record self.old { entries = self.old.entries ++ record { name = chars (string_bytes name); number = number } ∷ [] })) }
+        ensures err { OnErr result (self.new ≡ self.old) }
+    {
+        let place = self.numbers.len();
+        if place >= self.places.len() {
+            return Ok(None);
+        }
+        let number = self.free;
+        self.numbers.insert(name, number as u16)?;
+        self.places[number] = Some(place as u16);
+        self.free = next_free(&self.places, number + 1);
+        Ok(Some(number as u16))
+    }
+
+    /// Takes out the name at a place. Its number is free again.
+    pub fn remove(&mut self, place: usize)
+        requires { place < length self.old.entries }
+        ensures { self.new ≡ record self.old { entries = remove self.old.entries place } }
+    {
+        let (_, number) = self.numbers.shift_remove_index(place).unwrap();
+        self.places[number as usize] = None;
+        note_places(&self.numbers, &mut self.places, place);
+        self.free = self.free.min(number as usize);
+    }
+
+    /// Moves the name at a place to another place; those in between move by one.
+    pub fn move_to(&mut self, from: usize, to: usize)
+        requires from { from < length self.old.entries }
+        requires to { to < length self.old.entries }
+        ensures { self.new ≡ record self.old { entries = move_index self.old.entries from to } }
+    {
+        self.numbers.move_index(from, to);
+        note_places(&self.numbers, &mut self.places, 0);
+    }
+}
+
+#[cfg(test)]
+mod tests {
+    use super::*;
+    use std::process::Abort;
+    use std::test::Fail;
+
+    fn create(
+        rt: &impl Abort,
+        alloc: Global,
+        names: &mut NameList,
+        name: &str,
+    ) -> Result<Option<u16>, AllocError> {
+        assert!(rt; names.place(name).is_none(), "{name} is new");
+        names.create(String::from_str(alloc, name)?)
+    }
+
+    fn check_order(rt: &impl Abort, names: &NameList, wanted: &[(&str, u16)]) {
+        assert_eq!(rt; names.len(), wanted.len());
+        for (place, (name, number)) in wanted.iter().enumerate() {
+            assert!(rt; place < names.len());
+            assert_eq!(rt; names.name(place), *name, "at {place}");
+            assert_eq!(rt; names.number(place), *number, "of {name}");
+            assert_eq!(rt; names.place(name), Some(place), "of {name}");
+            assert_eq!(rt; names.place_with(*number), Some(place), "of {number}");
+        }
+    }
+
+    #[test]
+    fn names_keep_their_numbers(rt: HostRuntime) -> Result<(), Fail> {
+        let alloc = rt.alloc();
+        let mut names = NameList::new(alloc, 4)?;
+        for (name, number) in [("a", 0), ("é", 1), ("", 2), ("b c", 3)] {
+            assert_eq!(rt; create(&rt, alloc, &mut names, name)?, Some(number));
+        }
+        assert_eq!(rt; create(&rt, alloc, &mut names, "d")?, None);
+        assert!(rt; names.len() == 4);
+        names.move_to(3, 1);
+        check_order(&rt, &names, &[("a", 0), ("b c", 3), ("é", 1), ("", 2)]);
+        assert!(rt; names.len() == 4);
+        names.remove(2);
+        check_order(&rt, &names, &[("a", 0), ("b c", 3), ("", 2)]);
+        assert_eq!(rt; names.place_with(1), None);
+        assert_eq!(rt; names.place_with(4), None);
+        assert_eq!(rt; create(&rt, alloc, &mut names, "é")?, Some(1));
+        check_order(&rt, &names, &[("a", 0), ("b c", 3), ("", 2), ("é", 1)]);
+        Ok(())
+    }
+}

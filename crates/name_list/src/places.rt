@@ -1,0 +1,36 @@
+//! For each number the place of the name that has it.
+ghost use Rattle.std.specs.Prelude.{◌≡◌, ℕ, ◌<◌, ◌≤◌, ◌^◌, true, false, length, slice_get, Some};
+ghost use Rattle.indexmap.specs.IndexMap.{values, index_map_len};
+ghost use Rattle.name_list.specs.Names.{AreApart};
+ghost use Rattle.name_list.specs.Places.{is_taken, IsIndex, IsIndexTo};
+
+use indexmap::IndexMap;
+
+/// The least number from `from` on that has no place.
+pub(crate) fn next_free(places: &[Option<u16>], from: usize) -> usize
+    requires { from ≤ length places.now }
+    ensures above { from ≤ result }
+    ensures within { result ≤ length places.now }
+    ensures taken { (number : ℕ) → from ≤ number → number < result → is_taken places.now number ≡ true }
+    ensures free { is_taken places.now result ≡ false }
+{
+    let mut number = from;
+    while number < places.len() && places[number].is_some() {
+        number += 1;
+    }
+    number
+}
+
+/// Notes the places from `from` on anew.
+pub(crate) fn note_places(numbers: &IndexMap<String, u16>, places: &mut [Option<u16>], from: usize)
+    requires apart { AreApart (values numbers.now) }
+    requires within { (at number : ℕ) → slice_get (values numbers.now) at ≡ Some number → number < length places.old }
+    requires few { index_map_len numbers.now < 2 ^ 16 }
+    requires front { IsIndexTo (values numbers.now) from places.old }
+    ensures { IsIndex (values numbers.now) places.new }
+{
+    for place in from..numbers.len() {
+        let number = numbers[place];
+        places[number as usize] = Some(place as u16);
+    }
+}

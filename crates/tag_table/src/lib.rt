@@ -1,0 +1,10 @@
+//! The tags of a document, in the order of their priority.
+#![tactic(auto)]
+
+mod faults;
+mod tags;
+#[cfg(test)]
+mod tests;
+
+pub use faults::NoSuchTag;
+pub use tags::TagTable;

@@ -1,0 +1,181 @@
+ghost use Rattle.std.specs.Prelude.{◌≡◌, ◌<◌, ◌≤◌, ◌↔◌, ◌∷◌, [], ◌++◌, length, slice_get, chars, string_bytes, None, Some, Ok, Err, IsNone, IfOk, IfErr, IfSome, OnErr};
+ghost use Rattle.std.specs.Option.{option_map};
+ghost use Rattle.tag_table.specs.Kept.{place_above, place_below, slot_of_number};
+ghost use Rattle.tag_table.specs.Priority.{raised, lowered, deleted};
+ghost use Rattle.text_model.specs.declared.limits.TheConstants.Limits.{MOST_TAGS};
+ghost use Rattle.tag_table.specs.Tags.{Tags, sel, names_of, slots_of, slot_of, IsFull, IsLeastFree, AreTags};
+
+use crate::faults::NoSuchTag;
+use name_list::NameList;
+use std::alloc::{AllocError, Global};
+use std::marker::Model;
+use text_model::{Limits, TagSlot};
+
+const SEL: &str = "sel";
+
+// The slot of a tag by its number in the list: 0 stands for `sel`, of which each widget has one; the other tags take the
+// slots behind those.
+fn slot_of_number(number: u16) -> TagSlot
+    requires { number ≤ MOST_TAGS }
+    ensures { result.0 ≡ slot_of_number number }
+{
+    TagSlot(if number == 0 {
+        0
+    } else {
+        Limits::MOST_WIDGETS - 1 + number
+    })
+}
+
+/// The tags of a document from the lowest priority to the highest (text(n), "tag raise"), each with the slot by which
+/// a store knows it. `sel` is always there. Places in the order count from 0.
+#[derive(Drop)]
+pub struct TagTable {
+    names: NameList,
+}
+
+impl Model for TagTable {
+    ghost use Rattle.text_model.specs.declared.limits.TheConstants.Limits.{MOST_TAGS};
+    ghost use Rattle.tag_table.specs.Tags.{Tags};
+    ghost use Rattle.tag_table.specs.Kept.{AreKept, tags_kept};
+
+    ghost Value = { Tags };
+
+    ghost view = { λ a. tags_kept a.names };
+
+    ghost invariant = { λ a. AreKept a.names };
+}
+
+impl TagTable {
+    /// The tags of a new document: `sel` alone.
+    pub fn new(alloc: Global, limits: &Limits) -> Result<TagTable, AllocError>
+        ensures { IfOk result (λ tags. tags ≡ record { tags = record { name = sel; slot = 0 } ∷ []; limit = limits.now.tags }) }
+    {
+        // Where one of the limits is read, all are known to be in their bounds.
+        let _chars = limits.chars();
+        let mut names = NameList::new(alloc, limits.tags() + 1)?;
+        names.create(String::from_str(alloc, SEL)?)?;
+        Ok(TagTable { names })
+    }
+
+    /// How many tags there are, `sel` among them.
+    pub fn len(&self) -> usize
+        ensures value { result ≡ length self.now.tags }
+        ensures sound { AreTags self.now }
+    {
+        self.names.len()
+    }
+
+    /// The name of the tag at a place.
+    pub fn name(&self, place: usize) -> &str
+        requires { place < length self.now.tags }
+        ensures { slice_get (names_of self.now.tags) place ≡ Some (chars result.now) }
+    {
+        self.names.name(place)
+    }
+
+    /// The slot of the tag at a place; 0 for `sel`.
+    pub fn slot(&self, place: usize) -> TagSlot
+        requires { place < length self.now.tags }
+        ensures { slice_get (slots_of self.now.tags) place ≡ Some result.0 }
+    {
+        slot_of_number(self.names.number(place))
+    }
+
+    /// The slot of a tag; 0 for `sel`.
+    pub fn find(&self, name: &str) -> Option<TagSlot>
+        ensures { option_map (λ slot. slot.0) result ≡ slot_of (chars name.now) self.now.tags }
+    {
+        Some(self.slot(self.names.place(name)?))
+    }
+
+    /// Makes a tag of a new name, with the highest priority and the least slot that no tag has. `None` only where there
+    /// are as many tags besides `sel` as may be; the name is then dropped.
+    pub fn create(&mut self, name: String) -> Result<Option<TagSlot>, AllocError>
+        requires { slot_of (chars (string_bytes name)) self.old.tags ≡ None }
+        ensures full { IfOk result (λ made. IsNone made ↔ IsFull self.old) }
+        ensures refused { IfOk result (λ made. IsNone made → self.new ≡ self.old) }
+        ensures least { IfOk result (λ made. IfSome made (λ slot. IsLeastFree (slots_of self.old.tags) slot.0)) }
+        ensures last { IfOk result (λ made. IfSome made (λ slot. self.new ≡
+            record self.old { tags = self.old.tags ++ record { name = chars (string_bytes name); slot = slot.0 } ∷ [] })) }
+        // To take it out again gives back the tags before it.
+        ensures back { IfOk result (λ made. IfSome made (λ _. deleted (chars (string_bytes name)) self.new.tags ≡ self.old.tags)) }
+        ensures err { OnErr result (self.new ≡ self.old) }
+    {
+        let Some(number) = self.names.create(name)? else {
+            return Ok(None);
+        };
+        Ok(Some(slot_of_number(number)))
+    }
+
+    /// Puts a tag just above another one, or highest. Against itself it stays where it is.
+    pub fn raise(&mut self, name: &str, above: Option<&str>) -> Result<(), NoSuchTag>
+        ensures ok { IfOk result (λ _. raised (chars name.now) (option_map (λ other. chars other.now) above.entry) self.old.tags ≡ Ok self.new.tags) }
+        ensures fault { IfErr result (λ fault. raised (chars name.now) (option_map (λ other. chars other.now) above.entry) self.old.tags ≡ Err fault) }
+        ensures err { OnErr result (self.new ≡ self.old) }
+        ensures limit { self.new.limit ≡ self.old.limit }
+    {
+        let Some(from) = self.names.place(name) else {
+            return Err(NoSuchTag::Moved);
+        };
+        let to = self.place_above(from, above)?;
+        self.names.move_to(from, to);
+        Ok(())
+    }
+
+    /// Puts a tag just below another one, or lowest. Against itself it stays where it is.
+    pub fn lower(&mut self, name: &str, below: Option<&str>) -> Result<(), NoSuchTag>
+        ensures ok { IfOk result (λ _. lowered (chars name.now) (option_map (λ other. chars other.now) below.entry) self.old.tags ≡ Ok self.new.tags) }
+        ensures fault { IfErr result (λ fault. lowered (chars name.now) (option_map (λ other. chars other.now) below.entry) self.old.tags ≡ Err fault) }
+        ensures err { OnErr result (self.new ≡ self.old) }
+        ensures limit { self.new.limit ≡ self.old.limit }
+    {
+        let Some(from) = self.names.place(name) else {
+            return Err(NoSuchTag::Moved);
+        };
+        let to = self.place_below(from, below)?;
+        self.names.move_to(from, to);
+        Ok(())
+    }
+
+    /// Takes a tag out. Its slot is free again. `sel` stays, and an unknown name is skipped.
+    pub fn delete(&mut self, name: &str)
+        ensures { self.new ≡ record self.old { tags = deleted (chars name.now) self.old.tags } }
+    {
+        if name == SEL {
+            return;
+        }
+        if let Some(place) = self.names.place(name) {
+            self.names.remove(place);
+        }
+    }
+
+    // Where the tag at `from` goes to stand just above another one, or highest.
+    fn place_above(&self, from: usize, above: Option<&str>) -> Result<usize, NoSuchTag>
+        requires { from < length self.now.tags }
+        ensures place { result ≡ place_above from (option_map (λ other. chars other.now) above.entry) self.now.tags }
+        ensures within { IfOk result (λ to. to < length self.now.tags) }
+    {
+        let Some(other) = above else {
+            return Ok(self.names.len() - 1);
+        };
+        let Some(at) = self.names.place(other) else {
+            return Err(NoSuchTag::Neighbour);
+        };
+        Ok(if at < from { at + 1 } else { at })
+    }
+
+    // Where the tag at `from` goes to stand just below another one, or lowest.
+    fn place_below(&self, from: usize, below: Option<&str>) -> Result<usize, NoSuchTag>
+        requires { from < length self.now.tags }
+        ensures place { result ≡ place_below from (option_map (λ other. chars other.now) below.entry) self.now.tags }
+        ensures within { IfOk result (λ to. to < length self.now.tags) }
+    {
+        let Some(other) = below else {
+            return Ok(0);
+        };
+        let Some(at) = self.names.place(other) else {
+            return Err(NoSuchTag::Neighbour);
+        };
+        Ok(if from < at { at - 1 } else { at })
+    }
+}
