@@ -109,21 +109,26 @@ fn with_backslashes(alloc: Global, element: &str) -> Result<String, AllocError>
 }
 
 // Appends a space, where something stands before it, and the three parts, or none of it all.
-fn push_parts(list: &mut String, open: &str, element: &str, close: &str) -> Result<(), AllocError>
-    ensures ok { OnOk result (string_bytes list.new ≡ (((string_bytes list.old ++ space_behind (string_bytes list.old)) ++ open.now) ++ element.now) ++ close.now) }
+fn push_parts(
+    list: &mut String,
+    opening: &str,
+    element: &str,
+    closing: &str,
+) -> Result<(), AllocError>
+    ensures ok { OnOk result (string_bytes list.new ≡ (((string_bytes list.old ++ space_behind (string_bytes list.old)) ++ opening.now) ++ element.now) ++ closing.now) }
     ensures err { OnErr result (string_bytes list.new ≡ string_bytes list.old) }
 {
     let space = if list.is_empty() { "" } else { " " };
     let room = space
         .len()
-        .saturating_add(open.len())
+        .saturating_add(opening.len())
         .saturating_add(element.len())
-        .saturating_add(close.len());
+        .saturating_add(closing.len());
     list.reserve(room)?;
     list.push_str(space).unwrap();
-    list.push_str(open).unwrap();
+    list.push_str(opening).unwrap();
     list.push_str(element).unwrap();
-    list.push_str(close).unwrap();
+    list.push_str(closing).unwrap();
     Ok(())
 }
 

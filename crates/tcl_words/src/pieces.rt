@@ -1,4 +1,4 @@
-ghost use Rattle.std.specs.Prelude.{◌≡◌, ◌<◌, [], ◌∷◌, ◌++◌, ℕ, List, IfOk, OnOk, map, chars, length, string_bytes, encode_utf8, encode_utf8_all};
+ghost use Rattle.std.specs.Prelude.{◌≡◌, ◌<◌, [], ◌∷◌, ◌++◌, ℕ, List, IfOk, OnOk, map, chars, length, ◌≤◌, string_bytes, string_capacity, encode_utf8, encode_utf8_all};
 ghost use Rattle.tcl_words.specs.Scanning.{pieces_from, word_with, words_after, word_after};
 ghost use Rattle.tcl_words.specs.declared.stage.Stage.TheVariants.{BeforeCommand};
 
@@ -19,6 +19,7 @@ impl Writer {
     pub fn new(alloc: Global, room: usize) -> Result<Self, AllocError>
         ensures words { IfOk result (λ writer. writer.words.items ≡ []) }
         ensures word { IfOk result (λ writer. string_bytes writer.word ≡ []) }
+        ensures room { IfOk result (λ writer. room ≤ string_capacity writer.word) }
     {
         Ok(Writer {
             words: Vec::new(alloc),
