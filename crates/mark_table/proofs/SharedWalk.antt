@@ -1,19 +1,19 @@
 -- The shared marks in their order, from offset to offset.
 use Rattle.std.proofs.Common.{◌≡◌, ◌≢◌, ℕ, zero, suc, ◌+◌, ◌-◌, ◌<◌, ◌≤◌, ◌⊎◌, min, max, Bool, true, false, ◌&&◌, nat_lt, nat_le, if◌then◌else◌, Option, None, Some, List, [], ◌∷◌, ◌++◌, length, slice_get, refl, sym, ap, ◌∙◌, subst, inl, inr, arith}
 use Rattle.std.specs.FinMap as finite
-use Rattle.std.specs.Option.{MatchOption}
 use Rattle.std.proofs.lemmas.Bool.{cases_eq}
 use Rattle.std.proofs.lemmas.Bool.Decides.{nat_tests}
 use Rattle.std.proofs.lemmas.Option.{none-some, same_Some, slice_get_within}
 use Rattle.text_model.specs.declared.places.Place.{Place}
 use Rattle.text_model.specs.Content.{Marks}
 use Rattle.text_model.specs.MarkOrder.{marks_at, next_mark, previous_mark}
+use Rattle.text_model.proofs.MarkOrderLaws.{next_mark-least, previous_mark-greatest}
 use Rattle.name_list.proofs.ListLaws.{Stands}
 use Rattle.mark_table.specs.declared.order.MarkView.{MarkView}
 use Rattle.mark_table.specs.declared.order.Shown.{Shown}
 use Rattle.mark_table.specs.Order.{earlier, shared_mark, shared_marks}
 use Rattle.mark_table.specs.Walk.{IsAt, IsFirstAt, IsLastAt, IsFirst, IsLast}
-use Rattle.mark_table.proofs.StoreLaws.{place_of_mark_at, mark_told_at, next_is_least, previous_is_greatest}
+use Rattle.mark_table.proofs.StoreLaws.{place_of_mark_at, mark_told_at}
 
 -- what stands in two lists together
 pub stands_left : {A : Type 0} (xs ys : List A) (x : A) → Stands xs x → Stands (xs ++ ys) x
@@ -209,20 +209,31 @@ module _ (view : MarkView) (marks : Marks) (numbers : List ℕ) (bound : Shown) 
       let below = one.below in
       omega arith)
 
-  reaches_next : (offset : ℕ) → Passed offset → (next : Option ℕ) → next ≡ next_mark offset marks → (at : ℕ) (shown : Shown) → slice_get (shared_marks view marks 2 numbers) at ≡ Some shown → earlier shown bound ≡ false → MatchOption next ⊥ (λ n. n ≤ shown.place)
+  reaches_next : (offset : ℕ) → Passed offset → (at : ℕ) (shown : Shown)
+      → slice_get (shared_marks view marks 2 numbers) at ≡ Some shown → earlier shown bound ≡ false
+      → (next : ℕ) × (next_mark offset marks ≡ Some next) × (next ≤ shown.place)
   unfolding Passed
-  reaches_next offset passed next is at shown stands behind =
+  reaches_next offset passed at shown stands behind =
       let one = (shared-out view marks 2 numbers shown (at, stands)).1 in
       let here = one.here in
       let low = passed at shown stands behind in
-      subst (λ o. MatchOption o ⊥ (λ n. n ≤ shown.place)) (sym is) (subst (λ p. MatchOption (next_mark offset marks) ⊥ (λ n. n ≤ p)) here (next_is_least offset marks one.number one.stands one.has (omega arith)))
+      let next = next_mark-least offset marks one.number one.stands one.has (omega arith) in
+      let near = next.2 in
+      (next.0, next.1, omega arith)
 
   pub Passed-next : (offset next : ℕ) → Passed offset → next_mark offset marks ≡ Some next → Passed next
   unfolding Passed
-  Passed-next offset next passed is = λ at shown stands behind. reaches_next offset passed (Some next) (sym is) at shown stands behind
+  Passed-next offset next passed is = λ at shown stands behind.
+      let least = reaches_next offset passed at shown stands behind in
+      let same = same_Some next least.0 (sym is ∙ least.1) in
+      let near = least.2 in
+      omega arith
 
   pub IsFirst-no_next : (offset : ℕ) → Passed offset → next_mark offset marks ≡ None → IsFirst (shared_marks view marks 2 numbers) bound None
-  IsFirst-no_next offset passed is = λ at shown stands. either (earlier shown bound) (λ behind. reaches_next offset passed None (sym is) at shown stands behind)
+  unfolding Passed
+  IsFirst-no_next offset passed is = λ at shown stands. either (earlier shown bound) (λ behind.
+      let least = reaches_next offset passed at shown stands behind in
+      none-some least.0 (sym is ∙ least.1))
 
   -- no shared mark that is before the bound stands behind an offset
   pub Ahead : ℕ → Type 0
@@ -275,22 +286,32 @@ module _ (view : MarkView) (marks : Marks) (numbers : List ℕ) (bound : Shown) 
       let turn = sym (turns one.0 (slice_get_within numbers one.0 _ one.1.3)) ∙ ap (λ (s : Shown). earlier s bound) (λ i. record { place = sym here i; rank = sym ranked i }) ∙ before in
       none one.0 (is_lt one.0 upto turn) one.1
 
-  reaches_previous : (offset upto : ℕ) → Ahead offset → TurnsBack offset upto → IsLastAt (marks_at offset marks) numbers upto None → (previous : Option ℕ) → previous ≡ previous_mark offset marks
-      → (at : ℕ) (shown : Shown) → slice_get (shared_marks view marks 2 numbers) at ≡ Some shown → earlier shown bound ≡ true → MatchOption previous ⊥ (λ p. shown.place ≤ p)
+  reaches_previous : (offset upto : ℕ) → Ahead offset → TurnsBack offset upto → IsLastAt (marks_at offset marks) numbers upto None → (at : ℕ) (shown : Shown)
+      → slice_get (shared_marks view marks 2 numbers) at ≡ Some shown → earlier shown bound ≡ true
+      → (previous : ℕ) × (previous_mark offset marks ≡ Some previous) × (shown.place ≤ previous)
   unfolding Ahead
-  reaches_previous offset upto ahead turns none previous is at shown stands before =
+  reaches_previous offset upto ahead turns none at shown stands before =
       let one = (shared-out view marks 2 numbers shown (at, stands)).1 in
       let here = one.here in
       let low = ahead at shown stands before in
       let other = not_at offset upto turns none at shown stands before in
-      subst (λ o. MatchOption o ⊥ (λ p. shown.place ≤ p)) (sym is) (subst (λ q. MatchOption (previous_mark offset marks) ⊥ (λ p. q ≤ p)) here (previous_is_greatest offset marks one.number one.stands one.has (omega arith)))
+      let previous = previous_mark-greatest offset marks one.number one.stands one.has (omega arith) in
+      let near = previous.2 in
+      (previous.0, previous.1, omega arith)
 
   pub Ahead-previous : (offset upto previous : ℕ) → Ahead offset → TurnsBack offset upto → IsLastAt (marks_at offset marks) numbers upto None → previous_mark offset marks ≡ Some previous → Ahead previous
   unfolding Ahead
-  Ahead-previous offset upto previous ahead turns none is = λ at shown stands before. reaches_previous offset upto ahead turns none (Some previous) (sym is) at shown stands before
+  Ahead-previous offset upto previous ahead turns none is = λ at shown stands before.
+      let greatest = reaches_previous offset upto ahead turns none at shown stands before in
+      let same = same_Some previous greatest.0 (sym is ∙ greatest.1) in
+      let near = greatest.2 in
+      omega arith
 
   pub IsLast-no_previous : (offset upto : ℕ) → Ahead offset → TurnsBack offset upto → IsLastAt (marks_at offset marks) numbers upto None → previous_mark offset marks ≡ None → IsLast (shared_marks view marks 2 numbers) bound None
-  IsLast-no_previous offset upto ahead turns none is = λ at shown stands. neither (earlier shown bound) (λ before. reaches_previous offset upto ahead turns none None (sym is) at shown stands before)
+  unfolding Ahead
+  IsLast-no_previous offset upto ahead turns none is = λ at shown stands. neither (earlier shown bound) (λ before.
+      let greatest = reaches_previous offset upto ahead turns none at shown stands before in
+      none-some greatest.0 (sym is ∙ greatest.1))
 
   pub IsLast-none : (offset : ℕ) → Ahead offset → offset < view.start → IsLast (shared_marks view marks 2 numbers) bound None
   unfolding Ahead

@@ -1,10 +1,9 @@
 -- Which marks a store tells of at a place, and near it.
-use Rattle.std.proofs.Common.{◌≡◌, ℕ, zero, suc, ◌+◌, ◌<◌, ◌≤◌, min, max, Bool, true, false, cond, ◌&&◌, nat_lt, nat_le, ◌==◌, Some, List, [], ◌∷◌, slice_get, Ordering, T, refl, sym, ap, ◌∙◌, arith, eq-eqb}
+use Rattle.std.proofs.Common.{◌≡◌, ℕ, zero, suc, ◌+◌, ◌<◌, ◌≤◌, Bool, true, false, cond, ◌&&◌, ◌==◌, Some, List, [], ◌∷◌, slice_get, Ordering, T, refl, sym, ap, ◌∙◌, arith, eq-eqb}
 use Rattle.std.specs.declared.cmp.Ordering.TheVariants.{Less, Equal, Greater}
 use Rattle.std.specs.FinMap as finite
 use Rattle.std.specs.FinMap.Entries.{is_sorted, below_all, find}
-use Rattle.std.specs.List.{filter, reduce, fold}
-use Rattle.std.specs.Option.{MatchOption}
+use Rattle.std.specs.List.{filter}
 use Rattle.std.specs.Ordering.{nat_cmp, is_lt, eq_by_cmp}
 use Rattle.std.specs.Cmp.{unsigned_tied, ranked}
 use Rattle.std.proofs.lemmas.Bool.Decides.{nat_tests}
@@ -13,7 +12,7 @@ use Rattle.name_list.proofs.ListLaws.{Stands, stands_map, stood_at}
 use Rattle.text_model.specs.declared.places.MarkNo.{MarkNo}
 use Rattle.text_model.specs.declared.places.Place.{Place}
 use Rattle.text_model.specs.Content.{Marks}
-use Rattle.text_model.specs.MarkOrder.{marks_at, next_mark, previous_mark, offsets}
+use Rattle.text_model.specs.MarkOrder.{marks_at}
 
 -- keys that rise from a number on
 Rises : ℕ → List (ℕ × Place) → Type 0
@@ -140,57 +139,3 @@ mark_told_at at marks number place is here =
     let entry = found_entry (finite.entries marks) number place (sym (finite.get-entries marks number) ∙ is) in
     let kept = kept_entry p (finite.entries marks) (number, place) entry (eq-eqb place.offset at here) in
     stands_map (λ (e : ℕ × Place). record { 0 = e.0 }) (filter p (finite.entries marks)) (number, place) kept
-
--- the offsets of the marks
-offset_stands : (marks : Marks) (number : ℕ) (place : Place) → finite.get marks number ≡ Some place → Stands (offsets marks) place.offset
-offset_stands marks number place is =
-    let entry = found_entry (finite.entries marks) number place (sym (finite.get-entries marks number) ∙ is) in
-    stands_map (λ (pl : Place). pl.offset) (finite.values marks) place (stands_map (λ (e : ℕ × Place). e.1) (finite.entries marks) (number, place) entry)
-
--- of numbers that are reduced by `min` or `max`, each is at the end or beyond
-fold_least : (n first : ℕ) (xs : List ℕ) → n ≡ fold min first xs → (n ≤ first) × ((x : ℕ) → Stands xs x → n ≤ x)
-fold_least n first [] is = (omega arith, λ x has. absurd (none-some x has.1))
-fold_least n first (y ∷ xs) is =
-    let rest = fold_least n (min first y) xs is in
-    let under = rest.0 in
-    (omega arith, λ x has. by x has.0 has.1 (omega arith) rest.1)
-  where
-    by : (x at : ℕ) → slice_get (y ∷ xs) at ≡ Some x → n ≤ y → ((z : ℕ) → Stands xs z → n ≤ z) → n ≤ x
-    by x zero is low others = let same = same_Some y x is in omega arith
-    by x (suc at) is low others = others x (at, is)
-
-fold_greatest : (n first : ℕ) (xs : List ℕ) → n ≡ fold max first xs → (first ≤ n) × ((x : ℕ) → Stands xs x → x ≤ n)
-fold_greatest n first [] is = (omega arith, λ x has. absurd (none-some x has.1))
-fold_greatest n first (y ∷ xs) is =
-    let rest = fold_greatest n (max first y) xs is in
-    let over = rest.0 in
-    (omega arith, λ x has. by x has.0 has.1 (omega arith) rest.1)
-  where
-    by : (x at : ℕ) → slice_get (y ∷ xs) at ≡ Some x → y ≤ n → ((z : ℕ) → Stands xs z → z ≤ n) → x ≤ n
-    by x zero is low others = let same = same_Some y x is in omega arith
-    by x (suc at) is low others = others x (at, is)
-
-least_of : (xs : List ℕ) (x : ℕ) → Stands xs x → MatchOption (reduce min xs) ⊥ (λ least. least ≤ x)
-least_of [] x has = none-some x has.1
-least_of (y ∷ xs) x (zero, is) = let low = (fold_least (fold min y xs) y xs refl).0 in let same = same_Some y x is in omega arith
-least_of (y ∷ xs) x (suc at, is) = (fold_least (fold min y xs) y xs refl).1 x (at, is)
-
-greatest_of : (xs : List ℕ) (x : ℕ) → Stands xs x → MatchOption (reduce max xs) ⊥ (λ greatest. x ≤ greatest)
-greatest_of [] x has = none-some x has.1
-greatest_of (y ∷ xs) x (zero, is) = let high = (fold_greatest (fold max y xs) y xs refl).0 in let same = same_Some y x is in omega arith
-greatest_of (y ∷ xs) x (suc at, is) = (fold_greatest (fold max y xs) y xs refl).1 x (at, is)
-
-reaches : (at offset : ℕ) → at ≤ offset → nat_le at offset ≡ true
-reaches at offset above = grind (arith, nat_tests)
-
-stays_below : (offset at : ℕ) → offset < at → nat_lt offset at ≡ true
-stays_below offset at below = grind (arith, nat_tests)
-
--- no mark stands between an offset and the next one, nor between one and the one before
-pub next_is_least : (at : ℕ) (marks : Marks) (number : ℕ) (place : Place) → finite.get marks number ≡ Some place → at ≤ place.offset → MatchOption (next_mark at marks) ⊥ (λ next. next ≤ place.offset)
-next_is_least at marks number place is above =
-    least_of (filter (λ offset. nat_le at offset) (offsets marks)) place.offset (kept_entry (λ offset. nat_le at offset) (offsets marks) place.offset (offset_stands marks number place is) (reaches at place.offset above))
-
-pub previous_is_greatest : (at : ℕ) (marks : Marks) (number : ℕ) (place : Place) → finite.get marks number ≡ Some place → place.offset < at → MatchOption (previous_mark at marks) ⊥ (λ previous. place.offset ≤ previous)
-previous_is_greatest at marks number place is below =
-    greatest_of (filter (λ offset. nat_lt offset at) (offsets marks)) place.offset (kept_entry (λ offset. nat_lt offset at) (offsets marks) place.offset (offset_stands marks number place is) (stays_below place.offset at below))
