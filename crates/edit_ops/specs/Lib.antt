@@ -1,0 +1,3 @@
+pub mod Anchors
+pub mod Insertions
+pub mod States

@@ -1,0 +1,53 @@
+ghost use Rattle.std.specs.Prelude.{◌≡◌, ◌+◌, ◌<◌, ◌≤◌, ◌^◌, IfSome, map, option_map};
+ghost use Rattle.std.specs.List.{All};
+ghost use Rattle.edit_ops.specs.Anchors.{AnchorsStand, anchor_moved, anchors_moved};
+
+/// Where the part of a text that a widget shows begins and ends, in characters from the start of the text, each if it is
+/// set (text(n), "-startline" and "-endline"). Anchors stand at starts of lines, or at the length of the text.
+#[derive(Clone, Copy, Debug, PartialEq, Eq)]
+pub struct Anchors {
+    pub start: Option<usize>,
+    pub end: Option<usize>,
+}
+
+/// Where an anchor stands after so many characters are put in at an offset.
+fn anchor_moved(anchor: Option<usize>, at: usize, count: usize, len: usize) -> Option<usize>
+    requires stands { IfSome anchor (λ place. place ≤ len) }
+    requires fits { len + count < 2 ^ 64 }
+    ensures { result ≡ option_map (anchor_moved at count) anchor }
+{
+    match anchor {
+        None => None,
+        Some(place) => if at < place {
+            Some(place + count)
+        } else {
+            Some(place)
+        },
+    }
+}
+
+impl Anchors {
+    /// Where the anchors stand after so many characters are put in at an offset of a text of so many: those
+    /// above it move along.
+    fn moved(self, at: usize, count: usize, len: usize) -> Anchors
+        requires stand { AnchorsStand len self }
+        requires fits { len + count < 2 ^ 64 }
+        ensures { result ≡ anchors_moved at count self }
+    {
+        Anchors {
+            start: anchor_moved(self.start, at, count, len),
+            end: anchor_moved(self.end, at, count, len),
+        }
+    }
+}
+
+/// Moves the anchors of all widgets for so many characters that are put in at an offset of a text of so many.
+pub fn move_anchors(all: &mut [Anchors], at: usize, count: usize, len: usize)
+    requires stand { All (AnchorsStand len) all.old }
+    requires fits { len + count < 2 ^ 64 }
+    ensures { all.new ≡ map (anchors_moved at count) all.old }
+{
+    for anchors in all.iter_mut() {
+        *anchors = anchors.moved(at, count, len);
+    }
+}

@@ -1,0 +1,92 @@
+ghost use Rattle.std.specs.Prelude.{◌≡◌, ◌+◌, ◌<◌, ◌≤◌, ◌^◌, ◌↔◌, ◌++◌, nat_lt, length, get_or, sum_by, OnOk, IfOk, OnErr};
+ghost use Rattle.std.specs.FinSet as set;
+ghost use Rattle.std.specs.List.{All};
+ghost use Rattle.edit_ops.specs.Anchors.{AnchorsStand};
+ghost use Rattle.edit_ops.specs.Insertions.{inserted_texts, shared_slots, slots_or, total, IsBetween};
+ghost use Rattle.edit_ops.specs.States.{State, log_of, state_of, drafted, planned, HasRoom};
+ghost use Rattle.text_model.specs.Content.{Content, slot_sets};
+ghost use Rattle.text_model.specs.Steps.{Fits, after};
+
+use crate::anchors::Anchors;
+use crate::drafts::Draft;
+use crate::faults::EditFault;
+use crate::pieces::Piece;
+use crate::plans::{Plan, Recording, prepare};
+use std::alloc::{AllocError, Global};
+use text_model::{Limits, TagSet, Text, TextStore};
+use undo_stack::{EditKind, UndoStack};
+
+/// How many characters a text has.
+fn count_of(text: &Text) -> usize
+    ensures { result ≡ length text.now }
+{
+    text.as_str().chars().count()
+}
+
+/// Whether a text of so many characters is too long with these texts more.
+fn is_too_long(limits: &Limits, len: usize, pieces: &[Piece]) -> bool
+    requires { len < 2 ^ 64 }
+    ensures { result ≡ nat_lt limits.now.chars (len + total pieces.now) }
+{
+    let mut most = len;
+    for piece in pieces {
+        most = most.saturating_add(count_of(&piece.text));
+    }
+    most > limits.chars()
+}
+
+/// The slots that the characters on both sides of an offset have; none at the start.
+fn shared_at<S: TextStore>(store: &S, at: usize) -> TagSet
+    requires { at < length (S.content store.now).cells }
+    ensures { result ≡ shared_slots at (S.content store.now).cells }
+{
+    if at == 0 {
+        return TagSet::empty();
+    }
+    store.tags_at(at - 1).common(&store.tags_at(at))
+}
+
+fn slots_or(slots: Option<TagSet>, shared: TagSet) -> TagSet
+    ensures { result ≡ slots_or slots shared }
+{
+    match slots {
+        None => shared,
+        Some(slots) => slots,
+    }
+}
+
+impl Draft {
+    /// Puts texts in at an offset of a text of so many characters, each right behind the one before it. The characters on both
+    /// sides of the offset share some slots, and the one behind it has others too.
+    fn insert_pieces(
+        &mut self,
+        at: usize,
+        pieces: &[Piece],
+        shared: TagSet,
+        behind: TagSet,
+        len: usize,
+    ) -> Result<(), AllocError>
+        requires within { at < len }
+        requires stand { All (AnchorsStand len) self.old.anchors }
+        requires fits { len + total pieces.now < 2 ^ 64 }
+        ensures { OnOk result ((recording : Recording) (kind : EditKind) (state : State) →
+            Fits self.old.steps state.content → IsBetween shared behind len at (after self.old.steps state.content).cells →
+            Fits self.new.steps state.content ×
+            (drafted recording kind self.new state ≡ inserted_texts recording kind at pieces.now (drafted recording kind self.old state))) }
+    {
+        let mut at = at;
+        let mut len = len;
+        let mut shared = shared;
+        for piece in pieces {
+            let count = count_of(&piece.text);
+            if count > 0 {
+                let slots = slots_or(piece.slots, shared);
+                self.insert(at, &piece.text, slots, count, len)?;
+                at += count;
+                len += count;
+                shared = slots.common(&behind);
+            }
+        }
+        Ok(())
+    }
+}

@@ -1,0 +1,17 @@
+//! Plans of edits: what a command does to a text, its marks, the anchors of the widgets that show it and the history, as a
+//! whole or not at all.
+#![tactic(auto)]
+
+mod anchors;
+mod drafts;
+mod faults;
+mod insertions;
+
+mod pieces;
+mod plans;
+
+pub use anchors::Anchors;
+pub use faults::EditFault;
+
+pub use pieces::Piece;
+pub use plans::{commit, Plan, Recording};
