@@ -1,9 +1,9 @@
-ghost use Rattle.std.specs.Prelude.{◌≡◌, ◌+◌, ◌<◌, ◌≤◌, ◌^◌, ◌↔◌, ◌++◌, nat_lt, length, get_or, sum_by, OnOk, IfOk, OnErr};
+ghost use Rattle.std.specs.Prelude.{◌≡◌, ◌+◌, ◌<◌, ◌≤◌, ◌^◌, ◌↔◌, ◌++◌, nat_lt, length, get_or, sum_by, OnOk, IfOk, Err, false};
 ghost use Rattle.std.specs.FinSet as set;
 ghost use Rattle.std.specs.List.{All};
 ghost use Rattle.edit_ops.specs.Anchors.{AnchorsStand};
 ghost use Rattle.edit_ops.specs.Insertions.{inserted_texts, shared_slots, slots_or, total, IsBetween};
-ghost use Rattle.edit_ops.specs.States.{State, log_of, state_of, drafted, planned, HasRoom};
+ghost use Rattle.edit_ops.specs.States.{State, Log, log_of, state_of, drafted, planned, HasRoom};
 ghost use Rattle.text_model.specs.Content.{Content, slot_sets};
 ghost use Rattle.text_model.specs.Steps.{Fits, after};
 
@@ -26,7 +26,8 @@ fn count_of(text: &Text) -> usize
 /// Whether a text of so many characters is too long with these texts more.
 fn is_too_long(limits: &Limits, len: usize, pieces: &[Piece]) -> bool
     requires { len < 2 ^ 64 }
-    ensures { result ≡ nat_lt limits.now.chars (len + total pieces.now) }
+    ensures value { result ≡ nat_lt limits.now.chars (len + total pieces.now) }
+    ensures short { result ≡ false → len + total pieces.now < 2 ^ 64 }
 {
     let mut most = len;
     for piece in pieces {
@@ -69,7 +70,8 @@ impl Draft {
         requires within { at < len }
         requires stand { All (AnchorsStand len) self.old.anchors }
         requires fits { len + total pieces.now < 2 ^ 64 }
-        ensures { OnOk result ((recording : Recording) (kind : EditKind) (state : State) →
+        ensures widgets { OnOk result (length self.new.anchors ≡ length self.old.anchors) }
+        ensures makes { OnOk result ((recording : Recording) (kind : EditKind) (state : State) →
             Fits self.old.steps state.content → IsBetween shared behind len at (after self.old.steps state.content).cells →
             Fits self.new.steps state.content ×
             (drafted recording kind self.new state ≡ inserted_texts recording kind at pieces.now (drafted recording kind self.old state))) }
@@ -89,4 +91,59 @@ impl Draft {
         }
         Ok(())
     }
+}
+
+/// The edit that puts texts in at an offset.
+fn draft_insert<S: TextStore>(
+    alloc: Global,
+    store: &S,
+    anchors: &[Anchors],
+    at: usize,
+    pieces: &[Piece],
+) -> Result<Draft, AllocError>
+    requires within { at < length (S.content store.now).cells }
+    requires stand { All (AnchorsStand (length (S.content store.now).cells)) anchors.now }
+    requires fits { length (S.content store.now).cells + total pieces.now < 2 ^ 64 }
+    ensures widgets { IfOk result (λ draft. length draft.anchors ≡ length anchors.now) }
+    ensures makes { IfOk result (λ draft. (recording : Recording) (kind : EditKind) (log : Log) →
+        Fits draft.steps (S.content store.now) ×
+        (drafted recording kind draft (state_of (S.content store.now) anchors.now log)
+        ≡ inserted_texts recording kind at pieces.now (state_of (S.content store.now) anchors.now log))) }
+{
+    let mut draft = Draft::new(alloc, anchors)?;
+    draft.insert_pieces(at, pieces, shared_at(store, at), store.tags_at(at), store.len())?;
+    Ok(draft)
+}
+
+/// A plan that puts texts in before the character at an offset, each right behind the one before it. A text without slots
+/// gets those that the characters on both sides of it have, the text before it among them, and none at the start. A mark above
+/// the offset moves along, and so does one that stands there with right gravity; an anchor moves if it stands above it. Each
+/// text that isn't empty is an action (text(n), "insert").
+pub fn plan_insert<S: TextStore>(
+    alloc: Global,
+    limits: &Limits,
+    store: &mut S,
+    history: &mut UndoStack,
+    anchors: &[Anchors],
+    at: usize,
+    pieces: &[Piece],
+    recording: Recording,
+) -> Result<Plan<S>, EditFault>
+    requires within { at < length (S.content store.old).cells }
+    requires stand { All (AnchorsStand (length (S.content store.old).cells)) anchors.now }
+    ensures content { S.content store.new ≡ S.content store.old }
+    ensures log { log_of history.new ≡ log_of history.old }
+    ensures too_long { (result ≡ Err EditFault.TextTooLong) ↔ (limits.now.chars < length (S.content store.old).cells + total pieces.now) }
+    ensures ready { IfOk result (λ plan. S.ready store.new plan.prepared) }
+    ensures room { IfOk result (λ plan. HasRoom plan.recording plan.actions.items history.new) }
+    ensures widgets { IfOk result (λ plan. length plan.anchors.items ≡ length anchors.now) }
+    ensures outcome { IfOk result (λ plan.
+        planned plan.recording plan.kind (S.outcome store.new plan.prepared) plan.anchors.items plan.actions.items (log_of history.old)
+        ≡ inserted_texts recording EditKind.Insert at pieces.now (state_of (S.content store.old) anchors.now (log_of history.old))) }
+{
+    if is_too_long(limits, store.len(), pieces) {
+        return Err(EditFault::TextTooLong);
+    }
+    let draft = draft_insert(alloc, store, anchors, at, pieces)?;
+    Ok(prepare(store, history, draft, EditKind::Insert, recording)?)
 }

@@ -12,6 +12,7 @@ mod plans;
 
 pub use anchors::Anchors;
 pub use faults::EditFault;
+pub use insertions::plan_insert;
 
 pub use pieces::Piece;
 pub use plans::{commit, Plan, Recording};
