@@ -135,6 +135,7 @@ pub record Inserting (draft new : Draft) (from start : ℕ) (around : Slots) (pi
   pub count : length new.anchors ≡ length draft.anchors
   pub stand : All (AnchorsStand len) new.anchors
   pub room : len + total rest < 2 ^ 64
+  pub whole : len + total rest ≡ start + total pieces
   pub goes : (recording : Recording) (kind : EditKind) (state : State) → Fits draft.steps state.content
       → IsBetween around behind start from (after draft.steps state.content).cells
       → InsertedSoFar recording kind draft new state from pieces at len shared behind rest
@@ -158,6 +159,7 @@ inserting-more draft now new from start around pieces at len shared behind slots
       count = ap (λ (d : Draft). length d.anchors) made ∙ length-map now.anchors (anchors_moved at (length piece.text)) ∙ so_far.count;
       stand = subst (λ (d : Draft). All (AnchorsStand (len + length piece.text)) d.anchors) (sym made) (stand-moved at (length piece.text) len now.anchors so_far.stand);
       room = omega (arith, counted, so_far.room);
+      whole = omega (arith, counted, so_far.whole);
       goes = λ recording kind state fits is.
       let before = so_far.goes recording kind state fits is in
       let next = one-more recording kind now new state at len shared behind slots piece before.fits before.between some slots_are made in
@@ -180,6 +182,7 @@ inserting-none draft now from start around pieces at len shared behind piece res
       count = so_far.count;
       stand = so_far.stand;
       room = omega (arith, counted, so_far.room);
+      whole = omega (arith, counted, so_far.whole, none);
       goes = λ recording kind state fits is.
       let before = so_far.goes recording kind state fits is in
       record {
@@ -237,7 +240,7 @@ piece-fits draft now from start around pieces at len count shared behind piece r
 pub put-in : (draft new : Draft) (content : Content) (anchors : List Anchors) (shared behind : Slots) (len at : ℕ) (pieces : List Piece) → draft ≡ record { steps = []; anchors = anchors; actions = [] }
     → IsBetween shared behind len at content.cells
     → ((recording : Recording) (kind : EditKind) (state : State) → Fits draft.steps state.content → IsBetween shared behind len at (after draft.steps state.content).cells
-    → Fits new.steps state.content × (drafted recording kind new state ≡ inserted_texts recording kind at pieces (drafted recording kind draft state)))
+    → Fits new.steps state.content × (length (after new.steps state.content).cells ≡ len + total pieces) × (drafted recording kind new state ≡ inserted_texts recording kind at pieces (drafted recording kind draft state)))
     → (recording : Recording) (kind : EditKind) (log : Log)
     → Fits new.steps content × (drafted recording kind new (state_of content anchors log) ≡ inserted_texts recording kind at pieces (state_of content anchors log))
 put-in draft new content anchors shared behind len at pieces made is goes recording kind log =
@@ -245,7 +248,7 @@ put-in draft new content anchors shared behind len at pieces made is goes record
     let done = goes recording kind state
     (subst (λ (d : Draft). Fits d.steps content) (sym made) tt)
     (subst (λ (d : Draft). IsBetween shared behind len at (after d.steps content).cells) (sym made) is) in
-    (done.0, done.1 ∙ ap (λ (d : Draft). inserted_texts recording kind at pieces (drafted recording kind d state)) made)
+    (done.0, done.2 ∙ ap (λ (d : Draft). inserted_texts recording kind at pieces (drafted recording kind d state)) made)
 
 pub behind-is : (at : ℕ) (cells : List Cell) (slots : Slots) → slice_get (slot_sets cells) at ≡ Some slots → get_or (slot_sets cells) at set.empty ≡ slots
 behind-is at cells slots found = get_or_from_slice_get (slot_sets cells) at slots set.empty found

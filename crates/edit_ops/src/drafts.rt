@@ -1,12 +1,12 @@
-ghost use Rattle.std.specs.Prelude.{◌≡◌, ◌+◌, ◌<◌, ◌≤◌, ◌^◌, ◌++◌, ◌∷◌, [], true, length, map, OnOk, IfOk};
+ghost use Rattle.std.specs.Prelude.{◌≡◌, ◌+◌, ◌<◌, ◌≤◌, ◌^◌, ◌++◌, ◌∷◌, [], true, false, length, map, OnOk, IfOk};
 ghost use Rattle.std.specs.List.{All};
-ghost use Rattle.edit_ops.specs.Anchors.{AnchorsStand, anchors_moved};
+ghost use Rattle.edit_ops.specs.Anchors.{AnchorsStand, anchors_moved, anchors_drawn};
 
-use crate::anchors::{Anchors, move_anchors};
+use crate::anchors::{Anchors, draw_anchors, move_anchors};
 use std::alloc::{AllocError, Global};
 use std::collections::VecDeque;
 use std::marker::Model;
-use text_model::{Step, StepList, TagSet, Text};
+use text_model::{MarkNo, Place, Step, StepList, TagSet, Text};
 use undo_stack::Action;
 
 /// What an edit does, as it is put together: steps, where the anchors of each widget stand after them, and the actions to
@@ -44,9 +44,20 @@ impl Draft {
     pub fn new(alloc: Global, anchors: &[Anchors]) -> Result<Draft, AllocError>
         ensures { IfOk result (λ draft. draft ≡ record { steps = []; anchors = anchors.now; actions = [] }) }
     {
+        Draft::of_steps(alloc, anchors, StepList::new(alloc))
+    }
+
+    /// An edit that makes steps, and of which nothing is noted.
+    pub fn of_steps(
+        alloc: Global,
+        anchors: &[Anchors],
+        steps: StepList,
+    ) -> Result<Draft, AllocError>
+        ensures { IfOk result (λ draft. draft ≡ record { steps = steps; anchors = anchors.now; actions = [] }) }
+    {
         Ok(Draft {
             alloc,
-            steps: StepList::new(alloc),
+            steps,
             anchors: Vec::from_slice(alloc, anchors)?,
             actions: VecDeque::new(alloc),
         })
@@ -77,6 +88,40 @@ impl Draft {
             text: copy_of(self.alloc, text)?,
         })?;
         move_anchors(&mut self.anchors, at, count, len);
+        Ok(())
+    }
+
+    /// Takes a text out, from one offset to another, of a line that begins at `line`; the line after it then begins at `next`.
+    pub fn remove(
+        &mut self,
+        from: usize,
+        to: usize,
+        text: Text,
+        line: usize,
+        next: usize,
+    ) -> Result<(), AllocError>
+        requires { from ≤ to }
+        ensures { OnOk result (self.new ≡ record {
+            steps = self.old.steps ++ Step.Remove from to ∷ [];
+            anchors = map (anchors_drawn line next from to) self.old.anchors;
+            actions = self.old.actions ++ record { inserts = false; at = from; text = text } ∷ [];
+        }) }
+    {
+        self.steps.push(Step::Remove(from, to))?;
+        self.actions.push_back(Action {
+            inserts: false,
+            at: from,
+            text,
+        })?;
+        draw_anchors(&mut self.anchors, line, next, from, to);
+        Ok(())
+    }
+
+    /// Puts the mark of a number at a place.
+    pub fn put_mark(&mut self, number: MarkNo, place: Place) -> Result<(), AllocError>
+        ensures { OnOk result (self.new ≡ record self.old { steps = self.old.steps ++ Step.PutMark number place ∷ [] }) }
+    {
+        self.steps.push(Step::PutMark(number, place))?;
         Ok(())
     }
 }

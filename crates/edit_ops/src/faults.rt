@@ -10,6 +10,9 @@ pub enum EditFault {
     /// The text would have more characters than it may.
     #[error("text is too long")]
     TextTooLong,
+    /// The second index stands before the first.
+    #[error("index before the other in the text")]
+    IndexOrder,
     /// Memory was refused.
     #[error("out of memory")]
     Memory,

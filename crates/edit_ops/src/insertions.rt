@@ -1,8 +1,8 @@
-ghost use Rattle.std.specs.Prelude.{◌≡◌, ◌+◌, ◌<◌, ◌≤◌, ◌^◌, ◌↔◌, ◌++◌, nat_lt, length, get_or, sum_by, OnOk, IfOk, Err, false};
+ghost use Rattle.std.specs.Prelude.{◌≡◌, ◌+◌, ◌<◌, ◌≤◌, ◌^◌, ◌↔◌, ◌++◌, ◌-◌, nat_lt, min, length, get_or, sum_by, OnOk, IfOk, Err, false};
 ghost use Rattle.std.specs.FinSet as set;
 ghost use Rattle.std.specs.List.{All};
 ghost use Rattle.edit_ops.specs.Anchors.{AnchorsStand};
-ghost use Rattle.edit_ops.specs.Insertions.{inserted_texts, shared_slots, slots_or, total, IsBetween};
+ghost use Rattle.edit_ops.specs.Insertions.{inserted_texts, slots_around, slots_or, total, IsBetween};
 ghost use Rattle.edit_ops.specs.States.{State, Log, log_of, state_of, drafted, planned, HasRoom};
 ghost use Rattle.text_model.specs.Content.{Content, slot_sets};
 ghost use Rattle.text_model.specs.Steps.{Fits, after};
@@ -23,28 +23,35 @@ fn count_of(text: &Text) -> usize
     text.as_str().chars().count()
 }
 
-/// Whether a text of so many characters is too long with these texts more.
-fn is_too_long(limits: &Limits, len: usize, pieces: &[Piece]) -> bool
-    requires { len < 2 ^ 64 }
-    ensures value { result ≡ nat_lt limits.now.chars (len + total pieces.now) }
-    ensures short { result ≡ false → len + total pieces.now < 2 ^ 64 }
+/// How many characters texts have, or the greatest number where that is more.
+pub fn total_of(pieces: &[Piece]) -> usize
+    ensures { result ≡ min (total pieces.now) (2 ^ 64 - 1) }
 {
-    let mut most = len;
+    let mut most = 0usize;
     for piece in pieces {
         most = most.saturating_add(count_of(&piece.text));
     }
-    most > limits.chars()
+    most
 }
 
-/// The slots that the characters on both sides of an offset have; none at the start.
-fn shared_at<S: TextStore>(store: &S, at: usize) -> TagSet
-    requires { at < length (S.content store.now).cells }
-    ensures { result ≡ shared_slots at (S.content store.now).cells }
+/// Whether a text of so many characters is too long with these texts more.
+pub fn is_too_long(limits: &Limits, len: usize, pieces: &[Piece]) -> bool
+    ensures value { result ≡ nat_lt limits.now.chars (len + total pieces.now) }
+    ensures short { result ≡ false → len + total pieces.now < 2 ^ 64 }
 {
-    if at == 0 {
+    len.saturating_add(total_of(pieces)) > limits.chars()
+}
+
+/// The slots that the character before an offset shares with the one at another offset; none at the start.
+pub fn shared_around<S: TextStore>(store: &S, from: usize, to: usize) -> TagSet
+    requires ordered { from ≤ to }
+    requires within { to < length (S.content store.now).cells }
+    ensures { result ≡ slots_around from to (S.content store.now).cells }
+{
+    if from == 0 {
         return TagSet::empty();
     }
-    store.tags_at(at - 1).common(&store.tags_at(at))
+    store.tags_at(from - 1).common(&store.tags_at(to))
 }
 
 fn slots_or(slots: Option<TagSet>, shared: TagSet) -> TagSet
@@ -59,7 +66,7 @@ fn slots_or(slots: Option<TagSet>, shared: TagSet) -> TagSet
 impl Draft {
     /// Puts texts in at an offset of a text of so many characters, each right behind the one before it. The characters on both
     /// sides of the offset share some slots, and the one behind it has others too.
-    fn insert_pieces(
+    pub fn insert_pieces(
         &mut self,
         at: usize,
         pieces: &[Piece],
@@ -73,7 +80,7 @@ impl Draft {
         ensures widgets { OnOk result (length self.new.anchors ≡ length self.old.anchors) }
         ensures makes { OnOk result ((recording : Recording) (kind : EditKind) (state : State) →
             Fits self.old.steps state.content → IsBetween shared behind len at (after self.old.steps state.content).cells →
-            Fits self.new.steps state.content ×
+            Fits self.new.steps state.content × (length (after self.new.steps state.content).cells ≡ len + total pieces.now) ×
             (drafted recording kind self.new state ≡ inserted_texts recording kind at pieces.now (drafted recording kind self.old state))) }
     {
         let mut at = at;
@@ -111,7 +118,7 @@ fn draft_insert<S: TextStore>(
         ≡ inserted_texts recording kind at pieces.now (state_of (S.content store.now) anchors.now log))) }
 {
     let mut draft = Draft::new(alloc, anchors)?;
-    draft.insert_pieces(at, pieces, shared_at(store, at), store.tags_at(at), store.len())?;
+    draft.insert_pieces(at, pieces, shared_around(store, at, at), store.tags_at(at), store.len())?;
     Ok(draft)
 }
 

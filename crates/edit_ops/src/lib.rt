@@ -9,6 +9,9 @@ mod insertions;
 
 mod pieces;
 mod plans;
+mod replacements;
+mod spans;
+mod tagging;
 
 pub use anchors::Anchors;
 pub use faults::EditFault;
@@ -16,3 +19,6 @@ pub use insertions::plan_insert;
 
 pub use pieces::Piece;
 pub use plans::{commit, Plan, Recording};
+pub use replacements::plan_replace;
+pub use spans::Span;
+pub use tagging::plan_tag;

@@ -1,6 +1,6 @@
 use Rattle.std.proofs.Common.{◌≡◌, ◌+◌, ◌<◌, ◌^◌, [], drop, refl, ap, sym, subst, ◌∙◌, arith}
 use Rattle.std.proofs.Math.ListN.{drop_of_length-le}
-use Rattle.edit_ops.specs.Insertions.{inserted_texts}
+use Rattle.edit_ops.specs.Insertions.{inserted_texts, total}
 use Rattle.edit_ops.specs.States.{drafted}
 use Rattle.edit_ops.proofs.InsertLaws.{Inserting, InsertedSoFar, inserting-count, inserting-none, inserting-same, next-piece, piece-fits}
 use Rattle.edit_ops.proofs.drafts.Draft.insert_pieces.Goals as goal
@@ -12,6 +12,7 @@ loop-piece-init c = record {
   count = refl;
   stand = c.requires.stand;
   room = c.requires.fits;
+  whole = refl;
   goes = λ recording kind state fits is. record { fits = fits; between = is; makes = refl };
 }
 
@@ -52,4 +53,6 @@ pub returns-clause-makes : goal.returns-clause-makes
 returns-clause-makes c = λ recording kind state fits is.
     let done = c.loop-piece.invariant.goes recording kind state fits is in
     let none : drop c.loop-piece.piece-index c.args.pieces.now ≡ [] = drop_of_length-le c.args.pieces.now c.loop-piece-test.false in
-    (done.fits, sym (ap (λ ps. inserted_texts recording kind c.loop-piece.at ps (drafted recording kind c.loop-piece.self state)) none) ∙ done.makes)
+    let nothing : total (drop c.loop-piece.piece-index c.args.pieces.now) ≡ 0 = ap total none in
+    (done.fits, done.between.counted ∙ omega (arith, nothing, c.loop-piece.invariant.whole),
+    sym (ap (λ ps. inserted_texts recording kind c.loop-piece.at ps (drafted recording kind c.loop-piece.self state)) none) ∙ done.makes)
