@@ -161,14 +161,14 @@ inserting-more draft now new from start around pieces at len shared behind slots
       room = omega (arith, counted, so_far.room);
       whole = omega (arith, counted, so_far.whole);
       goes = λ recording kind state fits is.
-      let before = so_far.goes recording kind state fits is in
-      let next = one-more recording kind now new state at len shared behind slots piece before.fits before.between some slots_are made in
-      record {
-        fits = next.fits;
-        between = next.between;
-        makes = ap (inserted_texts recording kind (at + length piece.text) rest) next.makes
-            ∙ ap (λ ps. inserted_texts recording kind at ps (drafted recording kind now state)) (sym left_is) ∙ before.makes;
-      };
+          let before = so_far.goes recording kind state fits is in
+          let next = one-more recording kind now new state at len shared behind slots piece before.fits before.between some slots_are made in
+          record {
+            fits = next.fits;
+            between = next.between;
+            makes = ap (inserted_texts recording kind (at + length piece.text) rest) next.makes
+                ∙ ap (λ ps. inserted_texts recording kind at ps (drafted recording kind now state)) (sym left_is) ∙ before.makes;
+          };
     }
 
 -- no text more
@@ -184,19 +184,19 @@ inserting-none draft now from start around pieces at len shared behind piece res
       room = omega (arith, counted, so_far.room);
       whole = omega (arith, counted, so_far.whole, none);
       goes = λ recording kind state fits is.
-      let before = so_far.goes recording kind state fits is in
-      record {
-        fits = before.fits;
-        between = before.between;
-        makes =
-            ap₂ (λ n s. inserted_texts recording kind n rest s) (let e : at ≡ at + length piece.text = omega (arith, none) in e)
-            (sym (ap (λ b. if b then drafted recording kind now state else state_of
-            (after_insertion at piece.text (slots_or piece.slots (shared_slots at (after now.steps state.content).cells)) (after now.steps state.content))
-            (map (anchors_moved at (length piece.text)) now.anchors)
-            (log_noted recording kind (record { inserts = true; at = at; text = piece.text }) (all_noted recording kind now.actions state.log)))
-            (eq-eqb (length piece.text) 0 none)))
-            ∙ ap (λ ps. inserted_texts recording kind at ps (drafted recording kind now state)) (sym left_is) ∙ before.makes;
-      };
+          let before = so_far.goes recording kind state fits is in
+          record {
+            fits = before.fits;
+            between = before.between;
+            makes =
+                ap₂ (λ n s. inserted_texts recording kind n rest s) (let e : at ≡ at + length piece.text = omega (arith, none) in e)
+                (sym (ap (λ b. if b then drafted recording kind now state else state_of
+                (after_insertion at piece.text (slots_or piece.slots (shared_slots at (after now.steps state.content).cells)) (after now.steps state.content))
+                (map (anchors_moved at (length piece.text)) now.anchors)
+                (log_noted recording kind (record { inserts = true; at = at; text = piece.text }) (all_noted recording kind now.actions state.log)))
+                (eq-eqb (length piece.text) 0 none)))
+                ∙ ap (λ ps. inserted_texts recording kind at ps (drafted recording kind now state)) (sym left_is) ∙ before.makes;
+          };
     }
 
 -- a loop goes on with values that are equal

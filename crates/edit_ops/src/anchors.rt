@@ -1,4 +1,4 @@
-ghost use Rattle.std.specs.Prelude.{◌≡◌, ◌+◌, ◌<◌, ◌≤◌, ◌^◌, IfSome, map, option_map};
+ghost use Rattle.std.specs.Prelude.{◌≡◌, ◌+◌, ◌<◌, ◌≤◌, ◌^◌, IfSome, true, map, option_map};
 ghost use Rattle.std.specs.List.{All};
 ghost use Rattle.edit_ops.specs.Anchors.{AnchorsStand, anchor_moved, anchors_moved, start_drawn, end_drawn, anchors_drawn};
 
@@ -117,4 +117,33 @@ pub fn draw_anchors(all: &mut [Anchors], line: usize, next: usize, from: usize, 
     for anchors in all.iter_mut() {
         *anchors = anchors.drawn(line, next, from, to);
     }
+}
+
+fn stands(anchor: Option<usize>, len: usize) -> bool
+    ensures { result ≡ true → IfSome anchor (λ place. place ≤ len) }
+{
+    match anchor {
+        None => true,
+        Some(place) => place <= len,
+    }
+}
+
+impl Anchors {
+    fn stand_in(self, len: usize) -> bool
+        ensures { result ≡ true → AnchorsStand len self }
+    {
+        stands(self.start, len) && stands(self.end, len)
+    }
+}
+
+/// Whether no anchor stands behind the end of a text of so many characters.
+pub fn anchors_stand(all: &[Anchors], len: usize) -> bool
+    ensures { result ≡ true → All (AnchorsStand len) all.now }
+{
+    for anchors in all {
+        if !anchors.stand_in(len) {
+            return false;
+        }
+    }
+    true
 }

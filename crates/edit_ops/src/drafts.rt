@@ -21,7 +21,6 @@ pub struct Draft {
 
 impl Model for Draft {
     ghost use Rattle.edit_ops.specs.States.{Draft as DraftState};
-
     ghost use Rattle.text_model.specs.contracts.tag_set.TagSet as tag_set;
     ghost use Rattle.std.specs.Coded.{codes};
 
@@ -76,12 +75,13 @@ impl Draft {
         requires stand { All (AnchorsStand len) self.old.anchors }
         requires fits { len + count < 2 ^ 64 }
         ensures { OnOk result (self.new ≡ record {
-            steps = self.old.steps ++ Step.Insert at text.now slots ∷ [];
-            anchors = map (anchors_moved at count) self.old.anchors;
-            actions = self.old.actions ++ record { inserts = true; at = at; text = text.now } ∷ [];
+          steps = self.old.steps ++ Step.Insert at text.now slots ∷ [];
+          anchors = map (anchors_moved at count) self.old.anchors;
+          actions = self.old.actions ++ record { inserts = true; at = at; text = text.now } ∷ [];
         }) }
     {
-        self.steps.push(Step::Insert(at, copy_of(self.alloc, text)?, slots))?;
+        self.steps
+            .push(Step::Insert(at, copy_of(self.alloc, text)?, slots))?;
         self.actions.push_back(Action {
             inserts: true,
             at,
@@ -102,9 +102,9 @@ impl Draft {
     ) -> Result<(), AllocError>
         requires { from ≤ to }
         ensures { OnOk result (self.new ≡ record {
-            steps = self.old.steps ++ Step.Remove from to ∷ [];
-            anchors = map (anchors_drawn line next from to) self.old.anchors;
-            actions = self.old.actions ++ record { inserts = false; at = from; text = text } ∷ [];
+          steps = self.old.steps ++ Step.Remove from to ∷ [];
+          anchors = map (anchors_drawn line next from to) self.old.anchors;
+          actions = self.old.actions ++ record { inserts = false; at = from; text = text } ∷ [];
         }) }
     {
         self.steps.push(Step::Remove(from, to))?;

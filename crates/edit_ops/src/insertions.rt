@@ -118,7 +118,13 @@ fn draft_insert<S: TextStore>(
         ≡ inserted_texts recording kind at pieces.now (state_of (S.content store.now) anchors.now log))) }
 {
     let mut draft = Draft::new(alloc, anchors)?;
-    draft.insert_pieces(at, pieces, shared_around(store, at, at), store.tags_at(at), store.len())?;
+    draft.insert_pieces(
+        at,
+        pieces,
+        shared_around(store, at, at),
+        store.tags_at(at),
+        store.len(),
+    )?;
     Ok(draft)
 }
 

@@ -6,19 +6,19 @@ mod anchors;
 mod drafts;
 mod faults;
 mod insertions;
-
 mod pieces;
 mod plans;
 mod replacements;
 mod spans;
 mod tagging;
+#[cfg(test)]
+mod tests;
 
-pub use anchors::Anchors;
+pub use anchors::{Anchors, anchors_stand};
 pub use faults::EditFault;
 pub use insertions::plan_insert;
-
 pub use pieces::Piece;
-pub use plans::{commit, Plan, Recording};
+pub use plans::{Plan, Recording, commit};
 pub use replacements::plan_replace;
 pub use spans::Span;
 pub use tagging::plan_tag;

@@ -28,7 +28,12 @@ pub struct Plan<S: TextStore> {
 }
 
 /// Notes actions of an edit of a kind, for which there is room.
-fn note_all(history: &mut UndoStack, kind: EditKind, actions: VecDeque<Action>, recording: Recording)
+fn note_all(
+    history: &mut UndoStack,
+    kind: EditKind,
+    actions: VecDeque<Action>,
+    recording: Recording,
+)
     requires { recording.undo ≡ true → length actions.items ≤ history.old.room }
     ensures { log_of history.new ≡ all_noted recording kind actions.items (log_of history.old) }
 {

@@ -106,7 +106,13 @@ fn draft_replace<S: TextStore>(
 {
     let mut draft = draft_removal(alloc, store, anchors, from, to)?;
     let len = store.len() - (to - from);
-    draft.insert_pieces(from, pieces, shared_around(store, from, to), store.tags_at(to), len)?;
+    draft.insert_pieces(
+        from,
+        pieces,
+        shared_around(store, from, to),
+        store.tags_at(to),
+        len,
+    )?;
     match clipped(store.mark_place(mark), from, to, total_of(pieces)) {
         None => {}
         Some(place) => draft.put_mark(mark, place)?,

@@ -53,6 +53,8 @@ pub returns-clause-makes : goal.returns-clause-makes
 returns-clause-makes c = λ recording kind state fits is.
     let done = c.loop-piece.invariant.goes recording kind state fits is in
     let none : drop c.loop-piece.piece-index c.args.pieces.now ≡ [] = drop_of_length-le c.args.pieces.now c.loop-piece-test.false in
-    let nothing : total (drop c.loop-piece.piece-index c.args.pieces.now) ≡ 0 = ap total none in
-    (done.fits, done.between.counted ∙ omega (arith, nothing, c.loop-piece.invariant.whole),
-    sym (ap (λ ps. inserted_texts recording kind c.loop-piece.at ps (drafted recording kind c.loop-piece.self state)) none) ∙ done.makes)
+    let nothing : total (drop c.loop-piece.piece-index c.args.pieces.now) ≡ 0 = ap total none in (
+      done.fits,
+      done.between.counted ∙ omega (arith, nothing, c.loop-piece.invariant.whole),
+      sym (ap (λ ps. inserted_texts recording kind c.loop-piece.at ps (drafted recording kind c.loop-piece.self state)) none) ∙ done.makes,
+    )
