@@ -1,29 +1,24 @@
 -- What is taken out: where lines begin around it, where anchors stand, and what stands on both sides.
-use Rattle.std.proofs.Common.{◌≡◌, ℕ, zero, suc, ◌+◌, ◌-◌, ◌<◌, ◌≤◌, ◌==◌, ◌&&◌, Bool, true, false, cond, List, [], ◌∷◌, ◌++◌, Option, Some, None, map, length, get_or, take, drop, refl, sym, ap, ap₂, ◌∙◌, arith, ne_eqb, eq-eqb, length-take, length-append, subst}
-use Rattle.std.specs.Prelude.{IfSome, option_map, unwrap_or, not, nat_lt, nat_le, slice_range, if◌then◌else◌}
-use Rattle.std.specs.FinSet as set
+use Rattle.std.proofs.Common.{◌≡◌, ℕ, zero, suc, ◌+◌, ◌-◌, ◌<◌, ◌≤◌, ◌==◌, ◌&&◌, Bool, true, false, cond, List, [], ◌∷◌, ◌++◌, Option, Some, None, map, length, get_or, take, drop, refl, sym, ap, ap₂, ◌∙◌, arith, ne_eqb, length-take, subst}
+use Rattle.std.specs.Prelude.{IfSome, option_map, unwrap_or, not, nat_le, slice_range, if◌then◌else◌}
 use Rattle.std.specs.List.{All}
 use Rattle.std.proofs.lemmas.Bool.Decides.{nat_tests}
 use Rattle.std.proofs.lemmas.List.{length-map, take-append-drop}
 use Rattle.std.proofs.lemmas.List.Elements.{All-map}
 use Rattle.text_model.specs.declared.cells.Cell.{Cell}
-use Rattle.text_model.specs.declared.edits.Step.{Step}
 use Rattle.text_model.specs.declared.edits.Step.TheVariants.{Remove}
-use Rattle.text_model.specs.Content.{Content, characters, slot_sets}
+use Rattle.text_model.specs.Content.{Content, characters}
 use Rattle.text_model.specs.Lines.{is_newline, lines, line_of, line_start}
 use Rattle.text_model.specs.Splices.{removed}
-use Rattle.text_model.specs.Steps.{Fits, after, after_removal}
-use Rattle.text_model.proofs.CellLaws.{characters-removed}
+use Rattle.text_model.specs.Steps.{after_removal}
 use Rattle.text_model.proofs.LineLaws.{lines-cons, line_start-le, line_of-removed_before}
-use Rattle.text_model.proofs.SpliceLaws.{length-removed, map-removed, get_or-removed_before, get_or-removed_behind}
-use Rattle.undo_stack.specs.declared.actions.Action.{Action}
+use Rattle.text_model.proofs.SpliceLaws.{length-removed}
 use Rattle.undo_stack.specs.declared.actions.EditKind.{EditKind}
 use Rattle.edit_ops.specs.declared.anchors.Anchors.{Anchors}
 use Rattle.edit_ops.specs.declared.plans.Recording.{Recording}
 use Rattle.edit_ops.specs.Anchors.{AnchorsStand, start_drawn, end_drawn, anchors_drawn, anchors_removed, next_line}
 use Rattle.edit_ops.specs.Removals.{removed_span}
 use Rattle.edit_ops.specs.States.{Log, Draft, log_noted, drafted, state_of}
-use Rattle.edit_ops.proofs.InsertLaws.{length-slot_sets}
 
 pub length-characters : (cells : List Cell) → length (characters cells) ≡ length cells
 length-characters cells = length-map cells (λ (cell : Cell). cell.character)

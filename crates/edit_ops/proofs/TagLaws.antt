@@ -1,12 +1,11 @@
 -- One span more is tagged.
-use Rattle.std.proofs.Common.{◌≡◌, ℕ, ◌+◌, ◌<◌, Bool, List, [], ◌∷◌, ◌++◌, length, get_or, drop, sym, ap, ◌∙◌, arith}
-use Rattle.std.specs.List.{All}
+use Rattle.std.proofs.Common.{◌≡◌, ℕ, ◌+◌, ◌<◌, Bool, List, [], ◌∷◌, ◌++◌, length, get_or, drop, sym, ap, ◌∙◌}
 use Rattle.std.proofs.lemmas.List.{drop_more}
 use Rattle.text_model.specs.declared.edits.Step.{Step}
 use Rattle.text_model.specs.declared.edits.Step.TheVariants.{SetTag}
 use Rattle.text_model.specs.declared.places.TagSlot.{TagSlot}
 use Rattle.text_model.specs.Content.{Content}
-use Rattle.text_model.specs.Steps.{Fits, StepFits, after, after_step}
+use Rattle.text_model.specs.Steps.{Fits, StepFits, after}
 use Rattle.text_model.specs.TagBits.{slot_count}
 use Rattle.text_model.proofs.StepLaws.{Fits-append, after-append, length-after_step}
 use Rattle.undo_stack.specs.declared.actions.EditKind.{EditKind}

@@ -1,5 +1,5 @@
 -- Where the anchors of a widget go: they stand at line starts, or at the end of the text.
-use Rattle.std.specs.Prelude.{ℕ, ◌+◌, ◌-◌, ◌≤◌, ◌&&◌, ◌==◌, not, nat_lt, nat_le, Bool, List, Option, None, Some, IfSome, option_map, unwrap_or, if◌then◌else◌}
+use Rattle.std.specs.Prelude.{ℕ, ◌+◌, ◌-◌, ◌≤◌, ◌&&◌, ◌==◌, not, nat_lt, nat_le, List, IfSome, option_map, unwrap_or, if◌then◌else◌}
 use Rattle.text_model.specs.Lines.{line_of, line_start}
 use Rattle.text_model.specs.Splices.{removed}
 use Rattle.edit_ops.specs.declared.anchors.Anchors.{Anchors}

@@ -1,7 +1,7 @@
 -- What it does to take cells out, and to put texts in their place.
-use Rattle.std.specs.Prelude.{ℕ, ◌+◌, ◌-◌, ◌==◌, ◌&&◌, nat_le, nat_lt, min, false, List, map, length, slice_range, Option, None, Some, option_and_then, if◌then◌else◌}
+use Rattle.std.specs.Prelude.{ℕ, ◌+◌, ◌-◌, ◌==◌, ◌&&◌, nat_le, nat_lt, min, false, List, map, slice_range, Option, None, Some, option_and_then, if◌then◌else◌}
 use Rattle.std.specs.FinMap as finite
-use Rattle.text_model.specs.Content.{Content, Marks, characters}
+use Rattle.text_model.specs.Content.{Content, characters}
 use Rattle.text_model.specs.Steps.{after_removal}
 use Rattle.text_model.specs.declared.places.Place.{Place}
 use Rattle.undo_stack.specs.declared.actions.EditKind.{EditKind}

@@ -1,5 +1,5 @@
 -- What edits change: a text with its marks, the anchors of each widget, and what is kept of the edits.
-use Rattle.std.specs.Prelude.{◌≡◌, ◌≤◌, ℕ, Bool, true, length, List, [], ◌∷◌, if◌then◌else◌}
+use Rattle.std.specs.Prelude.{◌≡◌, ◌≤◌, ℕ, true, length, List, [], ◌∷◌, if◌then◌else◌}
 use Rattle.text_model.specs.Content.{Content}
 use Rattle.text_model.specs.Steps.{after}
 use Rattle.text_model.specs.declared.edits.Step.{Step}

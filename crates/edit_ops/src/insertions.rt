@@ -1,4 +1,4 @@
-ghost use Rattle.std.specs.Prelude.{◌≡◌, ◌+◌, ◌<◌, ◌≤◌, ◌^◌, ◌↔◌, ◌++◌, ◌-◌, nat_lt, min, length, get_or, sum_by, OnOk, IfOk, Err, false};
+ghost use Rattle.std.specs.Prelude.{◌≡◌, ◌≢◌, ◌+◌, ◌<◌, ◌≤◌, ◌^◌, ◌↔◌, ◌++◌, ◌-◌, nat_lt, min, length, get_or, sum_by, OnOk, IfOk, Err, false};
 ghost use Rattle.std.specs.FinSet as set;
 ghost use Rattle.std.specs.List.{All};
 ghost use Rattle.edit_ops.specs.Anchors.{AnchorsStand};
@@ -147,6 +147,7 @@ pub fn plan_insert<S: TextStore>(
     ensures content { S.content store.new ≡ S.content store.old }
     ensures log { log_of history.new ≡ log_of history.old }
     ensures too_long { (result ≡ Err EditFault.TextTooLong) ↔ (limits.now.chars < length (S.content store.old).cells + total pieces.now) }
+    ensures never { result ≢ Err EditFault.IndexOrder }
     ensures ready { IfOk result (λ plan. S.ready store.new plan.prepared) }
     ensures room { IfOk result (λ plan. HasRoom plan.recording plan.actions.items history.new) }
     ensures widgets { IfOk result (λ plan. length plan.anchors.items ≡ length anchors.now) }

@@ -1,4 +1,4 @@
-use Rattle.std.proofs.Common.{◌<◌, arith, sym, rules}
+use Rattle.std.proofs.Common.{arith, sym}
 use Rattle.edit_ops.proofs.InsertLaws.{put-in, behind-is}
 use Rattle.edit_ops.proofs.insertions.draft_insert.Goals as goal
 

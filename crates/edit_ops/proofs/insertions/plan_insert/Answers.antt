@@ -1,4 +1,3 @@
-use Rattle.std.proofs.Common.{◌∙◌, ap, length}
 use Rattle.undo_stack.specs.declared.actions.EditKind.TheVariants.{Insert}
 use Rattle.edit_ops.specs.States.{log_of}
 use Rattle.edit_ops.proofs.insertions.plan_insert.Goals as goal

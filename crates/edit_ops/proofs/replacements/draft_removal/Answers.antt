@@ -1,11 +1,5 @@
-use Rattle.std.proofs.Common.{◌≡◌, ◌-◌, ◌+◌, ◌≤◌, length, sym, ap, ◌∙◌, arith, subst}
-use Rattle.std.specs.List.{All}
+use Rattle.std.proofs.Common.{◌-◌, length, ap, ◌∙◌, arith}
 use Rattle.text_model.specs.Content.{characters}
-use Rattle.text_model.specs.Splices.{removed}
-use Rattle.text_model.proofs.LineLaws.{line_start-le}
-use Rattle.text_model.proofs.SpliceLaws.{length-removed}
-use Rattle.edit_ops.specs.Anchors.{AnchorsStand, next_line}
-use Rattle.edit_ops.specs.States.{Draft}
 use Rattle.edit_ops.proofs.RemovalLaws.{next_line-drawn, stand-out, taken-out, length-characters}
 use Rattle.edit_ops.proofs.replacements.draft_removal.Goals as goal
 

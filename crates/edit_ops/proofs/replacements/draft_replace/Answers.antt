@@ -1,4 +1,4 @@
-use Rattle.std.proofs.Common.{◌≡◌, ◌-◌, ◌+◌, ◌≤◌, ◌<◌, ◌^◌, Option, None, Some, false, length, sym, ap, subst, ◌∙◌, arith}
+use Rattle.std.proofs.Common.{◌≡◌, ◌-◌, false, sym, ap, subst, ◌∙◌, arith}
 use Rattle.std.specs.Prelude.{option_and_then}
 use Rattle.std.specs.FinMap as finite
 use Rattle.text_model.specs.Steps.{Fits}

@@ -1,8 +1,8 @@
-use Rattle.std.proofs.Common.{◌≡◌, [], drop, ap, sym, ◌∙◌, refl}
+use Rattle.std.proofs.Common.{◌≡◌, [], drop, ap, sym, ◌∙◌}
 use Rattle.std.proofs.Math.ListN.{drop_of_length-le}
 use Rattle.text_model.specs.Steps.{after}
 use Rattle.edit_ops.specs.Tagging.{tagged}
-use Rattle.edit_ops.proofs.TagLaws.{Tagging, tagging-more}
+use Rattle.edit_ops.proofs.TagLaws.{tagging-more}
 use Rattle.edit_ops.proofs.tagging.tag_steps.Goals as goal
 
 pub loop-span-preserved : goal.loop-span-preserved

@@ -1,8 +1,8 @@
-use Rattle.std.proofs.Common.{◌≡◌, ◌+◌, ◌<◌, ◌^◌, [], drop, refl, ap, sym, subst, ◌∙◌, arith}
+use Rattle.std.proofs.Common.{◌≡◌, ◌+◌, [], drop, refl, ap, sym, ◌∙◌, arith}
 use Rattle.std.proofs.Math.ListN.{drop_of_length-le}
 use Rattle.edit_ops.specs.Insertions.{inserted_texts, total}
 use Rattle.edit_ops.specs.States.{drafted}
-use Rattle.edit_ops.proofs.InsertLaws.{Inserting, InsertedSoFar, inserting-count, inserting-none, inserting-same, next-piece, piece-fits}
+use Rattle.edit_ops.proofs.InsertLaws.{inserting-count, inserting-none, inserting-same, next-piece, piece-fits}
 use Rattle.edit_ops.proofs.drafts.Draft.insert_pieces.Goals as goal
 use Rattle.edit_ops.proofs.drafts.Draft.insert_pieces.Goals.{then-count-gt0+in_ok-insert, else-count-gt0}
 
