@@ -1,0 +1,164 @@
+-- What is taken out: where lines begin around it, where anchors stand, and what stands on both sides.
+use Rattle.std.proofs.Common.{◌≡◌, ℕ, zero, suc, ◌+◌, ◌-◌, ◌<◌, ◌≤◌, ◌==◌, ◌&&◌, Bool, true, false, cond, List, [], ◌∷◌, ◌++◌, Option, Some, None, map, length, get_or, take, drop, refl, sym, ap, ap₂, ◌∙◌, arith, ne_eqb, length-take, subst}
+use Rattle.std.specs.Prelude.{IfSome, option_map, unwrap_or, not, nat_le, slice_range, if◌then◌else◌}
+use Rattle.std.specs.List.{All}
+use Rattle.std.proofs.lemmas.Bool.Decides.{nat_tests}
+use Rattle.std.proofs.lemmas.List.{length-map, take-append-drop}
+use Rattle.std.proofs.lemmas.List.Elements.{All-map}
+use Rattle.text_model.specs.declared.cells.Cell.{Cell}
+use Rattle.text_model.specs.declared.edits.Step.TheVariants.{Remove}
+use Rattle.text_model.specs.Content.{Content, characters}
+use Rattle.text_model.specs.Lines.{is_newline, lines, line_of, line_start}
+use Rattle.text_model.specs.Splices.{removed}
+use Rattle.text_model.specs.Steps.{after_removal}
+use Rattle.text_model.proofs.LineLaws.{lines-cons, line_start-le, line_of-removed_before}
+use Rattle.text_model.proofs.SpliceLaws.{length-removed}
+use Rattle.undo_stack.specs.declared.actions.EditKind.{EditKind}
+use Rattle.edit_ops.specs.declared.anchors.Anchors.{Anchors}
+use Rattle.edit_ops.specs.declared.plans.Recording.{Recording}
+use Rattle.edit_ops.specs.Anchors.{AnchorsStand, start_drawn, end_drawn, anchors_drawn, anchors_removed, next_line}
+use Rattle.edit_ops.specs.Removals.{removed_span}
+use Rattle.edit_ops.specs.States.{Log, Draft, log_noted, drafted, state_of}
+
+pub length-characters : (cells : List Cell) → length (characters cells) ≡ length cells
+length-characters cells = length-map cells (λ (cell : Cell). cell.character)
+
+past-step : (b : Bool) (n k : ℕ) → cond b 1 0 + n < suc k → n < (if b then k else suc k)
+past-step true n k past = omega arith
+past-step false n k past = omega arith
+
+-- behind the last line the text ends
+pub line_start-past : (text : List ℕ) (k : ℕ) → lines text < k → line_start k text ≡ length text
+line_start-past text zero past = absurd (omega arith)
+line_start-past [] (suc k) past = refl
+line_start-past (c ∷ text) (suc k) past =
+    let counted : cond (is_newline c) 1 0 + lines text < suc k = subst (λ n. n < suc k) (lines-cons c text) past in
+    ap (λ n. 1 + n) (line_start-past text (if is_newline c then k else suc k) (past-step (is_newline c) (lines text) k counted)) ∙ omega arith
+
+step-number : (b : Bool) (n : ℕ) → (if b then cond b 1 0 + n else suc (cond b 1 0 + n)) ≡ n + 1
+step-number true n = omega arith
+step-number false n = omega arith
+
+-- the line behind that of the end of a front begins in the rest
+next-append : (xs ys : List ℕ) → line_start (lines xs + 1) (xs ++ ys) ≡ length xs + line_start 1 ys
+next-append [] ys = omega arith
+next-append (c ∷ xs) ys =
+    let number : lines (c ∷ xs) + 1 ≡ suc (cond (is_newline c) 1 0 + lines xs) = ap (λ n. n + 1) (lines-cons c xs) ∙ omega arith in
+    ap (λ n. line_start n (c ∷ (xs ++ ys))) number
+    ∙ ap (λ n. 1 + line_start n (xs ++ ys)) (step-number (is_newline c) (lines xs))
+    ∙ ap (λ n. 1 + n) (next-append xs ys) ∙ omega arith
+
+pub next_line-is : (text : List ℕ) (offset : ℕ) → offset ≤ length text → next_line text offset ≡ offset + line_start 1 (drop offset text)
+next_line-is text offset within =
+    ap (line_start (line_of text offset + 1)) (sym (take-append-drop offset text))
+    ∙ next-append (take offset text) (drop offset text)
+    ∙ ap (λ n. n + line_start 1 (drop offset text)) (let e : length (take offset text) ≡ offset = length-take offset text ∙ omega arith in e)
+
+next_line-removed : (text : List ℕ) (from to : ℕ) → from ≤ length text → next_line (removed from to text) from ≡ from + line_start 1 (drop to text)
+next_line-removed text from to within =
+    ap (λ n. line_start (n + 1) (removed from to text)) (line_of-removed_before from to text from within (omega arith))
+    ∙ next-append (take from text) (drop to text)
+    ∙ ap (λ n. n + line_start 1 (drop to text)) (let e : length (take from text) ≡ from = length-take from text ∙ omega arith in e)
+
+-- the line behind what is taken out begins so much earlier
+pub next_line-drawn : (text : List ℕ) (from to : ℕ) → from ≤ to → to ≤ length text
+    → (to - from ≤ next_line text to) × (next_line text to - (to - from) ≡ next_line (removed from to text) from)
+next_line-drawn text from to ordered within =
+    let rest = line_start 1 (drop to text) in
+    let before : next_line text to ≡ to + rest = next_line-is text to within in
+    let after : next_line (removed from to text) from ≡ from + rest = next_line-removed text from to (omega arith) in
+    (omega (arith, before), omega (arith, before, after))
+
+number-of : (b : Bool) (m n : ℕ) → suc n ≡ cond b 1 0 + m → (if b then n else suc n) ≡ m
+number-of true m n is = omega (arith, is)
+number-of false m n is = omega (arith, is)
+
+begins-before : (c m n : ℕ) (rest : List ℕ) (len : ℕ) → n ≡ cond (is_newline c) 1 0 + m → line_start m rest ≤ len → line_start n (c ∷ rest) ≤ suc len
+begins-before c m zero rest len is below = omega arith
+begins-before c m (suc n) rest len is below =
+    subst (λ k. 1 + line_start k rest ≤ suc len) (sym (number-of (is_newline c) m n is)) (omega (arith, below))
+
+line-append : (xs ys : List ℕ) → line_start (lines xs) (xs ++ ys) ≤ length xs
+line-append [] ys = omega arith
+line-append (c ∷ xs) ys = begins-before c (lines xs) (lines (c ∷ xs)) (xs ++ ys) (length xs) (lines-cons c xs) (line-append xs ys)
+
+-- a line begins at or before each offset in it
+pub line-before : (text : List ℕ) (offset : ℕ) → offset ≤ length text → line_start (line_of text offset) text ≤ offset
+line-before text offset within =
+    let long : length (take offset text) ≡ offset = length-take offset text ∙ omega arith in
+    let whole = subst (λ (xs : List ℕ). line_start (line_of text offset) xs ≤ length (take offset text)) (take-append-drop offset text) (line-append (take offset text) (drop offset text)) in
+    omega (arith, whole, long)
+
+start-within : (line from to len anchor : ℕ) → anchor ≤ len → line ≤ from → from ≤ to → to ≤ len → start_drawn line from to anchor ≤ len - (to - from)
+start-within line from to len anchor stands before ordered within = grind (arith, nat_tests)
+
+end-within : (line next start from to len anchor : ℕ) → anchor ≤ len → line ≤ from → from ≤ to → to ≤ len → next ≤ len - (to - from) → end_drawn line next start from to anchor ≤ len - (to - from)
+end-within line next start from to len anchor stands before ordered within bound =
+    elim (nat_le start from && not (from == line)) as (λ b. (if nat_le anchor from then anchor else if nat_le anchor to then (if b then next else line) else anchor - (to - from)) ≤ len - (to - from)) [
+      | true ↦ grind (arith, nat_tests)
+      | false ↦ grind (arith, nat_tests)
+    ]
+
+one-start : (line from to len : ℕ) (anchor : Option ℕ) → IfSome anchor (λ place. place ≤ len) → line ≤ from → from ≤ to → to ≤ len
+    → IfSome (option_map (start_drawn line from to) anchor) (λ place. place ≤ len - (to - from))
+one-start line from to len None stands before ordered within = tt
+one-start line from to len (Some anchor) stands before ordered within = start-within line from to len anchor stands before ordered within
+
+one-end : (line next start from to len : ℕ) (anchor : Option ℕ) → IfSome anchor (λ place. place ≤ len) → line ≤ from → from ≤ to → to ≤ len → next ≤ len - (to - from)
+    → IfSome (option_map (end_drawn line next start from to) anchor) (λ place. place ≤ len - (to - from))
+one-end line next start from to len None stands before ordered within bound = tt
+one-end line next start from to len (Some anchor) stands before ordered within bound = end-within line next start from to len anchor stands before ordered within bound
+
+-- the anchors of each widget still stand in the text
+pub stand-drawn : (line next from to len : ℕ) (all : List Anchors) → All (AnchorsStand len) all → line ≤ from → from ≤ to → to ≤ len → next ≤ len - (to - from)
+    → All (AnchorsStand (len - (to - from))) (map (anchors_drawn line next from to) all)
+stand-drawn line next from to len all stand before ordered within bound =
+    All-map (AnchorsStand (len - (to - from))) (anchors_drawn line next from to) all (λ k d inside. record {
+      start = one-start line from to len (get_or all k d).start (stand k d inside).start before ordered within;
+      end = one-end line next (unwrap_or (get_or all k d).start 0) from to len (get_or all k d).end (stand k d inside).end before ordered within bound;
+    })
+
+-- an edit that takes a span out
+pub taken-out : (draft new : Draft) (content : Content) (anchors : List Anchors) (text : List ℕ) (line next from to : ℕ) → draft ≡ record { steps = []; anchors = anchors; actions = [] }
+    → new ≡ record {
+      steps = draft.steps ++ Remove from to ∷ [];
+      anchors = map (anchors_drawn line next from to) draft.anchors;
+      actions = draft.actions ++ record { inserts = false; at = from; text = text } ∷ [];
+    }
+    → (from ≡ to → ⊥) → text ≡ slice_range (characters content.cells) from to
+    → line ≡ line_start (line_of (characters content.cells) from) (characters content.cells)
+    → next ≡ next_line (removed from to (characters content.cells)) from
+    → (recording : Recording) (kind : EditKind) (log : Log)
+    → drafted recording kind new (state_of content anchors log) ≡ removed_span recording kind from to (state_of content anchors log)
+taken-out draft new content anchors text line next from to begun made some text_is line_is next_is recording kind log =
+    let state = state_of content anchors log in
+    let cells = characters content.cells in
+    ap (λ (d : Draft). drafted recording kind d state) made
+    ∙ ap (λ (d : Draft). drafted recording kind (record {
+      steps = d.steps ++ Remove from to ∷ [];
+      anchors = map (anchors_drawn line next from to) d.anchors;
+      actions = d.actions ++ record { inserts = false; at = from; text = text } ∷ [];
+    }) state) begun
+    ∙ ap₂ (λ l n. state_of (after_removal from to content) (map (anchors_drawn l n from to) anchors) (log_noted recording kind (record { inserts = false; at = from; text = text }) log)) line_is next_is
+    ∙ ap (λ (t : List ℕ). state_of (after_removal from to content) (map (anchors_removed cells from to) anchors) (log_noted recording kind (record { inserts = false; at = from; text = t }) log)) text_is
+    ∙ ap (λ b. if b then state else state_of (after_removal from to content) (map (anchors_removed cells from to) anchors)
+    (log_noted recording kind (record { inserts = false; at = from; text = slice_range cells from to }) log)) (sym (ne_eqb from to some))
+
+pub stand-out : (draft new : Draft) (anchors : List Anchors) (text cells : List ℕ) (line next from to len : ℕ) → draft ≡ record { steps = []; anchors = anchors; actions = [] }
+    → new ≡ record {
+      steps = draft.steps ++ Remove from to ∷ [];
+      anchors = map (anchors_drawn line next from to) draft.anchors;
+      actions = draft.actions ++ record { inserts = false; at = from; text = text } ∷ [];
+    }
+    → All (AnchorsStand len) anchors → length cells ≡ len → from ≤ to → to ≤ len
+    → line ≡ line_start (line_of cells from) cells → next ≡ next_line (removed from to cells) from
+    → All (AnchorsStand (len - (to - from))) new.anchors
+stand-out draft new anchors text cells line next from to len begun made stand counted ordered within line_is next_is =
+    let before : line ≤ from = let h = line-before cells from (omega (arith, counted)) in omega (arith, line_is, h) in
+    let bound : next ≤ len - (to - from) =
+    let h = line_start-le (removed from to cells) (line_of (removed from to cells) from + 1) in
+    let long = length-removed from to cells ordered (omega (arith, counted)) in
+    omega (arith, next_is, h, long, counted) in
+    subst (λ (d : Draft). All (AnchorsStand (len - (to - from))) d.anchors) (sym made)
+    (subst (λ (d : Draft). All (AnchorsStand (len - (to - from))) (map (anchors_drawn line next from to) d.anchors)) (sym begun)
+    (stand-drawn line next from to len anchors stand before ordered within bound))

@@ -1,0 +1,43 @@
+-- One span more is tagged.
+use Rattle.std.proofs.Common.{◌≡◌, ℕ, ◌+◌, ◌<◌, Bool, List, [], ◌∷◌, ◌++◌, length, get_or, drop, sym, ap, ◌∙◌}
+use Rattle.std.proofs.lemmas.List.{drop_more}
+use Rattle.text_model.specs.declared.edits.Step.{Step}
+use Rattle.text_model.specs.declared.edits.Step.TheVariants.{SetTag}
+use Rattle.text_model.specs.declared.places.TagSlot.{TagSlot}
+use Rattle.text_model.specs.Content.{Content}
+use Rattle.text_model.specs.Steps.{Fits, StepFits, after}
+use Rattle.text_model.specs.TagBits.{slot_count}
+use Rattle.text_model.proofs.StepLaws.{Fits-append, after-append, length-after_step}
+use Rattle.undo_stack.specs.declared.actions.EditKind.{EditKind}
+use Rattle.edit_ops.specs.declared.anchors.Anchors.{Anchors}
+use Rattle.edit_ops.specs.declared.plans.Recording.{Recording}
+use Rattle.edit_ops.specs.States.{Log, Draft, drafted, state_of}
+use Rattle.edit_ops.specs.declared.spans.Span.{Span}
+use Rattle.edit_ops.specs.Tagging.{SpanFits, tagged}
+
+-- the first of the spans are tagged, and these are left
+pub record Tagging (slot : TagSlot) (on : Bool) (spans : List Span) (steps : List Step) (rest : List Span) (len : ℕ) (content : Content) : Type 0 where
+  pub fits : Fits steps content
+  pub long : length (after steps content).cells ≡ len
+  pub makes : tagged slot.0 on rest (after steps content) ≡ tagged slot.0 on spans content
+
+pub tagging-more : (slot : TagSlot) (on : Bool) (spans : List Span) (steps : List Step) (i len : ℕ) (d : Span) (content : Content) → slot.0 < slot_count → i < length spans
+    → SpanFits len (get_or spans i d) → Tagging slot on spans steps (drop i spans) len content
+    → Tagging slot on spans (steps ++ SetTag (get_or spans i d).from (get_or spans i d).to slot on ∷ []) (drop (i + 1) spans) len content
+tagging-more slot on spans steps i len d content known within inside so_far =
+    let span = get_or spans i d in
+    let step = SetTag span.from span.to slot on in
+    let before = after steps content in
+    let fit : StepFits step before = (inside.ordered, rw so_far.long inside.within, known) in
+    record {
+      fits = Fits-append steps (step ∷ []) content so_far.fits (fit, tt);
+      long = ap (λ (c : Content). length c.cells) (after-append steps (step ∷ []) content) ∙ length-after_step step before fit ∙ so_far.long;
+      makes = ap (tagged slot.0 on (drop (i + 1) spans)) (after-append steps (step ∷ []) content)
+          ∙ ap (λ left. tagged slot.0 on left before) (sym (drop_more spans i d within)) ∙ so_far.makes;
+    }
+
+pub steps-made : (recording : Recording) (kind : EditKind) (draft : Draft) (steps : List Step) (anchors : List Anchors) (content made : Content) (log : Log)
+    → draft ≡ record { steps = steps; anchors = anchors; actions = [] } → after steps content ≡ made
+    → drafted recording kind draft (state_of content draft.anchors log) ≡ state_of made anchors log
+steps-made recording kind draft steps anchors content made log is makes =
+    ap (λ (d : Draft). drafted recording kind d (state_of content d.anchors log)) is ∙ ap (λ c. state_of c anchors log) makes

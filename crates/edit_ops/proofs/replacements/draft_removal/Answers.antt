@@ -1,0 +1,29 @@
+use Rattle.std.proofs.Common.{◌-◌, length, ap, ◌∙◌, arith}
+use Rattle.text_model.specs.Content.{characters}
+use Rattle.edit_ops.proofs.RemovalLaws.{next_line-drawn, stand-out, taken-out, length-characters}
+use Rattle.edit_ops.proofs.replacements.draft_removal.Goals as goal
+
+pub overflow_sub-next-2 : goal.overflow_sub-next-2
+overflow_sub-next-2 g c =
+    let cells = (g.S.TextStore.content c.args.store.now).cells in
+    let long = length-characters cells in
+    let drawn = next_line-drawn (characters cells) c.args.from c.args.to c.requires.ordered (omega (arith, long, c.requires.within)) in
+    omega (arith, drawn.0, c.line_behind.ensures)
+
+pub returns-clause-stand : goal.returns-clause-stand
+returns-clause-stand g c =
+    let cells = (g.S.TextStore.content c.args.store.now).cells in
+    let long = length-characters cells in
+    let drawn = next_line-drawn (characters cells) c.args.from c.args.to c.requires.ordered (omega (arith, long, c.requires.within)) in
+    stand-out c.in_ok-draft.draft c.remove.new.self c.args.anchors.now c.new-text.result (characters cells) c.line_at.result (c.line_behind.result - (c.args.to - c.args.from))
+    c.args.from c.args.to (length cells) c.in_ok-draft.ensures c.in_ok-remove.ensures c.requires.stand long c.requires.ordered (omega (arith, c.requires.within))
+    c.line_at.ensures (ap (λ n. n - (c.args.to - c.args.from)) c.line_behind.ensures ∙ drawn.1)
+
+pub returns-clause-makes : goal.returns-clause-makes
+returns-clause-makes g c =
+    let cells = (g.S.TextStore.content c.args.store.now).cells in
+    let long = length-characters cells in
+    let drawn = next_line-drawn (characters cells) c.args.from c.args.to c.requires.ordered (omega (arith, long, c.requires.within)) in
+    taken-out c.in_ok-draft.draft c.remove.new.self (g.S.TextStore.content c.args.store.now) c.args.anchors.now c.new-text.result c.line_at.result (c.line_behind.result - (c.args.to - c.args.from))
+    c.args.from c.args.to c.in_ok-draft.ensures c.in_ok-remove.ensures c.if-from-to.false (c.new-text.ensures ∙ c.in_ok-copy_text.ensures)
+    c.line_at.ensures (ap (λ n. n - (c.args.to - c.args.from)) c.line_behind.ensures ∙ drawn.1)

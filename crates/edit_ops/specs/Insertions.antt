@@ -1,0 +1,52 @@
+-- What it does to put texts in.
+use Rattle.std.specs.Prelude.{◌≡◌, ◌<◌, ℕ, ◌+◌, ◌-◌, ◌==◌, true, List, [], ◌∷◌, length, map, get_or, sum_by, Option, None, Some, if◌then◌else◌}
+use Rattle.std.specs.FinSet as set
+use Rattle.text_model.specs.declared.cells.Cell.{Cell}
+use Rattle.text_model.specs.Content.{Slots, slot_sets}
+use Rattle.text_model.specs.Steps.{after_insertion}
+use Rattle.undo_stack.specs.declared.actions.EditKind.{EditKind}
+use Rattle.edit_ops.specs.declared.pieces.Piece.{Piece}
+use Rattle.edit_ops.specs.declared.plans.Recording.{Recording}
+use Rattle.edit_ops.specs.Anchors.{anchors_moved}
+use Rattle.edit_ops.specs.States.{State, log_noted}
+
+-- the slots that the cell before a place and the cell at another one share; none at the start
+abbrev pub slots_around : ℕ → ℕ → List Cell → Slots
+slots_around from to cells =
+    if from == 0 then set.empty else set.intersection (get_or (slot_sets cells) (from - 1) set.empty) (get_or (slot_sets cells) to set.empty)
+
+-- the slots that the cells on both sides of a place have; none at the start
+abbrev pub shared_slots : ℕ → List Cell → Slots
+shared_slots at cells = slots_around at at cells
+
+-- the slots of a list, or without a list those that both sides share
+abbrev pub slots_or : Option Slots → Slots → Slots
+slots_or (Some slots) shared = slots
+slots_or None shared = shared
+
+-- a text is put in before the cell at a place, which is one action; no text is none
+abbrev pub inserted_text : Recording → EditKind → ℕ → Piece → State → State
+inserted_text recording kind at piece state =
+    if length piece.text == 0 then state
+    else record {
+      content = after_insertion at piece.text (slots_or piece.slots (shared_slots at state.content.cells)) state.content;
+      anchors = map (anchors_moved at (length piece.text)) state.anchors;
+      log = log_noted recording kind (record { inserts = true; at = at; text = piece.text }) state.log;
+    }
+
+-- texts are put in at a place, each right behind the one before it
+abbrev pub inserted_texts : Recording → EditKind → ℕ → List Piece → State → State
+inserted_texts recording kind at [] state = state
+inserted_texts recording kind at (piece ∷ pieces) state =
+    inserted_texts recording kind (at + length piece.text) pieces (inserted_text recording kind at piece state)
+
+-- how many characters the texts have
+abbrev pub total : List Piece → ℕ
+total pieces = sum_by (λ (piece : Piece). length piece.text) pieces
+
+-- Before a place in a text of so many cells, and behind it, stand cells that share some slots, and the one behind has these.
+pub record IsBetween (shared behind : Slots) (len at : ℕ) (cells : List Cell) : Type 0 where
+  pub counted : length cells ≡ len
+  pub within : at < len
+  pub after : get_or (slot_sets cells) at set.empty ≡ behind
+  pub around : shared_slots at cells ≡ shared

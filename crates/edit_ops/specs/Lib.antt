@@ -1,0 +1,5 @@
+pub mod Anchors
+pub mod Insertions
+pub mod Removals
+pub mod States
+pub mod Tagging

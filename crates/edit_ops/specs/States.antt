@@ -1,0 +1,61 @@
+-- What edits change: a text with its marks, the anchors of each widget, and what is kept of the edits.
+use Rattle.std.specs.Prelude.{◌≡◌, ◌≤◌, ℕ, true, length, List, [], ◌∷◌, if◌then◌else◌}
+use Rattle.text_model.specs.Content.{Content}
+use Rattle.text_model.specs.Steps.{after}
+use Rattle.text_model.specs.declared.edits.Step.{Step}
+use Rattle.undo_stack.specs.History.{History, noted}
+use Rattle.undo_stack.specs.Modified.{Modified, counted_new}
+use Rattle.undo_stack.specs.Rings.{Kept}
+use Rattle.undo_stack.specs.declared.actions.Action.{Action}
+use Rattle.undo_stack.specs.declared.actions.EditKind.{EditKind}
+use Rattle.edit_ops.specs.declared.anchors.Anchors.{Anchors}
+use Rattle.edit_ops.specs.declared.plans.Recording.{Recording}
+
+-- what is kept of the edits; no more groups of them than `most`, if that isn't 0
+pub record Log : Type 0 where
+  pub history : History
+  pub modified : Modified
+  pub most : ℕ
+
+abbrev pub log_of : Kept → Log
+log_of kept = record { history = kept.history; modified = kept.modified; most = kept.most }
+
+pub record State : Type 0 where
+  pub content : Content
+  pub anchors : List Anchors
+  pub log : Log
+
+-- An action of an edit of a kind is noted. It counts in any case, and is kept where that is wanted.
+abbrev pub log_noted : Recording → EditKind → Action → Log → Log
+log_noted recording kind action log = record log {
+  history = if recording.undo then noted kind action recording.separators log.most log.history else log.history;
+  modified = counted_new log.modified;
+}
+
+abbrev pub all_noted : Recording → EditKind → List Action → Log → Log
+all_noted recording kind [] log = log
+all_noted recording kind (action ∷ actions) log = all_noted recording kind actions (log_noted recording kind action log)
+
+-- what an edit does: steps on the text, the anchors afterwards, and actions to be noted
+pub record Draft : Type 0 where
+  pub steps : List Step
+  pub anchors : List Anchors
+  pub actions : List Action
+
+abbrev pub drafted : Recording → EditKind → Draft → State → State
+drafted recording kind draft state = record {
+  content = after draft.steps state.content;
+  anchors = draft.anchors;
+  log = all_noted recording kind draft.actions state.log;
+}
+
+abbrev pub state_of : Content → List Anchors → Log → State
+state_of content anchors log = record { content = content; anchors = anchors; log = log }
+
+-- what a plan leaves
+abbrev pub planned : Recording → EditKind → Content → List Anchors → List Action → Log → State
+planned recording kind content anchors actions log = state_of content anchors (all_noted recording kind actions log)
+
+-- there is room for the actions, if they are kept
+abbrev pub HasRoom : Recording → List Action → Kept → Type 0
+HasRoom recording actions kept = recording.undo ≡ true → length actions ≤ kept.room

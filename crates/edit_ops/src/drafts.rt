@@ -1,0 +1,127 @@
+ghost use Rattle.std.specs.Prelude.{◌≡◌, ◌+◌, ◌<◌, ◌≤◌, ◌^◌, ◌++◌, ◌∷◌, [], true, false, length, map, OnOk, IfOk};
+ghost use Rattle.std.specs.List.{All};
+ghost use Rattle.edit_ops.specs.Anchors.{AnchorsStand, anchors_moved, anchors_drawn};
+
+use crate::anchors::{Anchors, draw_anchors, move_anchors};
+use std::alloc::{AllocError, Global};
+use std::collections::VecDeque;
+use std::marker::Model;
+use text_model::{MarkNo, Place, Step, StepList, TagSet, Text};
+use undo_stack::Action;
+
+/// What an edit does, as it is put together: steps, where the anchors of each widget stand after them, and the actions to
+/// be noted.
+#[derive(Drop)]
+pub struct Draft {
+    alloc: Global,
+    pub steps: StepList,
+    pub anchors: Vec<Anchors>,
+    pub actions: VecDeque<Action>,
+}
+
+impl Model for Draft {
+    ghost use Rattle.edit_ops.specs.States.{Draft as DraftState};
+    ghost use Rattle.text_model.specs.contracts.tag_set.TagSet as tag_set;
+    ghost use Rattle.std.specs.Coded.{codes};
+
+    ghost Value = { DraftState };
+
+    ghost coded = { Prim.hlevel (codes, tag_set.the_row.coded) };
+
+    ghost view = { λ d. record { steps = d.steps; anchors = d.anchors.items; actions = d.actions.items } };
+}
+
+/// The same text once more.
+fn copy_of(alloc: Global, text: &Text) -> Result<Text, AllocError>
+    ensures { IfOk result (λ copy. copy ≡ text.now) }
+{
+    Ok(Text::new(String::from_str(alloc, text.as_str())?))
+}
+
+impl Draft {
+    /// An edit that does nothing yet.
+    pub fn new(alloc: Global, anchors: &[Anchors]) -> Result<Draft, AllocError>
+        ensures { IfOk result (λ draft. draft ≡ record { steps = []; anchors = anchors.now; actions = [] }) }
+    {
+        Draft::of_steps(alloc, anchors, StepList::new(alloc))
+    }
+
+    /// An edit that makes steps, and of which nothing is noted.
+    pub fn of_steps(
+        alloc: Global,
+        anchors: &[Anchors],
+        steps: StepList,
+    ) -> Result<Draft, AllocError>
+        ensures { IfOk result (λ draft. draft ≡ record { steps = steps; anchors = anchors.now; actions = [] }) }
+    {
+        Ok(Draft {
+            alloc,
+            steps,
+            anchors: Vec::from_slice(alloc, anchors)?,
+            actions: VecDeque::new(alloc),
+        })
+    }
+
+    /// Puts a text of so many characters in before the character at an offset, into a text of so many.
+    pub fn insert(
+        &mut self,
+        at: usize,
+        text: &Text,
+        slots: TagSet,
+        count: usize,
+        len: usize,
+    ) -> Result<(), AllocError>
+        requires count { count ≡ length text.now }
+        requires stand { All (AnchorsStand len) self.old.anchors }
+        requires fits { len + count < 2 ^ 64 }
+        ensures { OnOk result (self.new ≡ record {
+          steps = self.old.steps ++ Step.Insert at text.now slots ∷ [];
+          anchors = map (anchors_moved at count) self.old.anchors;
+          actions = self.old.actions ++ record { inserts = true; at = at; text = text.now } ∷ [];
+        }) }
+    {
+        self.steps
+            .push(Step::Insert(at, copy_of(self.alloc, text)?, slots))?;
+        self.actions.push_back(Action {
+            inserts: true,
+            at,
+            text: copy_of(self.alloc, text)?,
+        })?;
+        move_anchors(&mut self.anchors, at, count, len);
+        Ok(())
+    }
+
+    /// Takes a text out, from one offset to another, of a line that begins at `line`; the line after it then begins at `next`.
+    pub fn remove(
+        &mut self,
+        from: usize,
+        to: usize,
+        text: Text,
+        line: usize,
+        next: usize,
+    ) -> Result<(), AllocError>
+        requires { from ≤ to }
+        ensures { OnOk result (self.new ≡ record {
+          steps = self.old.steps ++ Step.Remove from to ∷ [];
+          anchors = map (anchors_drawn line next from to) self.old.anchors;
+          actions = self.old.actions ++ record { inserts = false; at = from; text = text } ∷ [];
+        }) }
+    {
+        self.steps.push(Step::Remove(from, to))?;
+        self.actions.push_back(Action {
+            inserts: false,
+            at: from,
+            text,
+        })?;
+        draw_anchors(&mut self.anchors, line, next, from, to);
+        Ok(())
+    }
+
+    /// Puts the mark of a number at a place.
+    pub fn put_mark(&mut self, number: MarkNo, place: Place) -> Result<(), AllocError>
+        ensures { OnOk result (self.new ≡ record self.old { steps = self.old.steps ++ Step.PutMark number place ∷ [] }) }
+    {
+        self.steps.push(Step::PutMark(number, place))?;
+        Ok(())
+    }
+}

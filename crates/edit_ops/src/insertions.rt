@@ -1,0 +1,163 @@
+ghost use Rattle.std.specs.Prelude.{◌≡◌, ◌≢◌, ◌+◌, ◌<◌, ◌≤◌, ◌^◌, ◌↔◌, ◌++◌, ◌-◌, nat_lt, min, length, get_or, sum_by, OnOk, IfOk, Err, false};
+ghost use Rattle.std.specs.FinSet as set;
+ghost use Rattle.std.specs.List.{All};
+ghost use Rattle.edit_ops.specs.Anchors.{AnchorsStand};
+ghost use Rattle.edit_ops.specs.Insertions.{inserted_texts, slots_around, slots_or, total, IsBetween};
+ghost use Rattle.edit_ops.specs.States.{State, Log, log_of, state_of, drafted, planned, HasRoom};
+ghost use Rattle.text_model.specs.Content.{Content, slot_sets};
+ghost use Rattle.text_model.specs.Steps.{Fits, after};
+
+use crate::anchors::Anchors;
+use crate::drafts::Draft;
+use crate::faults::EditFault;
+use crate::pieces::Piece;
+use crate::plans::{Plan, Recording, prepare};
+use std::alloc::{AllocError, Global};
+use text_model::{Limits, TagSet, Text, TextStore};
+use undo_stack::{EditKind, UndoStack};
+
+/// How many characters a text has.
+fn count_of(text: &Text) -> usize
+    ensures { result ≡ length text.now }
+{
+    text.as_str().chars().count()
+}
+
+/// How many characters texts have, or the greatest number where that is more.
+pub fn total_of(pieces: &[Piece]) -> usize
+    ensures { result ≡ min (total pieces.now) (2 ^ 64 - 1) }
+{
+    let mut most = 0usize;
+    for piece in pieces {
+        most = most.saturating_add(count_of(&piece.text));
+    }
+    most
+}
+
+/// Whether a text of so many characters is too long with these texts more.
+pub fn is_too_long(limits: &Limits, len: usize, pieces: &[Piece]) -> bool
+    ensures value { result ≡ nat_lt limits.now.chars (len + total pieces.now) }
+    ensures short { result ≡ false → len + total pieces.now < 2 ^ 64 }
+{
+    len.saturating_add(total_of(pieces)) > limits.chars()
+}
+
+/// The slots that the character before an offset shares with the one at another offset; none at the start.
+pub fn shared_around<S: TextStore>(store: &S, from: usize, to: usize) -> TagSet
+    requires ordered { from ≤ to }
+    requires within { to < length (S.content store.now).cells }
+    ensures { result ≡ slots_around from to (S.content store.now).cells }
+{
+    if from == 0 {
+        return TagSet::empty();
+    }
+    store.tags_at(from - 1).common(&store.tags_at(to))
+}
+
+fn slots_or(slots: Option<TagSet>, shared: TagSet) -> TagSet
+    ensures { result ≡ slots_or slots shared }
+{
+    match slots {
+        None => shared,
+        Some(slots) => slots,
+    }
+}
+
+impl Draft {
+    /// Puts texts in at an offset of a text of so many characters, each right behind the one before it. The characters on both
+    /// sides of the offset share some slots, and the one behind it has others too.
+    pub fn insert_pieces(
+        &mut self,
+        at: usize,
+        pieces: &[Piece],
+        shared: TagSet,
+        behind: TagSet,
+        len: usize,
+    ) -> Result<(), AllocError>
+        requires within { at < len }
+        requires stand { All (AnchorsStand len) self.old.anchors }
+        requires fits { len + total pieces.now < 2 ^ 64 }
+        ensures widgets { OnOk result (length self.new.anchors ≡ length self.old.anchors) }
+        ensures makes { OnOk result ((recording : Recording) (kind : EditKind) (state : State) →
+            Fits self.old.steps state.content → IsBetween shared behind len at (after self.old.steps state.content).cells →
+            Fits self.new.steps state.content × (length (after self.new.steps state.content).cells ≡ len + total pieces.now) ×
+            (drafted recording kind self.new state ≡ inserted_texts recording kind at pieces.now (drafted recording kind self.old state))) }
+    {
+        let mut at = at;
+        let mut len = len;
+        let mut shared = shared;
+        for piece in pieces {
+            let count = count_of(&piece.text);
+            if count > 0 {
+                let slots = slots_or(piece.slots, shared);
+                self.insert(at, &piece.text, slots, count, len)?;
+                at += count;
+                len += count;
+                shared = slots.common(&behind);
+            }
+        }
+        Ok(())
+    }
+}
+
+/// The edit that puts texts in at an offset.
+fn draft_insert<S: TextStore>(
+    alloc: Global,
+    store: &S,
+    anchors: &[Anchors],
+    at: usize,
+    pieces: &[Piece],
+) -> Result<Draft, AllocError>
+    requires within { at < length (S.content store.now).cells }
+    requires stand { All (AnchorsStand (length (S.content store.now).cells)) anchors.now }
+    requires fits { length (S.content store.now).cells + total pieces.now < 2 ^ 64 }
+    ensures widgets { IfOk result (λ draft. length draft.anchors ≡ length anchors.now) }
+    ensures makes { IfOk result (λ draft. (recording : Recording) (kind : EditKind) (log : Log) →
+        Fits draft.steps (S.content store.now) ×
+        (drafted recording kind draft (state_of (S.content store.now) anchors.now log)
+        ≡ inserted_texts recording kind at pieces.now (state_of (S.content store.now) anchors.now log))) }
+{
+    let mut draft = Draft::new(alloc, anchors)?;
+    draft.insert_pieces(
+        at,
+        pieces,
+        shared_around(store, at, at),
+        store.tags_at(at),
+        store.len(),
+    )?;
+    Ok(draft)
+}
+
+/// A plan that puts texts in before the character at an offset, each right behind the one before it. A text without slots
+/// gets those that the characters on both sides of it have, the text before it among them, and none at the start. A mark above
+/// the offset moves along, and so does one that stands there with right gravity; an anchor moves if it stands above it. Each
+/// text that isn't empty is an action (text(n), "insert").
+pub fn plan_insert<S: TextStore>(
+    alloc: Global,
+    limits: &Limits,
+    store: &mut S,
+    history: &mut UndoStack,
+    anchors: &[Anchors],
+    at: usize,
+    pieces: &[Piece],
+    recording: Recording,
+) -> Result<Plan<S>, EditFault>
+    requires within { at < length (S.content store.old).cells }
+    requires stand { All (AnchorsStand (length (S.content store.old).cells)) anchors.now }
+    ensures content { S.content store.new ≡ S.content store.old }
+    ensures log { log_of history.new ≡ log_of history.old }
+    ensures too_long { (result ≡ Err EditFault.TextTooLong) ↔ (limits.now.chars < length (S.content store.old).cells + total pieces.now) }
+    ensures never { result ≢ Err EditFault.IndexOrder }
+    ensures ready { IfOk result (λ plan. S.ready store.new plan.prepared) }
+    ensures room { IfOk result (λ plan. HasRoom plan.recording plan.actions.items history.new) }
+    ensures widgets { IfOk result (λ plan. length plan.anchors.items ≡ length anchors.now) }
+    ensures outcome { IfOk result (λ plan.
+        planned plan.recording plan.kind (S.outcome store.new plan.prepared) plan.anchors.items plan.actions.items (log_of history.old)
+        ≡ inserted_texts recording EditKind.Insert at pieces.now (state_of (S.content store.old) anchors.now (log_of history.old))) }
+{
+    if is_too_long(limits, store.len(), pieces) {
+        return Err(EditFault::TextTooLong);
+    }
+    let draft = draft_insert(alloc, store, anchors, at, pieces)?;
+    Ok(prepare(store, history, draft, EditKind::Insert, recording)?)
+}

@@ -1,0 +1,24 @@
+//! Plans of edits: what a command does to a text, its marks, the anchors of the widgets that show it and the history, as a
+//! whole or not at all.
+#![tactic(auto)]
+
+mod anchors;
+mod drafts;
+mod faults;
+mod insertions;
+mod pieces;
+mod plans;
+mod replacements;
+mod spans;
+mod tagging;
+#[cfg(test)]
+mod tests;
+
+pub use anchors::{Anchors, anchors_stand};
+pub use faults::EditFault;
+pub use insertions::plan_insert;
+pub use pieces::Piece;
+pub use plans::{Plan, Recording, commit};
+pub use replacements::plan_replace;
+pub use spans::Span;
+pub use tagging::plan_tag;

@@ -1,0 +1,109 @@
+ghost use Rattle.std.specs.Prelude.{◌≡◌, ◌≤◌, true, length, IfOk};
+ghost use Rattle.text_model.specs.Steps.{Fits};
+ghost use Rattle.edit_ops.specs.States.{log_of, state_of, all_noted, drafted, planned, HasRoom};
+
+use crate::anchors::Anchors;
+use crate::drafts::Draft;
+use std::alloc::AllocError;
+use std::collections::VecDeque;
+use text_model::{Edit, TextStore};
+use undo_stack::{Action, EditKind, UndoStack};
+
+/// Whether actions are kept to be undone, and whether an edit of another kind than the one before begins a group of its own
+/// (text(n), "-undo" and "-autoseparators").
+#[derive(Clone, Copy, Debug, PartialEq, Eq)]
+pub struct Recording {
+    pub undo: bool,
+    pub separators: bool,
+}
+
+/// The whole effect of a command, for which all memory is there.
+#[derive(Drop)]
+pub struct Plan<S: TextStore> {
+    prepared: S::Prepared,
+    anchors: Vec<Anchors>,
+    actions: VecDeque<Action>,
+    kind: EditKind,
+    recording: Recording,
+}
+
+/// Notes actions of an edit of a kind, for which there is room.
+fn note_all(
+    history: &mut UndoStack,
+    kind: EditKind,
+    actions: VecDeque<Action>,
+    recording: Recording,
+)
+    requires { recording.undo ≡ true → length actions.items ≤ history.old.room }
+    ensures { log_of history.new ≡ all_noted recording kind actions.items (log_of history.old) }
+{
+    let mut actions = actions;
+    for _ in 0..actions.len() {
+        if let Some(action) = actions.pop_front() {
+            history.note(kind, action, recording.undo, recording.separators);
+        }
+    }
+}
+
+/// Makes a plan of a draft, with all memory that it takes. Nothing that can be seen changes.
+pub fn prepare<S: TextStore>(
+    store: &mut S,
+    history: &mut UndoStack,
+    draft: Draft,
+    kind: EditKind,
+    recording: Recording,
+) -> Result<Plan<S>, AllocError>
+    requires { Fits draft.steps (S.content store.old) }
+    ensures content { S.content store.new ≡ S.content store.old }
+    ensures log { log_of history.new ≡ log_of history.old }
+    ensures ready { IfOk result (λ plan. S.ready store.new plan.prepared) }
+    ensures room { IfOk result (λ plan. HasRoom plan.recording plan.actions.items history.new) }
+    ensures outcome { IfOk result (λ plan.
+        planned plan.recording plan.kind (S.outcome store.new plan.prepared) plan.anchors.items plan.actions.items (log_of history.old)
+        ≡ drafted recording kind draft (state_of (S.content store.old) draft.anchors (log_of history.old))) }
+    ensures widgets { IfOk result (λ plan. plan.anchors.items ≡ draft.anchors) }
+{
+    if recording.undo {
+        history.reserve(draft.actions.len())?;
+    }
+    let Draft {
+        steps,
+        anchors,
+        actions,
+        ..
+    } = draft;
+    let prepared = store.prepare(&Edit { steps })?;
+    Ok(Plan {
+        prepared,
+        anchors,
+        actions,
+        kind,
+        recording,
+    })
+}
+
+/// Carries out a plan, which can't fail. The store, the history and the number of widgets have to be as the call that made
+/// it left them.
+pub fn commit<S: TextStore>(
+    plan: Plan<S>,
+    store: &mut S,
+    history: &mut UndoStack,
+    anchors: &mut [Anchors],
+)
+    requires ready { S.ready store.old plan.prepared }
+    requires room { HasRoom plan.recording plan.actions.items history.old }
+    requires widgets { length plan.anchors.items ≡ length anchors.old }
+    ensures { state_of (S.content store.new) anchors.new (log_of history.new)
+        ≡ planned plan.recording plan.kind (S.outcome store.old plan.prepared) plan.anchors.items plan.actions.items (log_of history.old) }
+{
+    let Plan {
+        prepared,
+        anchors: places,
+        actions,
+        kind,
+        recording,
+    } = plan;
+    store.commit(prepared);
+    anchors.copy_from_slice(&places);
+    note_all(history, kind, actions, recording);
+}
