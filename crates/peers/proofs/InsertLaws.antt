@@ -1,5 +1,5 @@
 -- A lone document after an insertion.
-use Rattle.std.proofs.Common.{Bool, ◌≡◌, ℕ, zero, suc, ◌+◌, ◌<◌, ◌≤◌, false, List, [], ◌∷◌, ◌++◌, Option, None, Some, length, map, take, drop, refl, sym, ap, subst, ◌∙◌, arith, length-drop}
+use Rattle.std.proofs.Common.{Bool, ◌≡◌, ℕ, zero, suc, ◌+◌, ◌<◌, ◌≤◌, false, List, [], ◌∷◌, ◌++◌, Option, None, Some, length, map, take, drop, refl, sym, ap, subst, ◌∙◌, arith}
 use Rattle.std.specs.Prelude.{slice_get, option_map, nat_lt, if◌then◌else◌}
 use Rattle.std.specs.Char.{IsScalar}
 use Rattle.std.specs.FinSet as set
@@ -74,8 +74,8 @@ pub IsKept-inserted : (name : List ℕ) (content after : Content) (at : ℕ) (te
 IsKept-inserted name content after at text kept within short scalars is = record {
   named = kept.named;
   text =
-    subst IsDocument (sym (ap (λ (c : Content). model.characters c.cells) is ∙ characters-inserted at text set.empty content.cells))
-    (IsDocument-inserted at text (model.characters content.cells) (omega (arith, within, length-map content.cells (λ (cell : Cell). cell.character))) scalars kept.text);
+      subst IsDocument (sym (ap (λ (c : Content). model.characters c.cells) is ∙ characters-inserted at text set.empty content.cells))
+      (IsDocument-inserted at text (model.characters content.cells) (omega (arith, within, length-map content.cells (λ (cell : Cell). cell.character))) scalars kept.text);
   short = omega (arith, length-after_insertion content after at text within is);
 }
 

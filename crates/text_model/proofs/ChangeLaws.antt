@@ -1,9 +1,9 @@
 -- Runs of flags: where they end and begin, cell by cell, and what fixes an answer.
-use Rattle.std.proofs.Common.{◌≡◌, ◌≢◌, ℕ, zero, suc, ◌+◌, ◌-◌, ◌<◌, ◌≤◌, Bool, true, false, not, List, length, get_or, take, drop, map, refl, sym, ap, ap₂, ◌∙◌, arith, length-drop, length-take}
+use Rattle.std.proofs.Common.{◌≡◌, ℕ, ◌+◌, ◌-◌, ◌<◌, ◌≤◌, Bool, true, false, not, List, length, get_or, take, drop, refl, sym, ap, ap₂, ◌∙◌, arith, length-drop}
 use Rattle.std.specs.FinSet as set
 use Rattle.std.specs.List.{prefix_len, suffix_len}
 use Rattle.std.proofs.lemmas.List.{get_or-map, get_or-drop, get_or-take, length-map, length-take-le, drop-map, take-map, take_rest}
-use Rattle.std.proofs.lemmas.List.Sums.{prefix_len-drop_yes, prefix_len-drop_no, prefix_len_is, prefix_len-le-length, suffix_len-take_yes, suffix_len-take_no, suffix_len_is, suffix_len-le-length}
+use Rattle.std.proofs.lemmas.List.Sums.{prefix_len-drop_yes, prefix_len-drop_no, prefix_len_is, prefix_len-le-length, suffix_len-take_yes, suffix_len-take_no, suffix_len_is}
 use mathlib.Core.Bool.{beq}
 use Rattle.text_model.specs.declared.cells.Cell.{Cell}
 use Rattle.text_model.specs.Changes.{is_alike, flag_at, next_change, previous_change}

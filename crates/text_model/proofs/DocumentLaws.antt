@@ -1,5 +1,5 @@
 -- A document stays a document.
-use Rattle.std.proofs.Common.{◌≡◌, ℕ, zero, suc, ◌+◌, ◌<◌, ◌≤◌, Bool, true, false, List, [], ◌∷◌, ◌++◌, length, take, drop, refl, sym, ap, subst, ◌∙◌, arith, length-drop}
+use Rattle.std.proofs.Common.{◌≡◌, ℕ, zero, suc, ◌+◌, ◌<◌, false, List, [], ◌∷◌, ◌++◌, length, take, drop, refl, sym, subst, ◌∙◌, arith, length-drop}
 use Rattle.std.specs.Char.{IsScalar}
 use Rattle.std.specs.List.{All}
 use Rattle.std.proofs.lemmas.List.{length-map}
@@ -10,7 +10,7 @@ use Rattle.text_model.specs.declared.edits.Step.TheVariants.{Remove, Insert, Set
 use Rattle.text_model.specs.Content.{Content, characters, new_content}
 use Rattle.text_model.specs.Documents.{IsDocument, ends_in_newline}
 use Rattle.text_model.specs.Splices.{inserted, removed}
-use Rattle.text_model.specs.Steps.{cells_of, with_slot, without_slots, StepFits, InsertsScalars, after_step}
+use Rattle.text_model.specs.Steps.{StepFits, InsertsScalars, after_step}
 use Rattle.text_model.proofs.CellLaws.{characters-inserted, characters-removed, characters-with_slot, characters-without_slots, characters-all_with_slot}
 
 ends_in_newline-append : (xs ys : List ℕ) → 0 < length ys → ends_in_newline (xs ++ ys) ≡ ends_in_newline ys

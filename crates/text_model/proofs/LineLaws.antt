@@ -1,10 +1,9 @@
 -- Where the lines of a text begin, and the lines before an offset after an insertion and a removal.
-use Rattle.std.proofs.Common.{◌≡◌, ◌≢◌, ℕ, zero, suc, ◌+◌, ◌-◌, ◌<◌, ◌≤◌, Bool, true, false, cond, List, [], ◌∷◌, ◌++◌, length, take, drop, get_or, refl, sym, ap, ◌∙◌, arith, map, add_assoc}
+use Rattle.std.proofs.Common.{◌≡◌, ◌≢◌, ℕ, zero, suc, ◌+◌, ◌-◌, ◌<◌, ◌≤◌, true, false, cond, List, [], ◌∷◌, ◌++◌, length, take, drop, get_or, refl, sym, ap, ◌∙◌, arith, add_assoc}
 use Rattle.std.specs.Prelude.{slice_range, if◌then◌else◌}
 use Rattle.std.proofs.lemmas.Grind.{common_steps}
-use Rattle.std.proofs.lemmas.List.{drop_more, get_or-map, length-map}
+use Rattle.std.proofs.lemmas.List.{drop_more, get_or-map}
 use Rattle.std.proofs.lemmas.List.Sums.{sum_by-append, sum_by-cons, sum_by-take-drop, count_by-le-length}
-use Rattle.std.proofs.lemmas.Bool.Decides.{nat_tests}
 use Rattle.std.proofs.lemmas.List.Edits.{split_between}
 use Rattle.text_model.specs.declared.cells.Cell.{Cell}
 use Rattle.text_model.specs.Content.{characters}
@@ -74,8 +73,13 @@ lines-inserted at new text = omega (arith, lines-append (take at text ++ new) (d
 pub lines-removed : (from to : ℕ) (text : List ℕ) → from ≤ to → lines (removed from to text) + lines (slice_range text from to) ≡ lines text
 lines-removed from to text ordered =
     let middle = slice_range text from to in
-    omega (arith, lines-append (take from text) (drop to text), ap lines (split_between text from to ordered),
-      lines-append (take from text) (middle ++ drop to text), lines-append middle (drop to text))
+    omega (
+      arith,
+      lines-append (take from text) (drop to text),
+      ap lines (split_between text from to ordered),
+      lines-append (take from text) (middle ++ drop to text),
+      lines-append middle (drop to text),
+    )
 
 -- the lines before an offset: before the step and behind it
 pub line_of-inserted_before : (at : ℕ) (new text : List ℕ) (offset : ℕ) → at ≤ length text → offset ≤ at → line_of (inserted at new text) offset ≡ line_of text offset

@@ -1,8 +1,11 @@
 -- The marks of a list of places, one place after another.
-use Rattle.std.proofs.Common.{◌≡◌, ◌≢◌, ℕ, zero, suc, ◌+◌, ◌-◌, ◌<◌, ◌≤◌, min, max, Bool, true, false, cond, nat_lt, nat_le, ◌==◌, List, [], ◌∷◌, length, drop, get_or, map, Option, Some, None, refl, sym, ap, ◌∙◌, subst, arith}
-use Rattle.std.specs.Prelude.{slice_get, IfSome, if◌then◌else◌}
+use Rattle.std.proofs.Common.{◌≡◌, ℕ, ◌+◌, ◌<◌, ◌≤◌, min, max, Bool, true, false, cond, nat_lt, nat_le, ◌==◌, List, [], ◌∷◌, length, drop, get_or, map, Option, Some, None, refl, sym, ap, subst, ◌∙◌, inl, inr, arith}
+use Rattle.std.specs.Prelude.{◌⊎◌, IfSome, if◌then◌else◌}
 use Rattle.std.specs.List.{All, filter, fold, reduce}
 use Rattle.std.specs.FinMap as finite
+use Rattle.std.specs.FinMap.{find}
+use Rattle.std.specs.Ordering.{nat_cmp, eq_by_cmp}
+use Rattle.std.proofs.lemmas.Bool.{cases_lt}
 use Rattle.std.proofs.lemmas.List.{drop_more, drop_all}
 use Rattle.std.proofs.lemmas.List.Elements.{All-head, All-tail, All-map, All-weaker, All-filter, filter_passes}
 use Rattle.std.proofs.lemmas.Bool.Decides.{nat_tests}
@@ -11,7 +14,7 @@ use Rattle.text_model.specs.declared.places.Place.{Place}
 use Rattle.text_model.specs.Content.{Content, Marks}
 use Rattle.text_model.specs.Documents.{MarksStand}
 use Rattle.text_model.specs.MarkOrder.{next_mark, offsets, previous_mark, marks_at}
-use Rattle.text_model.specs.Plain.{places_from, plain_marks, stands_at, joined, with_next, with_previous}
+use Rattle.text_model.specs.Plain.{places_from, plain_marks, stands_at, with_next, with_previous}
 use Rattle.text_model.proofs.PlaceLaws.{All-entries, entries-plain_marks}
 
 -- f over offsets, from one if there is one
@@ -89,7 +92,7 @@ marks_one at number None places false is = refl
 marks_one at number (Some place) places stands is =
     ap (λ b. map (λ entry. record { 0 = entry.0 }) (cond b ((number, place) ∷ filter (λ (entry : ℕ × Place). entry.1.offset == at) (places_from (number + 1) places)) (filter (λ (entry : ℕ × Place). entry.1.offset == at) (places_from (number + 1) places)))) is
     ∙ elim stands as (λ b. map (λ entry. record { 0 = entry.0 }) (cond b ((number, place) ∷ filter (λ (entry : ℕ × Place). entry.1.offset == at) (places_from (number + 1) places)) (filter (λ (entry : ℕ × Place). entry.1.offset == at) (places_from (number + 1) places)))
-      ≡ cond b (record { 0 = number } ∷ marks_from at (number + 1) places) (marks_from at (number + 1) places)) [ true ↦ refl | false ↦ refl ]
+    ≡ cond b (record { 0 = number } ∷ marks_from at (number + 1) places) (marks_from at (number + 1) places)) [ true ↦ refl | false ↦ refl ]
 
 pub marks_more : (at : ℕ) (places : List (Option Place)) (i : ℕ) (place : Option Place) (stands : Bool) → i < length places → place ≡ get_or places i place → stands_at place at ≡ stands
     → marks_from at i (drop i places) ≡ cond stands (record { 0 = i } ∷ marks_from at (i + 1) (drop (i + 1) places)) (marks_from at (i + 1) (drop (i + 1) places))
@@ -141,3 +144,103 @@ previous_mark-below at marks =
     let found = filter (λ offset. nat_lt offset at) (offsets marks) in
     reduce_one max (λ previous. previous < at) (λ a b one other. omega (arith, one, other)) found
     (All-weaker (λ offset. nat_lt offset at ≡ true) (λ previous. previous < at) (λ offset. passes_lt offset at) found (filter_passes (λ offset. nat_lt offset at) (offsets marks)))
+
+-- a mark stands at an offset
+abbrev pub IsMarked : Marks → ℕ → Type 0
+IsMarked marks offset = (number : ℕ) × (place : Place) × (finite.get marks number ≡ Some place) × (place.offset ≡ offset)
+
+offsets_marked : (marks : Marks) → All (IsMarked marks) (offsets marks)
+offsets_marked marks =
+    All-map (IsMarked marks) (λ (place : Place). place.offset) (map (λ (entry : ℕ × Place). entry.1) (finite.entries marks))
+    (All-map (λ (place : Place). IsMarked marks place.offset) (λ (entry : ℕ × Place). entry.1) (finite.entries marks)
+    (All-entries marks (λ entry. IsMarked marks entry.1.offset) (λ number place is. (number, place, is, refl))))
+
+min_marked : (P : ℕ → Type 0) (a b : ℕ) → P a → P b → P (min a b)
+min_marked P a b one other = elim (cases_lt a b) [ inl less ↦ subst P (let same : a ≡ min a b = omega arith in same) one | inr more ↦ subst P (let same : b ≡ min a b = omega arith in same) other ]
+
+max_marked : (P : ℕ → Type 0) (a b : ℕ) → P a → P b → P (max a b)
+max_marked P a b one other = elim (cases_lt a b) [ inl less ↦ subst P (let same : b ≡ max a b = omega arith in same) other | inr more ↦ subst P (let same : a ≡ max a b = omega arith in same) one ]
+
+-- a mark stands at what is found
+pub next_mark-marked : (at : ℕ) (marks : Marks) → IfSome (next_mark at marks) (IsMarked marks)
+next_mark-marked at marks =
+    reduce_one min (IsMarked marks) (min_marked (IsMarked marks)) (filter (λ offset. nat_le at offset) (offsets marks))
+    (All-filter (λ offset. nat_le at offset) (IsMarked marks) (offsets marks) (offsets_marked marks))
+
+pub previous_mark-marked : (at : ℕ) (marks : Marks) → IfSome (previous_mark at marks) (IsMarked marks)
+previous_mark-marked at marks =
+    reduce_one max (IsMarked marks) (max_marked (IsMarked marks)) (filter (λ offset. nat_lt offset at) (offsets marks))
+    (All-filter (λ offset. nat_lt offset at) (IsMarked marks) (offsets marks) (offsets_marked marks))
+
+-- an offset is in a list
+abbrev is_in : ℕ → List ℕ → Type 0
+is_in offset [] = ⊥
+is_in offset (x ∷ xs) = (x ≡ offset) ⊎ is_in offset xs
+
+offset_in : (tied : Bool) (value : Place) (rest : Option Place) (place : Place) (others : List ℕ) → cond tied (Some value) rest ≡ Some place → (rest ≡ Some place → is_in place.offset others)
+    → (value.offset ≡ place.offset) ⊎ is_in place.offset others
+offset_in true value rest place others is more = let same : value ≡ place = cc in inl (ap (λ (p : Place). p.offset) same)
+offset_in false value rest place others is more = inr (more is)
+
+offsets_have : (number : ℕ) (place : Place) (entries : List (ℕ × Place)) → find nat_cmp number entries ≡ Some place → is_in place.offset (offsets_of entries)
+offsets_have number place [] is = let no : None ≡ Some place = is in absurd (cc)
+offsets_have number place (entry ∷ entries) is =
+    offset_in (eq_by_cmp nat_cmp number entry.0) entry.1 (find nat_cmp number entries) place (offsets_of entries) is (offsets_have number place entries)
+
+filter_has_first : (p : ℕ → Bool) (x offset : ℕ) (xs : List ℕ) → x ≡ offset → p offset ≡ true → is_in offset (cond (p x) (x ∷ xs) xs)
+filter_has_first p x offset xs same passes = subst (λ b. is_in offset (cond b (x ∷ xs) xs)) (sym (ap p same ∙ passes)) (inl same)
+
+filter_has_other : (b : Bool) (x offset : ℕ) (xs : List ℕ) → is_in offset xs → is_in offset (cond b (x ∷ xs) xs)
+filter_has_other true x offset xs has = inr has
+filter_has_other false x offset xs has = has
+
+filter_has : (p : ℕ → Bool) (offset : ℕ) (xs : List ℕ) → p offset ≡ true → is_in offset xs → is_in offset (filter p xs)
+filter_has p offset [] passes has = has
+filter_has p offset (x ∷ xs) passes (inl same) = filter_has_first p x offset (filter p xs) same passes
+filter_has p offset (x ∷ xs) passes (inr has) = filter_has_other (p x) x offset (filter p xs) (filter_has p offset xs passes has)
+
+-- a choice of two offsets that reaches both, as the least and the greatest do
+record Reaches (f : ℕ → ℕ → ℕ) (R : ℕ → ℕ → Type 0) : Type 0 where
+  itself : (a : ℕ) → R a a
+  chain : (a b c : ℕ) → R a b → R b c → R a c
+  left : (a b : ℕ) → R (f a b) a
+  right : (a b : ℕ) → R (f a b) b
+
+fold_first : (f : ℕ → ℕ → ℕ) (R : ℕ → ℕ → Type 0) → Reaches f R → (a : ℕ) (xs : List ℕ) → R (fold f a xs) a
+fold_first f R reaches a [] = reaches.itself a
+fold_first f R reaches a (x ∷ xs) = reaches.chain (fold f (f a x) xs) (f a x) a (fold_first f R reaches (f a x) xs) (reaches.left a x)
+
+fold_each : (f : ℕ → ℕ → ℕ) (R : ℕ → ℕ → Type 0) → Reaches f R → (a offset : ℕ) (xs : List ℕ) → is_in offset xs → R (fold f a xs) offset
+fold_each f R reaches a offset [] has = absurd has
+fold_each f R reaches a offset (x ∷ xs) (inl same) =
+    subst (λ y. R (fold f (f a x) xs) y) same (reaches.chain (fold f (f a x) xs) (f a x) x (fold_first f R reaches (f a x) xs) (reaches.right a x))
+fold_each f R reaches a offset (x ∷ xs) (inr has) = fold_each f R reaches (f a x) offset xs has
+
+reduce_each : (f : ℕ → ℕ → ℕ) (R : ℕ → ℕ → Type 0) → Reaches f R → (offset : ℕ) (xs : List ℕ) → is_in offset xs → (found : ℕ) × (reduce f xs ≡ Some found) × R found offset
+reduce_each f R reaches offset [] has = absurd has
+reduce_each f R reaches offset (x ∷ xs) (inl same) = (fold f x xs, refl, subst (λ y. R (fold f x xs) y) same (fold_first f R reaches x xs))
+reduce_each f R reaches offset (x ∷ xs) (inr has) = (fold f x xs, refl, fold_each f R reaches x offset xs has)
+
+min_reaches : Reaches min (λ a b. a ≤ b)
+min_reaches = record { itself = λ a. omega arith; chain = λ a b c less more. omega (arith, less, more); left = λ a b. omega arith; right = λ a b. omega arith }
+
+max_reaches : Reaches max (λ a b. b ≤ a)
+max_reaches = record { itself = λ a. omega arith; chain = λ a b c less more. omega (arith, less, more); left = λ a b. omega arith; right = λ a b. omega arith }
+
+le_passes : (at offset : ℕ) → at ≤ offset → nat_le at offset ≡ true
+le_passes at offset within = grind (arith, nat_tests)
+
+lt_passes : (offset at : ℕ) → offset < at → nat_lt offset at ≡ true
+lt_passes offset at within = grind (arith, nat_tests)
+
+-- no mark stands between a place and the one that is found
+pub next_mark-least : (at : ℕ) (marks : Marks) (number : ℕ) (place : Place) → finite.get marks number ≡ Some place → at ≤ place.offset → (next : ℕ) × (next_mark at marks ≡ Some next) × (next ≤ place.offset)
+next_mark-least at marks number place is above =
+    reduce_each min (λ a b. a ≤ b) min_reaches place.offset (filter (λ offset. nat_le at offset) (offsets marks))
+    (filter_has (λ offset. nat_le at offset) place.offset (offsets marks) (le_passes at place.offset above) (offsets_have number place (finite.entries marks) (sym (finite.get-entries marks number) ∙ is)))
+
+pub previous_mark-greatest : (at : ℕ) (marks : Marks) (number : ℕ) (place : Place) → finite.get marks number ≡ Some place → place.offset < at
+    → (previous : ℕ) × (previous_mark at marks ≡ Some previous) × (place.offset ≤ previous)
+previous_mark-greatest at marks number place is below =
+    reduce_each max (λ a b. b ≤ a) max_reaches place.offset (filter (λ offset. nat_lt offset at) (offsets marks))
+    (filter_has (λ offset. nat_lt offset at) place.offset (offsets marks) (lt_passes place.offset at below) (offsets_have number place (finite.entries marks) (sym (finite.get-entries marks number) ∙ is)))

@@ -13,7 +13,7 @@ use Rattle.std.proofs.lemmas.List.Edits.{map_over_more}
 use Rattle.std.proofs.lemmas.List.Elements.{All-cons, All-nil}
 use Rattle.text_model.specs.declared.places.Place.{Place}
 use Rattle.text_model.specs.Content.{Marks, map_marks}
-use Rattle.text_model.specs.Plain.{places_from, entry_of, plain_marks}
+use Rattle.text_model.specs.Plain.{places_from, plain_marks}
 
 abbrev entry_at : (Place → Place) → ℕ × Place → ℕ × Place
 entry_at f entry = (entry.0, f entry.1)

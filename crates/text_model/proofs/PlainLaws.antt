@@ -1,5 +1,5 @@
 -- What a plain store contains: at first, and after each step.
-use Rattle.std.proofs.Common.{◌≡◌, ◌≢◌, ℕ, zero, suc, ◌+◌, ◌^◌, ◌<◌, ◌≤◌, Bool, true, false, List, [], ◌∷◌, ◌++◌, length, map, take, drop, set as set_at, Option, Some, None, get_or, refl, sym, ap, subst, ◌∙◌, arith}
+use Rattle.std.proofs.Common.{◌≡◌, ℕ, ◌+◌, ◌^◌, ◌<◌, ◌≤◌, Bool, true, false, List, [], ◌++◌, length, map, take, drop, set as set_at, Option, Some, None, get_or, sym, ap, subst, ◌∙◌, arith}
 use Rattle.std.specs.Prelude.{option_map}
 use Rattle.std.specs.FinMap as finite
 use Rattle.std.specs.FinSet as set
@@ -9,7 +9,7 @@ use Rattle.std.proofs.lemmas.List.Edits.{map_over_more}
 use Rattle.text_model.specs.declared.cells.Cell.{Cell}
 use Rattle.text_model.specs.declared.edits.Step.{Step}
 use Rattle.text_model.specs.declared.places.Place.{Place}
-use Rattle.text_model.specs.Content.{Content, Marks, Slots, map_marks, new_content}
+use Rattle.text_model.specs.Content.{Slots, map_marks, new_content}
 use Rattle.text_model.specs.Documents.{MarksStand}
 use Rattle.text_model.specs.Steps.{cells_of, after_removal, after_insertion, with_slot, set_slot, StepFits, after_step}
 use Rattle.text_model.specs.Splices.{inserted, removed, moved, drawn}

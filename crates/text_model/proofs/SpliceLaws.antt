@@ -18,8 +18,15 @@ length-removed from to xs ordered within =
 pub length-changed : {A : Type 0} (f : A → A) (from to : ℕ) (xs : List A) → from ≤ to → to ≤ length xs → length (changed f from to xs) ≡ length xs
 length-changed f from to xs ordered within =
     let middle = slice_range xs from to in
-    omega (arith, length-append (take from xs ++ map f middle) (drop to xs), length-append (take from xs) (map f middle), length-map middle f,
-      length-take-le (to - from) (drop from xs) (omega (arith, length-drop from xs)), length-take-le from xs (omega arith), length-drop to xs)
+    omega (
+      arith,
+      length-append (take from xs ++ map f middle) (drop to xs),
+      length-append (take from xs) (map f middle),
+      length-map middle f,
+      length-take-le (to - from) (drop from xs) (omega (arith, length-drop from xs)),
+      length-take-le from xs (omega arith),
+      length-drop to xs,
+    )
 
 pub length-cells_of : (text : List ℕ) (slots : Slots) → length (cells_of text slots) ≡ length text
 length-cells_of text slots = length-map text _

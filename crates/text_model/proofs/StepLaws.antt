@@ -1,21 +1,18 @@
--- Marks stand in the text after each step; steps after others.
-use Rattle.std.proofs.Common.{◌≡◌, ◌≢◌, ℕ, ◌+◌, ◌-◌, ◌<◌, ◌≤◌, min, Bool, true, false, cond, List, [], ◌∷◌, ◌++◌, length, take, drop, map, Option, Some, None, refl, sym, ap, ◌∙◌, arith}
-use Rattle.std.specs.Prelude.{option_map, if◌then◌else◌, slice_range}
-use Rattle.std.specs.Char.{IsScalar}
+-- How long a text is after each step, that marks stand in it, and steps behind others.
+use Rattle.std.proofs.Common.{◌≡◌, ℕ, ◌+◌, ◌≤◌, Bool, true, false, cond, List, [], ◌∷◌, ◌++◌, length, Option, Some, None, refl, sym, subst, ◌∙◌, arith}
+use Rattle.std.specs.Prelude.{option_map, if◌then◌else◌}
 use Rattle.std.specs.FinMap as finite
-use Rattle.std.specs.List.{All}
 use Rattle.std.specs.Ordering.{nat_cmp, eq_by_cmp}
 use Rattle.std.specs.Cmp.{nat_cmp_total}
 use Rattle.std.proofs.lemmas.List.{length-map}
-use Rattle.std.proofs.lemmas.List.Elements.{All-append, All-take, All-drop}
 use Rattle.text_model.specs.declared.cells.Cell.{Cell}
 use Rattle.text_model.specs.declared.edits.Step.{Step}
 use Rattle.text_model.specs.declared.edits.Step.TheVariants.{Remove, Insert, SetTag, ClearTags, ClearSlot, PutMark, TakeMark}
 use Rattle.text_model.specs.declared.places.Place.{Place}
-use Rattle.text_model.specs.Content.{Content, Marks, characters, map_marks}
-use Rattle.text_model.specs.Documents.{IsDocument, MarksStand, ends_in_newline}
-use Rattle.text_model.specs.Splices.{inserted, removed, changed, goes_behind, moved, drawn}
-use Rattle.text_model.specs.Steps.{cells_of, with_slot, without_slots, StepFits, Fits, after_step, after}
+use Rattle.text_model.specs.Content.{Content, Marks, map_marks}
+use Rattle.text_model.specs.Documents.{MarksStand}
+use Rattle.text_model.specs.Splices.{inserted, goes_behind, moved, drawn}
+use Rattle.text_model.specs.Steps.{cells_of, with_slot, without_slots, StepFits, Fits, FitsIn, length_after, after_step, after}
 use Rattle.text_model.proofs.PlaceLaws.{get-map_marks}
 use Rattle.text_model.proofs.SpliceLaws.{length-cells_inserted, length-removed, length-changed}
 
@@ -76,3 +73,18 @@ Fits-append (step ∷ steps) others content fits rest = (fits.0, Fits-append ste
 pub MarksStand-after : (steps : List Step) (content : Content) → Fits steps content → MarksStand content → MarksStand (after steps content)
 MarksStand-after [] content fits stand = stand
 MarksStand-after (step ∷ steps) content fits stand = MarksStand-after steps (after_step step content) fits.1 (MarksStand-after_step step content fits.0 stand)
+
+pub length-after_step : (step : Step) (content : Content) → StepFits step content → length (after_step step content).cells ≡ length_after step (length content.cells)
+length-after_step (Remove from to) content fits = omega (arith, fits.0, fits.1, length-removed from to content.cells fits.0 (omega (arith, fits.1)))
+length-after_step (Insert at text slots) content fits = length-cells_inserted at text slots content.cells (omega (arith, fits))
+length-after_step (SetTag from to slot on) content fits = length-changed (with_slot slot.0 on) from to content.cells fits.0 fits.1
+length-after_step (ClearTags at) content fits = length-changed without_slots at (at + 1) content.cells (omega arith) (omega (arith, fits))
+length-after_step (ClearSlot slot) content fits = length-map content.cells (with_slot slot.0 false)
+length-after_step (PutMark number place) content fits = refl
+length-after_step (TakeMark number) content fits = refl
+
+-- whether steps fit hangs on the number of cells alone
+pub Fits-from_FitsIn : (steps : List Step) (content : Content) → FitsIn steps (length content.cells) → Fits steps content
+Fits-from_FitsIn [] content fits = fits
+Fits-from_FitsIn (step ∷ steps) content fits =
+    (fits.0, Fits-from_FitsIn steps (after_step step content) (subst (FitsIn steps) (sym (length-after_step step content fits.0)) fits.1))

@@ -1,5 +1,5 @@
 -- What the operations do to the words, and so to the slots: zeros, a bit that is set, and bits in common.
-use Rattle.std.proofs.Common.{◌≡◌, ℕ, zero, suc, ◌*◌, ◌/◌, ◌%◌, ◌^◌, ◌<◌, ◌≤◌, ◌≢◌, min, Bool, true, false, ◌&&◌, ◌||◌, not, cond, nat_lt, nat_eq, ◌==◌, List, [], length, replicate, slice_index, slice_set, bit_and, bit_or, refl, sym, ap, ap₂, ◌∙◌, arith, w64, inl, inr, lt-ltb, length-set, get_or-set_same, get_or-set_other}
+use Rattle.std.proofs.Common.{◌≡◌, ℕ, zero, suc, ◌*◌, ◌/◌, ◌%◌, ◌^◌, ◌<◌, ◌≢◌, min, Bool, true, false, ◌&&◌, ◌||◌, not, cond, nat_lt, nat_eq, ◌==◌, List, length, replicate, slice_index, slice_set, bit_and, bit_or, refl, sym, ap, ap₂, ◌∙◌, arith, w64, inl, inr, lt-ltb, length-set, get_or-set_same, get_or-set_other}
 use Rattle.std.proofs.lemmas.Bool.{cases_eq}
 use Rattle.std.proofs.lemmas.Bool.Decides.{nat_tests}
 use Rattle.std.proofs.lemmas.Nat.{or_lt, and_le_l}

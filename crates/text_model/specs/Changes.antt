@@ -1,5 +1,5 @@
 -- Where a tag begins and ends, over a list of flags: whether each cell has it.
-use Rattle.std.specs.Prelude.{ℕ, ◌+◌, ◌-◌, Bool, true, false, not, List, get_or, take, drop, if◌then◌else◌}
+use Rattle.std.specs.Prelude.{ℕ, ◌+◌, ◌-◌, Bool, false, not, List, get_or, take, drop, if◌then◌else◌}
 use Rattle.std.specs.List.{prefix_len, suffix_len}
 
 -- whether two flags are the same

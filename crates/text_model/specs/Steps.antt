@@ -1,5 +1,5 @@
 -- The steps of an edit: when they fit a content, and the content after them.
-use Rattle.std.specs.Prelude.{ℕ, ◌+◌, ◌<◌, ◌≤◌, Bool, false, List, [], ◌∷◌, length, map, ⊤, if◌then◌else◌}
+use Rattle.std.specs.Prelude.{ℕ, ◌+◌, ◌-◌, ◌<◌, ◌≤◌, Bool, false, List, [], ◌∷◌, length, map, ⊤, if◌then◌else◌}
 use Rattle.std.specs.Char.{IsScalar}
 use Rattle.std.specs.FinSet as set
 use Rattle.std.specs.FinMap as finite
@@ -25,16 +25,19 @@ with_slot slot on cell = record cell { tags = set_slot slot on cell.tags }
 abbrev pub without_slots : Cell → Cell
 without_slots cell = record cell { tags = set.empty }
 
--- Where a step may be made: its places lie in the text, nothing is taken out or put in behind the last cell, and
--- its slot is one that a set can hold.
+-- Where a step may be made in a text of so many cells: its places lie in it, nothing is taken out or put in behind
+-- the last cell, and its slot is one that a set can hold.
+abbrev pub StepFitsIn : Step → ℕ → Type 0
+StepFitsIn (Remove from to) len = (from ≤ to) × (to < len)
+StepFitsIn (Insert at text slots) len = at < len
+StepFitsIn (SetTag from to slot on) len = (from ≤ to) × (to ≤ len) × (slot.0 < slot_count)
+StepFitsIn (ClearTags at) len = at < len
+StepFitsIn (ClearSlot slot) len = slot.0 < slot_count
+StepFitsIn (PutMark number place) len = place.offset ≤ len
+StepFitsIn (TakeMark number) len = ⊤
+
 abbrev pub StepFits : Step → Content → Type 0
-StepFits (Remove from to) content = (from ≤ to) × (to < length content.cells)
-StepFits (Insert at text slots) content = at < length content.cells
-StepFits (SetTag from to slot on) content = (from ≤ to) × (to ≤ length content.cells) × (slot.0 < slot_count)
-StepFits (ClearTags at) content = at < length content.cells
-StepFits (ClearSlot slot) content = slot.0 < slot_count
-StepFits (PutMark number place) content = place.offset ≤ length content.cells
-StepFits (TakeMark number) content = ⊤
+StepFits step content = StepFitsIn step (length content.cells)
 
 -- the cells from one offset to another are taken out, and each mark goes where the kept cells before it end
 abbrev pub after_removal : ℕ → ℕ → Content → Content
@@ -59,6 +62,16 @@ after_step (ClearSlot slot) content = record content { cells = map (with_slot sl
 after_step (PutMark number place) content = record content { marks = finite.insert content.marks number.0 place }
 after_step (TakeMark number) content = record content { marks = finite.remove content.marks number.0 }
 
+-- how many cells there are after a step
+abbrev pub length_after : Step → ℕ → ℕ
+length_after (Remove from to) len = len - (to - from)
+length_after (Insert at text slots) len = len + length text
+length_after (SetTag from to slot on) len = len
+length_after (ClearTags at) len = len
+length_after (ClearSlot slot) len = len
+length_after (PutMark number place) len = len
+length_after (TakeMark number) len = len
+
 -- what a step puts in, if it does, is Unicode scalar values
 abbrev pub InsertsScalars : Step → Type 0
 InsertsScalars (Remove from to) = ⊤
@@ -77,3 +90,8 @@ Fits (step ∷ steps) content = StepFits step content × Fits steps (after_step 
 abbrev pub after : List Step → Content → Content
 after [] content = content
 after (step ∷ steps) content = after steps (after_step step content)
+
+-- the same as `Fits`, over the number of cells alone
+abbrev pub FitsIn : List Step → ℕ → Type 0
+FitsIn [] len = ⊤
+FitsIn (step ∷ steps) len = StepFitsIn step len × FitsIn steps (length_after step len)

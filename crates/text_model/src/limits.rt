@@ -1,7 +1,11 @@
 ghost use Rattle.std.specs.Prelude.{◌≡◌, ◌↔◌, IsSome, IfSome};
 ghost use Rattle.text_model.specs.LimitTable.{AreLimits};
 
+use crate::tag_set::TagSet;
 use std::marker::Model;
+
+/// Each tag has a slot, and each widget one for its `sel`.
+const _: () = prove!(Limits::MOST_TAGS + Limits::MOST_WIDGETS <= TagSet::SLOTS);
 
 /// How much a program lets its texts grow.
 #[derive(Clone, Copy)]

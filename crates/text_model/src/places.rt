@@ -75,4 +75,19 @@ mod tests {
             assert_eq!(rt; place.moved(2, 3), want, "a mark at {offset}");
         }
     }
+
+    #[test]
+    fn marks_are_drawn(rt: HostRuntime) {
+        for (offset, drawn) in [(1, 1), (2, 2), (4, 2), (5, 2), (6, 3)] {
+            let place = Place {
+                offset,
+                gravity: Gravity::Left,
+            };
+            let want = Place {
+                offset: drawn,
+                gravity: Gravity::Left,
+            };
+            assert_eq!(rt; place.drawn(2, 5), want, "a mark at {offset}");
+        }
+    }
 }

@@ -96,7 +96,12 @@ fn push_cells(cells: &mut Vec<Cell>, text: &str, tags: TagSet) -> Result<(), All
 }
 
 /// Puts a text with these tags in before the cell at an offset.
-fn insert_cells(cells: &mut Vec<Cell>, at: usize, text: &Text, tags: TagSet) -> Result<(), AllocError>
+fn insert_cells(
+    cells: &mut Vec<Cell>,
+    at: usize,
+    text: &Text,
+    tags: TagSet,
+) -> Result<(), AllocError>
     requires { at ≤ vec_len cells.old }
     ensures { OnOk result (cells.new.items ≡ inserted at (cells_of text.now tags) cells.old.items) }
 {
@@ -123,7 +128,11 @@ fn set_tag(cells: &mut [Cell], slot: TagSlot, is_on: bool)
     ensures { cells.new ≡ map (with_slot slot.0 is_on) cells.old }
 {
     for cell in cells.iter_mut() {
-        cell.tags = if is_on { cell.tags.with(slot) } else { cell.tags.without(slot) };
+        cell.tags = if is_on {
+            cell.tags.with(slot)
+        } else {
+            cell.tags.without(slot)
+        };
     }
 }
 
@@ -155,7 +164,11 @@ fn draw_places(places: &mut [Option<Place>], from: usize, to: usize)
 }
 
 /// Puts the mark of a number at a place.
-fn put_place(places: &mut Vec<Option<Place>>, number: MarkNo, place: Place) -> Result<(), AllocError>
+fn put_place(
+    places: &mut Vec<Option<Place>>,
+    number: MarkNo,
+    place: Place,
+) -> Result<(), AllocError>
     ensures marks { OnOk result (plain_marks places.new.items ≡ finite.insert (plain_marks places.old.items) number.0 place) }
     ensures few { OnOk result (vec_len places.new ≤ max (vec_len places.old) (2 ^ 16)) }
 {
@@ -178,7 +191,11 @@ fn take_place(places: &mut [Option<Place>], number: MarkNo)
 }
 
 /// Makes a step in the cells and the places of a plain store.
-fn make_step(cells: &mut Vec<Cell>, places: &mut Vec<Option<Place>>, step: &Step) -> Result<(), AllocError>
+fn make_step(
+    cells: &mut Vec<Cell>,
+    places: &mut Vec<Option<Place>>,
+    step: &Step,
+) -> Result<(), AllocError>
     requires plain { IsPlain cells.old.items places.old.items }
     requires fits { StepFits step.now (plain_content cells.old.items places.old.items) }
     ensures plain { OnOk result (IsPlain cells.new.items places.new.items) }
@@ -227,7 +244,11 @@ fn places_after(steps: &[Step], before: usize) -> usize {
 }
 
 /// A copy that grows to so many elements without memory.
-fn copy_with_room<T: Copy>(alloc: Global, items: &[T], capacity: usize) -> Result<Vec<T>, AllocError>
+fn copy_with_room<T: Copy>(
+    alloc: Global,
+    items: &[T],
+    capacity: usize,
+) -> Result<Vec<T>, AllocError>
     ensures { IfOk result (λ copy. copy.items ≡ items.now) }
 {
     let mut copy = Vec::with_capacity(alloc, capacity)?;
@@ -416,90 +437,5 @@ impl TextStore for PlainStore {
 
     fn commit(&mut self, prepared: PlainStore) {
         *self = prepared;
-    }
-}
-
-#[cfg(test)]
-mod tests {
-    use super::*;
-    use crate::edits::StepList;
-    use std::process::Abort;
-    use std::test::Fail;
-
-    /// Puts a text without tags into a store.
-    fn insert<S: TextStore>(
-        rt: &impl Abort,
-        alloc: Global,
-        store: &mut S,
-        at: usize,
-        text: &str,
-    ) -> Result<(), AllocError> {
-        assert!(rt; at < store.len());
-        let mut steps = StepList::new(alloc);
-        let text = Text::new(String::from_str(alloc, text)?);
-        steps.push(Step::Insert(at, text, TagSet::empty()))?;
-        let prepared = store.prepare(&Edit { steps })?;
-        store.commit(prepared);
-        Ok(())
-    }
-
-    fn check_insertions<S: TextStore>(rt: &impl Abort, alloc: Global) -> Result<(), AllocError> {
-        let mut store = S::new(alloc)?;
-        insert(rt, alloc, &mut store, 0, "ab")?;
-        assert!(rt; store.len() == 3);
-        assert_eq!(rt; store.copy_text(0, 3)?.as_str(), "ab\n");
-        insert(rt, alloc, &mut store, 1, "é")?;
-        assert!(rt; store.len() == 4);
-        assert_eq!(rt; store.copy_text(0, 3)?.as_str(), "aéb");
-        Ok(())
-    }
-
-    fn check_two_steps<S: TextStore>(rt: &impl Abort, alloc: Global) -> Result<(), AllocError> {
-        let mut store = S::new(alloc)?;
-        assert!(rt; store.len() == 1);
-        let mut steps = StepList::new(alloc);
-        let last = Text::new(String::from_str(alloc, "b")?);
-        steps.push(Step::Insert(0, last, TagSet::empty()))?;
-        let first = Text::new(String::from_str(alloc, "a")?);
-        steps.push(Step::Insert(0, first, TagSet::empty()))?;
-        let prepared = store.prepare(&Edit { steps })?;
-        assert_eq!(rt; store.len(), 1);
-        store.commit(prepared);
-        assert!(rt; store.len() == 3);
-        assert_eq!(rt; store.copy_text(0, 3)?.as_str(), "ab\n");
-        Ok(())
-    }
-
-    fn check_queries<S: TextStore>(rt: &impl Abort, alloc: Global) -> Result<(), AllocError> {
-        let mut store = S::new(alloc)?;
-        insert(rt, alloc, &mut store, 0, "é\nb\n")?;
-        assert_eq!(rt; store.len(), 5);
-        assert_eq!(rt; store.lines(), 3);
-        for (line, start) in [(0, 0), (1, 2), (2, 4), (3, 5)] {
-            assert!(rt; line <= store.lines());
-            assert_eq!(rt; store.line_start(line), start, "of line {line}");
-        }
-        for (offset, line) in [(0, 0), (1, 0), (2, 1), (3, 1), (4, 2), (5, 3)] {
-            assert!(rt; offset <= store.len());
-            assert_eq!(rt; store.line_of(offset), line, "at {offset}");
-        }
-        for (offset, character) in [(0, 'é'), (1, '\n'), (2, 'b'), (3, '\n'), (4, '\n')] {
-            assert!(rt; offset < store.len());
-            assert_eq!(rt; store.char_at(offset), character, "at {offset}");
-        }
-        Ok(())
-    }
-
-    #[test]
-    fn keeps_what_is_put_in(rt: HostRuntime) -> Result<(), Fail> {
-        check_insertions::<PlainStore>(&rt, rt.alloc())?;
-        check_two_steps::<PlainStore>(&rt, rt.alloc())?;
-        Ok(())
-    }
-
-    #[test]
-    fn answers_queries(rt: HostRuntime) -> Result<(), Fail> {
-        check_queries::<PlainStore>(&rt, rt.alloc())?;
-        Ok(())
     }
 }

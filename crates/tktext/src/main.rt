@@ -12,7 +12,7 @@ const MOST_READS: u32 = 1_073_741_824;
 
 /// The program's limits, each number the greatest.
 fn limits() -> Limits
-    ensures { result ≡ record { chars = 16777216; tags = 192; marks = 4096; widgets = 64; reads = 1073741824 } }
+    ensures { result ≡ record { chars = Limits.MOST_CHARS; tags = Limits.MOST_TAGS; marks = Limits.MOST_MARKS; widgets = Limits.MOST_WIDGETS; reads = 1073741824 } }
 {
     Limits::new(
         Limits::MOST_CHARS,

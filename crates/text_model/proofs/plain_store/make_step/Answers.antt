@@ -1,9 +1,7 @@
-use Rattle.std.proofs.Common.{◌≡◌, ◌+◌, ◌-◌, ◌<◌, ◌≤◌, ◌++◌, length, map, take, drop, set, None, Some, get_or, subst, sym, ap, ap₂, ◌∙◌, arith}
+use Rattle.std.proofs.Common.{◌≡◌, ◌-◌, ◌<◌, ◌++◌, length, map, take, drop, set, None, Some, get_or, subst, sym, ap, ◌∙◌, arith}
 use Rattle.std.specs.Prelude.{option_map}
 use Rattle.std.specs.FinMap as finite
 use Rattle.std.proofs.lemmas.List.{length-map}
-use Rattle.text_model.specs.declared.cells.Cell.{Cell}
-use Rattle.text_model.specs.declared.edits.Step.{Step}
 use Rattle.text_model.specs.declared.edits.Step.TheVariants.{PutMark, TakeMark}
 use Rattle.text_model.specs.Plain.{plain_content, plain_marks}
 use Rattle.text_model.specs.Splices.{moved, drawn}

@@ -1,4 +1,4 @@
-use Rattle.std.proofs.Common.{◌≡◌, ◌+◌, ◌-◌, ◌<◌, ◌≤◌, ◌++◌, length, vec_len, take, replicate, None, Some, ap, ◌∙◌, arith}
+use Rattle.std.proofs.Common.{◌≡◌, ◌+◌, ◌-◌, ◌≤◌, ◌++◌, length, vec_len, replicate, None, ap, ◌∙◌, arith}
 use Rattle.std.specs.FinMap as finite
 use Rattle.std.proofs.lemmas.List.{take_all}
 use Rattle.text_model.specs.Plain.{plain_marks}

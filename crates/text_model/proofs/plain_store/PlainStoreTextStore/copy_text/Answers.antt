@@ -1,4 +1,4 @@
-use Rattle.std.proofs.Common.{sym, ap, ◌∙◌, ◌-◌, take, drop, arith}
+use Rattle.std.proofs.Common.{sym, ap, ◌∙◌, ◌-◌, take, drop}
 use Rattle.std.specs.Prelude.{chars}
 use Rattle.std.proofs.lemmas.Str.{chars-nil}
 use Rattle.std.proofs.lemmas.List.{take_all, take-map, drop-map}

@@ -1,5 +1,4 @@
-use Rattle.std.proofs.Common.{◌∷◌, [], ap, ap₂, ◌++◌, ◌∙◌}
-use Rattle.text_model.specs.declared.cells.Cell.{Cell}
+use Rattle.std.proofs.Common.{◌∷◌, [], ap₂, ◌++◌, ◌∙◌}
 use Rattle.text_model.proofs.PlainLaws.{IsPlain-new, plain_content-new}
 use Rattle.text_model.proofs.plain_store.PlainStoreTextStore.new.Goals as goal
 

@@ -1,6 +1,3 @@
-use Rattle.std.proofs.Common.{◌≤◌, length, ap, ◌∙◌}
-use Rattle.std.specs.Prelude.{IfSome}
-use Rattle.text_model.specs.MarkOrder.{next_mark}
 use Rattle.text_model.specs.Plain.{plain_content, plain_marks}
 use Rattle.text_model.proofs.MarkOrderLaws.{next_mark-above, next_mark-within}
 use Rattle.text_model.proofs.plain_store.PlainStoreTextStore.next_mark.Goals as goal

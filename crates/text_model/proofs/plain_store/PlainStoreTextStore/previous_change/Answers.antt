@@ -11,8 +11,13 @@ use Rattle.text_model.proofs.plain_store.PlainStoreTextStore.previous_change.Goa
 pub overflow_sub-result : goal.overflow_sub-result
 overflow_sub-result c =
     let front = take c.args.offset c.deref.result.now in
-    omega (arith, c.alike_from_last.ensures, suffix_len-le-length (is_alike c.has-is_on.result) (flags c.args.slot.0 front),
-      length-map front (λ (cell : Cell). set.contains cell.tags c.args.slot.0), length-take c.args.offset c.deref.result.now)
+    omega (
+      arith,
+      c.alike_from_last.ensures,
+      suffix_len-le-length (is_alike c.has-is_on.result) (flags c.args.slot.0 front),
+      length-map front (λ (cell : Cell). set.contains cell.tags c.args.slot.0),
+      length-take c.args.offset c.deref.result.now,
+    )
 
 pub returns-clause-value : goal.returns-clause-value
 returns-clause-value c =

@@ -1,4 +1,3 @@
-use Rattle.std.proofs.Common.{◌≤◌, length, ap, ◌∙◌}
 use Rattle.text_model.specs.Plain.{plain_content, plain_marks}
 use Rattle.text_model.proofs.MarkOrderLaws.{previous_mark-below, previous_mark-within}
 use Rattle.text_model.proofs.plain_store.PlainStoreTextStore.previous_mark.Goals as goal
