@@ -4,6 +4,8 @@
 mod faults;
 mod marks;
 mod order;
+#[cfg(test)]
+mod tests;
 mod walk;
 
 pub use faults::NoSuchMark;

@@ -129,3 +129,52 @@ impl NameList {
         note_places(&self.numbers, &mut self.places, 0);
     }
 }
+
+#[cfg(test)]
+mod tests {
+    use super::*;
+    use std::process::Abort;
+    use std::test::Fail;
+
+    fn create(
+        rt: &impl Abort,
+        alloc: Global,
+        names: &mut NameList,
+        name: &str,
+    ) -> Result<Option<u16>, AllocError> {
+        assert!(rt; names.place(name).is_none(), "{name} is new");
+        names.create(String::from_str(alloc, name)?)
+    }
+
+    fn check_order(rt: &impl Abort, names: &NameList, wanted: &[(&str, u16)]) {
+        assert_eq!(rt; names.len(), wanted.len());
+        for (place, (name, number)) in wanted.iter().enumerate() {
+            assert!(rt; place < names.len());
+            assert_eq!(rt; names.name(place), *name, "at {place}");
+            assert_eq!(rt; names.number(place), *number, "of {name}");
+            assert_eq!(rt; names.place(name), Some(place), "of {name}");
+            assert_eq!(rt; names.place_with(*number), Some(place), "of {number}");
+        }
+    }
+
+    #[test]
+    fn names_keep_their_numbers(rt: HostRuntime) -> Result<(), Fail> {
+        let alloc = rt.alloc();
+        let mut names = NameList::new(alloc, 4)?;
+        for (name, number) in [("a", 0), ("é", 1), ("", 2), ("b c", 3)] {
+            assert_eq!(rt; create(&rt, alloc, &mut names, name)?, Some(number));
+        }
+        assert_eq!(rt; create(&rt, alloc, &mut names, "d")?, None);
+        assert!(rt; names.len() == 4);
+        names.move_to(3, 1);
+        check_order(&rt, &names, &[("a", 0), ("b c", 3), ("é", 1), ("", 2)]);
+        assert!(rt; names.len() == 4);
+        names.remove(2);
+        check_order(&rt, &names, &[("a", 0), ("b c", 3), ("", 2)]);
+        assert_eq!(rt; names.place_with(1), None);
+        assert_eq!(rt; names.place_with(4), None);
+        assert_eq!(rt; create(&rt, alloc, &mut names, "é")?, Some(1));
+        check_order(&rt, &names, &[("a", 0), ("b c", 3), ("", 2), ("é", 1)]);
+        Ok(())
+    }
+}

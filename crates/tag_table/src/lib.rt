@@ -3,6 +3,8 @@
 
 mod faults;
 mod tags;
+#[cfg(test)]
+mod tests;
 
 pub use faults::NoSuchTag;
 pub use tags::TagTable;
