@@ -1,10 +1,10 @@
 -- Marks as a list of names with numbers, and a gravity for each number.
-use Rattle.std.proofs.Common.{◌≡◌, ◌≢◌, ℕ, ◌+◌, ◌-◌, ◌<◌, ◌≤◌, Bool, true, false, if◌then◌else◌, Option, None, Some, List, [], ◌∷◌, ◌++◌, length, map, slice_get, slice_set, Contains, refl, sym, ap, ap₂, ◌∙◌, subst, inl, inr, arith, true≢false}
+use Rattle.std.proofs.Common.{◌≡◌, ◌≢◌, ℕ, ◌+◌, ◌-◌, ◌<◌, ◌≤◌, Bool, true, false, if◌then◌else◌, Option, None, Some, List, [], ◌∷◌, ◌++◌, length, map, slice_get, slice_set, Contains, refl, sym, ap, ap₂, ◌∙◌, subst, inl, inr, arith}
 use Rattle.std.specs.Prelude.{position, find, remove, bytes_eq, unwrap_or}
-use Rattle.std.specs.Option.{MatchOption, SomeIff, option_map, option_and_then}
+use Rattle.std.specs.Option.{MatchOption, SomeIff, option_map}
 use Rattle.std.proofs.lemmas.Bool.{cases_eq}
 use Rattle.std.proofs.lemmas.List.{length-map, map_push}
-use Rattle.std.proofs.lemmas.Option.{none-some, same_Some, slice_get-map, slice_get_within}
+use Rattle.std.proofs.lemmas.Option.{none-some, same_Some, slice_get-map}
 use Rattle.std.proofs.lemmas.Slice.Eq.{bytes_eq-Decides}
 use Rattle.name_list.specs.Moves.{without}
 use Rattle.name_list.specs.Names as list
@@ -34,14 +34,14 @@ IsLeastFree-number gravities es number least =
     rw (numbers_seen gravities es) (record {
       shared = omega arith;
       free = λ has.
-        let own = stands_from_Contains (map (λ n. first_number + n) numbers) _ has in
-        let old = stood_at (λ n. first_number + n) numbers own.0 _ own.1 in
-        let same : old.0 ≡ number = let e = old.2 in omega arith in
-        least.free (Contains-from_stands numbers number (own.0, old.1 ∙ ap (λ n. Some n) same));
+          let own = stands_from_Contains (map (λ n. first_number + n) numbers) _ has in
+          let old = stood_at (λ n. first_number + n) numbers own.0 _ own.1 in
+          let same : old.0 ≡ number = let e = old.2 in omega arith in
+          least.free (Contains-from_stands numbers number (own.0, old.1 ∙ ap (λ n. Some n) same));
       below = λ k shared less.
-        let old = stands_from_Contains numbers (k - 128) (least.below (k - 128) (omega arith)) in
-        let back : first_number + (k - 128) ≡ k = omega arith in
-        Contains-from_stands _ k (subst (Stands (map (λ n. first_number + n) numbers)) back (stands_map (λ n. first_number + n) numbers (k - 128) old));
+          let old = stands_from_Contains numbers (k - 128) (least.below (k - 128) (omega arith)) in
+          let back : first_number + (k - 128) ≡ k = omega arith in
+          Contains-from_stands _ k (subst (Stands (map (λ n. first_number + n) numbers)) back (stands_map (λ n. first_number + n) numbers (k - 128) old));
     })
 
 -- the laws of a table
@@ -52,15 +52,15 @@ AreMarks-kept names gravities are kept =
     record {
       names_apart = rw (names_seen gravities es) are.names_apart;
       numbers_apart = λ i j number is also.
-        let one = stood_at (λ n. first_number + n) numbers i number (ap (λ ns. slice_get ns i) (sym (numbers_seen gravities es)) ∙ is) in
-        let two = stood_at (λ n. first_number + n) numbers j number (ap (λ ns. slice_get ns j) (sym (numbers_seen gravities es)) ∙ also) in
-        let same : two.0 ≡ one.0 = let a = one.2 in let b = two.2 in omega arith in
-        are.numbers_apart i j one.0 one.1 (two.1 ∙ ap (λ n. Some n) same);
+          let one = stood_at (λ n. first_number + n) numbers i number (ap (λ ns. slice_get ns i) (sym (numbers_seen gravities es)) ∙ is) in
+          let two = stood_at (λ n. first_number + n) numbers j number (ap (λ ns. slice_get ns j) (sym (numbers_seen gravities es)) ∙ also) in
+          let same : two.0 ≡ one.0 = let a = one.2 in let b = two.2 in omega arith in
+          are.numbers_apart i j one.0 one.1 (two.1 ∙ ap (λ n. Some n) same);
       numbers = λ at number is.
-        let old = stood_at (λ n. first_number + n) numbers at number (ap (λ ns. slice_get ns at) (sym (numbers_seen gravities es)) ∙ is) in
-        let below = are.below at old.0 old.1 in
-        let same = old.2 in
-        (omega arith, omega arith);
+          let old = stood_at (λ n. first_number + n) numbers at number (ap (λ ns. slice_get ns at) (sym (numbers_seen gravities es)) ∙ is) in
+          let below = are.below at old.0 old.1 in
+          let same = old.2 in
+          (omega arith, omega arith);
       room = let fits = are.room in rw (length-map es (mark gravities)) fits;
       limit = kept.few;
     }
@@ -110,9 +110,9 @@ pub marks-push : (gravities : List Gravity) (es : List Named) (name : List ℕ) 
 marks-push gravities es name number within least =
     map_push (mark (slice_set gravities number Right)) es (record { name = name; number = number })
     ∙ ap₂ (λ ms m. ms ++ m ∷ [])
-        (map-same (mark (slice_set gravities number Right)) (mark gravities) es (λ at e is. gravity_stays gravities number Right e (λ same.
-            least.free (Contains-from_stands (list.numbers_of es) number (at, slice_get-map (λ (x : Named). x.number) es at ∙ ap (option_map (λ (x : Named). x.number)) is ∙ ap (λ n. Some n) same)))))
-        (gravity_turns gravities number Right (record { name = name; number = number }) within refl)
+    (map-same (mark (slice_set gravities number Right)) (mark gravities) es (λ at e is. gravity_stays gravities number Right e (λ same.
+    least.free (Contains-from_stands (list.numbers_of es) number (at, slice_get-map (λ (x : Named). x.number) es at ∙ ap (option_map (λ (x : Named). x.number)) is ∙ ap (λ n. Some n) same)))))
+    (gravity_turns gravities number Right (record { name = name; number = number }) within refl)
 
 differs : (a b : List ℕ) → ¬ (a ≡ b) → bytes_eq a b ≡ false
 differs a b apart = by (bytes_eq a b) refl
@@ -131,18 +131,18 @@ marks-turned names gravities name at number gravity are is numbered within =
     let own = (bytes_eq-Decides name first.0.name).0 (position-passes (λ (e : Named). bytes_eq name e.name) es at first.0 is first.1) in
     let named_here = slice_get-map (λ (x : Named). x.name) es at ∙ ap (option_map (λ (x : Named). x.name)) first.1 ∙ ap (λ n. Some n) (sym own) in
     map-same (mark (slice_set gravities number gravity)) (λ e. turn (mark gravities e)) es (λ i e here.
-        let numbered_e = slice_get-map (λ (x : Named). x.number) es i ∙ ap (option_map (λ (x : Named). x.number)) here in
-        let named_e = slice_get-map (λ (x : Named). x.name) es i ∙ ap (option_map (λ (x : Named). x.name)) here in
-        elim (cases_eq i at) [
-        | inl same ↦
-            let number_is = same_Some e.number number (sym numbered_e ∙ ap (slice_get (list.numbers_of es)) same ∙ numbered) in
-            let name_is = same_Some name e.name (sym named_here ∙ ap (slice_get (list.names_of es)) (sym same) ∙ named_e) in
-            gravity_turns gravities number gravity e within number_is ∙ ap (λ b. if b then record (mark gravities e) { gravity = gravity } else mark gravities e) (sym ((bytes_eq-Decides name e.name).1 name_is))
-        | inr other ↦
-            let not_number : e.number ≢ number = λ same. other (are.numbers_apart i at number (numbered_e ∙ ap (λ n. Some n) same) numbered) in
-            let not_name : ¬ (name ≡ e.name) = λ same. other (are.names_apart i at name (named_e ∙ ap (λ n. Some n) (sym same)) named_here) in
-            gravity_stays gravities number gravity e not_number ∙ ap (λ b. if b then record (mark gravities e) { gravity = gravity } else mark gravities e) (sym (differs name e.name not_name))
-      ])
+    let numbered_e = slice_get-map (λ (x : Named). x.number) es i ∙ ap (option_map (λ (x : Named). x.number)) here in
+    let named_e = slice_get-map (λ (x : Named). x.name) es i ∙ ap (option_map (λ (x : Named). x.name)) here in
+    elim (cases_eq i at) [
+      | inl same ↦
+          let number_is = same_Some e.number number (sym numbered_e ∙ ap (slice_get (list.numbers_of es)) same ∙ numbered) in
+          let name_is = same_Some name e.name (sym named_here ∙ ap (slice_get (list.names_of es)) (sym same) ∙ named_e) in
+          gravity_turns gravities number gravity e within number_is ∙ ap (λ b. if b then record (mark gravities e) { gravity = gravity } else mark gravities e) (sym ((bytes_eq-Decides name e.name).1 name_is))
+      | inr other ↦
+          let not_number : e.number ≢ number = λ same. other (are.numbers_apart i at number (numbered_e ∙ ap (λ n. Some n) same) numbered) in
+          let not_name : ¬ (name ≡ e.name) = λ same. other (are.names_apart i at name (named_e ∙ ap (λ n. Some n) (sym same)) named_here) in
+          gravity_stays gravities number gravity e not_number ∙ ap (λ b. if b then record (mark gravities e) { gravity = gravity } else mark gravities e) (sym (differs name e.name not_name))
+    ])
     ∙ sym (map-map turn (mark gravities) es)
 
 -- a mark fewer

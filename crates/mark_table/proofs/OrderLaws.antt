@@ -1,9 +1,9 @@
 -- The first and the last of marks, by their order, and the marks of a widget by their ranks.
-use Rattle.std.proofs.Common.{◌≡◌, ◌≢◌, ℕ, zero, suc, ◌+◌, ◌*◌, ◌<◌, ◌≤◌, ◌⊎◌, Bool, true, false, cond, not, nat_lt, nat_le, ◌==◌, if◌then◌else◌, Option, None, Some, List, [], ◌∷◌, ◌++◌, slice_get, refl, sym, ap, ap₂, ◌∙◌, subst, inl, inr, arith, true≢false, eq-eqb}
+use Rattle.std.proofs.Common.{◌≡◌, ◌≢◌, ℕ, zero, suc, ◌+◌, ◌*◌, Bool, true, false, cond, not, nat_lt, nat_le, ◌==◌, if◌then◌else◌, Option, None, Some, List, [], ◌∷◌, ◌++◌, slice_get, refl, sym, ap, ap₂, ◌∙◌, subst, inl, inr, arith, true≢false, eq-eqb}
 use Rattle.std.specs.Prelude.{find}
 use Rattle.std.specs.FinMap as finite
 use Rattle.std.specs.List.{filter, reduce, fold}
-use Rattle.std.specs.Option.{MatchOption, option_map, option_map_or, option_and_then, option_to_list}
+use Rattle.std.specs.Option.{MatchOption, option_map_or, option_and_then, option_to_list}
 use Rattle.std.proofs.lemmas.Bool.Decides.{nat_tests}
 use Rattle.std.proofs.lemmas.List.Elements.{filter_agree}
 use Rattle.std.proofs.lemmas.Option.{none-some, same_Some}
@@ -11,14 +11,13 @@ use Rattle.text_model.specs.declared.places.Place.{Place}
 use Rattle.text_model.specs.Content.{Marks}
 use Rattle.name_list.proofs.ListLaws.{Stands}
 use Rattle.mark_table.specs.declared.order.MarkView.{MarkView}
-use Rattle.mark_table.specs.declared.order.Origin.{Origin}
 use Rattle.mark_table.specs.declared.order.Origin.TheVariants.{Mark, Place as Offset}
 use Rattle.mark_table.specs.declared.order.Shown.{Shown}
 use Rattle.mark_table.specs.declared.order.WidgetMark.{WidgetMark}
 use Rattle.mark_table.specs.declared.order.WidgetMark.TheVariants.{Insert, Current, Shared}
-use Rattle.mark_table.specs.Order.{earlier, first, last, own_mark, own_place, shared_mark, shared_marks, usable, shown_mark, rank_of, next_shown, previous_shown}
+use Rattle.mark_table.specs.Order.{earlier, first, last, own_mark, shared_mark, shared_marks, usable, shown_mark, next_shown, previous_shown}
 use Rattle.mark_table.specs.Walk.{IsFirst, IsLast, first_of, last_of, shared_at}
-use Rattle.mark_table.proofs.SharedWalk.{stands_left, stands_right, stands_either, shared-out, shared-in, one-out, one_shared, IsShared}
+use Rattle.mark_table.proofs.SharedWalk.{stands_left, stands_right, stands_either, shared-out, shared-in, one-out, one_shared}
 use Rattle.mark_table.proofs.StoreLaws.{was_kept, kept_entry}
 
 -- the order
@@ -71,7 +70,7 @@ module _ (lt : Shown → Shown → Bool) (order : IsOrder lt) where
   abbrev IsBest : (Shown → Bool) → List Shown → Option Shown → Type 0
   IsBest keep marks found =
       MatchOption found ((shown : Shown) → Stands marks shown → keep shown ≡ false)
-          (λ best. Stands marks best × (keep best ≡ true) × ((shown : Shown) → Stands marks shown → keep shown ≡ true → lt shown best ≡ false))
+      (λ best. Stands marks best × (keep best ≡ true) × ((shown : Shown) → Stands marks shown → keep shown ≡ true → lt shown best ≡ false))
 
   itself : (a : Shown) → lt a a ≡ false
   itself a = by (lt a a) refl
@@ -336,13 +335,13 @@ module _ (view : MarkView) (marks : Marks) (numbers : List ℕ) where
   pub shown_shared : (place : ℕ) (found : Option Shown) → option_to_list found ≡ shared_at view marks numbers place → found ≡ shown_mark (Shared place) (usable view marks numbers)
   shown_shared place found is = sym (find_part (λ (s : Shown). s.rank == 2 + place) (usable view marks numbers) (shared_at view marks numbers place) found is
       (λ s has.
-        let at = shared_at-out place s has in
-        let one = one-out view (2 + place) (finite.get marks at.0) s at.2 in
-        let offset = one.2 in
-        let start = one.3 in
-        let end = one.4 in
-        stands_right inserts (currents ++ shareds) s (stands_right currents shareds s
-            (subst (Stands shareds) (same_shown (record { place = one.0.offset; rank = 2 + place }) s offset (sym one.5)) (shared-in view marks 2 numbers place at.0 one.0 at.1 one.1 (omega arith) (omega arith)))))
+      let at = shared_at-out place s has in
+      let one = one-out view (2 + place) (finite.get marks at.0) s at.2 in
+      let offset = one.2 in
+      let start = one.3 in
+      let end = one.4 in
+      stands_right inserts (currents ++ shareds) s (stands_right currents shareds s
+      (subst (Stands shareds) (same_shown (record { place = one.0.offset; rank = 2 + place }) s offset (sym one.5)) (shared-in view marks 2 numbers place at.0 one.0 at.1 one.1 (omega arith) (omega arith)))))
       (λ s has. let at = shared_at-out place s has in rank_is s (2 + place) (one-out view (2 + place) (finite.get marks at.0) s at.2).5)
       (λ s has same. elim (stands_either inserts (currents ++ shareds) s has) [
         | inl own ↦ let one = own-out view 0 _ s own in let other = is_rank s (2 + place) same in absurd (omega arith)

@@ -1,11 +1,10 @@
 -- The shared marks in their order, from offset to offset.
-use Rattle.std.proofs.Common.{◌≡◌, ◌≢◌, ℕ, zero, suc, ◌+◌, ◌-◌, ◌<◌, ◌≤◌, ◌⊎◌, min, max, Bool, true, false, cond, ◌&&◌, ◌||◌, nat_lt, nat_le, ◌==◌, if◌then◌else◌, Option, None, Some, List, [], ◌∷◌, ◌++◌, length, slice_get, refl, sym, ap, ap₂, ◌∙◌, subst, inl, inr, arith, true≢false}
+use Rattle.std.proofs.Common.{◌≡◌, ◌≢◌, ℕ, zero, suc, ◌+◌, ◌-◌, ◌<◌, ◌≤◌, ◌⊎◌, min, max, Bool, true, false, ◌&&◌, nat_lt, nat_le, if◌then◌else◌, Option, None, Some, List, [], ◌∷◌, ◌++◌, length, slice_get, refl, sym, ap, ◌∙◌, subst, inl, inr, arith}
 use Rattle.std.specs.FinMap as finite
 use Rattle.std.specs.Option.{MatchOption}
-use Rattle.std.proofs.lemmas.Bool.{cases_lt, cases_eq}
+use Rattle.std.proofs.lemmas.Bool.{cases_eq}
 use Rattle.std.proofs.lemmas.Bool.Decides.{nat_tests}
 use Rattle.std.proofs.lemmas.Option.{none-some, same_Some, slice_get_within}
-use Rattle.text_model.specs.declared.places.MarkNo.{MarkNo}
 use Rattle.text_model.specs.declared.places.Place.{Place}
 use Rattle.text_model.specs.Content.{Marks}
 use Rattle.text_model.specs.MarkOrder.{marks_at, next_mark, previous_mark}
@@ -81,14 +80,14 @@ one-out view rank (Some place) shown has = by (nat_le view.start place.offset &&
 pub shared-out : (view : MarkView) (marks : Marks) (rank : ℕ) (numbers : List ℕ) (shown : Shown) → Stands (shared_marks view marks rank numbers) shown → (at : ℕ) × IsShared view marks numbers at shown rank
 shared-out view marks rank [] shown has = absurd (none-some shown has.1)
 shared-out view marks rank (n ∷ numbers) shown has = elim (stands_either (shared_mark view rank (finite.get marks n)) (shared_marks view marks (rank + 1) numbers) shown has) [
-    | inl own ↦
-        let one = one-out view rank (finite.get marks n) shown own in
-        (0, record { number = n; stands = one.0; numbered = refl; has = one.1; here = one.2; above = one.3; below = one.4; ranked = let e = one.5 in omega arith })
-    | inr other ↦
-        let rest = shared-out view marks (rank + 1) numbers shown other in
-        let s = rest.1 in
-        (suc rest.0, record { number = s.number; stands = s.stands; numbered = s.numbered; has = s.has; here = s.here; above = s.above; below = s.below; ranked = let e = s.ranked in omega arith })
-  ]
+  | inl own ↦
+      let one = one-out view rank (finite.get marks n) shown own in
+      (0, record { number = n; stands = one.0; numbered = refl; has = one.1; here = one.2; above = one.3; below = one.4; ranked = let e = one.5 in omega arith })
+  | inr other ↦
+      let rest = shared-out view marks (rank + 1) numbers shown other in
+      let s = rest.1 in
+      (suc rest.0, record { number = s.number; stands = s.stands; numbered = s.numbered; has = s.has; here = s.here; above = s.above; below = s.below; ranked = let e = s.ranked in omega arith })
+]
 
 -- tests of the order
 pub not_before_bound : (shown bound : Shown) → earlier shown bound ≡ false → bound.place ≤ shown.place
@@ -175,8 +174,10 @@ module _ (view : MarkView) (marks : Marks) (numbers : List ℕ) (bound : Shown) 
   pub IsFirst-found : (offset from place : ℕ) → Passed offset → Turns offset from → view.start ≤ offset → offset ≤ view.end → IsFirstAt (marks_at offset marks) numbers from (Some place)
       → IsFirst (shared_marks view marks 2 numbers) bound (Some (record { place = offset; rank = 2 + place }))
   unfolding Passed Turns
-  IsFirst-found offset from place passed turns above below found =
-      (there offset place found.1 above below, turns place ∙ le_is place from found.0, λ at shown is behind.
+  IsFirst-found offset from place passed turns above below found = (
+    there offset place found.1 above below,
+    turns place ∙ le_is place from found.0,
+    λ at shown is behind.
         let low = passed at shown is behind in
         elim (cases_eq shown.place offset) [
           | inl here ↦
@@ -186,17 +187,18 @@ module _ (view : MarkView) (marks : Marks) (numbers : List ℕ) (bound : Shown) 
               let least = found.2 one.0 (not_lt one.0 from turn) one.1 in
               one_place shown (record { place = offset; rank = 2 + place }) here (omega arith)
           | inr other ↦ behind_place shown (record { place = offset; rank = 2 + place }) (omega arith)
-        ])
+        ],
+  )
 
   pub Passed-more : (offset from : ℕ) → Passed offset → Turns offset from → IsFirstAt (marks_at offset marks) numbers from None → Passed (offset + 1)
   unfolding Passed Turns
   Passed-more offset from passed turns none = λ at shown is behind.
       let low = passed at shown is behind in
       let other : shown.place ≢ offset = λ here.
-          let one = told offset shown (at, is) here in
-          let ranked = one.2 in
-          let turn = sym (turns one.0) ∙ ap (λ (s : Shown). earlier s bound) (λ i. record { place = sym here i; rank = sym ranked i }) ∙ behind in
-          none one.0 (not_lt one.0 from turn) one.1 in
+      let one = told offset shown (at, is) here in
+      let ranked = one.2 in
+      let turn = sym (turns one.0) ∙ ap (λ (s : Shown). earlier s bound) (λ i. record { place = sym here i; rank = sym ranked i }) ∙ behind in
+      none one.0 (not_lt one.0 from turn) one.1 in
       omega arith
 
   pub IsFirst-none : (offset : ℕ) → Passed offset → view.end < offset → IsFirst (shared_marks view marks 2 numbers) bound None
@@ -249,8 +251,10 @@ module _ (view : MarkView) (marks : Marks) (numbers : List ℕ) (bound : Shown) 
   pub IsLast-found : (offset upto place : ℕ) → Ahead offset → TurnsBack offset upto → view.start ≤ offset → offset ≤ view.end → IsLastAt (marks_at offset marks) numbers upto (Some place)
       → IsLast (shared_marks view marks 2 numbers) bound (Some (record { place = offset; rank = 2 + place }))
   unfolding Ahead TurnsBack
-  IsLast-found offset upto place ahead turns above below found =
-      (there offset place found.1 above below, turns place (slice_get_within numbers place _ found.1.3) ∙ lt_is place upto found.0, λ at shown is before.
+  IsLast-found offset upto place ahead turns above below found = (
+    there offset place found.1 above below,
+    turns place (slice_get_within numbers place _ found.1.3) ∙ lt_is place upto found.0,
+    λ at shown is before.
         let low = ahead at shown is before in
         elim (cases_eq shown.place offset) [
           | inl here ↦
@@ -260,7 +264,8 @@ module _ (view : MarkView) (marks : Marks) (numbers : List ℕ) (bound : Shown) 
               let greatest = found.2 one.0 (is_lt one.0 upto turn) one.1 in
               one_place (record { place = offset; rank = 2 + place }) shown (sym here) (omega arith)
           | inr other ↦ behind_place (record { place = offset; rank = 2 + place }) shown (omega arith)
-        ])
+        ],
+  )
 
   not_at : (offset upto : ℕ) → TurnsBack offset upto → IsLastAt (marks_at offset marks) numbers upto None → (at : ℕ) (shown : Shown) → slice_get (shared_marks view marks 2 numbers) at ≡ Some shown → earlier shown bound ≡ true → shown.place ≢ offset
   unfolding TurnsBack

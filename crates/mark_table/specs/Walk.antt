@@ -1,5 +1,5 @@
 -- How the order of marks is looked through: at one place, and from place to place.
-use Rattle.std.specs.Prelude.{◌≡◌, ◌≢◌, ℕ, ◌+◌, ◌<◌, ◌≤◌, false, true, Bool, not, Option, None, Some, List, [], slice_get, if◌then◌else◌}
+use Rattle.std.specs.Prelude.{◌≡◌, ℕ, ◌+◌, ◌<◌, ◌≤◌, false, true, Option, None, Some, List, [], slice_get, if◌then◌else◌}
 use Rattle.std.specs.FinMap as finite
 use Rattle.std.specs.Option.{MatchOption, option_map_or}
 use Rattle.text_model.specs.Content.{Marks}
@@ -16,27 +16,27 @@ IsAt at numbers place = (index : ℕ) × (number : MarkNo) × (slice_get at inde
 abbrev pub IsFirstAt : List MarkNo → List ℕ → ℕ → Option ℕ → Type 0
 IsFirstAt at numbers from found =
     MatchOption found ((place : ℕ) → from ≤ place → ¬ IsAt at numbers place)
-        (λ first. (from ≤ first) × IsAt at numbers first × ((place : ℕ) → from ≤ place → IsAt at numbers place → first ≤ place))
+    (λ first. (from ≤ first) × IsAt at numbers first × ((place : ℕ) → from ≤ place → IsAt at numbers place → first ≤ place))
 
 -- the last of the shared marks at a place, before one
 abbrev pub IsLastAt : List MarkNo → List ℕ → ℕ → Option ℕ → Type 0
 IsLastAt at numbers upto found =
     MatchOption found ((place : ℕ) → place < upto → ¬ IsAt at numbers place)
-        (λ last. (last < upto) × IsAt at numbers last × ((place : ℕ) → place < upto → IsAt at numbers place → place ≤ last))
+    (λ last. (last < upto) × IsAt at numbers last × ((place : ℕ) → place < upto → IsAt at numbers place → place ≤ last))
 
 -- the first of some marks that isn't earlier than a bound
 abbrev pub IsFirst : List Shown → Shown → Option Shown → Type 0
 IsFirst marks bound found =
     MatchOption found ((at : ℕ) (shown : Shown) → slice_get marks at ≡ Some shown → earlier shown bound ≡ true)
-        (λ first. ((at : ℕ) × (slice_get marks at ≡ Some first)) × (earlier first bound ≡ false)
-            × ((at : ℕ) (shown : Shown) → slice_get marks at ≡ Some shown → earlier shown bound ≡ false → earlier shown first ≡ false))
+    (λ first. ((at : ℕ) × (slice_get marks at ≡ Some first)) × (earlier first bound ≡ false)
+    × ((at : ℕ) (shown : Shown) → slice_get marks at ≡ Some shown → earlier shown bound ≡ false → earlier shown first ≡ false))
 
 -- the last of some marks that is earlier than a bound
 abbrev pub IsLast : List Shown → Shown → Option Shown → Type 0
 IsLast marks bound found =
     MatchOption found ((at : ℕ) (shown : Shown) → slice_get marks at ≡ Some shown → earlier shown bound ≡ false)
-        (λ last. ((at : ℕ) × (slice_get marks at ≡ Some last)) × (earlier last bound ≡ true)
-            × ((at : ℕ) (shown : Shown) → slice_get marks at ≡ Some shown → earlier shown bound ≡ true → earlier last shown ≡ false))
+    (λ last. ((at : ℕ) × (slice_get marks at ≡ Some last)) × (earlier last bound ≡ true)
+    × ((at : ℕ) (shown : Shown) → slice_get marks at ≡ Some shown → earlier shown bound ≡ true → earlier last shown ≡ false))
 
 -- the earlier of two marks, and the later
 abbrev pub first_of : Option Shown → Option Shown → Option Shown

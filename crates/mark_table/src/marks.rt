@@ -103,7 +103,8 @@ impl MarkTable {
         ensures refused { IfOk result (λ made. IsNone made → self.new ≡ self.old) }
         ensures least { IfOk result (λ made. IfSome made (λ number. IsLeastFree (numbers_of self.old.marks) number.0)) }
         ensures last { IfOk result (λ made. IfSome made (λ number. self.new ≡ record self.old {
-            marks = self.old.marks ++ record { name = chars (string_bytes name); number = number.0; gravity = Gravity.Right } ∷ [] })) }
+          marks = self.old.marks ++ record { name = chars (string_bytes name); number = number.0; gravity = Gravity.Right } ∷ [];
+        })) }
         // To take it out again gives back the marks before it.
         ensures back { IfOk result (λ made. IfSome made (λ _. without (is_named (chars (string_bytes name))) self.new.marks ≡ self.old.marks)) }
         ensures err { OnErr result (self.new ≡ self.old) }

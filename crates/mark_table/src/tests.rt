@@ -149,7 +149,10 @@ fn check_row<S: TextStore>(
         previous = Some(*mark);
     }
     assert_eq!(rt; marks.next(store, view, origin), None);
-    assert_eq!(rt; marks.previous(store, view, Origin::Place(usize::MAX)), previous);
+    assert_eq!(rt;
+        marks.previous(store, view, Origin::Place(usize::MAX)),
+        previous
+    );
 }
 
 fn check_marks_of_a_text<S: TextStore>(rt: &impl Abort, alloc: Global) -> Result<(), Fail> {
@@ -175,7 +178,10 @@ fn check_marks_of_a_text<S: TextStore>(rt: &impl Abort, alloc: Global) -> Result
         (4, None, Some(z)),
     ] {
         assert_eq!(rt; marks.next(&store, view, Origin::Place(place)), next);
-        assert_eq!(rt; marks.previous(&store, view, Origin::Place(place)), previous);
+        assert_eq!(rt;
+            marks.previous(&store, view, Origin::Place(place)),
+            previous
+        );
     }
     Ok(())
 }
@@ -225,7 +231,14 @@ fn check_many_marks<S: TextStore>(rt: &impl Abort, alloc: Global) -> Result<(), 
     let mut store: S = store(rt, alloc, 0, 0)?;
     for place in 0..4_096usize {
         let name = format!(in alloc; "m{place}")?;
-        add(rt, alloc, &mut marks, &mut store, name.as_str(), 1 + place % 2)?;
+        add(
+            rt,
+            alloc,
+            &mut marks,
+            &mut store,
+            name.as_str(),
+            1 + place % 2,
+        )?;
     }
     assert_eq!(rt; create(rt, alloc, &mut marks, "more")?, None);
     let view = MarkView {
@@ -236,7 +249,10 @@ fn check_many_marks<S: TextStore>(rt: &impl Abort, alloc: Global) -> Result<(), 
     for (from, next) in [(0, 2), (1, 3), (2_000, 2_002), (4_094, 1)] {
         let (from, next) = (WidgetMark::Shared(from), WidgetMark::Shared(next));
         assert_eq!(rt; marks.next(&store, view, Origin::Mark(from)), Some(next));
-        assert_eq!(rt; marks.previous(&store, view, Origin::Mark(next)), Some(from));
+        assert_eq!(rt;
+            marks.previous(&store, view, Origin::Mark(next)),
+            Some(from)
+        );
     }
     let last = WidgetMark::Shared(4_095);
     assert_eq!(rt; marks.next(&store, view, Origin::Mark(last)), None);

@@ -258,7 +258,12 @@ impl MarkTable {
 
     /// The mark behind a mark in the order of the marks that the widget can use, or the first mark at or behind a
     /// place; none behind a mark that the widget can't use (text(n), "mark next").
-    pub fn next<S: TextStore>(&self, store: &S, view: MarkView, origin: Origin) -> Option<WidgetMark>
+    pub fn next<S: TextStore>(
+        &self,
+        store: &S,
+        view: MarkView,
+        origin: Origin,
+    ) -> Option<WidgetMark>
         requires ordered { view.start ≤ view.end }
         requires widget { view.widget.0 < MOST_WIDGETS }
         ensures { result ≡ next_mark origin (usable view (S.content store.now).marks (numbers_of self.now.marks)) }

@@ -1,13 +1,12 @@
 -- Elements by their places: after a push, a write, a removal, an insertion and a move.
-use Rattle.std.proofs.Common.{◌≡◌, ℕ, zero, suc, ◌+◌, ◌-◌, ◌<◌, ◌≤◌, ◌≢◌, ◌⊎◌, Bool, nat_lt, if◌then◌else◌, Option, None, Some, List, [], ◌∷◌, ◌++◌, length, map, take, drop, get_or, slice_get, slice_set, Contains, refl, sym, ap, ◌∙◌, subst, inl, inr, arith, lt-ltb, le-ltb}
+use Rattle.std.proofs.Common.{◌≡◌, ℕ, zero, suc, ◌+◌, ◌-◌, ◌<◌, ◌≤◌, ◌≢◌, ◌⊎◌, nat_lt, if◌then◌else◌, Some, List, [], ◌∷◌, ◌++◌, length, map, slice_get, slice_set, Contains, refl, sym, ap, ◌∙◌, inl, inr, arith, lt-ltb, le-ltb}
 use Rattle.std.specs.Prelude.{insert, remove}
 use Rattle.std.specs.Option.{option_map}
 use Rattle.std.proofs.lemmas.Bool.{cases_lt, cases_eq}
 use Rattle.std.proofs.lemmas.Bool.Decides.{nat_tests}
-use Rattle.std.proofs.lemmas.Option.{none-some, same_Some, slice_get-map, slice_get-get_or, slice_get_within, get_or_from_slice_get, slice_get_past}
-use Rattle.std.proofs.lemmas.List.Edits.{length-remove, length-insert}
-use Rattle.name_list.specs.Moves.{move_index}
-use Rattle.name_list.specs.Names.{AreApart, IsLeastFree}
+use Rattle.std.proofs.lemmas.Option.{none-some, same_Some, slice_get-map, slice_get-get_or, slice_get_within, get_or_from_slice_get}
+use Rattle.std.proofs.lemmas.List.Edits.{length-remove}
+use Rattle.name_list.specs.Names.{AreApart}
 
 -- it stands somewhere in the list
 abbrev pub Stands : {A : Type 0} → List A → A → Type 0
@@ -72,9 +71,9 @@ before_removal i at = if nat_lt at i then at else at + 1
 
 shifted : {A : Type 0} (z : A) (xs : List A) (i at : ℕ) → slice_get xs (before_removal i at) ≡ slice_get (z ∷ xs) (before_removal (suc i) (suc at))
 shifted z xs i at = elim (cases_lt at i) [
-    | inl below ↦ ap (slice_get xs) (ap (λ b. if b then at else at + 1) (lt-ltb at i below)) ∙ sym (ap (slice_get (z ∷ xs)) (ap (λ b. if b then suc at else suc at + 1) (lt-ltb (suc at) (suc i) (omega arith))))
-    | inr above ↦ ap (slice_get xs) (ap (λ b. if b then at else at + 1) (le-ltb at i above)) ∙ sym (ap (slice_get (z ∷ xs)) (ap (λ b. if b then suc at else suc at + 1) (le-ltb (suc at) (suc i) (omega arith)) ∙ (let e : suc at + 1 ≡ suc (at + 1) = omega arith in e)))
-  ]
+  | inl below ↦ ap (slice_get xs) (ap (λ b. if b then at else at + 1) (lt-ltb at i below)) ∙ sym (ap (slice_get (z ∷ xs)) (ap (λ b. if b then suc at else suc at + 1) (lt-ltb (suc at) (suc i) (omega arith))))
+  | inr above ↦ ap (slice_get xs) (ap (λ b. if b then at else at + 1) (le-ltb at i above)) ∙ sym (ap (slice_get (z ∷ xs)) (ap (λ b. if b then suc at else suc at + 1) (le-ltb (suc at) (suc i) (omega arith)) ∙ (let e : suc at + 1 ≡ suc (at + 1) = omega arith in e)))
+]
 
 pub get_remove : {A : Type 0} (xs : List A) (i at : ℕ) → i < length xs → slice_get (remove xs i) at ≡ slice_get xs (before_removal i at)
 get_remove [] i at within = absurd (omega arith)
@@ -94,11 +93,11 @@ before_removal-apart i j k same = grind (arith, nat_tests)
 -- what stood at another place still stands
 pub get_remove_other : {A : Type 0} (xs : List A) (i at : ℕ) (x : A) → i < length xs → at ≢ i → slice_get xs at ≡ Some x → Stands (remove xs i) x
 get_remove_other xs i at x within other is = elim (cases_lt at i) [
-    | inl below ↦ (at, get_remove xs i at within ∙ ap (slice_get xs) (ap (λ b. if b then at else at + 1) (lt-ltb at i below)) ∙ is)
-    | inr above ↦
-        let back : before_removal i (at - 1) ≡ at = ap (λ b. if b then at - 1 else at - 1 + 1) (le-ltb (at - 1) i (omega arith)) ∙ omega arith in
-        (at - 1, get_remove xs i (at - 1) within ∙ ap (slice_get xs) back ∙ is)
-  ]
+  | inl below ↦ (at, get_remove xs i at within ∙ ap (slice_get xs) (ap (λ b. if b then at else at + 1) (lt-ltb at i below)) ∙ is)
+  | inr above ↦
+      let back : before_removal i (at - 1) ≡ at = ap (λ b. if b then at - 1 else at - 1 + 1) (le-ltb (at - 1) i (omega arith)) ∙ omega arith in
+      (at - 1, get_remove xs i (at - 1) within ∙ ap (slice_get xs) back ∙ is)
+]
 
 pub AreApart-remove : {A : Type 0} (xs : List A) (i : ℕ) → i < length xs → AreApart xs → AreApart (remove xs i)
 AreApart-remove xs i within apart = λ j k x is also. before_removal-apart i j k (apart (before_removal i j) (before_removal i k) x (sym (get_remove xs i j within) ∙ is) (sym (get_remove xs i k within) ∙ also))
@@ -125,39 +124,39 @@ get_inserted (z ∷ xs) (suc i) y within = get_inserted xs i y (omega arith)
 pub get_insert_cases : {A : Type 0} (xs : List A) (i : ℕ) (y : A) (at : ℕ) (x : A) → i ≤ length xs → slice_get (insert xs i y) at ≡ Some x →
     ((at ≡ i) × (y ≡ x)) ⊎ ((j : ℕ) × (slice_get xs j ≡ Some x) × (((at ≡ j) × (j < i)) ⊎ ((at ≡ j + 1) × (i ≤ j))))
 get_insert_cases xs i y at x within is = elim (cases_eq at i) [
-    | inl here ↦ inl (here, same_Some y x (sym (get_inserted xs i y within) ∙ ap (slice_get (insert xs i y)) (sym here) ∙ is))
-    | inr other ↦ elim (cases_lt at i) [
-      | inl below ↦ inr (at, sym (get_insert_below xs i y at within below) ∙ is, inl (refl, below))
-      | inr above ↦
-          let next : suc (at - 1) ≡ at = omega arith in
-          let over : i ≤ at - 1 = omega arith in
-          inr (at - 1, sym (get_insert_above xs i y (at - 1) within over) ∙ ap (slice_get (insert xs i y)) next ∙ is, inr (omega arith, over))
-    ]
+  | inl here ↦ inl (here, same_Some y x (sym (get_inserted xs i y within) ∙ ap (slice_get (insert xs i y)) (sym here) ∙ is))
+  | inr other ↦ elim (cases_lt at i) [
+    | inl below ↦ inr (at, sym (get_insert_below xs i y at within below) ∙ is, inl (refl, below))
+    | inr above ↦
+        let next : suc (at - 1) ≡ at = omega arith in
+        let over : i ≤ at - 1 = omega arith in
+        inr (at - 1, sym (get_insert_above xs i y (at - 1) within over) ∙ ap (slice_get (insert xs i y)) next ∙ is, inr (omega arith, over))
   ]
+]
 
 pub stands_insert : {A : Type 0} (xs : List A) (i : ℕ) (y x : A) → i ≤ length xs → Stands xs x → Stands (insert xs i y) x
 stands_insert xs i y x within (at, is) = elim (cases_lt at i) [
-    | inl below ↦ (at, get_insert_below xs i y at within below ∙ is)
-    | inr above ↦ (suc at, get_insert_above xs i y at within above ∙ is)
-  ]
+  | inl below ↦ (at, get_insert_below xs i y at within below ∙ is)
+  | inr above ↦ (suc at, get_insert_above xs i y at within above ∙ is)
+]
 
 places_apart : (i at other j k : ℕ) → j ≡ k → ((at ≡ j) × (j < i)) ⊎ ((at ≡ j + 1) × (i ≤ j)) → ((other ≡ k) × (k < i)) ⊎ ((other ≡ k + 1) × (i ≤ k)) → at ≡ other
 places_apart i at other j k same one two = elim one [
-    | inl p ↦ elim two [ inl q ↦ omega arith | inr q ↦ omega arith ]
-    | inr p ↦ elim two [ inl q ↦ omega arith | inr q ↦ omega arith ]
-  ]
+  | inl p ↦ elim two [ inl q ↦ omega arith | inr q ↦ omega arith ]
+  | inr p ↦ elim two [ inl q ↦ omega arith | inr q ↦ omega arith ]
+]
 
 pub AreApart-insert : {A : Type 0} (xs : List A) (i : ℕ) (y : A) → i ≤ length xs → ¬ (Stands xs y) → AreApart xs → AreApart (insert xs i y)
 AreApart-insert xs i y within new apart = λ at other x is also. elim (get_insert_cases xs i y at x within is) [
-    | inl here ↦ elim (get_insert_cases xs i y other x within also) [
-      | inl there ↦ here.0 ∙ sym there.0
-      | inr old ↦ absurd (new (old.0, old.1 ∙ ap (λ z. Some z) (sym here.1)))
-    ]
-    | inr one ↦ elim (get_insert_cases xs i y other x within also) [
-      | inl there ↦ absurd (new (one.0, one.1 ∙ ap (λ z. Some z) (sym there.1)))
-      | inr two ↦ places_apart i at other one.0 two.0 (apart one.0 two.0 x one.1 two.1) one.2 two.2
-    ]
+  | inl here ↦ elim (get_insert_cases xs i y other x within also) [
+    | inl there ↦ here.0 ∙ sym there.0
+    | inr old ↦ absurd (new (old.0, old.1 ∙ ap (λ z. Some z) (sym here.1)))
   ]
+  | inr one ↦ elim (get_insert_cases xs i y other x within also) [
+    | inl there ↦ absurd (new (one.0, one.1 ∙ ap (λ z. Some z) (sym there.1)))
+    | inr two ↦ places_apart i at other one.0 two.0 (apart one.0 two.0 x one.1 two.1) one.2 two.2
+  ]
+]
 
 -- a removed element stands nowhere in the rest
 pub removed_is_gone : {A : Type 0} (xs : List A) (i : ℕ) (x : A) → AreApart xs → slice_get xs i ≡ Some x → ¬ (Stands (remove xs i) x)

@@ -1,11 +1,10 @@
 -- First elements that pass a test, and moves by their places.
-use Rattle.std.proofs.Common.{◌≡◌, ◌≢◌, ℕ, zero, suc, ◌+◌, ◌-◌, ◌<◌, ◌≤◌, ◌⊎◌, Bool, true, false, cond, not, nat_lt, ◌==◌, if◌then◌else◌, Option, None, Some, List, [], ◌∷◌, ◌++◌, length, map, take, drop, slice_get, refl, sym, ap, ap₂, ◌∙◌, inl, inr, arith, lt-ltb, le-ltb}
+use Rattle.std.proofs.Common.{◌≡◌, ◌≢◌, ℕ, zero, suc, ◌+◌, ◌-◌, ◌<◌, ◌⊎◌, Bool, true, false, cond, not, nat_lt, if◌then◌else◌, Option, None, Some, List, [], ◌∷◌, ◌++◌, length, map, slice_get, refl, sym, ap, ◌∙◌, inl, inr, arith, lt-ltb, le-ltb}
 use Rattle.std.specs.Prelude.{position, find, insert, remove}
-use Rattle.std.specs.List.{position_or_len, prefix_len}
+use Rattle.std.specs.List.{position_or_len}
 use Rattle.std.specs.Option.{option_map, option_and_then, option_map_or}
-use Rattle.std.proofs.lemmas.Bool.{cases_lt, cases_eq}
+use Rattle.std.proofs.lemmas.Bool.{cases_lt}
 use Rattle.std.proofs.lemmas.Bool.Decides.{nat_tests}
-use Rattle.std.proofs.lemmas.List.{length-map}
 use Rattle.std.proofs.lemmas.List.Edits.{insert_end, length-remove}
 use Rattle.std.proofs.lemmas.Option.{none-some, same_Some, slice_get_within}
 use Rattle.name_list.specs.Moves.{move_index}
@@ -13,9 +12,9 @@ use Rattle.name_list.specs.Moves.{without, put_behind, put_before}
 
 one_more : (n len : ℕ) → cond (nat_lt (1 + n) (suc len)) (Some (1 + n)) None ≡ option_map (λ i. suc i) (cond (nat_lt n len) (Some n) None)
 one_more n len = elim (cases_lt n len) [
-    | inl below ↦ ap (λ b. cond b (Some (1 + n)) None) (lt-ltb (1 + n) (suc len) (omega arith)) ∙ ap (λ k. Some k) (let e : 1 + n ≡ suc n = omega arith in e) ∙ ap (λ b. option_map (λ i. suc i) (cond b (Some n) None)) (sym (lt-ltb n len below))
-    | inr above ↦ ap (λ b. cond b (Some (1 + n)) None) (le-ltb (1 + n) (suc len) (omega arith)) ∙ ap (λ b. option_map (λ i. suc i) (cond b (Some n) None)) (sym (le-ltb n len above))
-  ]
+  | inl below ↦ ap (λ b. cond b (Some (1 + n)) None) (lt-ltb (1 + n) (suc len) (omega arith)) ∙ ap (λ k. Some k) (let e : 1 + n ≡ suc n = omega arith in e) ∙ ap (λ b. option_map (λ i. suc i) (cond b (Some n) None)) (sym (lt-ltb n len below))
+  | inr above ↦ ap (λ b. cond b (Some (1 + n)) None) (le-ltb (1 + n) (suc len) (omega arith)) ∙ ap (λ b. option_map (λ i. suc i) (cond b (Some n) None)) (sym (le-ltb n len above))
+]
 
 next_place : (i j at : ℕ) → at ≡ suc j → j ≢ i → suc (if nat_lt j i then j else j - 1) ≡ (if nat_lt at (suc i) then at else at - 1)
 next_place i j at e other = grind (arith, nat_tests)
@@ -46,9 +45,9 @@ module _ {A : Type 0} (test : A → Bool) where
   pub position-passes : (xs : List A) (i : ℕ) (x : A) → position test xs ≡ Some i → slice_get xs i ≡ Some x → test x ≡ true
   position-passes [] i x is here = absurd (none-some i is)
   position-passes (y ∷ xs) i x is here = elim (position_cases y xs i is) [
-      | inl (passes, e) ↦ ap test (same_Some x y (sym here ∙ ap (slice_get (y ∷ xs)) e)) ∙ passes
-      | inr (j, fails, rest, e) ↦ position-passes xs j x rest (sym (ap (slice_get (y ∷ xs)) e) ∙ here)
-    ]
+    | inl (passes, e) ↦ ap test (same_Some x y (sym here ∙ ap (slice_get (y ∷ xs)) e)) ∙ passes
+    | inr (j, fails, rest, e) ↦ position-passes xs j x rest (sym (ap (slice_get (y ∷ xs)) e) ∙ here)
+  ]
 
   -- where an element passes there is a first that does
   pub position-some : (xs : List A) (at : ℕ) (x : A) → slice_get xs at ≡ Some x → test x ≡ true → (i : ℕ) × (position test xs ≡ Some i)
@@ -75,9 +74,9 @@ module _ {A : Type 0} (test : A → Bool) where
   pub first_is : (xs : List A) (i : ℕ) → position test xs ≡ Some i → (x : A) × (slice_get xs i ≡ Some x)
   first_is [] i is = absurd (none-some i is)
   first_is (x ∷ xs) i is = elim (position_cases x xs i is) [
-      | inl (passes, e) ↦ (x, ap (slice_get (x ∷ xs)) e)
-      | inr (j, fails, rest, e) ↦ let found = first_is xs j rest in (found.0, ap (slice_get (x ∷ xs)) e ∙ found.1)
-    ]
+    | inl (passes, e) ↦ (x, ap (slice_get (x ∷ xs)) e)
+    | inr (j, fails, rest, e) ↦ let found = first_is xs j rest in (found.0, ap (slice_get (x ∷ xs)) e ∙ found.1)
+  ]
 
   pub none_found : (xs : List A) → find test xs ≡ None → position test xs ≡ None
   none_found xs none = by (position test xs) refl
@@ -96,9 +95,9 @@ module _ {A : Type 0} (test : A → Bool) where
   pub without-remove : (xs : List A) (i : ℕ) → position test xs ≡ Some i → without test xs ≡ remove xs i
   without-remove [] i is = absurd (none-some i is)
   without-remove (x ∷ xs) i is = elim (position_cases x xs i is) [
-      | inl (passes, e) ↦ ap (λ b. if b then xs else x ∷ without test xs) passes ∙ ap (remove (x ∷ xs)) (sym e)
-      | inr (j, fails, rest, e) ↦ ap (λ b. if b then xs else x ∷ without test xs) fails ∙ ap (λ ys. x ∷ ys) (without-remove xs j rest) ∙ ap (remove (x ∷ xs)) (sym e)
-    ]
+    | inl (passes, e) ↦ ap (λ b. if b then xs else x ∷ without test xs) passes ∙ ap (remove (x ∷ xs)) (sym e)
+    | inr (j, fails, rest, e) ↦ ap (λ b. if b then xs else x ∷ without test xs) fails ∙ ap (λ ys. x ∷ ys) (without-remove xs j rest) ∙ ap (remove (x ∷ xs)) (sym e)
+  ]
 
   pub without_none : (xs : List A) → position test xs ≡ None → without test xs ≡ xs
   without_none [] is = refl
@@ -129,31 +128,31 @@ module _ {A : Type 0} (test : A → Bool) where
   pub put_behind-insert : (new : A) (xs : List A) (i : ℕ) → position test xs ≡ Some i → put_behind test new xs ≡ insert xs (i + 1) new
   put_behind-insert new [] i is = absurd (none-some i is)
   put_behind-insert new (x ∷ xs) i is = elim (position_cases x xs i is) [
-      | inl (passes, e) ↦ ap (λ b. if b then x ∷ new ∷ xs else x ∷ put_behind test new xs) passes ∙ ap (λ k. insert (x ∷ xs) k new) (let one : 1 ≡ i + 1 = omega arith in one)
-      | inr (j, fails, rest, e) ↦ ap (λ b. if b then x ∷ new ∷ xs else x ∷ put_behind test new xs) fails ∙ ap (λ ys. x ∷ ys) (put_behind-insert new xs j rest) ∙ ap (λ k. insert (x ∷ xs) k new) (let one : suc (j + 1) ≡ i + 1 = omega arith in one)
-    ]
+    | inl (passes, e) ↦ ap (λ b. if b then x ∷ new ∷ xs else x ∷ put_behind test new xs) passes ∙ ap (λ k. insert (x ∷ xs) k new) (let one : 1 ≡ i + 1 = omega arith in one)
+    | inr (j, fails, rest, e) ↦ ap (λ b. if b then x ∷ new ∷ xs else x ∷ put_behind test new xs) fails ∙ ap (λ ys. x ∷ ys) (put_behind-insert new xs j rest) ∙ ap (λ k. insert (x ∷ xs) k new) (let one : suc (j + 1) ≡ i + 1 = omega arith in one)
+  ]
 
   pub put_before-insert : (new : A) (xs : List A) (i : ℕ) → position test xs ≡ Some i → put_before test new xs ≡ insert xs i new
   put_before-insert new [] i is = absurd (none-some i is)
   put_before-insert new (x ∷ xs) i is = elim (position_cases x xs i is) [
-      | inl (passes, e) ↦ ap (λ b. if b then new ∷ x ∷ xs else x ∷ put_before test new xs) passes ∙ ap (λ k. insert (x ∷ xs) k new) (sym e)
-      | inr (j, fails, rest, e) ↦ ap (λ b. if b then new ∷ x ∷ xs else x ∷ put_before test new xs) fails ∙ ap (λ ys. x ∷ ys) (put_before-insert new xs j rest) ∙ ap (λ k. insert (x ∷ xs) k new) (sym e)
-    ]
+    | inl (passes, e) ↦ ap (λ b. if b then new ∷ x ∷ xs else x ∷ put_before test new xs) passes ∙ ap (λ k. insert (x ∷ xs) k new) (sym e)
+    | inr (j, fails, rest, e) ↦ ap (λ b. if b then new ∷ x ∷ xs else x ∷ put_before test new xs) fails ∙ ap (λ ys. x ∷ ys) (put_before-insert new xs j rest) ∙ ap (λ k. insert (x ∷ xs) k new) (sym e)
+  ]
 
   -- the first that passes, once another element was taken out
   pub position-remove : (xs : List A) (i at : ℕ) → position test xs ≡ Some at → at ≢ i → position test (remove xs i) ≡ Some (if nat_lt at i then at else at - 1)
   position-remove [] i at is other = absurd (none-some at is)
   position-remove (x ∷ xs) zero at is other = elim (position_cases x xs at is) [
-      | inl (passes, e) ↦ absurd (other e)
-      | inr (j, fails, rest, e) ↦ rest ∙ ap (λ k. Some k) (let d : j ≡ (if nat_lt at 0 then at else at - 1) = grind (arith, nat_tests) in d)
-    ]
+    | inl (passes, e) ↦ absurd (other e)
+    | inr (j, fails, rest, e) ↦ rest ∙ ap (λ k. Some k) (let d : j ≡ (if nat_lt at 0 then at else at - 1) = grind (arith, nat_tests) in d)
+  ]
   position-remove (x ∷ xs) (suc i) at is other = position-cons x (remove xs i) ∙ elim (position_cases x xs at is) [
-      | inl (passes, e) ↦ ap (λ b. cond b (Some 0) (option_map (λ k. suc k) (position test (remove xs i)))) passes ∙ ap (λ k. Some k) (let d : 0 ≡ (if nat_lt at (suc i) then at else at - 1) = grind (arith, nat_tests) in d)
-      | inr (j, fails, rest, e) ↦
-          ap (λ b. cond b (Some 0) (option_map (λ k. suc k) (position test (remove xs i)))) fails
-          ∙ ap (option_map (λ k. suc k)) (position-remove xs i j rest (λ d. other (e ∙ ap suc d)))
-          ∙ ap (λ k. Some k) (next_place i j at e (λ d. other (e ∙ ap suc d)))
-    ]
+    | inl (passes, e) ↦ ap (λ b. cond b (Some 0) (option_map (λ k. suc k) (position test (remove xs i)))) passes ∙ ap (λ k. Some k) (let d : 0 ≡ (if nat_lt at (suc i) then at else at - 1) = grind (arith, nat_tests) in d)
+    | inr (j, fails, rest, e) ↦
+        ap (λ b. cond b (Some 0) (option_map (λ k. suc k) (position test (remove xs i)))) fails
+        ∙ ap (option_map (λ k. suc k)) (position-remove xs i j rest (λ d. other (e ∙ ap suc d)))
+        ∙ ap (λ k. Some k) (next_place i j at e (λ d. other (e ∙ ap suc d)))
+  ]
 
 pub position-map : {A B : Type 0} (f : A → B) (test : B → Bool) (xs : List A) → position test (map f xs) ≡ position (λ x. test (f x)) xs
 position-map f test [] = refl

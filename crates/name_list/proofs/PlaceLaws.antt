@@ -1,10 +1,10 @@
 -- The places of numbers: what a push, a removal and a move leave, and that they give names that are in order.
-use Rattle.std.proofs.Common.{◌≡◌, ℕ, zero, suc, ◌+◌, ◌-◌, ◌<◌, ◌≤◌, ◌≢◌, ◌⊎◌, ◌^◌, Bool, true, false, Option, None, Some, List, [], ◌∷◌, ◌++◌, length, take, drop, replicate, min, map, slice_get, slice_set, Contains, refl, sym, ap, ◌∙◌, subst, inl, inr, arith, length-append, length-set, true≢false}
+use Rattle.std.proofs.Common.{◌≡◌, ℕ, zero, suc, ◌+◌, ◌<◌, ◌≤◌, ◌≢◌, ◌⊎◌, ◌^◌, true, false, Option, None, Some, List, [], ◌∷◌, ◌++◌, length, take, drop, replicate, min, slice_get, slice_set, Contains, refl, sym, ap, ◌∙◌, subst, inl, inr, arith, length-append, length-set, true≢false}
 use Rattle.std.specs.Prelude.{insert, remove, is_some}
 use Rattle.std.specs.Option.{option_and_then, option_map_or}
 use Rattle.std.proofs.lemmas.Bool.{cases_lt, cases_eq}
 use Rattle.std.proofs.lemmas.Bool.Decides.{nat_tests}
-use Rattle.std.proofs.lemmas.Option.{none-some, same_Some, slice_get-get_or, slice_get_within, slice_get_past}
+use Rattle.std.proofs.lemmas.Option.{none-some, same_Some, slice_get-get_or, slice_get_within}
 use Rattle.std.proofs.lemmas.List.{append-nil, take_all, drop_all, length-replicate}
 use Rattle.std.proofs.lemmas.List.Edits.{length-remove, length-insert}
 use Rattle.name_list.specs.Moves.{move_index}
@@ -86,10 +86,10 @@ IsIndex-from_all numbers places upto all index =
     record {
       placed = λ at n is. let within = slice_get_within numbers at n is in index.placed at n (omega arith) is;
       there = λ at n is.
-        let old = index.listed at n is in
-        let within = slice_get_within numbers old.0 n old.1 in
-        let same = same_Some at old.0 (same_Some _ _ (sym is ∙ index.placed old.0 n (omega arith) old.1)) in
-        ap (slice_get numbers) same ∙ old.1;
+          let old = index.listed at n is in
+          let within = slice_get_within numbers old.0 n old.1 in
+          let same = same_Some at old.0 (same_Some _ _ (sym is ∙ index.placed old.0 n (omega arith) old.1)) in
+          ap (slice_get numbers) same ∙ old.1;
     }
 
 -- before the places are noted anew: a name is taken out
@@ -100,9 +100,9 @@ IsIndexTo-remove numbers places i number index here =
     let gone = removed_is_gone numbers i number apart here in
     record {
       placed = λ at n below is.
-        let old = sym (get_remove numbers i at within) ∙ is in
-        let other : n ≢ number = λ e. gone (at, is ∙ ap (λ m. Some m) e) in
-        get_set_other places number None n other ∙ index.placed at n (sym (ap (slice_get numbers) (before_removal_below i at below)) ∙ old);
+          let old = sym (get_remove numbers i at within) ∙ is in
+          let other : n ≢ number = λ e. gone (at, is ∙ ap (λ m. Some m) e) in
+          get_set_other places number None n other ∙ index.placed at n (sym (ap (slice_get numbers) (before_removal_below i at below)) ∙ old);
       listed = λ at n is. elim (cases_eq n number) [
         | inl same ↦ absurd (no_place (sym (get_set places number None (slice_get_within places number _ (index.placed i number here))) ∙ ap (slice_get (slice_set places number None)) (sym same) ∙ is))
         | inr other ↦
@@ -124,15 +124,15 @@ module _ {A : Type 0} (xs : List A) (from to : ℕ) (x : A) (here : slice_get xs
 
   pub stands_move : (y : A) → Stands xs y → Stands (move_index xs from to) y
   stands_move y (at, is) = subst (λ zs. Stands zs y) (sym moves) (elim (cases_eq at from) [
-      | inl same ↦ (to, get_inserted (remove xs from) to x room ∙ sym here ∙ ap (slice_get xs) (sym same) ∙ is)
-      | inr other ↦ stands_insert (remove xs from) to x y room (get_remove_other xs from at y (slice_get_within xs from x here) other is)
-    ])
+    | inl same ↦ (to, get_inserted (remove xs from) to x room ∙ sym here ∙ ap (slice_get xs) (sym same) ∙ is)
+    | inr other ↦ stands_insert (remove xs from) to x y room (get_remove_other xs from at y (slice_get_within xs from x here) other is)
+  ])
 
   pub stood_before_move : (y : A) → Stands (move_index xs from to) y → Stands xs y
   stood_before_move y (at, is) = elim (get_insert_cases (remove xs from) to x at y room (sym (ap (λ zs. slice_get zs at) moves) ∙ is)) [
-      | inl new ↦ (from, here ∙ ap (λ m. Some m) new.1)
-      | inr old ↦ (before_removal from old.0, sym (get_remove xs from old.0 (slice_get_within xs from x here)) ∙ old.1)
-    ]
+    | inl new ↦ (from, here ∙ ap (λ m. Some m) new.1)
+    | inr old ↦ (before_removal from old.0, sym (get_remove xs from old.0 (slice_get_within xs from x here)) ∙ old.1)
+  ]
 
   pub length-move : length (move_index xs from to) ≡ length xs
   length-move = ap length moves ∙ length-insert (remove xs from) to x room ∙ length-remove xs from (slice_get_within xs from x here)
@@ -185,8 +185,8 @@ IsLeastFree-remove numbers i number free least apart here was below under which 
             gone_from_least numbers free was (before_removal i old.0, sym (get_remove numbers i old.0 within) ∙ old.1 ∙ ap (λ m. Some m) same)
       ];
       below = λ k less.
-        let old = stands_from_Contains numbers k (was.below k (omega arith)) in
-        Contains-from_stands _ k (get_remove_other numbers i old.0 k within (λ e. not_same numbers i old.0 number k e here old.1 (omega arith)) old.1);
+          let old = stands_from_Contains numbers k (was.below k (omega arith)) in
+          Contains-from_stands _ k (get_remove_other numbers i old.0 k within (λ e. not_same numbers i old.0 number k e here old.1 (omega arith)) old.1);
     }
 
 min_cases : (free number least : ℕ) → least ≡ min free number → (least ≡ number) ⊎ (least ≡ free)

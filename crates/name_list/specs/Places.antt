@@ -1,6 +1,5 @@
 -- A list of names as it is kept: a map in order, and for each number the place of the name that has it.
 use Rattle.std.specs.Prelude.{◌≡◌, ℕ, ◌<◌, ◌≤◌, ◌^◌, Bool, Option, Some, List, map, length, is_some, option_and_then, slice_get, chars, string_bytes, String}
-use Rattle.std.specs.Map.{values_of}
 use Rattle.name_list.specs.Names.{Named, Names, IsLeastFree}
 
 abbrev pub named : {Z : Type 0} → String Z × ℕ → Named

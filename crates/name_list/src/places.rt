@@ -22,11 +22,7 @@ pub(crate) fn next_free(places: &[Option<u16>], from: usize) -> usize
 }
 
 /// Notes the places from `from` on anew.
-pub(crate) fn note_places(
-    numbers: &IndexMap<String, u16>,
-    places: &mut [Option<u16>],
-    from: usize,
-)
+pub(crate) fn note_places(numbers: &IndexMap<String, u16>, places: &mut [Option<u16>], from: usize)
     requires apart { AreApart (values numbers.now) }
     requires within { (at number : ℕ) → slice_get (values numbers.now) at ≡ Some number → number < length places.old }
     requires few { index_map_len numbers.now < 2 ^ 16 }

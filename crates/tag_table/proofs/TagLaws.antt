@@ -1,8 +1,8 @@
 -- Tags as a list of names with numbers, and moves in their order by places.
-use Rattle.std.proofs.Common.{◌≡◌, ◌≢◌, ℕ, zero, suc, ◌+◌, ◌-◌, ◌<◌, ◌≤◌, ◌⊎◌, Bool, true, false, cond, nat_lt, ◌==◌, if◌then◌else◌, Option, None, Some, Result, Ok, Err, List, [], ◌∷◌, ◌++◌, length, map, slice_get, Contains, refl, sym, ap, ap₂, ◌∙◌, subst, inl, inr, arith, lit<, true≢false}
+use Rattle.std.proofs.Common.{◌≡◌, ◌≢◌, ℕ, zero, suc, ◌+◌, ◌-◌, ◌<◌, ◌≤◌, Bool, true, false, nat_lt, if◌then◌else◌, Option, None, Some, Result, Ok, Err, List, [], ◌∷◌, ◌++◌, length, map, slice_get, Contains, refl, sym, ap, ap₂, ◌∙◌, subst, inl, inr, arith, lit<, true≢false}
 use Rattle.std.specs.Prelude.{position, find, insert, remove, is_some, bytes_eq, chars, IsUtf8, IsAscii, IsNone, IfSome}
-use Rattle.std.specs.Option.{option_map, option_and_then}
-use Rattle.std.proofs.lemmas.Bool.{cases_lt, cases_eq}
+use Rattle.std.specs.Option.{option_map}
+use Rattle.std.proofs.lemmas.Bool.{cases_eq}
 use Rattle.std.proofs.lemmas.Bool.Decides.{nat_tests}
 use Rattle.std.proofs.lemmas.List.{length-map}
 use Rattle.std.proofs.lemmas.Option.{none-some, same_Some, slice_get-map, slice_get-get_or, slice_get_within}
@@ -56,12 +56,12 @@ IsLeastFree-slot es number taken least =
     rw (slots_seen es) (record {
       own = own_slot number some;
       free = λ has.
-        let slot = stands_from_Contains (map slot_of_number numbers) _ has in
-        let old = stood_at slot_of_number numbers slot.0 _ slot.1 in
-        least.free (Contains-from_stands numbers number (slot.0, old.1 ∙ ap (λ n. Some n) (slots_apart old.0 number old.2)));
+          let slot = stands_from_Contains (map slot_of_number numbers) _ has in
+          let old = stood_at slot_of_number numbers slot.0 _ slot.1 in
+          least.free (Contains-from_stands numbers number (slot.0, old.1 ∙ ap (λ n. Some n) (slots_apart old.0 number old.2)));
       below = λ k own less.
-        let old = stands_from_Contains numbers (k - 63) (least.below (k - 63) (below_slot number k some own less)) in
-        Contains-from_stands _ k (subst (Stands (map slot_of_number numbers)) (back_slot k own) (stands_map slot_of_number numbers (k - 63) old));
+          let old = stands_from_Contains numbers (k - 63) (least.below (k - 63) (below_slot number k some own less)) in
+          Contains-from_stands _ k (subst (Stands (map slot_of_number numbers)) (back_slot k own) (stands_map slot_of_number numbers (k - 63) old));
     })
 
 -- `sel` has slot 0
@@ -84,14 +84,14 @@ AreTags-kept names are kept =
     record {
       names_apart = rw (names_seen es) are.names_apart;
       slots_apart = λ i j slot is also.
-        let one = stood_at slot_of_number (list.numbers_of es) i slot (ap (λ ss. slice_get ss i) (sym (slots_seen es)) ∙ is) in
-        let two = stood_at slot_of_number (list.numbers_of es) j slot (ap (λ ss. slice_get ss j) (sym (slots_seen es)) ∙ also) in
-        are.numbers_apart i j one.0 one.1 (two.1 ∙ ap (λ n. Some n) (slots_apart two.0 one.0 (two.2 ∙ sym one.2)));
+          let one = stood_at slot_of_number (list.numbers_of es) i slot (ap (λ ss. slice_get ss i) (sym (slots_seen es)) ∙ is) in
+          let two = stood_at slot_of_number (list.numbers_of es) j slot (ap (λ ss. slice_get ss j) (sym (slots_seen es)) ∙ also) in
+          are.numbers_apart i j one.0 one.1 (two.1 ∙ ap (λ n. Some n) (slots_apart two.0 one.0 (two.2 ∙ sym one.2)));
       selection = selection_slot es are.names_apart selection;
       others = λ at slot is some.
-        let old = stood_at slot_of_number (list.numbers_of es) at slot (ap (λ ss. slice_get ss at) (sym (slots_seen es)) ∙ is) in
-        let below = are.below at old.0 old.1 in
-        slot_bounds old.0 slot names.limit old.2 some below kept.some;
+          let old = stood_at slot_of_number (list.numbers_of es) at slot (ap (λ ss. slice_get ss at) (sym (slots_seen es)) ∙ is) in
+          let below = are.below at old.0 old.1 in
+          slot_bounds old.0 slot names.limit old.2 some below kept.some;
       room = let fits = are.room in let some = kept.some in rw length-map (omega arith);
       limit = let few = kept.few in omega arith;
     }
@@ -175,15 +175,15 @@ module _ (name : List ℕ) (tags : List Tag) (from : ℕ) (is : position (is_nam
 
   pub raised-above : (above : List ℕ) (at : ℕ) → position (is_named above) tags ≡ Some at → raised name (Some above) tags ≡ Ok (move_index tags from (if nat_lt at from then at + 1 else at))
   raised-above above at also = ap (λ t. raised_tag t name (Some above) tags) found.2 ∙ elim (cases_eq at from) [
-      | inl same ↦
-          next_to-itself above _ (also ∙ ap (λ i. Some i) same) ∙ ap (λ ts. Ok ts) (sym stays) ∙ ap (λ to. Ok (move_index tags from to)) (let d : from ≡ (if nat_lt at from then at + 1 else at) = grind (arith, nat_tests) in d)
-      | inr apart ↦
-          next_to-other above _ at also apart
-          ∙ ap (λ ts. Ok (put_behind (is_named above) found.0 ts)) rest
-          ∙ ap (λ ts. Ok ts) (put_behind-insert (is_named above) found.0 (remove tags from) _ (position-remove (is_named above) tags from at also apart)
-            ∙ ap (λ to. insert (remove tags from) to found.0) (let d : (if nat_lt at from then at else at - 1) + 1 ≡ (if nat_lt at from then at + 1 else at) = grind (arith, nat_tests) in d)
-            ∙ sym (moved_at tags from _ found.0 found.1))
-    ]
+    | inl same ↦
+        next_to-itself above _ (also ∙ ap (λ i. Some i) same) ∙ ap (λ ts. Ok ts) (sym stays) ∙ ap (λ to. Ok (move_index tags from to)) (let d : from ≡ (if nat_lt at from then at + 1 else at) = grind (arith, nat_tests) in d)
+    | inr apart ↦
+        next_to-other above _ at also apart
+        ∙ ap (λ ts. Ok (put_behind (is_named above) found.0 ts)) rest
+        ∙ ap (λ ts. Ok ts) (put_behind-insert (is_named above) found.0 (remove tags from) _ (position-remove (is_named above) tags from at also apart)
+        ∙ ap (λ to. insert (remove tags from) to found.0) (let d : (if nat_lt at from then at else at - 1) + 1 ≡ (if nat_lt at from then at + 1 else at) = grind (arith, nat_tests) in d)
+        ∙ sym (moved_at tags from _ found.0 found.1))
+  ]
 
   pub lowered-first : lowered name None tags ≡ Ok (move_index tags from 0)
   lowered-first = ap (λ t. lowered_tag t name None tags) found.2 ∙ ap (λ ts. Ok (found.0 ∷ ts)) rest ∙ ap (λ ts. Ok ts) (sym (moved_at tags from 0 found.0 found.1))
@@ -193,15 +193,15 @@ module _ (name : List ℕ) (tags : List Tag) (from : ℕ) (is : position (is_nam
 
   pub lowered-below : (below : List ℕ) (at : ℕ) → position (is_named below) tags ≡ Some at → lowered name (Some below) tags ≡ Ok (move_index tags from (if nat_lt from at then at - 1 else at))
   lowered-below below at also = ap (λ t. lowered_tag t name (Some below) tags) found.2 ∙ elim (cases_eq at from) [
-      | inl same ↦
-          next_to-itself below _ (also ∙ ap (λ i. Some i) same) ∙ ap (λ ts. Ok ts) (sym stays) ∙ ap (λ to. Ok (move_index tags from to)) (let d : from ≡ (if nat_lt from at then at - 1 else at) = grind (arith, nat_tests) in d)
-      | inr apart ↦
-          next_to-other below _ at also apart
-          ∙ ap (λ ts. Ok (put_before (is_named below) found.0 ts)) rest
-          ∙ ap (λ ts. Ok ts) (put_before-insert (is_named below) found.0 (remove tags from) _ (position-remove (is_named below) tags from at also apart)
-            ∙ ap (λ to. insert (remove tags from) to found.0) (let d : (if nat_lt at from then at else at - 1) ≡ (if nat_lt from at then at - 1 else at) = grind (arith, nat_tests) in d)
-            ∙ sym (moved_at tags from _ found.0 found.1))
-    ]
+    | inl same ↦
+        next_to-itself below _ (also ∙ ap (λ i. Some i) same) ∙ ap (λ ts. Ok ts) (sym stays) ∙ ap (λ to. Ok (move_index tags from to)) (let d : from ≡ (if nat_lt from at then at - 1 else at) = grind (arith, nat_tests) in d)
+    | inr apart ↦
+        next_to-other below _ at also apart
+        ∙ ap (λ ts. Ok (put_before (is_named below) found.0 ts)) rest
+        ∙ ap (λ ts. Ok ts) (put_before-insert (is_named below) found.0 (remove tags from) _ (position-remove (is_named below) tags from at also apart)
+        ∙ ap (λ to. insert (remove tags from) to found.0) (let d : (if nat_lt at from then at else at - 1) ≡ (if nat_lt from at then at - 1 else at) = grind (arith, nat_tests) in d)
+        ∙ sym (moved_at tags from _ found.0 found.1))
+  ]
 
 -- `place_above` and `place_below` say where
 pub raised-to : (name : List ℕ) (above : Option (List ℕ)) (tags : List Tag) (from to : ℕ) → position (is_named name) tags ≡ Some from → place_above from above tags ≡ Ok to → raised name above tags ≡ Ok (move_index tags from to)
@@ -269,8 +269,8 @@ AreKept-remove names name at is other kept =
     let passes = position-passes (λ (e : Named). bytes_eq name e.name) names.entries at entry.0 is entry.1 in
     let selection = kept.selection in
     let apart : selection.0 ≢ at = λ e.
-        let same = same_Some _ entry.0 (sym selection.1 ∙ ap (slice_get names.entries) e ∙ entry.1) in
-        true≢false (sym passes ∙ ap (λ (x : Named). bytes_eq name x.name) (sym same) ∙ other) in
+    let same = same_Some _ entry.0 (sym selection.1 ∙ ap (slice_get names.entries) e ∙ entry.1) in
+    true≢false (sym passes ∙ ap (λ (x : Named). bytes_eq name x.name) (sym same) ∙ other) in
     record {
       some = kept.some;
       few = kept.few;

@@ -1,9 +1,9 @@
 -- Tags that move in the order of priority: `raise`, `lower`, and `delete`.
-use Rattle.std.specs.Prelude.{ℕ, ◌-◌, ◌+◌, nat_lt, Bool, Option, None, Some, Result, Ok, Err, List, [], ◌∷◌, ◌++◌, length, find, position, is_some, bytes_eq, if◌then◌else◌}
+use Rattle.std.specs.Prelude.{ℕ, Option, None, Some, Result, Ok, Err, List, [], ◌∷◌, ◌++◌, find, is_some, bytes_eq, if◌then◌else◌}
 use Rattle.name_list.specs.Moves.{without, put_behind, put_before}
 use Rattle.tag_table.specs.declared.faults.NoSuchTag.{NoSuchTag}
 use Rattle.tag_table.specs.declared.faults.NoSuchTag.TheVariants.{Moved, Neighbour}
-use Rattle.tag_table.specs.Tags.{Tag, Tags, sel, is_named}
+use Rattle.tag_table.specs.Tags.{Tag, sel, is_named}
 
 -- a new order, if the neighbour is a tag; a tag stays where it is against itself
 abbrev pub next_to : List ℕ → List ℕ → List Tag → List Tag → Result (List Tag) NoSuchTag

@@ -35,7 +35,7 @@ pub struct TagTable {
 
 impl Model for TagTable {
     ghost use Rattle.text_model.specs.declared.limits.TheConstants.Limits.{MOST_TAGS};
-ghost use Rattle.tag_table.specs.Tags.{Tags};
+    ghost use Rattle.tag_table.specs.Tags.{Tags};
     ghost use Rattle.tag_table.specs.Kept.{AreKept, tags_kept};
 
     ghost Value = { Tags };

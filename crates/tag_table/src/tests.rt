@@ -131,7 +131,10 @@ fn all_slots_are_given(rt: HostRuntime) -> Result<(), Fail> {
     let mut tags = table(&rt, alloc, &[])?;
     for slot in 64..256u16 {
         let name = format!(in alloc; "t{slot}")?;
-        assert_eq!(rt; create(&rt, alloc, &mut tags, name.as_str())?, Some(TagSlot(slot)));
+        assert_eq!(rt;
+            create(&rt, alloc, &mut tags, name.as_str())?,
+            Some(TagSlot(slot))
+        );
     }
     assert_eq!(rt; create(&rt, alloc, &mut tags, "more")?, None);
     assert_eq!(rt; tags.len(), 193);

@@ -1,4 +1,3 @@
-use Rattle.std.proofs.Common.{◌≡◌, length}
 use Rattle.std.specs.HashMap.{values}
 use Rattle.name_list.specs.Places.{IsIndexTo}
 use Rattle.name_list.proofs.places.note_places.Given as goal

@@ -1,4 +1,4 @@
-use Rattle.std.proofs.Common.{◌≡◌, ℕ, List, None, refl, ap, sym, ◌∙◌, ◌++◌, ◌∷◌, [], ◌<◌, ◌+◌, Some, subst, arith, slice_set, length, map}
+use Rattle.std.proofs.Common.{◌≡◌, ℕ, List, refl, ap, sym, ◌∙◌, ◌++◌, ◌∷◌, [], ◌<◌, ◌+◌, subst, arith, slice_set}
 use Rattle.std.specs.Prelude.{chars, string_bytes}
 use Rattle.name_list.specs.Moves.{without}
 use Rattle.name_list.specs.Names as list

@@ -1,10 +1,8 @@
-use Rattle.std.proofs.Common.{◌≡◌, ◌<◌, Some, List, length, sym, ◌∙◌, arith, slice_get, subst}
+use Rattle.std.proofs.Common.{length, sym, ◌∙◌, arith}
 use Rattle.std.proofs.lemmas.List.{length-map}
 use Rattle.std.proofs.lemmas.Option.{slice_get_within}
-use Rattle.text_model.specs.declared.places.MarkNo.{MarkNo}
 use Rattle.text_model.specs.MarkOrder.{marks_at}
 use Rattle.mark_table.specs.SharedMarks.{Mark, numbers_of}
-use Rattle.mark_table.specs.Walk.{IsFirstAt}
 use Rattle.mark_table.proofs.StoreLaws.{mark_at_index}
 use Rattle.mark_table.proofs.OneOffset.{Found-more, Least-more, IsFirstAt-all}
 use Rattle.mark_table.proofs.marks.MarkTable.first_at.Goals as goal

@@ -1,4 +1,4 @@
-use Rattle.std.proofs.Common.{refl, ap, sym, ◌∙◌, ◌<◌, ◌≡◌, Some, length, slice_get, arith, subst}
+use Rattle.std.proofs.Common.{refl, ap, sym, ◌∙◌, ◌<◌, ◌≡◌, Some, length, slice_get, arith}
 use Rattle.std.specs.Prelude.{chars}
 use Rattle.std.proofs.lemmas.Option.{slice_get_read}
 use Rattle.mark_table.specs.SharedMarks.{SharedMarks, gravity_of}

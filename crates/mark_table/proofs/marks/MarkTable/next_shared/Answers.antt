@@ -1,6 +1,6 @@
-use Rattle.std.proofs.Common.{◌≡◌, ◌+◌, ◌-◌, ◌<◌, ◌≤◌, Some, None, sym, ◌∙◌, arith, subst}
+use Rattle.std.proofs.Common.{◌+◌, sym, ◌∙◌, arith}
 use Rattle.mark_table.specs.SharedMarks.{numbers_of}
-use Rattle.mark_table.proofs.SharedWalk.{Turns, Passed-start, Turns-bound, Turns-next, Passed-more, Passed-next, IsFirst-found, IsFirst-none, IsFirst-no_next}
+use Rattle.mark_table.proofs.SharedWalk.{Passed-start, Turns-bound, Turns-next, Passed-more, Passed-next, IsFirst-found, IsFirst-none, IsFirst-no_next}
 use Rattle.mark_table.proofs.marks.MarkTable.next_shared.Goals as goal
 use Rattle.mark_table.proofs.marks.MarkTable.next_shared.Goals.{then-offset-bound, else-offset-bound}
 
@@ -39,8 +39,8 @@ returns-in_err-offset g c =
     let numbers = numbers_of c.args.self.now.marks in
     let i = c.loop-offset.invariant in
     rw c.from_residual.ensures (IsFirst-no_next c.args.view marks numbers c.args.bound (c.loop-offset.offset + 1)
-        (Passed-more c.args.view marks numbers c.args.bound c.loop-offset.offset c.loop-offset.from i.passed i.turns (rw c.in_default.is at c.first_at.ensures.first))
-        (sym c.next_mark.ensures.value ∙ c.in_err-offset.was {u = tt}))
+    (Passed-more c.args.view marks numbers c.args.bound c.loop-offset.offset c.loop-offset.from i.passed i.turns (rw c.in_default.is at c.first_at.ensures.first))
+    (sym c.next_mark.ensures.value ∙ c.in_err-offset.was {u = tt}))
 
 pub loop-offset-preserved : goal.loop-offset-preserved
 loop-offset-preserved g c =

@@ -1,4 +1,4 @@
-use Rattle.std.proofs.Common.{ap, sym, ◌∙◌, Some}
+use Rattle.std.proofs.Common.{ap, sym, ◌∙◌}
 use Rattle.mark_table.specs.Order.{next_shown, usable}
 use Rattle.mark_table.specs.SharedMarks.{numbers_of}
 use Rattle.mark_table.proofs.OrderLaws.{next_from_place, next_from_mark}

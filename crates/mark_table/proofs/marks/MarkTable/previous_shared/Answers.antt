@@ -1,4 +1,4 @@
-use Rattle.std.proofs.Common.{◌≡◌, ◌<◌, ◌≤◌, Some, None, length, sym, ◌∙◌, arith, subst}
+use Rattle.std.proofs.Common.{sym, ◌∙◌, arith}
 use Rattle.std.proofs.lemmas.List.{length-map}
 use Rattle.mark_table.specs.SharedMarks.{Mark, numbers_of}
 use Rattle.mark_table.proofs.SharedWalk.{Ahead-start, TurnsBack-bound, TurnsBack-previous, Ahead-previous, IsLast-found, IsLast-none, IsLast-no_previous}
@@ -30,7 +30,7 @@ pub returns-in_err-offset : goal.returns-in_err-offset
 returns-in_err-offset g c =
     let i = c.loop-offset.invariant in
     rw c.from_residual.ensures (IsLast-no_previous c.args.view (g.S.TextStore.content c.args.store.now).marks (numbers_of c.args.self.now.marks) c.args.bound c.loop-offset.offset c.loop-offset.upto i.ahead i.turns (rw c.in_default.is at c.last_at.ensures.last)
-        (sym c.previous_mark.ensures.value ∙ c.in_err-offset.was {u = tt}))
+    (sym c.previous_mark.ensures.value ∙ c.in_err-offset.was {u = tt}))
 
 pub loop-offset-preserved : goal.loop-offset-preserved
 loop-offset-preserved g c =

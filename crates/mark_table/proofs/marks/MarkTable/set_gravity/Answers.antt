@@ -1,7 +1,6 @@
-use Rattle.std.proofs.Common.{ap, sym, ◌∙◌, ◌<◌, length, slice_set, arith}
+use Rattle.std.proofs.Common.{ap, sym, ◌∙◌, ◌<◌, length, arith}
 use Rattle.std.specs.Prelude.{chars, is_some}
-use Rattle.mark_table.specs.Kept.{gravity_at}
-use Rattle.mark_table.specs.SharedMarks.{SharedMarks, gravity_of, turned}
+use Rattle.mark_table.specs.SharedMarks.{SharedMarks, turned}
 use Rattle.mark_table.proofs.MarkLaws.{place_of_mark, no_gravity, gravity_known, marks-turned}
 use Rattle.mark_table.proofs.marks.MarkTable.set_gravity.Goals as goal
 

@@ -1,4 +1,4 @@
-use Rattle.std.proofs.Common.{ap, ap₂, sym, ◌∙◌}
+use Rattle.std.proofs.Common.{ap, sym, ◌∙◌}
 use Rattle.std.specs.Prelude.{chars}
 use Rattle.name_list.specs.Moves.{without}
 use Rattle.mark_table.specs.Kept.{marks_kept}

@@ -1,10 +1,7 @@
-use Rattle.std.proofs.Common.{ap₂, map, slice_set, length-set, ◌≡◌, ◌∷◌, [], ◌++◌, ℕ, ◌<◌, ◌≤◌, ◌^◌, List, Option, Some, length, ap, sym, ◌∙◌, subst, arith, w64}
+use Rattle.std.proofs.Common.{ap₂, map, slice_set, length-set, ◌≡◌, ℕ, ◌<◌, List, Some, length, ap, sym, ◌∙◌, subst, arith}
 use Rattle.std.specs.Map.{values_of}
-use Rattle.std.specs.String.{string_eq}
-use Rattle.std.specs.Prelude.{chars, string_bytes}
 use Rattle.std.proofs.lemmas.List.{length-map, map_push}
-use Rattle.indexmap.proofs.CallerLemmas.{insert_entry-new}
-use Rattle.name_list.specs.Names.{IsLeastFree, Names}
+use Rattle.name_list.specs.Names.{IsLeastFree}
 use Rattle.name_list.specs.Places.{AreKept, named}
 use Rattle.name_list.proofs.PlaceLaws.{free_within, AreKept-push_at}
 use Rattle.name_list.proofs.ViewLaws.{entries-new, numbers_seen}
@@ -46,7 +43,7 @@ invariant_of-self-2 c =
     let added = entries-new inside.numbers c.insert.new.self.entries c.args.name inside.free _ c.args.self.now c.self.view_is c.requires c.in_ok-insert.ensures.entries in
     subst (λ numbers. AreKept numbers noted c.next_free-self-inside.result) (sym (ap values_of added ∙ map_push (λ e. e.1) inside.numbers.entries (c.args.name, inside.free)))
     (AreKept-push_at _ inside.places.items inside.free c.next_free-self-inside.result c.len-place.result c.self.invariant count (omega (arith, c.len.ensures, inside.places.ok.0)) next.above
-        (rw c.deref.ensures.value at next.taken) (rw c.deref.ensures.value at next.free))
+    (rw c.deref.ensures.value at next.taken) (rw c.deref.ensures.value at next.free))
 
 pub returns-clause-least : goal.returns-clause-least
 returns-clause-least c = rw (← c.self.view_is) (rw numbers_seen c.self.invariant.least)

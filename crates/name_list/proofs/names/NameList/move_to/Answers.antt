@@ -1,9 +1,7 @@
-use Rattle.std.proofs.Common.{◌≡◌, ◌<◌, ℕ, List, Option, None, Some, length, get_or, sym, ap, ap₂, ◌∙◌, subst, slice_get, map, arith}
+use Rattle.std.proofs.Common.{◌≡◌, length, sym, ap, ap₂, ◌∙◌, subst, slice_get, map, arith}
 use Rattle.std.specs.Map.{values_of}
-use Rattle.name_list.specs.Moves.{move_index}
 use Rattle.name_list.specs.Names.{AreApart}
 use Rattle.name_list.specs.Places.{AreKept, IsIndex, IsIndexTo, named}
-use Rattle.name_list.proofs.ListLaws.{Stands}
 use Rattle.name_list.proofs.PlaceLaws.{AreApart-index, AreApart-move, within_index, stood_before_move, IsIndexTo-move, AreKept-move, whole_written}
 use Rattle.name_list.proofs.ViewLaws.{map-move_index, number_at}
 use Rattle.name_list.proofs.names.NameList.move_to.Goals as goal
@@ -42,12 +40,12 @@ invariant_of-self c =
     let same : length c.note_places.new.places ≡ length inside.places.items = c.note_places.auto.places ∙ ap length c.deref_mut.ensures.value in
     rw (whole_written inside.places.items c.note_places.new.places inside.places.len same (omega (arith, inside.places.ok.0)))
     (subst (λ ns. AreKept ns c.note_places.new.places inside.free) (sym moved)
-        (AreKept-move _ inside.places.items c.note_places.new.places c.args.from c.args.to _ inside.free c.self.invariant from.1 to.0 (subst (λ ns. IsIndex ns c.note_places.new.places) moved c.note_places.ensures) same))
+    (AreKept-move _ inside.places.items c.note_places.new.places c.args.from c.args.to _ inside.free c.self.invariant from.1 to.0 (subst (λ ns. IsIndex ns c.note_places.new.places) moved c.note_places.ensures) same))
 
 pub returns : goal.returns
 returns c =
     let inside = c.self.inside in
     let same : length c.note_places.new.places ≡ length inside.places.items = c.note_places.auto.places ∙ ap length c.deref_mut.ensures.value in
     rw (← c.self.view_is) (ap₂ (λ entries limit. record { entries = entries; limit = limit })
-        (ap (map named) c.move_index.ensures.entries ∙ map-move_index named inside.numbers.entries c.args.from c.args.to)
-        (ap length (whole_written inside.places.items c.note_places.new.places inside.places.len same (omega (arith, inside.places.ok.0))) ∙ same))
+    (ap (map named) c.move_index.ensures.entries ∙ map-move_index named inside.numbers.entries c.args.from c.args.to)
+    (ap length (whole_written inside.places.items c.note_places.new.places inside.places.len same (omega (arith, inside.places.ok.0))) ∙ same))

@@ -1,8 +1,8 @@
-use Rattle.std.proofs.Common.{◌≡◌, Some, ap, sym, ◌∙◌, slice_get, List, ℕ}
+use Rattle.std.proofs.Common.{Some, ap, sym, ◌∙◌}
 use Rattle.std.specs.Option.{option_map}
-use Rattle.std.specs.Prelude.{chars, string_bytes}
+use Rattle.std.specs.Prelude.{chars}
 use Rattle.std.proofs.lemmas.Option.{slice_get-map}
-use Rattle.name_list.specs.Names.{Named, names_of}
+use Rattle.name_list.specs.Names.{Named}
 use Rattle.name_list.specs.Places.{named}
 use Rattle.name_list.proofs.names.NameList.name.Goals as goal
 

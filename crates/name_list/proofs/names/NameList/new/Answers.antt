@@ -1,4 +1,4 @@
-use Rattle.std.proofs.Common.{◌≡◌, ◌<◌, ◌^◌, List, [], Option, None, ℕ, ap, subst, sym, arith, rules, replicate}
+use Rattle.std.proofs.Common.{◌≡◌, Option, None, ℕ, ap, subst, sym, arith, rules, replicate}
 use Rattle.std.specs.Map.{values_of}
 use Rattle.name_list.specs.Places.{AreKept}
 use Rattle.name_list.proofs.PlaceLaws.{AreKept-none}

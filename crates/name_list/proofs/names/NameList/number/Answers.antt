@@ -1,4 +1,3 @@
-use Rattle.std.proofs.Common.{slice_get}
 use Rattle.name_list.proofs.PlaceLaws.{within_index}
 use Rattle.name_list.proofs.ViewLaws.{numbers_seen}
 use Rattle.name_list.proofs.names.NameList.number.Goals as goal

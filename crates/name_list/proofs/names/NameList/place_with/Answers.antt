@@ -1,4 +1,4 @@
-use Rattle.std.proofs.Common.{◌≡◌, ◌≤◌, None, Some, length, sym, ap, ◌∙◌, slice_get, arith}
+use Rattle.std.proofs.Common.{None, Some, sym, ap, ◌∙◌}
 use Rattle.std.proofs.lemmas.Option.{none-some, same_Some, slice_get_past, slice_get-get_or, MatchOption-at_none}
 use Rattle.name_list.proofs.PlaceLaws.{unnoted}
 use Rattle.name_list.proofs.ViewLaws.{numbers_seen}

@@ -1,7 +1,7 @@
-use Rattle.std.proofs.Common.{ap, sym, ◌∙◌, subst, Some, Option, ℕ, map}
-use Rattle.std.specs.Prelude.{chars, string_bytes, IfSome}
+use Rattle.std.proofs.Common.{ap, sym, ◌∙◌, subst, map}
+use Rattle.std.specs.Prelude.{chars, string_bytes}
 use Rattle.std.proofs.lemmas.List.{map_push}
-use Rattle.name_list.specs.Names.{Names, Named}
+use Rattle.name_list.specs.Names.{Names}
 use Rattle.tag_table.specs.Kept.{AreKept, tag}
 use Rattle.tag_table.specs.Priority.{deleted}
 use Rattle.tag_table.specs.Tags.{Tags, slot_of, slots_of, IsLeastFree}

@@ -1,4 +1,4 @@
-use Rattle.std.proofs.Common.{ap, ap₂, sym, ◌∙◌, map, subst}
+use Rattle.std.proofs.Common.{ap, sym, ◌∙◌, subst}
 use Rattle.name_list.proofs.ViewLaws.{map-remove}
 use Rattle.std.specs.Prelude.{chars, remove, ◌-◌}
 use Rattle.tag_table.specs.Kept.{AreKept, tag, tags_kept}
@@ -23,7 +23,7 @@ returns-in-Some c =
     let at = place_of_tag (chars c.args.name.now) c.self.inside.names c.args.self.now _ c.self.view_is c.place.ensures.value ∙ c.in-Some.is in
     ap tags_kept c.remove.ensures
     ∙ ap (λ tags. record { tags = tags; limit = c.self.inside.names.limit - 1 })
-        (map-remove tag c.self.inside.names.entries c.in-Some.place ∙ ap (λ (ts : Tags). remove ts.tags c.in-Some.place) c.self.view_is ∙ sym (deleted-at (chars c.args.name.now) c.args.self.now.tags c.in-Some.place other at))
+    (map-remove tag c.self.inside.names.entries c.in-Some.place ∙ ap (λ (ts : Tags). remove ts.tags c.in-Some.place) c.self.view_is ∙ sym (deleted-at (chars c.args.name.now) c.args.self.now.tags c.in-Some.place other at))
     ∙ ap (λ (ts : Tags). record { tags = deleted (chars c.args.name.now) c.args.self.now.tags; limit = ts.limit }) c.self.view_is
 
 pub returns-in_default : goal.returns-in_default

@@ -1,8 +1,6 @@
-use Rattle.std.proofs.Common.{Some, ◌≡◌, ◌≤◌, ◌<◌, ◌+◌, ap, ap₂, ◌-◌, sym, ◌∙◌, subst, refl, arith, [], ◌∷◌}
+use Rattle.std.proofs.Common.{Some, ◌≡◌, ◌+◌, ap, ap₂, ◌-◌, sym, ◌∙◌, subst, arith, [], ◌∷◌}
 use Rattle.std.specs.Prelude.{chars, string_bytes}
-use Rattle.name_list.specs.Names.{Names}
 use Rattle.tag_table.specs.Kept.{AreKept, tags_kept}
-use Rattle.tag_table.specs.Tags.{Tags, sel}
 use Rattle.tag_table.proofs.TagLaws.{first_name, chars_of_sel}
 use Rattle.tag_table.proofs.tags.TagTable.new.Goals as goal
 

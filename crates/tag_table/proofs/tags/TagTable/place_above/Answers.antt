@@ -1,7 +1,6 @@
-use Rattle.std.proofs.Common.{ap, sym, ◌∙◌, Ok, if◌then◌else◌, nat_lt, lt-ltb, le-ltb, ◌+◌, ◌-◌}
+use Rattle.std.proofs.Common.{ap, sym, ◌∙◌, Ok, if◌then◌else◌, lt-ltb, le-ltb, ◌+◌}
 use Rattle.std.specs.Option.{option_map}
 use Rattle.std.specs.Prelude.{chars}
-use Rattle.tag_table.specs.Kept.{above_place}
 use Rattle.tag_table.proofs.TagLaws.{place_of_tag, above_is}
 use Rattle.tag_table.proofs.tags.TagTable.place_above.Goals as goal
 

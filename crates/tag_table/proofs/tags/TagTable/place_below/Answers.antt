@@ -1,7 +1,6 @@
-use Rattle.std.proofs.Common.{ap, sym, ◌∙◌, Ok, if◌then◌else◌, nat_lt, lt-ltb, le-ltb, ◌+◌, ◌-◌}
+use Rattle.std.proofs.Common.{ap, sym, ◌∙◌, Ok, if◌then◌else◌, lt-ltb, le-ltb, ◌-◌}
 use Rattle.std.specs.Option.{option_map}
 use Rattle.std.specs.Prelude.{chars}
-use Rattle.tag_table.specs.Kept.{below_place}
 use Rattle.tag_table.proofs.TagLaws.{place_of_tag, below_is}
 use Rattle.tag_table.proofs.tags.TagTable.place_below.Goals as goal
 

@@ -1,6 +1,5 @@
 use Rattle.std.proofs.Common.{ap, sym, ◌∙◌, Ok, map, length, ◌<◌, subst}
 use Rattle.std.specs.Prelude.{chars}
-use Rattle.std.specs.Option.{option_map}
 use Rattle.std.proofs.lemmas.List.{length-map}
 use Rattle.std.proofs.lemmas.Result.{err_from_is_err_and}
 use Rattle.name_list.proofs.ViewLaws.{map-move_index}
