@@ -1,3 +1,5 @@
 pub mod Characters
 pub mod Grammar
 pub mod Names
+pub mod Values
+pub mod Views
