@@ -62,9 +62,9 @@ mark_base marks text count =
 abbrev pub behind_tag : ℕ → List ℕ → ℕ → List ℕ → Option (Base × ℕ)
 behind_tag slot name count rest =
     if starts_with nat_eq rest (codes ".first") && closes (drop 6 rest) then
-      Some (base.First (record { 0 = slot }) (length (encode_utf8_all name)), count + 6)
+    Some (base.First (record { 0 = slot }) (length (encode_utf8_all name)), count + 6)
     else (if starts_with nat_eq rest (codes ".last") && closes (drop 5 rest) then
-      Some (base.Last (record { 0 = slot }) (length (encode_utf8_all name)), count + 5)
+    Some (base.Last (record { 0 = slot }) (length (encode_utf8_all name)), count + 5)
     else None)
 
 -- the fourth form: a tag whose name has so many characters

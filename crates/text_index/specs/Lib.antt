@@ -3,3 +3,4 @@ pub mod Grammar
 pub mod Names
 pub mod Values
 pub mod Views
+pub mod Words

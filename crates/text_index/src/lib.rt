@@ -4,8 +4,16 @@
 
 mod faults;
 mod indices;
+mod moves;
 mod names;
+#[cfg(test)]
+mod tests;
+mod views;
+mod words;
 
 pub use faults::IndexFault;
 pub use indices::{Base, Index, Modifier, Modifiers, Unit};
+pub use moves::{back, forward, lines_back, lines_on};
 pub use names::Names;
+pub use views::View;
+pub use words::is_word;

@@ -1,0 +1,25 @@
+use Rattle.std.proofs.Common.{◌≡◌, ◌+◌, ◌≤◌, sym, ap, ◌∙◌, arith}
+use Rattle.text_model.specs.Content.{characters}
+use Rattle.text_model.specs.Lines.{lines, line_start}
+use Rattle.text_index.proofs.ViewLaws.{lines-of-part, start-part, line_of-within}
+use Rattle.text_index.proofs.views.View.line_start.Goals as goal
+
+pub line_start-requires : goal.line_start-requires
+line_start-requires g c =
+    let view = c.args.self.now in
+    let text = characters (g.S.TextStore.content view.store.now).cells in
+    omega (arith, lines-of-part text view.s view.e c.requires.view.ordered, line_of-within text view.e, c.line_of.ensures, c.requires.within)
+
+pub overflow_sub-result : goal.overflow_sub-result
+overflow_sub-result g c =
+    let view = c.args.self.now in
+    let text = characters (g.S.TextStore.content view.store.now).cells in
+    let is = c.line_start.ensures.value ∙ ap (λ k. line_start (k + c.args.line) text) c.line_of.ensures in
+    omega (arith, start-part text view.s view.e c.args.line c.requires.view.first c.requires.within, is)
+
+pub returns : goal.returns
+returns g c =
+    let view = c.args.self.now in
+    let text = characters (g.S.TextStore.content view.store.now).cells in
+    let is = c.line_start.ensures.value ∙ ap (λ k. line_start (k + c.args.line) text) c.line_of.ensures in
+    omega (arith, start-part text view.s view.e c.args.line c.requires.view.first c.requires.within, is)

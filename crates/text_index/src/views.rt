@@ -1,0 +1,50 @@
+ghost use Rattle.std.specs.Prelude.{◌≡◌, ◌≤◌, ◌<◌, ◌+◌, ◌-◌, length};
+ghost use Rattle.text_model.specs.Lines.{lines, line_of, line_start};
+ghost use Rattle.text_index.specs.Views.{shown, IsView};
+
+use text_model::TextStore;
+
+/// The part of a text that a widget shows: whole lines, from the character at offset `s` to before the one at `e`.
+/// Places and lines of a view count from 0.
+#[derive(Drop)]
+pub struct View<'a, S: TextStore> {
+    pub store: &'a S,
+    pub s: usize,
+    pub e: usize,
+}
+
+impl<'a, S: TextStore> View<'a, S> {
+    /// How many characters it shows.
+    pub fn len(&self) -> usize
+        requires { IsView (S.content self.now.store.now) self.now.s self.now.e }
+        ensures { result ≡ length (shown (S.content self.now.store.now) self.now.s self.now.e) }
+    {
+        self.e - self.s
+    }
+
+    /// How many lines it shows.
+    pub fn lines(&self) -> usize
+        requires { IsView (S.content self.now.store.now) self.now.s self.now.e }
+        ensures { result ≡ lines (shown (S.content self.now.store.now) self.now.s self.now.e) }
+    {
+        self.store.line_of(self.e) - self.store.line_of(self.s)
+    }
+
+    /// The line of a place.
+    pub fn line_of(&self, place: usize) -> usize
+        requires view { IsView (S.content self.now.store.now) self.now.s self.now.e }
+        requires within { self.now.s + place ≤ self.now.e }
+        ensures { result ≡ line_of (shown (S.content self.now.store.now) self.now.s self.now.e) place }
+    {
+        self.store.line_of(self.s + place) - self.store.line_of(self.s)
+    }
+
+    /// Where a line begins; the end for the line behind the last.
+    pub fn line_start(&self, line: usize) -> usize
+        requires view { IsView (S.content self.now.store.now) self.now.s self.now.e }
+        requires within { line ≤ lines (shown (S.content self.now.store.now) self.now.s self.now.e) }
+        ensures { result ≡ line_start line (shown (S.content self.now.store.now) self.now.s self.now.e) }
+    {
+        self.store.line_start(self.store.line_of(self.s) + line) - self.s
+    }
+}
