@@ -1,5 +1,5 @@
 -- The first and the last of the shared marks at one offset, mark by mark.
-use Rattle.std.proofs.Common.{◌≡◌, ℕ, ◌+◌, ◌-◌, ◌<◌, ◌≤◌, min, nat_lt, Option, None, Some, List, length, slice_get, sym, ap, ◌∙◌, subst, inl, inr, arith, lt-ltb, le-ltb}
+use Rattle.std.proofs.Common.{◌≡◌, ℕ, ◌+◌, ◌-◌, ◌<◌, ◌≤◌, max, min, nat_lt, Option, None, Some, List, length, slice_get, sym, ap, ◌∙◌, subst, inl, inr, arith, lt-ltb, le-ltb}
 use Rattle.std.specs.Bool.{then_some}
 use Rattle.std.specs.Option.{MatchOption, SomeIff}
 use Rattle.std.proofs.lemmas.Bool.{cases_lt, cases_eq}
@@ -27,6 +27,28 @@ Found-more at numbers from len first found index number is old new = λ within. 
 pub Least-more : (at : List MarkNo) (numbers : List ℕ) (from first found index : ℕ) (number : MarkNo) → slice_get at index ≡ Some number → Least at numbers from first index
     → ((place : ℕ) → slice_get numbers place ≡ Some number.0 → from ≤ place → found ≤ place) → Least at numbers from (min first found) (index + 1)
 Least-more at numbers from first found index number is old new = λ i place other below told stands low. elim (cases_eq i index) [
+  | inl same ↦
+      let one = same_Some other number (sym told ∙ ap (slice_get at) same ∙ is) in
+      let h = new place (stands ∙ ap (λ (n : MarkNo). Some n.0) one) low in omega arith
+  | inr apart ↦ let h = old i place other (omega arith) told stands low in omega arith
+]
+
+pub FoundBack-more : (at : List MarkNo) (numbers : List ℕ) (upto places found index : ℕ) (number : MarkNo)
+    → slice_get at index ≡ Some number
+    → (0 < places → (places ≤ upto) × IsAt at numbers (places - 1))
+    → (0 < found → (found ≤ upto) × (slice_get numbers (found - 1) ≡ Some number.0))
+    → 0 < max places found
+    → (max places found ≤ upto) × IsAt at numbers (max places found - 1)
+FoundBack-more at numbers upto places found index number is old new some = elim (cases_lt places found) [
+  | inl above ↦ let e : max places found - 1 ≡ found - 1 = omega arith in let h = new (omega arith) in let high = h.0 in (omega arith, (index, number, is, ap (slice_get numbers) e ∙ h.1))
+  | inr below ↦ let e : max places found - 1 ≡ places - 1 = omega arith in let h = old (omega arith) in let high = h.0 in (omega arith, (h.1.0, h.1.1, h.1.2, ap (slice_get numbers) e ∙ h.1.3))
+]
+
+pub Greatest-more : (at : List MarkNo) (numbers : List ℕ) (upto places found index : ℕ) (number : MarkNo)
+    → slice_get at index ≡ Some number → Greatest at numbers upto places index
+    → ((place : ℕ) → slice_get numbers place ≡ Some number.0 → place < upto → place < found)
+    → Greatest at numbers upto (max places found) (index + 1)
+Greatest-more at numbers upto places found index number is old new = λ i place other below told stands low. elim (cases_eq i index) [
   | inl same ↦
       let one = same_Some other number (sym told ∙ ap (slice_get at) same ∙ is) in
       let h = new place (stands ∙ ap (λ (n : MarkNo). Some n.0) one) low in omega arith

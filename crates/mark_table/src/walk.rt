@@ -99,7 +99,7 @@ impl MarkTable {
         ensures small { IfSome result (λ place. place < MOST_MARKS) }
     {
         let _len = self.len();
-        let mut places = 0;
+        let mut places: usize = 0;
         let mut index = 0;
         while let Some(number) = store.mark_at(offset, index) {
             places = places.max(self.places_before(number, upto));
