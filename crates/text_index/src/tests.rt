@@ -27,6 +27,7 @@ fn check<S: TextStore>(rt: &impl Abort, alloc: Global) -> Result<(), Fail> {
         s: 0,
         e,
     };
+    assert!(rt; view.shows_lines());
     assert_eq!(rt; view.len(), 10);
     assert_eq!(rt; view.lines(), 4);
     for (place, count, on, before) in [

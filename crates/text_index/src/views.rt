@@ -1,8 +1,16 @@
-ghost use Rattle.std.specs.Prelude.{◌≡◌, ◌≤◌, ◌<◌, ◌+◌, ◌-◌, length};
+ghost use Rattle.std.specs.Prelude.{◌≡◌, ◌≤◌, ◌<◌, ◌+◌, ◌-◌, length, IsTrue};
+ghost use Rattle.text_model.specs.Content.{characters};
 ghost use Rattle.text_model.specs.Lines.{lines, line_of, line_start};
-ghost use Rattle.text_index.specs.Views.{shown, IsView};
+ghost use Rattle.text_index.specs.Views.{shown, IsLineStart, IsView};
 
 use text_model::TextStore;
+
+/// Whether a line begins at an offset, or the text ends there.
+fn is_line_start<S: TextStore>(store: &S, offset: usize) -> bool
+    ensures { IsTrue result → IsLineStart (characters (S.content store.now).cells) offset }
+{
+    offset <= store.len() && store.line_start(store.line_of(offset)) == offset
+}
 
 /// The part of a text that a widget shows: whole lines, from the character at offset `s` to before the one at `e`.
 /// Places and lines of a view count from 0.
@@ -14,6 +22,13 @@ pub struct View<'a, S: TextStore> {
 }
 
 impl<'a, S: TextStore> View<'a, S> {
+    /// Whether it shows whole lines of the store, as a view has to: both ends are begins of lines, or the end of the text.
+    pub fn shows_lines(&self) -> bool
+        ensures { IsTrue result → IsView (S.content self.now.store.now) self.now.s self.now.e }
+    {
+        self.s <= self.e && is_line_start(self.store, self.s) && is_line_start(self.store, self.e)
+    }
+
     /// How many characters it shows.
     pub fn len(&self) -> usize
         requires { IsView (S.content self.now.store.now) self.now.s self.now.e }
