@@ -1,2 +1,3 @@
+pub mod FlagLaws
 pub mod RunLaws
 pub mod ViewLaws

@@ -6,8 +6,10 @@ mod faults;
 mod indices;
 mod moves;
 mod names;
+mod ranges;
 #[cfg(test)]
 mod tests;
+mod values;
 mod views;
 mod words;
 

@@ -10,5 +10,5 @@ overflow_sub-result g c =
     let content = g.S.TextStore.content view.store.now in
     let text = shown content view.s view.e in
     let long = length-shown content view.s view.e c.requires.view in
-    let is = c.line_start.ensures ∙ ap (λ k. line_start k text) c.line_of-line.ensures in
+    let is = c.line_start.ensures.value ∙ ap (λ k. line_start k text) c.line_of-line.ensures in
     omega (arith, is, line_start-before text c.args.place (omega (arith, long, c.requires.within)))
