@@ -6,6 +6,7 @@ mod faults;
 mod indices;
 mod moves;
 mod names;
+mod positions;
 mod ranges;
 #[cfg(test)]
 mod tests;
@@ -17,5 +18,7 @@ pub use faults::IndexFault;
 pub use indices::{Base, Index, Modifier, Modifiers, Unit};
 pub use moves::{back, forward, lines_back, lines_on};
 pub use names::Names;
+pub use positions::push_index;
+pub use values::resolve;
 pub use views::View;
 pub use words::is_word;

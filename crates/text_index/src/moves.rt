@@ -48,7 +48,7 @@ pub fn in_line<S: TextStore>(view: &View<'_, S>, line: usize, character: usize) 
 }
 
 /// The line of a place, and how many characters stand before it there.
-fn line_and_column<S: TextStore>(view: &View<'_, S>, place: usize) -> (usize, usize)
+pub fn line_and_column<S: TextStore>(view: &View<'_, S>, place: usize) -> (usize, usize)
     requires view { IsView (S.content view.now.store.now) view.now.s view.now.e }
     requires within { view.now.s + place ≤ view.now.e }
     ensures line { result.0 ≡ line_of (shown (S.content view.now.store.now) view.now.s view.now.e) place }
