@@ -72,7 +72,7 @@ pub first-set : (flags : List Bool) (start end : ℕ) → end ≤ length flags �
 first-set flags start end within some set =
     let flag : get_or flags start false ≡ true = get_or_from_slice_get flags start true false set in
     let none : prefix_len not (drop start flags) ≡ 0 =
-        ap (prefix_len not) (drop_more flags start false (omega arith)) ∙ ap (λ b. cond (not b) (1 + prefix_len not (drop (start + 1) flags)) 0) flag in
+    ap (prefix_len not) (drop_more flags start false (omega arith)) ∙ ap (λ b. cond (not b) (1 + prefix_len not (drop (start + 1) flags)) 0) flag in
     first-found (slice_range flags start end) 0 (prefix-part not flags start end within (omega arith) ∙ omega (arith, none))
     (omega (arith, length-part flags start end within (omega arith)))
 
@@ -147,5 +147,9 @@ last-never flags start end change within some unset is before =
 -- a view's end is within the flags of a slot
 pub flags-within : (content : Content) (slot start end : ℕ) → IsView content start end → end ≤ length (flags slot content.cells)
 flags-within content slot start end view =
-    omega (arith, view.behind.within, length-map content.cells (λ (cell : Cell). cell.character),
-      length-map content.cells (λ (cell : Cell). set.contains cell.tags slot))
+    omega (
+      arith,
+      view.behind.within,
+      length-map content.cells (λ (cell : Cell). cell.character),
+      length-map content.cells (λ (cell : Cell). set.contains cell.tags slot),
+    )

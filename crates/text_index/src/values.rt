@@ -6,7 +6,8 @@ ghost use Rattle.text_index.specs.Words.{is_word};
 use crate::faults::IndexFault;
 use crate::indices::{Base, Index, Modifier, Unit};
 use crate::moves::{
-    back, forward, in_line, line_end, line_start, lines_back, lines_on, newline_of, word_end, word_start,
+    back, forward, in_line, line_end, line_start, lines_back, lines_on, newline_of, word_end,
+    word_start,
 };
 use crate::ranges::{first_tagged, last_tagged};
 use crate::views::View;
@@ -20,7 +21,12 @@ fn shown_mark<S: TextStore>(view: &View<'_, S>, number: MarkNo) -> Option<usize>
 {
     let place = view.store.mark_place(number)?;
     if number.0 < 2 * Limits::MOST_WIDGETS {
-        return Some(place.offset.saturating_sub(view.s).min(view.len().saturating_sub(1)));
+        return Some(
+            place
+                .offset
+                .saturating_sub(view.s)
+                .min(view.len().saturating_sub(1)),
+        );
     }
     if view.s <= place.offset && place.offset <= view.e {
         Some(place.offset - view.s)

@@ -10,5 +10,10 @@ newline_of-requires-clause-known g c =
     let text = characters content.cells in
     let long = length-shown content view.s view.e c.requires.view in
     let before : view.s + c.args.place < view.e = omega (arith, c.if-place-len.false, c.len.ensures, long, c.requires.within, c.requires.view.ordered) in
-    omega (arith, c.line_of.ensures, before-end text (view.s + c.args.place) view.e c.requires.view.behind before,
-      lines-part text view.s view.e c.args.place c.requires.within, lines-of-part text view.s view.e c.requires.view.ordered)
+    omega (
+      arith,
+      c.line_of.ensures,
+      before-end text (view.s + c.args.place) view.e c.requires.view.behind before,
+      lines-part text view.s view.e c.args.place c.requires.within,
+      lines-of-part text view.s view.e c.requires.view.ordered,
+    )

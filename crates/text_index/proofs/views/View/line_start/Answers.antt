@@ -32,5 +32,10 @@ returns-clause-bound g c =
     let content = g.S.TextStore.content view.store.now in
     let text = characters content.cells in
     let is = c.line_start.ensures.value ∙ ap (λ k. line_start (k + c.args.line) text) c.line_of.ensures in
-    omega (arith, start-part text view.s view.e c.args.line c.requires.view.first c.requires.within, is,
-      line_start-le (shown content view.s view.e) c.args.line, length-shown content view.s view.e c.requires.view)
+    omega (
+      arith,
+      start-part text view.s view.e c.args.line c.requires.view.first c.requires.within,
+      is,
+      line_start-le (shown content view.s view.e) c.args.line,
+      length-shown content view.s view.e c.requires.view,
+    )
