@@ -1,0 +1,4 @@
+pub mod FlagLaws
+pub mod PositionLaws
+pub mod RunLaws
+pub mod ViewLaws

@@ -1,0 +1,18 @@
+use Rattle.std.proofs.Common.{◌≡◌, ◌+◌, arith}
+use Rattle.text_model.specs.Content.{characters}
+use Rattle.text_model.specs.Lines.{line_of}
+use Rattle.text_index.specs.Views.{shown}
+use Rattle.text_index.proofs.ViewLaws.{lines-part}
+use Rattle.text_index.proofs.views.View.line_of.Goals as goal
+
+pub overflow_sub-result : goal.overflow_sub-result
+overflow_sub-result g c =
+    let view = c.args.self.now in
+    let content = g.S.TextStore.content view.store.now in
+    omega (arith, lines-part (characters content.cells) view.s view.e c.args.place c.requires.within, c.line_of.ensures, c.line_of-2.ensures)
+
+pub returns : goal.returns
+returns g c =
+    let view = c.args.self.now in
+    let content = g.S.TextStore.content view.store.now in
+    omega (arith, lines-part (characters content.cells) view.s view.e c.args.place c.requires.within, c.line_of.ensures, c.line_of-2.ensures)

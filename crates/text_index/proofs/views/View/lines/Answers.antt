@@ -1,0 +1,16 @@
+use Rattle.std.proofs.Common.{◌≡◌, ◌+◌, arith}
+use Rattle.text_model.specs.Content.{characters}
+use Rattle.text_index.proofs.ViewLaws.{lines-of-part}
+use Rattle.text_index.proofs.views.View.lines.Goals as goal
+
+pub overflow_sub-result : goal.overflow_sub-result
+overflow_sub-result g c =
+    let view = c.args.self.now in
+    let content = g.S.TextStore.content view.store.now in
+    omega (arith, lines-of-part (characters content.cells) view.s view.e c.requires.ordered, c.line_of.ensures, c.line_of-2.ensures)
+
+pub returns : goal.returns
+returns g c =
+    let view = c.args.self.now in
+    let content = g.S.TextStore.content view.store.now in
+    omega (arith, lines-of-part (characters content.cells) view.s view.e c.requires.ordered, c.line_of.ensures, c.line_of-2.ensures)
