@@ -1,10 +1,10 @@
 -- The first and the last flag that is set in a part of a list of flags, by where the flags change.
-use Rattle.std.proofs.Common.{◌≡◌, ℕ, zero, suc, ◌+◌, ◌-◌, ◌<◌, ◌≤◌, min, Bool, true, false, cond, List, [], ◌∷◌, ◌++◌, length, take, drop, get_or, Option, Some, None, refl, sym, ap, ap₂, ◌∙◌, arith, lt-ltb, le-ltb, length-drop}
-use Rattle.std.specs.Prelude.{reverse, slice_range, slice_get, nat_lt, not, position, if◌then◌else◌}
+use Rattle.std.proofs.Common.{◌≡◌, ℕ, zero, suc, ◌+◌, ◌-◌, ◌<◌, ◌≤◌, min, Bool, true, false, cond, List, [], ◌∷◌, ◌++◌, length, take, drop, get_or, Some, None, refl, sym, ap, ap₂, ◌∙◌, arith, lt-ltb, le-ltb, length-drop}
+use Rattle.std.specs.Prelude.{reverse, slice_range, slice_get, nat_lt, not, if◌then◌else◌}
 use Rattle.std.specs.List.{prefix_len, suffix_len}
 use Rattle.std.proofs.lemmas.List.{take-append-drop, drop_more, take_more, reverse-append, length-reverse, length-take-le}
 use Rattle.std.proofs.lemmas.Option.{get_or_from_slice_get}
-use Rattle.text_model.specs.Changes.{is_alike, flag_at, next_change, previous_change}
+use Rattle.text_model.specs.Changes.{is_alike, next_change, previous_change}
 use Rattle.std.proofs.lemmas.List.{length-map}
 use Rattle.std.specs.FinSet as set
 use Rattle.text_model.specs.declared.cells.Cell.{Cell}

@@ -1,4 +1,5 @@
 pub mod FlagLaws
+pub mod GrammarRows
 pub mod PositionLaws
 pub mod RunLaws
 pub mod ViewLaws

@@ -1,9 +1,9 @@
 -- Lines of the part of a text that a view shows, by those of the text.
-use Rattle.std.proofs.Common.{◌≡◌, ℕ, zero, suc, ◌+◌, ◌-◌, ◌<◌, ◌≤◌, min, Bool, true, false, cond, List, [], ◌∷◌, ◌++◌, length, take, drop, get_or, refl, sym, ap, ap₂, ◌∙◌, arith, ne_eqb, length-drop, length-take}
-use Rattle.std.specs.Prelude.{slice_range, slice_index, if◌then◌else◌}
-use Rattle.std.proofs.lemmas.List.{take-take, take-append-drop, drop-drop, take_more, length-take-le}
+use Rattle.std.proofs.Common.{◌≡◌, ℕ, zero, suc, ◌+◌, ◌-◌, ◌<◌, ◌≤◌, min, true, false, cond, List, [], ◌∷◌, ◌++◌, length, take, drop, refl, sym, ap, ap₂, ◌∙◌, arith, ne_eqb, length-drop}
+use Rattle.std.specs.Prelude.{slice_range, if◌then◌else◌}
+use Rattle.std.proofs.lemmas.List.{take-take, take-append-drop, length-take-le}
 use Rattle.text_model.specs.Lines.{is_newline, lines, line_of, line_start}
-use Rattle.text_model.proofs.LineLaws.{lines-cons, lines-append, line_start-le, line_start-rises}
+use Rattle.text_model.proofs.LineLaws.{lines-cons, lines-append}
 use Rattle.text_model.specs.Content.{Content, characters}
 use Rattle.text_index.specs.Views.{IsLineStart, IsView, shown}
 use Rattle.text_index.specs.Values.{in_line, column_of, lines_on}

@@ -1,10 +1,9 @@
 -- The place that an index stands for (text(n), "INDICES"), counted from the start of the view's text. Lines of the text count
 -- from 0 here, and those of an index from 1.
-use Rattle.std.specs.Prelude.{ℕ, ⊤, ◌<◌, zero, suc, ◌+◌, ◌-◌, ◌==◌, min, nat_lt, Bool, true, false, ◌||◌, not, List, [], ◌∷◌, length, take, drop, slice_index, position, Option, None, Some, option_map, Result, Ok, Err, if◌then◌else◌}
+use Rattle.std.specs.Prelude.{ℕ, ⊤, ◌<◌, zero, suc, ◌+◌, ◌-◌, ◌==◌, min, nat_lt, Bool, not, List, [], ◌∷◌, length, take, drop, slice_index, position, Option, None, Some, Result, Ok, Err, if◌then◌else◌}
 use Rattle.std.specs.List.{prefix_len, suffix_len}
 use Rattle.text_model.specs.TagBits.{slot_count}
 use Rattle.text_model.specs.Lines.{lines, line_of, line_start}
-use Rattle.text_model.specs.declared.places.Place.{Place}
 use Rattle.text_index.specs.declared.faults.IndexFault.{IndexFault}
 use Rattle.text_index.specs.declared.faults.IndexFault.TheVariants.{BadIndex, NoTaggedCharacters}
 use Rattle.text_index.specs.declared.indices.Base.{Base}

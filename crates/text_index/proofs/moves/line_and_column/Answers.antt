@@ -1,4 +1,4 @@
-use Rattle.std.proofs.Common.{◌≡◌, ◌≤◌, length, ap, ◌∙◌, arith}
+use Rattle.std.proofs.Common.{ap, ◌∙◌, arith}
 use Rattle.text_model.specs.Lines.{line_start}
 use Rattle.text_index.specs.Views.{shown}
 use Rattle.text_index.proofs.ViewLaws.{line_start-before, length-shown}

@@ -1,4 +1,4 @@
-use Rattle.std.proofs.Common.{◌≡◌, ◌+◌, ◌<◌, length, arith}
+use Rattle.std.proofs.Common.{◌+◌, ◌<◌, arith}
 use Rattle.text_model.specs.Content.{characters}
 use Rattle.text_index.proofs.ViewLaws.{before-end, lines-part, lines-of-part, length-shown}
 use Rattle.text_index.proofs.moves.line_end.Goals as goal

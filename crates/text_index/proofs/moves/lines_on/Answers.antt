@@ -1,4 +1,4 @@
-use Rattle.std.proofs.Common.{◌≡◌, ◌≤◌, ◌<◌, ◌+◌, ◌-◌, ◌^◌, min, length, sym, ◌∙◌, arith}
+use Rattle.std.proofs.Common.{◌≡◌, ◌<◌, ◌+◌, ◌-◌, ◌^◌, min, sym, ◌∙◌, arith}
 use Rattle.text_model.specs.Content.{characters}
 use Rattle.text_model.specs.Lines.{lines, line_of}
 use Rattle.text_index.specs.Views.{shown}

@@ -1,4 +1,4 @@
-use Rattle.std.proofs.Common.{◌≡◌, ◌<◌, Some, ap, ◌∙◌, arith}
+use Rattle.std.proofs.Common.{◌<◌, Some, ap, ◌∙◌, arith}
 use Rattle.text_model.specs.Content.{flags}
 use Rattle.text_index.proofs.FlagLaws.{last-set, last-earlier, last-never, flags-within}
 use Rattle.text_index.proofs.ranges.last_tagged.Goals as goal

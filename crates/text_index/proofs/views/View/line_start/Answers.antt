@@ -1,6 +1,6 @@
-use Rattle.std.proofs.Common.{◌≡◌, ◌+◌, ◌≤◌, sym, ap, ◌∙◌, arith}
+use Rattle.std.proofs.Common.{◌+◌, ap, ◌∙◌, arith}
 use Rattle.text_model.specs.Content.{characters}
-use Rattle.text_model.specs.Lines.{lines, line_start}
+use Rattle.text_model.specs.Lines.{line_start}
 use Rattle.text_model.proofs.LineLaws.{line_start-le}
 use Rattle.text_index.specs.Views.{shown}
 use Rattle.text_index.proofs.ViewLaws.{lines-of-part, start-part, line_of-within, length-shown}
