@@ -1,6 +1,10 @@
 pub mod Characters
+pub mod Fronts
 pub mod Grammar
 pub mod Names
+pub mod Pieces
+pub mod Reading
+pub mod Steps
 pub mod Values
 pub mod Views
 pub mod Words

@@ -3,11 +3,19 @@
 #![tactic(auto)]
 
 mod faults;
+mod fronts;
 mod indices;
 mod moves;
 mod names;
+mod numbers;
+mod parsing;
+#[cfg(test)]
+mod parsing_tests;
+mod places;
+mod steps;
 #[cfg(test)]
 mod tests;
+mod tokens;
 mod views;
 mod words;
 
@@ -15,5 +23,6 @@ pub use faults::IndexFault;
 pub use indices::{Base, Index, Modifier, Modifiers, Unit};
 pub use moves::{back, forward, lines_back, lines_on};
 pub use names::Names;
+pub use parsing::parse;
 pub use views::View;
 pub use words::is_word;
