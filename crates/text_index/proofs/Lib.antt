@@ -1,2 +1,11 @@
+pub mod CharLaws
+pub mod FindLaws
+pub mod FrontLaws
+pub mod LongestLaws
+pub mod LowLaws
+pub mod NameLaws
+pub mod PlaceLaws
 pub mod RunLaws
+pub mod StepLaws
+pub mod TokenLaws
 pub mod ViewLaws

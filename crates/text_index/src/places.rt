@@ -55,7 +55,8 @@ pub(crate) fn find_place(word: &str) -> Option<(Base, &str)>
     ensures { read_of (chars word.now) (place_base (chars word.now)) ≡ found_of result }
 {
     let end = unbroken(word.as_bytes());
-    match read_place(&word.as_bytes()[..end]) {
+    let (front, _) = word.as_bytes().split_at(end);
+    match read_place(front) {
         Some(base) => Some((base, &word[end..])),
         None => None,
     }

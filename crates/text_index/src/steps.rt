@@ -84,7 +84,7 @@ fn read_counted(is_plus: bool, text: &[u8]) -> Option<(Modifier, &[u8])>
 
 /// The first modifier of a text after its first piece, and what stands behind it.
 fn read_step<'a>(first: Piece<'a>, text: &'a [u8]) -> Option<(Modifier, &'a [u8])>
-    ensures value { saturated (modifiers_of (token_of first ∷ tokens_of text.now)) ≡ stepped result }
+    ensures value { saturated (modifiers_of (token_of first.entry ∷ tokens_of text.now)) ≡ stepped result }
     ensures bound { IfSome result (λ found. length found.1.now ≤ length text.now) }
 {
     match first {

@@ -1,4 +1,4 @@
-ghost use Rattle.std.specs.Prelude.{◌≡◌, ◌<◌, ◌||◌, not, length, IfSome};
+ghost use Rattle.std.specs.Prelude.{◌≡◌, ◌<◌, not, drop, length, position, IfSome};
 ghost use Rattle.std.specs.List.{prefix_len};
 ghost use Rattle.std.specs.Char.{is_ascii_digit};
 ghost use Rattle.text_index.specs.Characters.{is_blank, is_sign, is_break};
@@ -35,31 +35,62 @@ pub(crate) fn is_break(byte: u8) -> bool
     is_blank(byte) || is_sign(byte)
 }
 
+/// Where the first byte stands that is no blank.
+fn find_other(text: &[u8]) -> Option<usize>
+    ensures { result ≡ position (λ c. not (is_blank c)) text.now }
+{
+    text.iter().position(|byte| !is_blank(*byte))
+}
+
 /// How many blanks a text begins with.
 fn blanks(text: &[u8]) -> usize
     ensures { result ≡ prefix_len is_blank text.now }
 {
-    text.iter()
-        .position(|byte| !is_blank(*byte))
-        .unwrap_or(text.len())
+    match find_other(text) {
+        Some(at) => at,
+        None => text.len(),
+    }
+}
+
+/// Where the first byte stands that is no digit.
+fn find_no_digit(text: &[u8]) -> Option<usize>
+    ensures { result ≡ position (λ c. not (is_ascii_digit c)) text.now }
+{
+    text.iter().position(|byte| !byte.is_ascii_digit())
 }
 
 /// How many digits a text begins with.
 fn digits(text: &[u8]) -> usize
     ensures { result ≡ prefix_len is_ascii_digit text.now }
 {
-    text.iter()
-        .position(|byte| !byte.is_ascii_digit())
-        .unwrap_or(text.len())
+    match find_no_digit(text) {
+        Some(at) => at,
+        None => text.len(),
+    }
+}
+
+/// Where the first blank, `+` or `-` stands.
+fn find_break(text: &[u8]) -> Option<usize>
+    ensures { result ≡ position is_break text.now }
+{
+    text.iter().position(|byte| is_break(*byte))
 }
 
 /// How many bytes stand before the first blank, `+` or `-`.
 pub(crate) fn unbroken(text: &[u8]) -> usize
     ensures { result ≡ prefix_len (λ c. not (is_break c)) text.now }
 {
-    text.iter()
-        .position(|byte| is_break(*byte))
-        .unwrap_or(text.len())
+    match find_break(text) {
+        Some(at) => at,
+        None => text.len(),
+    }
+}
+
+/// A text without the blanks that it begins with.
+fn skip_blanks(text: &[u8]) -> &[u8]
+    ensures { result.now ≡ drop (prefix_len is_blank text.now) text.now }
+{
+    text.split_at(blanks(text)).1
 }
 
 /// The first piece of a text, and what stands behind it.
@@ -67,15 +98,16 @@ pub(crate) fn next_piece(text: &[u8]) -> Option<(Piece<'_>, &[u8])>
     ensures value { tokens_of text.now ≡ before_rest result }
     ensures bound { IfSome result (λ found. length found.1.now < length text.now) }
 {
-    let text = &text[blanks(text)..];
+    let text = skip_blanks(text);
     let first = *text.first()?;
     if is_sign(first) {
-        return Some((Piece::Sign(first == b'+'), &text[1..]));
+        let (_, rest) = text.split_at(1);
+        return Some((Piece::Sign(first == b'+'), rest));
     }
     if first.is_ascii_digit() {
-        let end = digits(text);
-        return Some((Piece::Digits(&text[..end]), &text[end..]));
+        let (digits, rest) = text.split_at(digits(text));
+        return Some((Piece::Digits(digits), rest));
     }
-    let end = unbroken(text);
-    Some((Piece::Word(&text[..end]), &text[end..]))
+    let (word, rest) = text.split_at(unbroken(text));
+    Some((Piece::Word(word), rest))
 }
