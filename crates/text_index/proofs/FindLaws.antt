@@ -1,6 +1,6 @@
 -- The longest closed front of a word, by its bytes.
 use Rattle.std.proofs.Common.{◌≡◌, ℕ, suc, ◌+◌, ◌<◌, ◌≤◌, Bool, true, List, [], ◌∷◌, ◌++◌, take, drop, length, get_or, refl, sym, ap, ◌∙◌, arith}
-use Rattle.std.specs.Prelude.{chars, IsUtf8, IsCharBoundary, Option, Some, None, option_map}
+use Rattle.std.specs.Prelude.{chars, IsUtf8, IsCharBoundary, Option, Some, None, option_map, slice_range, ◌-◌}
 use Rattle.std.specs.List.{list_all}
 use Rattle.std.proofs.lemmas.List.{drop_more, take-append-drop, take-take, get_or-take, length-append, length-take}
 use Rattle.std.proofs.lemmas.Str.{IsUtf8-take, IsUtf8-drop, IsCharBoundary-after_ascii, chars-append}
@@ -81,3 +81,7 @@ this-front named word end base text looked is small =
     ap (read_of (chars word)) (looked.same ∙ found-front named (chars word) (length (chars (take end word))) base
     (ap closes rest ∙ closes-chars (drop end word) looked.closed) (ap named whole ∙ is))
     ∙ ap (λ xs. Some (saturated_base base, xs)) rest ∙ ap (λ b. Some (b, chars (drop end word))) small
+
+-- a front is a range from the first byte on
+pub range-front : (xs : List ℕ) (end : ℕ) → slice_range xs 0 end ≡ take end xs
+range-front xs end = ap (λ k. take k xs) (let e : end - 0 ≡ end = omega arith in e)

@@ -7,5 +7,6 @@ pub mod NameLaws
 pub mod PlaceLaws
 pub mod RunLaws
 pub mod StepLaws
+pub mod TagLaws
 pub mod TokenLaws
 pub mod ViewLaws

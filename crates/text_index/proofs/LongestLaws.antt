@@ -51,8 +51,8 @@ unnamed-front named text i none =
     ap (λ o. if closes (drop i text) then option_map (of_length i) o else None) none
     ∙ elim (closes (drop i text)) as (λ b. (if b then option_map (of_length i) None else None) ≡ None) [ true ↦ refl | false ↦ refl ]
 
-at-or-below : {P : Type 0} (i most : ℕ) → i ≤ most → (i < most → P) → (i ≡ most → P) → P
-at-or-below i most high below same = elim (nat_lt i most) as (λ b. nat_lt i most ≡ b → _) [
+at-or-below : (P : Type 0) (i most : ℕ) → i ≤ most → (i < most → P) → (i ≡ most → P) → P
+at-or-below P i most high below same = elim (nat_lt i most) as (λ b. nat_lt i most ≡ b → P) [
   | true ↦ λ is. below ((Decides-ltb i most).0 is)
   | false ↦ λ isn't. same (let e : i ≡ most = grind (arith, nat_tests) in e)
 ] refl
@@ -63,7 +63,7 @@ pub skip-front : (named : List ℕ → Option Base) (text : List ℕ) (least mos
     → longest (closed_front named text) most ≡ longest (closed_front named text) least
 skip-front named text least most lt within none all =
     downs (closed_front named text) least (most - least) most (omega (arith, lt)) (λ i low high.
-    at-or-below {P = closed_front named text i ≡ None} i most high
+    at-or-below (closed_front named text i ≡ None) i most high
     (λ below.
         let j : ℕ = i - (least + 1) in
         let sum : least + 1 + j ≡ i = omega (arith, low) in
@@ -78,7 +78,7 @@ pub skip-all : (named : List ℕ → Option Base) (text : List ℕ) (most : ℕ)
     → list_all inside (take most text) ≡ true → longest (closed_front named text) most ≡ None
 skip-all named text most within none all =
     nones (closed_front named text) most (λ i high.
-    at-or-below {P = closed_front named text i ≡ None} i most high
+    at-or-below (closed_front named text i ≡ None) i most high
     (λ below.
         let size : i < length (take most text) = omega (arith, length-take most text, below, within) in
         open-front named text i (omega (arith, below, within)) (ap inside (sym (get_or-take most text i 0 below)) ∙ all-get (take most text) i all size))
