@@ -3,6 +3,7 @@ pub mod FindLaws
 pub mod FrontLaws
 pub mod LongestLaws
 pub mod LowLaws
+pub mod LowModifierLaws
 pub mod NameLaws
 pub mod PlaceLaws
 pub mod RunLaws
@@ -10,3 +11,4 @@ pub mod StepLaws
 pub mod TagLaws
 pub mod TokenLaws
 pub mod ViewLaws
+pub mod WholeLaws

@@ -25,19 +25,19 @@ pub tokens-sign : (c : ℕ) (cs : List ℕ) → is_blank c ≡ false → is_sign
 unfolding tokens_from
 tokens-sign c cs blank sign = rw blank (rw sign refl)
 
-from-inside : (run : List ℕ) (c : ℕ) (cs : List ℕ) → is_blank c ≡ false → is_sign c ≡ false → tokens_from run (c ∷ cs) ≡ tokens_from (run ++ c ∷ []) cs
+pub from-inside : (run : List ℕ) (c : ℕ) (cs : List ℕ) → is_blank c ≡ false → is_sign c ≡ false → tokens_from run (c ∷ cs) ≡ tokens_from (run ++ c ∷ []) cs
 unfolding tokens_from
 from-inside run c cs blank sign = rw blank (rw sign refl)
 
-from-blank : (run : List ℕ) (c : ℕ) (cs : List ℕ) → is_blank c ≡ true → tokens_from run (c ∷ cs) ≡ run_tokens run ++ tokens_of cs
+pub from-blank : (run : List ℕ) (c : ℕ) (cs : List ℕ) → is_blank c ≡ true → tokens_from run (c ∷ cs) ≡ run_tokens run ++ tokens_of cs
 unfolding tokens_from
 from-blank run c cs blank = rw blank refl
 
-from-sign : (run : List ℕ) (c : ℕ) (cs : List ℕ) → is_blank c ≡ false → is_sign c ≡ true → tokens_from run (c ∷ cs) ≡ run_tokens run ++ Sign (c == 43) ∷ tokens_of cs
+pub from-sign : (run : List ℕ) (c : ℕ) (cs : List ℕ) → is_blank c ≡ false → is_sign c ≡ true → tokens_from run (c ∷ cs) ≡ run_tokens run ++ Sign (c == 43) ∷ tokens_of cs
 unfolding tokens_from
 from-sign run c cs blank sign = rw blank (rw sign refl)
 
-from-nil : (run : List ℕ) → tokens_from run [] ≡ run_tokens run
+pub from-nil : (run : List ℕ) → tokens_from run [] ≡ run_tokens run
 unfolding tokens_from
 from-nil run = refl
 
