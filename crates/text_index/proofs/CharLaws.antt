@@ -93,7 +93,7 @@ count-front : (bytes : List ℕ) (end : ℕ) → IsUtf8 bytes → end ≡ prefix
 count-front bytes end text is =
     let boundary = front-boundary bytes end is in
     let front : list_all inside (chars (take end bytes)) ≡ true = inside-chars (take end bytes) (IsUtf8-take bytes end text boundary)
-      (ap (λ k. list_all inside (take k bytes)) is ∙ inside-front bytes) in
+    (ap (λ k. list_all inside (take k bytes)) is ∙ inside-front bytes) in
     let rest : prefix_len inside (chars (drop end bytes)) ≡ 0 = closes-none (chars (drop end bytes)) (closes-chars (drop end bytes) (ap (λ k. closes (drop k bytes)) is ∙ closes-rest bytes)) in
     ap (prefix_len inside) (chars-cut bytes end text boundary) ∙ prefix-append inside (chars (take end bytes)) (chars (drop end bytes)) front rest
 

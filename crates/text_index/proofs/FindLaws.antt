@@ -48,17 +48,17 @@ step-front named word end at text looked none lt breaks all =
     let here : get_or (take end word) at 0 ≡ get_or word at 0 = get_or-take end word at 0 below in
     let closed : closes (drop at word) ≡ true = ap closes (drop_more word at 0 inside_word) ∙ ap is_break (sym here) ∙ breaks in
     let split : chars (take end word) ≡ chars (take at word) ++ get_or (take end word) at 0 ∷ chars (drop (at + 1) (take end word)) =
-      chars-split (take end word) at front_utf8 lt breaks ∙ ap (λ xs. chars xs ++ get_or (take end word) at 0 ∷ chars (drop (at + 1) (take end word))) shorter in
+    chars-split (take end word) at front_utf8 lt breaks ∙ ap (λ xs. chars xs ++ get_or (take end word) at 0 ∷ chars (drop (at + 1) (take end word))) shorter in
     let least : ℕ = length (chars (take at word)) in
     let most : ℕ = length (chars (take end word)) in
     let less : least < most = omega (arith, ap length split, length-append (chars (take at word)) (get_or (take end word) at 0 ∷ chars (drop (at + 1) (take end word)))) in
     let whole : take most (chars word) ≡ chars (take end word) = take-chars word end text looked.boundary in
     let rest_utf8 : IsUtf8 (drop (at + 1) (take end word)) =
-      IsUtf8-drop (take end word) (at + 1) front_utf8 (IsCharBoundary-after_ascii (take end word) at front_utf8 lt ((Decides-ltb (get_or (take end word) at 0) 128).0 (break-low (get_or (take end word) at 0) breaks))) in
+    IsUtf8-drop (take end word) (at + 1) front_utf8 (IsCharBoundary-after_ascii (take end word) at front_utf8 lt ((Decides-ltb (get_or (take end word) at 0) 128).0 (break-low (get_or (take end word) at 0) breaks))) in
     let runs : list_all inside (drop (least + 1) (take most (chars word))) ≡ true =
-      ap (λ xs. list_all inside (drop (least + 1) xs)) (whole ∙ split)
-      ∙ ap (list_all inside) (drop-past (chars (take at word)) (get_or (take end word) at 0) (chars (drop (at + 1) (take end word))))
-      ∙ inside-chars (drop (at + 1) (take end word)) rest_utf8 all in
+    ap (λ xs. list_all inside (drop (least + 1) xs)) (whole ∙ split)
+    ∙ ap (list_all inside) (drop-past (chars (take at word)) (get_or (take end word) at 0) (chars (drop (at + 1) (take end word))))
+    ∙ inside-chars (drop (at + 1) (take end word)) rest_utf8 all in
     record {
       within = omega (arith, inside_word);
       boundary = break-boundary word at (omega (arith, inside_word)) closed;

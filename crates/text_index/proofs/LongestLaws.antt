@@ -65,12 +65,12 @@ skip-front named text least most lt within none all =
     downs (closed_front named text) least (most - least) most (omega (arith, lt)) (λ i low high.
     at-or-below (closed_front named text i ≡ None) i most high
     (λ below.
-        let j : ℕ = i - (least + 1) in
-        let sum : least + 1 + j ≡ i = omega (arith, low) in
-        let size : j < length (drop (least + 1) (take most text)) = omega (arith, length-drop (least + 1) (take most text), length-take most text, low, below, within) in
-        let same : get_or (drop (least + 1) (take most text)) j 0 ≡ get_or text i 0 =
-          get_or-drop (least + 1) (take most text) j 0 ∙ ap (λ k. get_or (take most text) k 0) sum ∙ get_or-take most text i 0 below in
-        open-front named text i (omega (arith, below, within)) (ap inside (sym same) ∙ all-get (drop (least + 1) (take most text)) j all size))
+    let j : ℕ = i - (least + 1) in
+    let sum : least + 1 + j ≡ i = omega (arith, low) in
+    let size : j < length (drop (least + 1) (take most text)) = omega (arith, length-drop (least + 1) (take most text), length-take most text, low, below, within) in
+    let same : get_or (drop (least + 1) (take most text)) j 0 ≡ get_or text i 0 =
+    get_or-drop (least + 1) (take most text) j 0 ∙ ap (λ k. get_or (take most text) k 0) sum ∙ get_or-take most text i 0 below in
+    open-front named text i (omega (arith, below, within)) (ap inside (sym same) ∙ all-get (drop (least + 1) (take most text)) j all size))
     (λ same. unnamed-front named text i (ap (λ k. named (take k text)) same ∙ none)))
 
 -- a front that names nothing, with no blank or sign in it
@@ -80,8 +80,8 @@ skip-all named text most within none all =
     nones (closed_front named text) most (λ i high.
     at-or-below (closed_front named text i ≡ None) i most high
     (λ below.
-        let size : i < length (take most text) = omega (arith, length-take most text, below, within) in
-        open-front named text i (omega (arith, below, within)) (ap inside (sym (get_or-take most text i 0 below)) ∙ all-get (take most text) i all size))
+    let size : i < length (take most text) = omega (arith, length-take most text, below, within) in
+    open-front named text i (omega (arith, below, within)) (ap inside (sym (get_or-take most text i 0 below)) ∙ all-get (take most text) i all size))
     (λ same. unnamed-front named text i (ap (λ k. named (take k text)) same ∙ none)))
 
 -- a closed front that names something

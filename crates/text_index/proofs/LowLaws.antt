@@ -18,4 +18,3 @@ ascii_of (c ∷ text) low i =
         | suc j ↦ ascii_of text rest j
       ]
     ] refl low
-

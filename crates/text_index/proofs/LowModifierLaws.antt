@@ -100,7 +100,7 @@ low-unit : (word : List ℕ) (u : Unit) → unit_of word ≡ Some u → IsLow wo
 low-unit word u is =
     pick (IsLow word) (abbreviates word 1 (codes "chars") || abbreviates word 1 (codes "indices")) unit.Characters _ u is
     (λ h. either (IsLow word) (abbreviates word 1 (codes "chars")) (abbreviates word 1 (codes "indices")) h
-      (λ h. low-front word (codes "chars") 1 refl h) (λ h. low-front word (codes "indices") 1 refl h))
+    (λ h. low-front word (codes "chars") 1 refl h) (λ h. low-front word (codes "indices") 1 refl h))
     (λ is. pick (IsLow word) (abbreviates word 1 (codes "lines")) unit.Lines None u is (λ h. low-front word (codes "lines") 1 refl h) (λ none.
     absurd (let h : None ≡ Some u = none in cc)))
 

@@ -43,8 +43,8 @@ no-ends text suffix utf8 ascii none =
       | true ↦ λ is.
           let front : List ℕ = take (length (chars text) - length suffix) (chars text) in
           let bytes : text ≡ encode_utf8_all front ++ suffix =
-            sym (encodes-chars text utf8) ∙ ap encode_utf8_all (ends-front (chars text) suffix is) ∙ encodes-append front suffix
-            ∙ ap (λ s. encode_utf8_all front ++ s) (encodes-IsAscii suffix ascii) in
+          sym (encodes-chars text utf8) ∙ ap encode_utf8_all (ends-front (chars text) suffix is) ∙ encodes-append front suffix
+          ∙ ap (λ s. encode_utf8_all front ++ s) (encodes-IsAscii suffix ascii) in
           absurd (false≢true (sym none ∙ ap (λ t. ends_with nat_eq t suffix) bytes ∙ ends-with (encode_utf8_all front) suffix))
     ] refl
 

@@ -134,7 +134,7 @@ digits-go d run (c ∷ cs) all =
     ≡ Digits ((d ∷ run) ++ take (cond b (1 + prefix_len is_ascii_digit cs) 0) (c ∷ cs)) ∷ tokens_of (drop (cond b (1 + prefix_len is_ascii_digit cs) 0) (c ∷ cs))) [
       | true ↦ λ is.
           let more : list_all is_ascii_digit (d ∷ (run ++ c ∷ [])) ≡ true =
-            list_all-append is_ascii_digit (d ∷ run) (c ∷ []) ∙ ap (λ b. b && list_all is_ascii_digit (c ∷ [])) all ∙ ap (λ b. b && true) is in
+          list_all-append is_ascii_digit (d ∷ run) (c ∷ []) ∙ ap (λ b. b && list_all is_ascii_digit (c ∷ [])) all ∙ ap (λ b. b && true) is in
           from-inside (d ∷ run) c cs (digit-blank c is) (digit-sign c is) ∙ digits-go d (run ++ c ∷ []) cs more
           ∙ ap (λ r. Digits r ∷ tokens_of (drop (prefix_len is_ascii_digit cs) cs)) (append_assoc (d ∷ run) (c ∷ []) (take (prefix_len is_ascii_digit cs) cs))
           ∙ ap (λ k. Digits ((d ∷ run) ++ take k (c ∷ cs)) ∷ tokens_of (drop k (c ∷ cs))) (sym (one (prefix_len is_ascii_digit cs)))

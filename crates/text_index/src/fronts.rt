@@ -61,7 +61,7 @@ impl Form {
 fn last_break(text: &[u8]) -> Option<usize>
     ensures { MatchOption result (list_all (λ c. not (is_break c)) text.now ≡ true)
         (λ at. (at < length text.now) × (is_break (slice_index text.now at) ≡ true)
-            × (list_all (λ c. not (is_break c)) (drop (at + 1) text.now) ≡ true)) }
+        × (list_all (λ c. not (is_break c)) (drop (at + 1) text.now) ≡ true)) }
 {
     let mut at = text.len();
     while at > 0 {

@@ -7,7 +7,7 @@ ghost use Rattle.text_index.specs.Steps.{saturated_index};
 ghost use Rattle.text_index.specs.declared.faults.IndexFault.TheVariants.{Memory, BadIndex};
 
 use crate::faults::IndexFault;
-use crate::fronts::{find_longest, Form};
+use crate::fronts::{Form, find_longest};
 use crate::indices::{Base, Index};
 use crate::names::Names;
 use crate::places::find_place;

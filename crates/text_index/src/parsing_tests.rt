@@ -10,9 +10,15 @@ use tag_table::TagTable;
 use text_model::{Limits, MarkNo, TagSlot};
 
 static MARKS: [&str; 6] = ["a", "a+1c", "", "1.0", "end", "x.first"];
+
 static TAGS: [&str; 4] = ["x", "y", "y.last.z", "é +"];
 
-fn create_mark(rt: &impl Abort, alloc: Global, marks: &mut MarkTable, name: &str) -> Result<(), Fail> {
+fn create_mark(
+    rt: &impl Abort,
+    alloc: Global,
+    marks: &mut MarkTable,
+    name: &str,
+) -> Result<(), Fail> {
     assert!(rt; marks.find(name).is_none());
     marks.create(String::from_str(alloc, name)?)?;
     Ok(())
@@ -68,8 +74,14 @@ fn bases(names: &Names) -> [(&'static str, Option<Base>); 40] {
         ("inser", None),
         ("sel.first", Some(Base::First(TagSlot(3), 3))),
         ("sel.last", Some(Base::Last(TagSlot(3), 3))),
-        ("123456789012345678901234567890.0", Some(Base::At(usize::MAX, 0))),
-        ("2.123456789012345678901234567890", Some(Base::At(2, usize::MAX))),
+        (
+            "123456789012345678901234567890.0",
+            Some(Base::At(usize::MAX, 0)),
+        ),
+        (
+            "2.123456789012345678901234567890",
+            Some(Base::At(2, usize::MAX)),
+        ),
     ]
 }
 
@@ -77,18 +89,30 @@ static STEPS: [(&str, Option<&[Modifier]>); 44] = [
     ("1.0", Some(&[])),
     ("1.0 \t", Some(&[])),
     ("1.0+1c", Some(&[Modifier::Forward(Unit::Characters, 1)])),
-    ("1.0 + 1 c ", Some(&[Modifier::Forward(Unit::Characters, 1)])),
-    ("1.0\t-\t2\tchars", Some(&[Modifier::Back(Unit::Characters, 2)])),
+    (
+        "1.0 + 1 c ",
+        Some(&[Modifier::Forward(Unit::Characters, 1)]),
+    ),
+    (
+        "1.0\t-\t2\tchars",
+        Some(&[Modifier::Back(Unit::Characters, 2)]),
+    ),
     ("1.0-2ch", Some(&[Modifier::Back(Unit::Characters, 2)])),
     ("1.0-2cha", Some(&[Modifier::Back(Unit::Characters, 2)])),
     ("1.0-2char", Some(&[Modifier::Back(Unit::Characters, 2)])),
     ("1.0+3i", Some(&[Modifier::Forward(Unit::Characters, 3)])),
-    ("1.0+3indices", Some(&[Modifier::Forward(Unit::Characters, 3)])),
+    (
+        "1.0+3indices",
+        Some(&[Modifier::Forward(Unit::Characters, 3)]),
+    ),
     ("1.0+3ind", Some(&[Modifier::Forward(Unit::Characters, 3)])),
     ("1.0+3l", Some(&[Modifier::Forward(Unit::Lines, 3)])),
     ("1.0+3lines", Some(&[Modifier::Forward(Unit::Lines, 3)])),
     ("1.0+3any l", Some(&[Modifier::Forward(Unit::Lines, 3)])),
-    ("1.0 + 3 any \t lin", Some(&[Modifier::Forward(Unit::Lines, 3)])),
+    (
+        "1.0 + 3 any \t lin",
+        Some(&[Modifier::Forward(Unit::Lines, 3)]),
+    ),
     ("1.0+3anyl", None),
     ("1.0+3any", None),
     ("1.0+3 an c", None),
@@ -115,9 +139,22 @@ static STEPS: [(&str, Option<&[Modifier]>); 44] = [
     ("1.0 wordend", Some(&[Modifier::WordEnd])),
     ("1.0 word", None),
     ("1.0 any", None),
-    ("end linestart+1l-2c", Some(&[Modifier::LineStart, Modifier::Forward(Unit::Lines, 1), Modifier::Back(Unit::Characters, 2)])),
-    ("1.0+1c linestart", Some(&[Modifier::Forward(Unit::Characters, 1), Modifier::LineStart])),
-    ("end-123456789012345678901234567890c", Some(&[Modifier::Back(Unit::Characters, usize::MAX)])),
+    (
+        "end linestart+1l-2c",
+        Some(&[
+            Modifier::LineStart,
+            Modifier::Forward(Unit::Lines, 1),
+            Modifier::Back(Unit::Characters, 2),
+        ]),
+    ),
+    (
+        "1.0+1c linestart",
+        Some(&[Modifier::Forward(Unit::Characters, 1), Modifier::LineStart]),
+    ),
+    (
+        "end-123456789012345678901234567890c",
+        Some(&[Modifier::Back(Unit::Characters, usize::MAX)]),
+    ),
 ];
 
 #[test]

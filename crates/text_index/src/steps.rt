@@ -8,7 +8,7 @@ ghost use Rattle.text_index.specs.declared.faults.IndexFault.TheVariants.{Memory
 use crate::faults::IndexFault;
 use crate::indices::{Modifier, Modifiers, Unit};
 use crate::numbers::read_number;
-use crate::tokens::{next_piece, Piece};
+use crate::tokens::{Piece, next_piece};
 use std::alloc::Global;
 
 /// Whether a word is a front of another of so many bytes at least.
