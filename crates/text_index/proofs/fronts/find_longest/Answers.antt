@@ -1,4 +1,4 @@
-use Rattle.std.proofs.Common.{◌≡◌, Some, None, take, length, get_or, sym, ap, ◌∙◌, arith}
+use Rattle.std.proofs.Common.{◌≡◌, Some, take, length, get_or, sym, ap, ◌∙◌, arith}
 use Rattle.std.specs.Prelude.{chars}
 use Rattle.std.specs.List.{list_all}
 use Rattle.text_index.specs.Characters.{is_break}

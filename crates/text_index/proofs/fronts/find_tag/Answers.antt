@@ -1,4 +1,4 @@
-use Rattle.std.proofs.Common.{◌≡◌, None, Some, length, true, false, sym, ap, ◌∙◌, ◌-◌}
+use Rattle.std.proofs.Common.{None, Some, length, sym, ap, ◌∙◌, ◌-◌}
 use Rattle.std.specs.Prelude.{nat_eq}
 use Rattle.std.specs.List.{ends_with}
 use Rattle.text_index.specs.Names.{known_tags}

@@ -1,4 +1,4 @@
-use Rattle.std.proofs.Common.{◌≡◌, Some, None, sym, ap, ◌∙◌}
+use Rattle.std.proofs.Common.{sym, ap, ◌∙◌}
 use Rattle.std.specs.Prelude.{chars}
 use Rattle.text_index.specs.Grammar.{modifiers_of, tokens_of}
 use Rattle.text_index.specs.Names.{known_marks, known_tags}

@@ -1,13 +1,11 @@
-use Rattle.std.proofs.Common.{◌≡◌, Some, None, ◌∷◌, ◌==◌, ◌<◌, length, take, drop, true, false, sym, ap, ◌∙◌, arith}
+use Rattle.std.proofs.Common.{◌∷◌, ◌==◌, take, sym, ap, ◌∙◌, arith}
 use Rattle.std.specs.Prelude.{slice_get}
-use Rattle.std.specs.List.{prefix_len}
 use Rattle.std.specs.Char.{is_ascii_digit}
 use Rattle.std.proofs.lemmas.List.Sums.{prefix_len-le-length}
-use Rattle.text_index.specs.Characters.{is_blank, is_sign}
 use Rattle.text_index.specs.Grammar.{tokens_of}
 use Rattle.text_index.specs.Grammar.Token.{Sign, Digits, Word}
 use Rattle.text_index.specs.Pieces.{before_rest}
-use Rattle.text_index.proofs.TokenLaws.{tokens-blanks, piece-none, piece-sign, piece-digits, piece-word, piece-bound, word-inside, not-blank, inside}
+use Rattle.text_index.proofs.TokenLaws.{tokens-blanks, piece-none, piece-sign, piece-digits, piece-word, not-blank, inside}
 use Rattle.text_index.proofs.tokens.next_piece.Goals as goal
 
 pub split_at-requires-then-is_ascii_digit : goal.split_at-requires-then-is_ascii_digit

@@ -1,4 +1,3 @@
-use Rattle.std.proofs.Common.{◌∙◌}
 use Rattle.text_index.specs.Characters.{is_break}
 use Rattle.text_index.proofs.FrontLaws.{front-some, front-none}
 use Rattle.text_index.proofs.tokens.unbroken.Goals as goal
