@@ -1,11 +1,11 @@
 -- How a run of word characters goes on, in both directions.
-use Rattle.std.proofs.Common.{◌≡◌, ℕ, zero, suc, ◌+◌, ◌-◌, ◌<◌, ◌≤◌, Bool, true, false, cond, List, [], ◌∷◌, ◌++◌, length, take, drop, get_or, refl, sym, ap, ap₂, ◌∙◌, arith}
-use Rattle.std.specs.Prelude.{reverse, slice_index, slice_range}
+use Rattle.std.proofs.Common.{◌≡◌, ℕ, ◌+◌, ◌-◌, ◌<◌, Bool, true, false, cond, List, [], ◌∷◌, ◌++◌, length, take, drop, ap, ◌∙◌, arith}
+use Rattle.std.specs.Prelude.{slice_index, slice_range}
 use Rattle.std.specs.List.{prefix_len, suffix_len}
-use Rattle.std.proofs.lemmas.List.{take_more, drop_more, get_or-take, get_or-drop}
+use Rattle.std.proofs.lemmas.List.{take_more, drop_more, get_or-take, get_or-drop, reverse-append}
 
 pub suffix-one : (test : ℕ → Bool) (xs : List ℕ) (x : ℕ) → suffix_len test (xs ++ x ∷ []) ≡ cond (test x) (1 + suffix_len test xs) 0
-suffix-one test xs x = ?
+suffix-one test xs x = ap (prefix_len test) (reverse-append xs (x ∷ []))
 
 -- one character more to the front
 pub run-back : (test : ℕ → Bool) (text : List ℕ) (at : ℕ) → at < length text → test (slice_index text at) ≡ true

@@ -1,9 +1,9 @@
 -- Lines of the part of a text that a view shows, by those of the text.
-use Rattle.std.proofs.Common.{◌≡◌, ℕ, zero, suc, ◌+◌, ◌-◌, ◌<◌, ◌≤◌, min, Bool, true, false, cond, List, [], ◌∷◌, ◌++◌, length, take, drop, get_or, refl, sym, ap, ap₂, ◌∙◌, arith, ne_eqb, length-drop, length-take}
-use Rattle.std.specs.Prelude.{slice_range, slice_index, if◌then◌else◌}
-use Rattle.std.proofs.lemmas.List.{take-take, take-append-drop, drop-drop, take_more, length-take-le}
+use Rattle.std.proofs.Common.{◌≡◌, ℕ, zero, suc, ◌+◌, ◌-◌, ◌<◌, ◌≤◌, min, true, false, cond, List, [], ◌∷◌, ◌++◌, length, take, drop, refl, sym, ap, ap₂, ◌∙◌, arith, ne_eqb, length-drop}
+use Rattle.std.specs.Prelude.{slice_range, if◌then◌else◌}
+use Rattle.std.proofs.lemmas.List.{take-take, take-append-drop, length-take-le}
 use Rattle.text_model.specs.Lines.{is_newline, lines, line_of, line_start}
-use Rattle.text_model.proofs.LineLaws.{lines-cons, lines-append, line_start-le, line_start-rises}
+use Rattle.text_model.proofs.LineLaws.{lines-cons, lines-append}
 use Rattle.text_model.specs.Content.{Content, characters}
 use Rattle.text_index.specs.Views.{IsLineStart, IsView, shown}
 use Rattle.text_index.specs.Values.{in_line, column_of, lines_on}
@@ -118,3 +118,16 @@ pub lines_on-is : (text : List ℕ) (count place at column result : ℕ) → (pl
 lines_on-is text count place at column result inside at_is column_is is =
     is ∙ ap₂ (λ k j. in_line k j text) at_is column_is
     ∙ sym (ap (λ b. if b then length text else in_line (min (line_of text place + count) (lines text - 1)) (column_of text place) text) (ne_eqb place (length text) inside))
+
+-- a place before the end of a view stands in one of its lines
+pub before-end : (text : List ℕ) (place end : ℕ) → IsLineStart text end → place < end → line_of text place < line_of text end
+before-end text place end behind before =
+    let total = lines-of-part text place end (omega arith) in
+    let begins = line_start-before text place (omega (arith, behind.within)) in
+    elim (lines (slice_range text place end)) as (λ n. line_of text place + n ≡ line_of text end → line_of text place < line_of text end) [
+      | zero ↦ λ none.
+          let same : line_of text place ≡ line_of text end = omega (arith, none) in
+          let alike : line_start (line_of text place) text ≡ end = ap (λ k. line_start k text) same ∙ behind.begins in
+          absurd (omega (arith, alike, begins, before))
+      | suc n ↦ λ more. omega (arith, more)
+    ] total

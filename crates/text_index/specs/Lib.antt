@@ -3,6 +3,7 @@ pub mod Fronts
 pub mod Grammar
 pub mod Names
 pub mod Pieces
+pub mod Positions
 pub mod Reading
 pub mod Steps
 pub mod Values

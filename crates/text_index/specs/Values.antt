@@ -1,9 +1,9 @@
 -- The place that an index stands for (text(n), "INDICES"), counted from the start of the view's text. Lines of the text count
 -- from 0 here, and those of an index from 1.
-use Rattle.std.specs.Prelude.{ℕ, zero, suc, ◌+◌, ◌-◌, ◌==◌, min, nat_lt, Bool, true, false, ◌||◌, not, List, [], ◌∷◌, length, take, drop, slice_index, position, Option, None, Some, option_map, Result, Ok, Err, if◌then◌else◌}
+use Rattle.std.specs.Prelude.{ℕ, ⊤, ◌<◌, zero, suc, ◌+◌, ◌-◌, ◌==◌, min, nat_lt, Bool, not, List, [], ◌∷◌, length, take, drop, slice_index, position, Option, None, Some, Result, Ok, Err, if◌then◌else◌}
 use Rattle.std.specs.List.{prefix_len, suffix_len}
+use Rattle.text_model.specs.TagBits.{slot_count}
 use Rattle.text_model.specs.Lines.{lines, line_of, line_start}
-use Rattle.text_model.specs.declared.places.Place.{Place}
 use Rattle.text_index.specs.declared.faults.IndexFault.{IndexFault}
 use Rattle.text_index.specs.declared.faults.IndexFault.TheVariants.{BadIndex, NoTaggedCharacters}
 use Rattle.text_index.specs.declared.indices.Base.{Base}
@@ -30,6 +30,11 @@ column_of text place = place - line_start (line_of text place) text
 abbrev pub on_line : ℕ → List ℕ → (ℕ → ℕ) → ℕ
 on_line zero text place = 0
 on_line (suc line) text place = if nat_lt line (lines text) then place line else length text
+
+-- a character of a line, or its newline where none is named
+abbrev pub line_value : ℕ → Option ℕ → List ℕ → ℕ
+line_value line (Some character) text = on_line line text (λ k. in_line k character text)
+line_value line None text = on_line line text (λ k. newline_of k text)
 
 -- ---- modifiers: at the end, those that look for a line or a word change nothing
 
@@ -88,8 +93,8 @@ or_fault fault None = Err fault
 or_fault fault (Some place) = Ok place
 
 abbrev pub base_value : (ℕ → Option ℕ) → (ℕ → List Bool) → List ℕ → Base → Result ℕ IndexFault
-base_value marks flags text (base.At line character) = Ok (on_line line text (λ k. in_line k character text))
-base_value marks flags text (base.LineEnd line) = Ok (on_line line text (λ k. newline_of k text))
+base_value marks flags text (base.At line character) = Ok (line_value line (Some character) text)
+base_value marks flags text (base.LineEnd line) = Ok (line_value line None text)
 base_value marks flags text base.End = Ok (length text)
 base_value marks flags text (base.Mark number) = or_fault BadIndex (marks number.0)
 base_value marks flags text (base.First slot len) = or_fault (NoTaggedCharacters len) (first_tagged (flags slot.0))
@@ -101,3 +106,12 @@ then_modified is_word text modifiers (Ok place) = Ok (modified_by is_word text m
 
 abbrev pub index_value : (ℕ → Bool) → (ℕ → Option ℕ) → (ℕ → List Bool) → List ℕ → Base → List Modifier → Result ℕ IndexFault
 index_value is_word marks flags text base modifiers = then_modified is_word text modifiers (base_value marks flags text base)
+
+-- the slot of a base is one that a store knows
+abbrev pub HasSlot : Base → Type 0
+HasSlot (base.At line character) = ⊤
+HasSlot (base.LineEnd line) = ⊤
+HasSlot base.End = ⊤
+HasSlot (base.Mark number) = ⊤
+HasSlot (base.First slot len) = slot.0 < slot_count
+HasSlot (base.Last slot len) = slot.0 < slot_count

@@ -1,9 +1,10 @@
 -- The part of a text that a view shows: from one offset to another.
-use Rattle.std.specs.Prelude.{◌≡◌, ℕ, ◌≤◌, ◌==◌, nat_lt, nat_le, min, ◌-◌, Bool, ◌&&◌, List, slice_range, length, Option, None, Some, if◌then◌else◌}
+use Rattle.std.specs.Prelude.{option_and_then, ◌≡◌, ℕ, ◌≤◌, nat_lt, nat_le, min, ◌-◌, Bool, ◌&&◌, List, slice_range, length, Option, None, Some, if◌then◌else◌}
 use Rattle.std.specs.FinMap as finite
 use Rattle.text_model.specs.Content.{Content, characters, flags}
 use Rattle.text_model.specs.Lines.{line_of, line_start}
 use Rattle.text_model.specs.declared.places.Place.{Place}
+use Rattle.mark_table.specs.SharedMarks.{first_number}
 
 -- the characters of the view
 abbrev pub shown : Content → ℕ → ℕ → List ℕ
@@ -32,3 +33,9 @@ own_place start end place = min (place.offset - start) (end - start - 1)
 abbrev pub shared_place : ℕ → ℕ → Place → Option ℕ
 shared_place start end place =
     if nat_le start place.offset && nat_le place.offset end then Some (place.offset - start) else None
+
+-- where it shows the mark of a number, if it does: the numbers below the first of the shared marks are widgets' own
+abbrev pub shown_mark : Content → ℕ → ℕ → ℕ → Option ℕ
+shown_mark content start end number =
+    option_and_then (λ place. if nat_lt number first_number then Some (own_place start end place) else shared_place start end place)
+    (finite.get content.marks number)

@@ -12,10 +12,13 @@ mod parsing;
 #[cfg(test)]
 mod parsing_tests;
 mod places;
+mod positions;
+mod ranges;
 mod steps;
 #[cfg(test)]
 mod tests;
 mod tokens;
+mod values;
 mod views;
 mod words;
 
@@ -24,5 +27,7 @@ pub use indices::{Base, Index, Modifier, Modifiers, Unit};
 pub use moves::{back, forward, lines_back, lines_on};
 pub use names::Names;
 pub use parsing::parse;
+pub use positions::push_index;
+pub use values::resolve;
 pub use views::View;
 pub use words::is_word;

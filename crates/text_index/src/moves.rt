@@ -1,16 +1,20 @@
-ghost use Rattle.std.specs.Prelude.{◌≡◌, ◌≤◌, ◌<◌, ◌+◌, ◌-◌, min, length};
+ghost use Rattle.std.specs.Prelude.{◌≡◌, ◌≤◌, ◌<◌, ◌+◌, ◌-◌, min, length, take, drop};
+ghost use Rattle.std.specs.List.{prefix_len, suffix_len};
 ghost use Rattle.text_model.specs.Lines.{lines, line_of};
 ghost use Rattle.text_index.specs.Views.{shown, IsView};
-ghost use Rattle.text_index.specs.Values.{in_line, newline_of, column_of, lines_on, lines_back};
+ghost use Rattle.text_index.specs.Values.{in_line, newline_of, column_of, lines_on, lines_back, modified};
+ghost use Rattle.text_index.specs.Words.{is_word};
+ghost use Rattle.text_index.specs.declared.indices.Modifier.TheVariants as modifier;
 
 use crate::views::View;
+use crate::words::is_word;
 use text_model::TextStore;
 
 /// The place so many characters on, or the end.
 pub fn forward<S: TextStore>(view: &View<'_, S>, place: usize, count: usize) -> usize
     requires view { IsView (S.content view.now.store.now) view.now.s view.now.e }
     ensures value { result ≡ min (place + count) (length (shown (S.content view.now.store.now) view.now.s view.now.e)) }
-    ensures within { view.now.s + result ≤ view.now.e }
+    ensures bound { view.now.s + result ≤ view.now.e }
 {
     place.saturating_add(count).min(view.len())
 }
@@ -26,7 +30,8 @@ pub fn back(place: usize, count: usize) -> usize
 pub fn newline_of<S: TextStore>(view: &View<'_, S>, line: usize) -> usize
     requires view { IsView (S.content view.now.store.now) view.now.s view.now.e }
     requires known { line < lines (shown (S.content view.now.store.now) view.now.s view.now.e) }
-    ensures { result ≡ newline_of line (shown (S.content view.now.store.now) view.now.s view.now.e) }
+    ensures value { result ≡ newline_of line (shown (S.content view.now.store.now) view.now.s view.now.e) }
+    ensures bound { view.now.s + result ≤ view.now.e }
 {
     view.line_start(line + 1) - 1
 }
@@ -35,14 +40,15 @@ pub fn newline_of<S: TextStore>(view: &View<'_, S>, line: usize) -> usize
 pub fn in_line<S: TextStore>(view: &View<'_, S>, line: usize, character: usize) -> usize
     requires view { IsView (S.content view.now.store.now) view.now.s view.now.e }
     requires known { line < lines (shown (S.content view.now.store.now) view.now.s view.now.e) }
-    ensures { result ≡ in_line line character (shown (S.content view.now.store.now) view.now.s view.now.e) }
+    ensures value { result ≡ in_line line character (shown (S.content view.now.store.now) view.now.s view.now.e) }
+    ensures bound { view.now.s + result ≤ view.now.e }
 {
     let newline = newline_of(view, line);
     view.line_start(line).saturating_add(character).min(newline)
 }
 
 /// The line of a place, and how many characters stand before it there.
-fn line_and_column<S: TextStore>(view: &View<'_, S>, place: usize) -> (usize, usize)
+pub fn line_and_column<S: TextStore>(view: &View<'_, S>, place: usize) -> (usize, usize)
     requires view { IsView (S.content view.now.store.now) view.now.s view.now.e }
     requires within { view.now.s + place ≤ view.now.e }
     ensures line { result.0 ≡ line_of (shown (S.content view.now.store.now) view.now.s view.now.e) place }
@@ -56,7 +62,8 @@ fn line_and_column<S: TextStore>(view: &View<'_, S>, place: usize) -> (usize, us
 pub fn lines_on<S: TextStore>(view: &View<'_, S>, place: usize, count: usize) -> usize
     requires view { IsView (S.content view.now.store.now) view.now.s view.now.e }
     requires within { view.now.s + place ≤ view.now.e }
-    ensures { result ≡ lines_on count (shown (S.content view.now.store.now) view.now.s view.now.e) place }
+    ensures value { result ≡ lines_on count (shown (S.content view.now.store.now) view.now.s view.now.e) place }
+    ensures bound { view.now.s + result ≤ view.now.e }
 {
     if place == view.len() {
         return place;
@@ -74,7 +81,8 @@ pub fn lines_on<S: TextStore>(view: &View<'_, S>, place: usize, count: usize) ->
 pub fn lines_back<S: TextStore>(view: &View<'_, S>, place: usize, count: usize) -> usize
     requires view { IsView (S.content view.now.store.now) view.now.s view.now.e }
     requires within { view.now.s + place ≤ view.now.e }
-    ensures { result ≡ lines_back count (shown (S.content view.now.store.now) view.now.s view.now.e) place }
+    ensures value { result ≡ lines_back count (shown (S.content view.now.store.now) view.now.s view.now.e) place }
+    ensures bound { view.now.s + result ≤ view.now.e }
 {
     let (line, column) = line_and_column(view, place);
     let back = line.saturating_sub(count);
@@ -82,4 +90,89 @@ pub fn lines_back<S: TextStore>(view: &View<'_, S>, place: usize, count: usize) 
         return view.len();
     }
     in_line(view, back, column)
+}
+
+/// The begin of the word of a place. The end stays.
+pub fn word_start<S: TextStore>(view: &View<'_, S>, place: usize) -> usize
+    requires view { IsView (S.content view.now.store.now) view.now.s view.now.e }
+    requires within { view.now.s + place ≤ view.now.e }
+    ensures value { result ≡ modified is_word (shown (S.content view.now.store.now) view.now.s view.now.e) place modifier.WordStart }
+    ensures bound { view.now.s + result ≤ view.now.e }
+{
+    if place == view.len() || !is_word(view.char_at(place)) {
+        return place;
+    }
+    run_begin(view, place)
+}
+
+/// The place behind the word of a place; but the last place stays, and so does the end.
+pub fn word_end<S: TextStore>(view: &View<'_, S>, place: usize) -> usize
+    requires view { IsView (S.content view.now.store.now) view.now.s view.now.e }
+    requires within { view.now.s + place ≤ view.now.e }
+    ensures value { result ≡ modified is_word (shown (S.content view.now.store.now) view.now.s view.now.e) place modifier.WordEnd }
+    ensures bound { view.now.s + result ≤ view.now.e }
+{
+    if view.len() - place <= 1 {
+        place
+    } else if is_word(view.char_at(place)) {
+        run_end(view, place)
+    } else {
+        place + 1
+    }
+}
+
+/// Where the run of word characters before a place begins.
+fn run_begin<S: TextStore>(view: &View<'_, S>, place: usize) -> usize
+    requires view { IsView (S.content view.now.store.now) view.now.s view.now.e }
+    requires within { view.now.s + place ≤ view.now.e }
+    ensures value { result ≡ place - suffix_len is_word (take place (shown (S.content view.now.store.now) view.now.s view.now.e)) }
+    ensures bound { view.now.s + result ≤ view.now.e }
+{
+    for passed in 0..place {
+        if !is_word(view.char_at(place - passed - 1)) {
+            return place - passed;
+        }
+    }
+    0
+}
+
+/// Where the run of word characters from a place on ends.
+fn run_end<S: TextStore>(view: &View<'_, S>, place: usize) -> usize
+    requires view { IsView (S.content view.now.store.now) view.now.s view.now.e }
+    requires within { view.now.s + place ≤ view.now.e }
+    ensures value { result ≡ place + prefix_len is_word (drop place (shown (S.content view.now.store.now) view.now.s view.now.e)) }
+    ensures bound { view.now.s + result ≤ view.now.e }
+{
+    for at in place..view.len() {
+        if !is_word(view.char_at(at)) {
+            return at;
+        }
+    }
+    view.len()
+}
+
+/// The first place of a place's line. The end stays.
+pub fn line_start<S: TextStore>(view: &View<'_, S>, place: usize) -> usize
+    requires view { IsView (S.content view.now.store.now) view.now.s view.now.e }
+    requires within { view.now.s + place ≤ view.now.e }
+    ensures value { result ≡ modified is_word (shown (S.content view.now.store.now) view.now.s view.now.e) place modifier.LineStart }
+    ensures bound { view.now.s + result ≤ view.now.e }
+{
+    if place == view.len() {
+        return place;
+    }
+    view.line_start(view.line_of(place))
+}
+
+/// The newline of a place's line. The end stays.
+pub fn line_end<S: TextStore>(view: &View<'_, S>, place: usize) -> usize
+    requires view { IsView (S.content view.now.store.now) view.now.s view.now.e }
+    requires within { view.now.s + place ≤ view.now.e }
+    ensures value { result ≡ modified is_word (shown (S.content view.now.store.now) view.now.s view.now.e) place modifier.LineEnd }
+    ensures bound { view.now.s + result ≤ view.now.e }
+{
+    if place == view.len() {
+        return place;
+    }
+    newline_of(view, view.line_of(place))
 }

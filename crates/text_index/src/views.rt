@@ -1,4 +1,4 @@
-ghost use Rattle.std.specs.Prelude.{◌≡◌, ◌≤◌, ◌<◌, ◌+◌, ◌-◌, length, IsTrue};
+ghost use Rattle.std.specs.Prelude.{◌≡◌, ◌≤◌, ◌<◌, ◌+◌, ◌-◌, length, slice_index, IsTrue};
 ghost use Rattle.text_model.specs.Content.{characters};
 ghost use Rattle.text_model.specs.Lines.{lines, line_of, line_start};
 ghost use Rattle.text_index.specs.Views.{shown, IsLineStart, IsView};
@@ -58,8 +58,18 @@ impl<'a, S: TextStore> View<'a, S> {
     pub fn line_start(&self, line: usize) -> usize
         requires view { IsView (S.content self.now.store.now) self.now.s self.now.e }
         requires within { line ≤ lines (shown (S.content self.now.store.now) self.now.s self.now.e) }
-        ensures { result ≡ line_start line (shown (S.content self.now.store.now) self.now.s self.now.e) }
+        ensures value { result ≡ line_start line (shown (S.content self.now.store.now) self.now.s self.now.e) }
+        ensures bound { self.now.s + result ≤ self.now.e }
     {
         self.store.line_start(self.store.line_of(self.s) + line) - self.s
+    }
+
+    /// The character at a place.
+    pub fn char_at(&self, place: usize) -> char
+        requires view { IsView (S.content self.now.store.now) self.now.s self.now.e }
+        requires within { self.now.s + place < self.now.e }
+        ensures { result ≡ slice_index (shown (S.content self.now.store.now) self.now.s self.now.e) place }
+    {
+        self.store.char_at(self.s + place)
     }
 }

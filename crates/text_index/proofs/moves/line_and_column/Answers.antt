@@ -1,4 +1,4 @@
-use Rattle.std.proofs.Common.{◌≡◌, ◌≤◌, length, ap, ◌∙◌, arith}
+use Rattle.std.proofs.Common.{ap, ◌∙◌, arith}
 use Rattle.text_model.specs.Lines.{line_start}
 use Rattle.text_index.specs.Views.{shown}
 use Rattle.text_index.proofs.ViewLaws.{line_start-before, length-shown}
@@ -10,5 +10,5 @@ overflow_sub-result g c =
     let content = g.S.TextStore.content view.store.now in
     let text = shown content view.s view.e in
     let long = length-shown content view.s view.e c.requires.view in
-    let is = c.line_start.ensures ∙ ap (λ k. line_start k text) c.line_of-line.ensures in
+    let is = c.line_start.ensures.value ∙ ap (λ k. line_start k text) c.line_of-line.ensures in
     omega (arith, is, line_start-before text c.args.place (omega (arith, long, c.requires.within)))

@@ -1,4 +1,4 @@
-use Rattle.std.proofs.Common.{◌≡◌, ◌≤◌, ◌<◌, ◌+◌, ◌-◌, ◌^◌, min, length, sym, ◌∙◌, arith}
+use Rattle.std.proofs.Common.{◌≡◌, ◌<◌, ◌+◌, ◌-◌, ◌^◌, min, sym, ◌∙◌, arith}
 use Rattle.text_model.specs.Content.{characters}
 use Rattle.text_model.specs.Lines.{lines, line_of}
 use Rattle.text_index.specs.Views.{shown}
@@ -21,8 +21,8 @@ in_line-requires-clause-known g c =
     let some : view.s < view.e = omega (arith, c.if-place-len.false, c.len.ensures, long, c.requires.within) in
     omega (arith, c.lines.ensures, c.min.ensures, some-line (characters content.cells) view.s view.e c.requires.view.first c.requires.view.behind some)
 
-pub returns : goal.returns
-returns g c =
+pub returns-clause-value : goal.returns-clause-value
+returns-clause-value g c =
     let view = c.args.view.now in
     let content = g.S.TextStore.content view.store.now in
     let text = shown content view.s view.e in
@@ -31,4 +31,4 @@ returns g c =
     let at_is : c.min.result ≡ min (line_of text c.args.place + c.args.count) (lines text - 1) =
     omega (arith, c.min.ensures, c.saturating_add.ensures, c.lines.ensures, moved.ensures.line, small) in
     lines_on-is text c.args.count c.args.place c.min.result moved.result.1 c.in_line.result
-    (λ same. c.if-place-len.false (same ∙ sym c.len.ensures)) at_is moved.ensures.column c.in_line.ensures
+    (λ same. c.if-place-len.false (same ∙ sym c.len.ensures)) at_is moved.ensures.column c.in_line.ensures.value

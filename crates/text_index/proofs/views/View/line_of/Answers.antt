@@ -1,7 +1,5 @@
-use Rattle.std.proofs.Common.{◌≡◌, ◌+◌, arith}
+use Rattle.std.proofs.Common.{arith}
 use Rattle.text_model.specs.Content.{characters}
-use Rattle.text_model.specs.Lines.{line_of}
-use Rattle.text_index.specs.Views.{shown}
 use Rattle.text_index.proofs.ViewLaws.{lines-part}
 use Rattle.text_index.proofs.views.View.line_of.Goals as goal
 

@@ -1,0 +1,125 @@
+ghost use Rattle.std.specs.Prelude.{◌≡◌, ◌≤◌, ◌<◌, ◌+◌, IfOk, IfSome};
+ghost use Rattle.text_index.specs.Views.{shown, shown_flags, shown_mark, IsView};
+ghost use Rattle.text_index.specs.Values.{HasSlot, line_value, base_value, modified, modified_by, index_value};
+ghost use Rattle.text_index.specs.Words.{is_word};
+
+use crate::faults::IndexFault;
+use crate::indices::{Base, Index, Modifier, Unit};
+use crate::moves::{
+    back, forward, in_line, line_end, line_start, lines_back, lines_on, newline_of, word_end,
+    word_start,
+};
+use crate::ranges::{first_tagged, last_tagged};
+use crate::views::View;
+use text_model::{Limits, MarkNo, TextStore};
+
+/// Where the view shows a mark: the widgets' own within its characters, and the shared ones only where they stand in it.
+fn shown_mark<S: TextStore>(view: &View<'_, S>, number: MarkNo) -> Option<usize>
+    requires view { IsView (S.content view.now.store.now) view.now.s view.now.e }
+    ensures value { result ≡ shown_mark (S.content view.now.store.now) view.now.s view.now.e number.0 }
+    ensures within { IfSome result (λ place. view.now.s + place ≤ view.now.e) }
+{
+    let place = view.store.mark_place(number)?;
+    if number.0 < 2 * Limits::MOST_WIDGETS {
+        return Some(
+            place
+                .offset
+                .saturating_sub(view.s)
+                .min(view.len().saturating_sub(1)),
+        );
+    }
+    if view.s <= place.offset && place.offset <= view.e {
+        Some(place.offset - view.s)
+    } else {
+        None
+    }
+}
+
+/// The place of a line that counts from 1: the first place for line 0, and the end for a line behind the last. The newline
+/// of the line, where no character is named or the line is shorter.
+fn on_line<S: TextStore>(view: &View<'_, S>, line: usize, character: Option<usize>) -> usize
+    requires view { IsView (S.content view.now.store.now) view.now.s view.now.e }
+    ensures value { result ≡ line_value line character (shown (S.content view.now.store.now) view.now.s view.now.e) }
+    ensures bound { view.now.s + result ≤ view.now.e }
+{
+    if line == 0 {
+        return 0;
+    }
+    if line > view.lines() {
+        return view.len();
+    }
+    match character {
+        Some(character) => in_line(view, line - 1, character),
+        None => newline_of(view, line - 1),
+    }
+}
+
+/// Where an index begins.
+fn base_value<S: TextStore>(view: &View<'_, S>, base: Base) -> Result<usize, IndexFault>
+    requires view { IsView (S.content view.now.store.now) view.now.s view.now.e }
+    requires slot { HasSlot base }
+    ensures value { result ≡ base_value (shown_mark (S.content view.now.store.now) view.now.s view.now.e)
+        (λ slot. shown_flags slot (S.content view.now.store.now) view.now.s view.now.e)
+        (shown (S.content view.now.store.now) view.now.s view.now.e) base }
+    ensures within { IfOk result (λ place. view.now.s + place ≤ view.now.e) }
+{
+    match base {
+        Base::At(line, character) => Ok(on_line(view, line, Some(character))),
+        Base::LineEnd(line) => Ok(on_line(view, line, None)),
+        Base::End => Ok(view.len()),
+        Base::Mark(number) => shown_mark(view, number).ok_or(IndexFault::BadIndex),
+        Base::First(slot, len) => {
+            first_tagged(view, slot).ok_or(IndexFault::NoTaggedCharacters(len))
+        }
+        Base::Last(slot, len) => {
+            last_tagged(view, slot).ok_or(IndexFault::NoTaggedCharacters(len))
+        }
+    }
+}
+
+/// Where a modifier leads from a place.
+fn modified<S: TextStore>(view: &View<'_, S>, place: usize, modifier: Modifier) -> usize
+    requires view { IsView (S.content view.now.store.now) view.now.s view.now.e }
+    requires within { view.now.s + place ≤ view.now.e }
+    ensures value { result ≡ modified is_word (shown (S.content view.now.store.now) view.now.s view.now.e) place modifier }
+    ensures within { view.now.s + result ≤ view.now.e }
+{
+    match modifier {
+        Modifier::Forward(Unit::Characters, count) => forward(view, place, count),
+        Modifier::Back(Unit::Characters, count) => back(place, count),
+        Modifier::Forward(Unit::Lines, count) => lines_on(view, place, count),
+        Modifier::Back(Unit::Lines, count) => lines_back(view, place, count),
+        Modifier::LineStart => line_start(view, place),
+        Modifier::LineEnd => line_end(view, place),
+        Modifier::WordStart => word_start(view, place),
+        Modifier::WordEnd => word_end(view, place),
+    }
+}
+
+/// The place that an index stands for, counted from the start of the view.
+///
+/// "bad text index" where it names a mark that the view can't use, and "no tagged characters" where no character of the
+/// view has the tag that it names. It takes no memory.
+pub fn resolve<S: TextStore>(index: &Index, view: &View<'_, S>) -> Result<usize, IndexFault>
+    requires view { IsView (S.content view.now.store.now) view.now.s view.now.e }
+    requires slot { HasSlot index.now.base }
+    ensures value { result ≡ index_value is_word (shown_mark (S.content view.now.store.now) view.now.s view.now.e)
+        (λ slot. shown_flags slot (S.content view.now.store.now) view.now.s view.now.e)
+        (shown (S.content view.now.store.now) view.now.s view.now.e) index.now.base index.now.modifiers }
+{
+    let place = base_value(view, index.base)?;
+    Ok(modified_by(view, place, index.modifiers.as_slice()))
+}
+
+/// Where modifiers lead from a place, the first first.
+fn modified_by<S: TextStore>(view: &View<'_, S>, from: usize, modifiers: &[Modifier]) -> usize
+    requires view { IsView (S.content view.now.store.now) view.now.s view.now.e }
+    requires within { view.now.s + from ≤ view.now.e }
+    ensures value { result ≡ modified_by is_word (shown (S.content view.now.store.now) view.now.s view.now.e) modifiers.now from }
+{
+    let mut place = from;
+    for modifier in modifiers {
+        place = modified(view, place, *modifier);
+    }
+    place
+}
