@@ -1,5 +1,17 @@
+pub mod CharLaws
+pub mod FindLaws
 pub mod FlagLaws
+pub mod FrontLaws
 pub mod GrammarRows
+pub mod LongestLaws
+pub mod LowLaws
+pub mod LowModifierLaws
+pub mod NameLaws
+pub mod PlaceLaws
 pub mod PositionLaws
 pub mod RunLaws
+pub mod StepLaws
+pub mod TagLaws
+pub mod TokenLaws
 pub mod ViewLaws
+pub mod WholeLaws

@@ -1,7 +1,7 @@
 -- Which words are which indices (text(n), "INDICES").
 use Rattle.std.specs.Prelude.{ℕ, min, ◌++◌, ◌||◌, zero, suc, ◌+◌, ◌-◌, ◌*◌, nat_le, ◌==◌, Bool, true, false, ◌&&◌, not, List, [], ◌∷◌, length, take, drop, fold, position, codes, bytes_eq, encode_utf8_all, Option, None, Some, option_map, option_and_then, nat_eq, if◌then◌else◌}
 use Rattle.std.specs.Option.{option_or}
-use Rattle.std.specs.List.{list_all, starts_with, prefix_len, take_while}
+use Rattle.std.specs.List.{list_all, starts_with, ends_with, prefix_len, take_while}
 use Rattle.std.specs.Char.{is_ascii_digit}
 use Rattle.text_index.specs.Characters.{is_blank, is_sign, is_break, closes}
 use Rattle.text_index.specs.declared.indices.Base.{Base}
@@ -53,30 +53,37 @@ abbrev pub longest : {A : Type 0} → (ℕ → Option A) → ℕ → Option A
 longest found zero = found 0
 longest found (suc count) = option_or (found (suc count)) (longest found count)
 
--- the third form: a mark whose name has so many characters, closed
-abbrev pub mark_base : (List ℕ → Option ℕ) → List ℕ → ℕ → Option (Base × ℕ)
-mark_base marks text count =
-    if closes (drop count text) then option_map (λ number. (base.Mark (record { 0 = number }), count)) (marks (take count text)) else None
+-- what is looked for in a front that is closed
+abbrev pub closed_front : (List ℕ → Option Base) → List ℕ → ℕ → Option (Base × ℕ)
+closed_front named text count = if closes (drop count text) then option_map (of_length count) (named (take count text)) else None
 
--- what stands behind a tag's name: `.first` or `.last`, closed
-abbrev pub behind_tag : ℕ → List ℕ → ℕ → List ℕ → Option (Base × ℕ)
-behind_tag slot name count rest =
-    if starts_with nat_eq rest (codes ".first") && closes (drop 6 rest) then
-    Some (base.First (record { 0 = slot }) (length (encode_utf8_all name)), count + 6)
-    else (if starts_with nat_eq rest (codes ".last") && closes (drop 5 rest) then
-    Some (base.Last (record { 0 = slot }) (length (encode_utf8_all name)), count + 5)
+-- the third form: a mark's name
+abbrev pub marked : (List ℕ → Option ℕ) → List ℕ → Option Base
+marked marks front = option_map (λ number. base.Mark (record { 0 = number })) (marks front)
+
+abbrev pub without_last : ℕ → List ℕ → List ℕ
+without_last count text = take (length text - count) text
+
+abbrev pub first_tagged : List ℕ → ℕ → Base
+first_tagged name slot = base.First (record { 0 = slot }) (length (encode_utf8_all name))
+
+abbrev pub last_tagged : List ℕ → ℕ → Base
+last_tagged name slot = base.Last (record { 0 = slot }) (length (encode_utf8_all name))
+
+-- the fourth form: a tag's name before `.first` or `.last`; the longer of two such fronts has the longer name
+abbrev pub tagged : (List ℕ → Option ℕ) → List ℕ → Option Base
+tagged tags front =
+    if ends_with nat_eq front (codes ".first") then option_map (first_tagged (without_last 6 front)) (tags (without_last 6 front))
+    else (if ends_with nat_eq front (codes ".last") then option_map (last_tagged (without_last 5 front)) (tags (without_last 5 front))
     else None)
 
--- the fourth form: a tag whose name has so many characters
-abbrev pub tag_base : (List ℕ → Option ℕ) → List ℕ → ℕ → Option (Base × ℕ)
-tag_base tags text count =
-    option_and_then (λ slot. behind_tag slot (take count text) count (drop count text)) (tags (take count text))
+-- the longest closed front
+abbrev pub longest_front : (List ℕ → Option Base) → List ℕ → Option (Base × ℕ)
+longest_front named text = longest (closed_front named text) (length text)
 
 -- the first of the forms that fits; of the marks and of the tags the one with the longest name
 abbrev pub base_of : (List ℕ → Option ℕ) → (List ℕ → Option ℕ) → List ℕ → Option (Base × ℕ)
-base_of marks tags text =
-    option_or (place_base text)
-    (option_or (longest (mark_base marks text) (length text)) (longest (tag_base tags text) (length text)))
+base_of marks tags text = option_or (place_base text) (option_or (longest_front (marked marks) text) (longest_front (tagged tags) text))
 
 -- ---- modifiers
 

@@ -1,7 +1,11 @@
 pub mod Characters
+pub mod Fronts
 pub mod Grammar
 pub mod Names
+pub mod Pieces
 pub mod Positions
+pub mod Reading
+pub mod Steps
 pub mod Values
 pub mod Views
 pub mod Words

@@ -3,13 +3,21 @@
 #![tactic(auto)]
 
 mod faults;
+mod fronts;
 mod indices;
 mod moves;
 mod names;
+mod numbers;
+mod parsing;
+#[cfg(test)]
+mod parsing_tests;
+mod places;
 mod positions;
 mod ranges;
+mod steps;
 #[cfg(test)]
 mod tests;
+mod tokens;
 mod values;
 mod views;
 mod words;
@@ -18,6 +26,7 @@ pub use faults::IndexFault;
 pub use indices::{Base, Index, Modifier, Modifiers, Unit};
 pub use moves::{back, forward, lines_back, lines_on};
 pub use names::Names;
+pub use parsing::parse;
 pub use positions::push_index;
 pub use values::resolve;
 pub use views::View;
