@@ -9,9 +9,111 @@ use std::test::Fail;
 use tag_table::TagTable;
 use text_model::{Limits, MarkNo, TagSlot};
 
+// The shared marks of these tests, from number 128 on.
 static MARKS: [&str; 6] = ["a", "a+1c", "", "1.0", "end", "x.first"];
 
+// Their tags, from slot 64 on.
 static TAGS: [&str; 4] = ["x", "y", "y.last.z", "é +"];
+
+static BASES: [(&str, Base); 26] = [
+    ("1.0", Base::At(1, 0)),
+    ("0012.0345", Base::At(12, 345)),
+    ("1.end", Base::LineEnd(1)),
+    ("end", Base::End),
+    ("123456789012345678901234567890.0", Base::At(usize::MAX, 0)),
+    ("2.123456789012345678901234567890", Base::At(2, usize::MAX)),
+    ("a", Base::Mark(MarkNo(128))),
+    ("a+1c", Base::Mark(MarkNo(129))),
+    ("", Base::Mark(MarkNo(130))),
+    (" ", Base::Mark(MarkNo(130))),
+    ("\t ", Base::Mark(MarkNo(130))),
+    ("x.first", Base::Mark(MarkNo(133))),
+    ("insert", Base::Mark(MarkNo(6))),
+    ("current", Base::Mark(MarkNo(7))),
+    ("x.last", Base::Last(TagSlot(64), 1)),
+    ("y.first", Base::First(TagSlot(65), 1)),
+    ("y.last", Base::Last(TagSlot(65), 1)),
+    ("y.last.z.last", Base::Last(TagSlot(66), 8)),
+    ("y.last.z.first", Base::First(TagSlot(66), 8)),
+    ("é +.first", Base::First(TagSlot(67), 4)),
+    ("é +.last \t", Base::Last(TagSlot(67), 4)),
+    ("sel.first", Base::First(TagSlot(3), 3)),
+    ("sel.last", Base::Last(TagSlot(3), 3)),
+    ("1.0 linestart", Base::At(1, 0)),
+    ("end-1c", Base::End),
+    ("a+1c-2l", Base::Mark(MarkNo(129))),
+];
+
+static MODIFIERS: [(&str, Modifier); 22] = [
+    ("1.0+1c", Modifier::Forward(Unit::Characters, 1)),
+    ("1.0 + 1 c ", Modifier::Forward(Unit::Characters, 1)),
+    ("1.0\t-\t2\tchars", Modifier::Back(Unit::Characters, 2)),
+    ("1.0-2ch", Modifier::Back(Unit::Characters, 2)),
+    ("1.0-2cha", Modifier::Back(Unit::Characters, 2)),
+    ("1.0-2char", Modifier::Back(Unit::Characters, 2)),
+    ("1.0+3i", Modifier::Forward(Unit::Characters, 3)),
+    ("1.0+3indices", Modifier::Forward(Unit::Characters, 3)),
+    ("1.0+3ind", Modifier::Forward(Unit::Characters, 3)),
+    ("1.0+3l", Modifier::Forward(Unit::Lines, 3)),
+    ("1.0+3lines", Modifier::Forward(Unit::Lines, 3)),
+    ("1.0+3any l", Modifier::Forward(Unit::Lines, 3)),
+    ("1.0 + 3 any \t lin", Modifier::Forward(Unit::Lines, 3)),
+    (
+        "end-123456789012345678901234567890c",
+        Modifier::Back(Unit::Characters, usize::MAX),
+    ),
+    ("1.0 linestart", Modifier::LineStart),
+    ("1.0 lines", Modifier::LineStart),
+    ("1.0 linee", Modifier::LineEnd),
+    ("1.0 lineend", Modifier::LineEnd),
+    ("1.0 words", Modifier::WordStart),
+    ("1.0 wordstart", Modifier::WordStart),
+    ("1.0 worde", Modifier::WordEnd),
+    ("1.0 wordend", Modifier::WordEnd),
+];
+
+static NO_INDICES: [&str; 40] = [
+    "1.en",
+    "1.0.0",
+    "1.",
+    ".0",
+    "1",
+    "-1.0",
+    "1.-0",
+    "ends",
+    "en",
+    " 1.0",
+    "a+1cx",
+    "b",
+    "y.last.first",
+    "é +",
+    "y.firs",
+    "y.lasts",
+    "inser",
+    "1.0+3anyl",
+    "1.0+3any",
+    "1.0+3 an c",
+    "1.0+3any any c",
+    "1.0+3any+1c",
+    "1.0+3any 1c",
+    "1.0+3",
+    "1.0+",
+    "1.0+c",
+    "1.0++1c",
+    "1.0+1c1",
+    "1.0+1 1c",
+    "1.0+1charss",
+    "1.0 1c",
+    "1.0 c",
+    "1.0 line",
+    "1.0 word",
+    "1.0 any",
+    "1.0 +c",
+    "end - 1",
+    "a+1cc",
+    "sel.firsts",
+    "1.0 linestarts",
+];
 
 fn create_mark(
     rt: &impl Abort,
@@ -30,169 +132,103 @@ fn create_tag(rt: &impl Abort, alloc: Global, tags: &mut TagTable, name: &str) -
     Ok(())
 }
 
-fn bases(names: &Names) -> [(&'static str, Option<Base>); 40] {
-    let mark = |name| names.marks.find(name).map(Base::Mark);
-    let slot = |name| names.tags.find(name);
-    let first = |name: &str| slot(name).map(|slot| Base::First(slot, name.len()));
-    let last = |name: &str| slot(name).map(|slot| Base::Last(slot, name.len()));
-    [
-        ("1.0", Some(Base::At(1, 0))),
-        ("0012.0345", Some(Base::At(12, 345))),
-        ("1.end", Some(Base::LineEnd(1))),
-        ("end", Some(Base::End)),
-        ("1.en", None),
-        ("1.0.0", None),
-        ("1.", None),
-        (".0", None),
-        ("1", None),
-        ("-1.0", None),
-        ("1.-0", None),
-        ("ends", None),
-        ("en", None),
-        (" 1.0", None),
-        ("a", mark("a")),
-        ("a+1c", mark("a+1c")),
-        ("a+1cx", None),
-        ("b", None),
-        ("", mark("")),
-        (" ", mark("")),
-        ("\t ", mark("")),
-        ("x.first", mark("x.first")),
-        ("x.last", last("x")),
-        ("y.first", first("y")),
-        ("y.last", last("y")),
-        ("y.last.z.last", last("y.last.z")),
-        ("y.last.z.first", first("y.last.z")),
-        ("y.last.first", None),
-        ("é +.first", first("é +")),
-        ("é +.last \t", last("é +")),
-        ("é +", None),
-        ("y.firs", None),
-        ("y.lasts", None),
-        ("insert", Some(Base::Mark(MarkNo(6)))),
-        ("current", Some(Base::Mark(MarkNo(7)))),
-        ("inser", None),
-        ("sel.first", Some(Base::First(TagSlot(3), 3))),
-        ("sel.last", Some(Base::Last(TagSlot(3), 3))),
-        (
-            "123456789012345678901234567890.0",
-            Some(Base::At(usize::MAX, 0)),
-        ),
-        (
-            "2.123456789012345678901234567890",
-            Some(Base::At(2, usize::MAX)),
-        ),
-    ]
-}
-
-static STEPS: [(&str, Option<&[Modifier]>); 44] = [
-    ("1.0", Some(&[])),
-    ("1.0 \t", Some(&[])),
-    ("1.0+1c", Some(&[Modifier::Forward(Unit::Characters, 1)])),
-    (
-        "1.0 + 1 c ",
-        Some(&[Modifier::Forward(Unit::Characters, 1)]),
-    ),
-    (
-        "1.0\t-\t2\tchars",
-        Some(&[Modifier::Back(Unit::Characters, 2)]),
-    ),
-    ("1.0-2ch", Some(&[Modifier::Back(Unit::Characters, 2)])),
-    ("1.0-2cha", Some(&[Modifier::Back(Unit::Characters, 2)])),
-    ("1.0-2char", Some(&[Modifier::Back(Unit::Characters, 2)])),
-    ("1.0+3i", Some(&[Modifier::Forward(Unit::Characters, 3)])),
-    (
-        "1.0+3indices",
-        Some(&[Modifier::Forward(Unit::Characters, 3)]),
-    ),
-    ("1.0+3ind", Some(&[Modifier::Forward(Unit::Characters, 3)])),
-    ("1.0+3l", Some(&[Modifier::Forward(Unit::Lines, 3)])),
-    ("1.0+3lines", Some(&[Modifier::Forward(Unit::Lines, 3)])),
-    ("1.0+3any l", Some(&[Modifier::Forward(Unit::Lines, 3)])),
-    (
-        "1.0 + 3 any \t lin",
-        Some(&[Modifier::Forward(Unit::Lines, 3)]),
-    ),
-    ("1.0+3anyl", None),
-    ("1.0+3any", None),
-    ("1.0+3 an c", None),
-    ("1.0+3any any c", None),
-    ("1.0+3any+1c", None),
-    ("1.0+3any 1c", None),
-    ("1.0+3", None),
-    ("1.0+", None),
-    ("1.0+c", None),
-    ("1.0++1c", None),
-    ("1.0+1c1", None),
-    ("1.0+1 1c", None),
-    ("1.0+1charss", None),
-    ("1.0 1c", None),
-    ("1.0 c", None),
-    ("1.0 linestart", Some(&[Modifier::LineStart])),
-    ("1.0 lines", Some(&[Modifier::LineStart])),
-    ("1.0 line", None),
-    ("1.0 linee", Some(&[Modifier::LineEnd])),
-    ("1.0 lineend", Some(&[Modifier::LineEnd])),
-    ("1.0 words", Some(&[Modifier::WordStart])),
-    ("1.0 wordstart", Some(&[Modifier::WordStart])),
-    ("1.0 worde", Some(&[Modifier::WordEnd])),
-    ("1.0 wordend", Some(&[Modifier::WordEnd])),
-    ("1.0 word", None),
-    ("1.0 any", None),
-    (
-        "end linestart+1l-2c",
-        Some(&[
-            Modifier::LineStart,
-            Modifier::Forward(Unit::Lines, 1),
-            Modifier::Back(Unit::Characters, 2),
-        ]),
-    ),
-    (
-        "1.0+1c linestart",
-        Some(&[Modifier::Forward(Unit::Characters, 1), Modifier::LineStart]),
-    ),
-    (
-        "end-123456789012345678901234567890c",
-        Some(&[Modifier::Back(Unit::Characters, usize::MAX)]),
-    ),
-];
-
-#[test]
-fn words_are_indices(rt: HostRuntime) -> Result<(), Fail> {
-    let alloc = rt.alloc();
+fn all_marks(rt: &impl Abort, alloc: Global) -> Result<MarkTable, Fail> {
     let limits = Limits::new(10, 10, 10, 10, 10).ok_or("small numbers")?;
-    let mut tags = TagTable::new(alloc, &limits)?;
     let mut marks = MarkTable::new(alloc, &limits)?;
     for name in MARKS {
-        create_mark(&rt, alloc, &mut marks, name)?;
+        create_mark(rt, alloc, &mut marks, name)?;
     }
+    Ok(marks)
+}
+
+fn all_tags(rt: &impl Abort, alloc: Global) -> Result<TagTable, Fail> {
+    let limits = Limits::new(10, 10, 10, 10, 10).ok_or("small numbers")?;
+    let mut tags = TagTable::new(alloc, &limits)?;
     for name in TAGS {
-        create_tag(&rt, alloc, &mut tags, name)?;
+        create_tag(rt, alloc, &mut tags, name)?;
     }
+    Ok(tags)
+}
+
+// A word's index begins with this base.
+fn begins(
+    rt: &impl Abort,
+    alloc: Global,
+    names: &Names,
+    word: &str,
+    base: Base,
+) -> Result<(), Fail> {
+    assert!(rt; names.widget.0 < 64);
+    let index = parse(alloc, word, names)?;
+    assert_eq!(rt; index.base, base, "{word}");
+    Ok(())
+}
+
+// A word's index has this one modifier.
+fn moves(
+    rt: &impl Abort,
+    alloc: Global,
+    names: &Names,
+    word: &str,
+    modifier: Modifier,
+) -> Result<(), Fail> {
+    assert!(rt; names.widget.0 < 64);
+    let index = parse(alloc, word, names)?;
+    assert_eq!(rt; index.modifiers.as_slice(), [modifier].as_slice(), "{word}");
+    Ok(())
+}
+
+// A word is no index.
+fn is_none(rt: &impl Abort, alloc: Global, names: &Names, word: &str) {
+    assert!(rt; names.widget.0 < 64);
+    let found = parse(alloc, word, names);
+    assert!(rt; matches!(found, Err(IndexFault::BadIndex)), "{word}");
+}
+
+#[test]
+fn words_have_bases(rt: HostRuntime) -> Result<(), Fail> {
+    let alloc = rt.alloc();
+    let tags = all_tags(&rt, alloc)?;
+    let marks = all_marks(&rt, alloc)?;
     let names = Names {
         tags: &tags,
         marks: &marks,
         widget: TagSlot(3),
     };
-    for (word, base) in bases(&names) {
-        let found = parse(alloc, word, &names);
-        match base {
-            Some(base) => {
-                let index = found?;
-                assert_eq!(&rt; index.base, base, "{word}");
-            }
-            None => assert!(&rt; matches!(found, Err(IndexFault::BadIndex)), "{word}"),
-        }
+    for (word, base) in BASES {
+        begins(&rt, alloc, &names, word, base)?;
     }
-    for (word, steps) in STEPS {
-        let found = parse(alloc, word, &names);
-        match steps {
-            Some(steps) => {
-                let index = found?;
-                assert_eq!(&rt; index.modifiers.as_slice(), steps, "{word}");
-            }
-            None => assert!(&rt; matches!(found, Err(IndexFault::BadIndex)), "{word}"),
-        }
+    Ok(())
+}
+
+#[test]
+fn words_have_modifiers(rt: HostRuntime) -> Result<(), Fail> {
+    let alloc = rt.alloc();
+    let tags = all_tags(&rt, alloc)?;
+    let marks = all_marks(&rt, alloc)?;
+    let names = Names {
+        tags: &tags,
+        marks: &marks,
+        widget: TagSlot(3),
+    };
+    for (word, modifier) in MODIFIERS {
+        moves(&rt, alloc, &names, word, modifier)?;
+    }
+    Ok(())
+}
+
+#[test]
+fn other_words_are_no_indices(rt: HostRuntime) -> Result<(), Fail> {
+    let alloc = rt.alloc();
+    let tags = all_tags(&rt, alloc)?;
+    let marks = all_marks(&rt, alloc)?;
+    let names = Names {
+        tags: &tags,
+        marks: &marks,
+        widget: TagSlot(3),
+    };
+    for word in NO_INDICES {
+        is_none(&rt, alloc, &names, word);
     }
     Ok(())
 }

@@ -7,7 +7,8 @@ use text_model::TextStore;
 
 /// Whether a line begins at an offset, or the text ends there.
 fn is_line_start<S: TextStore>(store: &S, offset: usize) -> bool
-    ensures { IsTrue result → IsLineStart (characters (S.content store.now).cells) offset }
+    ensures yes { IsTrue result → IsLineStart (characters (S.content store.now).cells) offset }
+    ensures no { IsLineStart (characters (S.content store.now).cells) offset → IsTrue result }
 {
     offset <= store.len() && store.line_start(store.line_of(offset)) == offset
 }
@@ -24,7 +25,8 @@ pub struct View<'a, S: TextStore> {
 impl<'a, S: TextStore> View<'a, S> {
     /// Whether it shows whole lines of the store, as a view has to: both ends are begins of lines, or the end of the text.
     pub fn shows_lines(&self) -> bool
-        ensures { IsTrue result → IsView (S.content self.now.store.now) self.now.s self.now.e }
+        ensures yes { IsTrue result → IsView (S.content self.now.store.now) self.now.s self.now.e }
+        ensures no { IsView (S.content self.now.store.now) self.now.s self.now.e → IsTrue result }
     {
         self.s <= self.e && is_line_start(self.store, self.s) && is_line_start(self.store, self.e)
     }
