@@ -1,3 +1,4 @@
+pub mod BoundLaws
 pub mod CharLaws
 pub mod FindLaws
 pub mod FlagLaws
@@ -6,6 +7,7 @@ pub mod GrammarRows
 pub mod LongestLaws
 pub mod LowLaws
 pub mod LowModifierLaws
+pub mod MeaningLaws
 pub mod NameLaws
 pub mod PlaceLaws
 pub mod PositionLaws

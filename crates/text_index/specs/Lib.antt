@@ -1,6 +1,7 @@
 pub mod Characters
 pub mod Fronts
 pub mod Grammar
+pub mod Meanings
 pub mod Names
 pub mod Pieces
 pub mod Positions
