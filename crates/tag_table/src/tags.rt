@@ -3,6 +3,7 @@ ghost use Rattle.std.specs.Option.{option_map};
 ghost use Rattle.tag_table.specs.Kept.{place_above, place_below, slot_of_number};
 ghost use Rattle.tag_table.specs.Priority.{raised, lowered, deleted};
 ghost use Rattle.text_model.specs.declared.limits.TheConstants.Limits.{MOST_TAGS};
+ghost use Rattle.text_model.specs.TagBits.{slot_count};
 ghost use Rattle.tag_table.specs.Tags.{Tags, sel, names_of, slots_of, slot_of, IsFull, IsLeastFree, AreTags};
 
 use crate::faults::NoSuchTag;
@@ -17,7 +18,8 @@ const SEL: &str = "sel";
 // slots behind those.
 fn slot_of_number(number: u16) -> TagSlot
     requires { number ≤ MOST_TAGS }
-    ensures { result.0 ≡ slot_of_number number }
+    ensures value { result.0 ≡ slot_of_number number }
+    ensures bound { result.0 < slot_count }
 {
     TagSlot(if number == 0 {
         0
@@ -76,14 +78,16 @@ impl TagTable {
     /// The slot of the tag at a place; 0 for `sel`.
     pub fn slot(&self, place: usize) -> TagSlot
         requires { place < length self.now.tags }
-        ensures { slice_get (slots_of self.now.tags) place ≡ Some result.0 }
+        ensures value { slice_get (slots_of self.now.tags) place ≡ Some result.0 }
+        ensures bound { result.0 < slot_count }
     {
         slot_of_number(self.names.number(place))
     }
 
     /// The slot of a tag; 0 for `sel`.
     pub fn find(&self, name: &str) -> Option<TagSlot>
-        ensures { option_map (λ slot. slot.0) result ≡ slot_of (chars name.now) self.now.tags }
+        ensures value { option_map (λ slot. slot.0) result ≡ slot_of (chars name.now) self.now.tags }
+        ensures bound { IfSome result (λ slot. slot.0 < slot_count) }
     {
         Some(self.slot(self.names.place(name)?))
     }

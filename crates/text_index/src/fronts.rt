@@ -1,4 +1,4 @@
-ghost use Rattle.std.specs.Prelude.{◌≡◌, ◌<◌, ◌+◌, true, not, drop, length, chars, slice_index, option_map, MatchOption};
+ghost use Rattle.std.specs.Prelude.{◌≡◌, ◌<◌, ◌+◌, true, not, drop, length, chars, slice_index, option_map, MatchOption, IfSome};
 ghost use Rattle.std.specs.List.{list_all};
 ghost use Rattle.text_model.specs.declared.limits.TheConstants.Limits.{MOST_WIDGETS};
 ghost use Rattle.text_index.specs.Characters.{is_break};
@@ -6,6 +6,7 @@ ghost use Rattle.text_index.specs.Grammar.{marked, tagged, longest_front, satura
 ghost use Rattle.text_index.specs.Names.{known_marks, known_tags};
 ghost use Rattle.text_index.specs.Fronts.{named};
 ghost use Rattle.text_index.specs.Reading.{read_of, found_of};
+ghost use Rattle.text_index.specs.Values.{HasSlot};
 
 use crate::indices::Base;
 use crate::names::Names;
@@ -23,14 +24,17 @@ fn find_mark(front: &str, names: &Names) -> Option<Base>
     requires { names.now.widget.0 < MOST_WIDGETS }
     ensures value { result ≡ marked (known_marks names.now.marks.now.marks names.now.widget.0) (chars front.now) }
     ensures saturated { option_map saturated_base result ≡ result }
+    ensures slot { IfSome result HasSlot }
 {
     Some(Base::Mark(names.mark(front)?))
 }
 
 /// The first or the last character of the tag that a front names, before `.first` or `.last`.
 fn find_tag(front: &str, names: &Names) -> Option<Base>
+    requires { names.now.widget.0 < MOST_WIDGETS }
     ensures value { result ≡ tagged (known_tags names.now.tags.now.tags names.now.widget.0) (chars front.now) }
     ensures saturated { option_map saturated_base result ≡ result }
+    ensures slot { IfSome result HasSlot }
 {
     if front.as_bytes().ends_with(b".first") {
         let name = &front[..front.len() - 6];
@@ -49,6 +53,7 @@ impl Form {
         requires { names.now.widget.0 < MOST_WIDGETS }
         ensures value { result ≡ named self names.now (chars front.now) }
         ensures saturated { option_map saturated_base result ≡ result }
+    ensures slot { IfSome result HasSlot }
     {
         match self {
             Form::Mark => find_mark(front, names),
@@ -76,8 +81,9 @@ fn last_break(text: &[u8]) -> Option<usize>
 /// The longest closed front of a word that names something, and what stands behind it.
 pub(crate) fn find_longest<'a>(word: &'a str, form: Form, names: &Names) -> Option<(Base, &'a str)>
     requires { names.now.widget.0 < MOST_WIDGETS }
-    ensures { read_of (chars word.now) (longest_front (named form names.now) (chars word.now))
+    ensures value { read_of (chars word.now) (longest_front (named form names.now) (chars word.now))
         ≡ found_of result }
+    ensures slot { IfSome result (λ found. HasSlot found.0) }
 {
     let mut end = word.len();
     loop {

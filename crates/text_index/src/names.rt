@@ -1,5 +1,6 @@
-ghost use Rattle.std.specs.Prelude.{◌≡◌, ◌<◌, option_map, chars};
+ghost use Rattle.std.specs.Prelude.{◌≡◌, ◌<◌, option_map, chars, IfSome};
 ghost use Rattle.text_model.specs.declared.limits.TheConstants.Limits.{MOST_WIDGETS};
+ghost use Rattle.text_model.specs.TagBits.{slot_count};
 ghost use Rattle.text_index.specs.Names.{known_marks, known_tags};
 
 use mark_table::MarkTable;
@@ -32,7 +33,8 @@ impl<'a> Names<'a> {
 
     /// The tag that a name means: `sel` is the widget's own.
     pub fn tag(&self, name: &str) -> Option<TagSlot>
-        ensures { option_map (λ slot. slot.0) result ≡ known_tags self.now.tags.now.tags self.now.widget.0 (chars name.now) }
+        ensures value { option_map (λ slot. slot.0) result ≡ known_tags self.now.tags.now.tags self.now.widget.0 (chars name.now) }
+        ensures bound { self.now.widget.0 < slot_count → IfSome result (λ slot. slot.0 < slot_count) }
     {
         match self.tags.find(name) {
             Some(TagSlot(0)) => Some(self.widget),

@@ -1,9 +1,10 @@
-ghost use Rattle.std.specs.Prelude.{◌≡◌, ◌≢◌, ◌<◌, None, Some, chars, IfOk, IfErr};
+ghost use Rattle.std.specs.Prelude.{◌≡◌, ◌≢◌, ◌<◌, None, Some, chars, IfOk, IfErr, IfSome};
 ghost use Rattle.text_model.specs.declared.limits.TheConstants.Limits.{MOST_WIDGETS};
 ghost use Rattle.text_index.specs.Grammar.{base_of, index_of};
 ghost use Rattle.text_index.specs.Names.{known_marks, known_tags};
 ghost use Rattle.text_index.specs.Reading.{read_of, found_of};
 ghost use Rattle.text_index.specs.Steps.{saturated_index};
+ghost use Rattle.text_index.specs.Values.{HasSlot};
 ghost use Rattle.text_index.specs.declared.faults.IndexFault.TheVariants.{Memory, BadIndex};
 
 use crate::faults::IndexFault;
@@ -18,8 +19,9 @@ use std::alloc::Global;
 /// else the longest tag.
 fn find_base<'a>(word: &'a str, names: &Names) -> Option<(Base, &'a str)>
     requires { names.now.widget.0 < MOST_WIDGETS }
-    ensures { read_of (chars word.now) (base_of (known_marks names.now.marks.now.marks names.now.widget.0)
+    ensures value { read_of (chars word.now) (base_of (known_marks names.now.marks.now.marks names.now.widget.0)
         (known_tags names.now.tags.now.tags names.now.widget.0) (chars word.now)) ≡ found_of result }
+    ensures slot { IfSome result (λ found. HasSlot found.0) }
 {
     if let Some(found) = find_place(word) {
         return Some(found);
@@ -35,6 +37,7 @@ pub fn parse(alloc: Global, word: &str, names: &Names) -> Result<Index, IndexFau
     requires { names.now.widget.0 < MOST_WIDGETS }
     ensures ok { IfOk result (λ index. saturated_index (index_of (known_marks names.now.marks.now.marks names.now.widget.0)
         (known_tags names.now.tags.now.tags names.now.widget.0) (chars word.now)) ≡ Some (index.base, index.modifiers)) }
+    ensures slot { IfOk result (λ index. HasSlot index.base) }
     ensures err { IfErr result (λ fault. fault ≢ Memory → (fault ≡ BadIndex) × (index_of (known_marks names.now.marks.now.marks names.now.widget.0)
         (known_tags names.now.tags.now.tags names.now.widget.0) (chars word.now) ≡ None)) }
 {

@@ -9,8 +9,8 @@ use Rattle.text_index.proofs.TokenLaws.{inside}
 use Rattle.text_index.proofs.FindLaws.{step-front, no-front, this-front, range-front}
 use Rattle.text_index.proofs.fronts.find_longest.Goals as goal
 
-pub returns-in-Some : goal.returns-in-Some
-returns-in-Some c =
+pub returns-in-Some-clause-value : goal.returns-in-Some-clause-value
+returns-in-Some-clause-value c =
     let front : c.range-front.result.now ≡ take c.loop-base.end c.args.word.now = c.range-front.ensures.value ∙ range-front c.args.word.now c.loop-base.end in
     this-front (named c.args.form c.args.names.now) c.args.word.now c.loop-base.end c.in-Some.base c.utf8.word c.loop-base.invariant
     (ap (λ text. named c.args.form c.args.names.now (chars text)) (sym front) ∙ sym (c.in-Some.ensures {u = tt}).value)
@@ -28,8 +28,8 @@ loop-base-preserved c =
     (ap (λ text. is_break (get_or text c.in-Some-last_break.at 0)) (sym bytes) ∙ breaks.1)
     (ap (λ text. list_all inside (drop (c.in-Some-last_break.at + 1) text)) (sym bytes) ∙ breaks.2)
 
-pub returns-in-None : goal.returns-in-None
-returns-in-None c =
+pub returns-in-None-clause-value : goal.returns-in-None-clause-value
+returns-in-None-clause-value c =
     let front : c.range-front.result.now ≡ take c.loop-base.end c.args.word.now = c.range-front.ensures.value ∙ range-front c.args.word.now c.loop-base.end in
     let bytes : c.as_bytes.result.now ≡ take c.loop-base.end c.args.word.now = c.as_bytes.ensures.value ∙ front in
     no-front (named c.args.form c.args.names.now) c.args.word.now c.loop-base.end c.utf8.word c.loop-base.invariant

@@ -20,7 +20,7 @@ pub returns-clause-least : goal.returns-clause-least
 returns-clause-least c =
     let least = rw c.in-Some.is at c.in_ok-number.ensures.least in
     subst (λ (ts : Tags). IsLeastFree (slots_of ts.tags) c.slot_of_number.result.0) c.self.view_is
-    (rw c.slot_of_number.ensures (IsLeastFree-slot c.self.inside.names.entries c.in-Some.number (sel_number c.self.inside.names c.self.invariant) least))
+    (rw c.slot_of_number.ensures.value (IsLeastFree-slot c.self.inside.names.entries c.in-Some.number (sel_number c.self.inside.names c.self.invariant) least))
 
 pub returns-clause-back : goal.returns-clause-back
 returns-clause-back c =
