@@ -80,10 +80,10 @@ abbrev pub at_most : ℕ → Option ℕ → Bool
 at_most count None = true
 at_most count (Some greatest) = nat_le count greatest
 
--- each option has its value
+-- the arguments before the options are there, and each option has its value
 abbrev pub are_paired : Option OptionRule → ℕ → Bool
 are_paired None count = true
-are_paired (Some rule) count = if rule.valued then nat_le rule.after count && (count - rule.after) % 2 == 0 else true
+are_paired (Some rule) count = nat_le rule.after count && (if rule.valued then (count - rule.after) % 2 == 0 else true)
 
 abbrev pub fits : RowRule → ℕ → Bool
 fits row count = nat_le row.least count && at_most count row.greatest && are_paired row.options count

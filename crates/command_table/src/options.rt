@@ -1,4 +1,4 @@
-ghost use Rattle.std.specs.Prelude.{◌≡◌, ◌≤◌, ◌+◌, length};
+ghost use Rattle.std.specs.Prelude.{◌≡◌, ◌≤◌, ◌+◌, true, length};
 ghost use Rattle.command_table.specs.Words.{texts_of};
 ghost use Rattle.command_table.specs.Rows.{is_option_place, bad_option, are_paired};
 ghost use Rattle.command_table.specs.Spelled.{option_rule};
@@ -28,15 +28,12 @@ impl Options {
         }
     }
 
-    /// Whether each option of so many arguments has its value.
+    /// Whether of so many arguments those before the options are there, and each option has its value.
     pub fn are_paired(self, count: usize) -> bool
-        ensures { result ≡ are_paired (Some (option_rule self)) count }
+        ensures value { result ≡ are_paired (Some (option_rule self)) count }
+        ensures enough { result ≡ true → self.after ≤ count }
     {
-        if self.valued {
-            self.after <= count && (count - self.after) % 2 == 0
-        } else {
-            true
-        }
+        self.after <= count && (!self.valued || (count - self.after) % 2 == 0)
     }
 
     /// The position of the first word that stands in place of an option and is none. The arguments stand from a

@@ -1,4 +1,4 @@
-ghost use Rattle.std.specs.Prelude.{◌≡◌, ◌<◌, length};
+ghost use Rattle.std.specs.Prelude.{◌≡◌, ◌<◌, ◌≤◌, ◌+◌, length, IfOk};
 ghost use Rattle.command_table.specs.Words.{texts_of};
 ghost use Rattle.command_table.specs.Reading.{unknown, subcommand, reading};
 
@@ -21,7 +21,8 @@ fn unknown(words: &[String]) -> ShapeFault
 
 /// What the words behind the name of a widget are.
 fn subcommand(words: &[String]) -> Result<Shape, ShapeFault>
-    ensures { result ≡ subcommand (texts_of words.now) }
+    ensures value { result ≡ subcommand (texts_of words.now) }
+    ensures within { IfOk result (λ shape. shape.arguments + shape.count ≤ 1 + length words.now) }
 {
     match find_row(words) {
         None => Err(unknown(words)),
@@ -36,7 +37,8 @@ fn subcommand(words: &[String]) -> Result<Shape, ShapeFault>
 /// subcommand is decided, then switches and options from left to right, then how many words there are.
 pub fn shape(words: &[String]) -> Result<Shape, ShapeFault>
     requires { 0 < length words.now }
-    ensures { result ≡ reading (texts_of words.now) }
+    ensures value { result ≡ reading (texts_of words.now) }
+    ensures within { IfOk result (λ shape. shape.arguments + shape.count ≤ length words.now) }
 {
     let [name, rest @ ..] = words else {
         unreachable!()

@@ -1,4 +1,4 @@
-ghost use Rattle.std.specs.Prelude.{◌≡◌, ◌≤◌, ◌+◌, length, take, map, option_map, IfSome};
+ghost use Rattle.std.specs.Prelude.{◌≡◌, ◌≤◌, ◌+◌, length, take, map, true, option_map, IfSome, IfOk};
 ghost use Rattle.std.specs.List.{find};
 ghost use Rattle.command_table.specs.Words.{texts_of};
 ghost use Rattle.command_table.specs.Rows.{begins, switch_words, bad_switch, bad_option, fits, before_options};
@@ -131,7 +131,8 @@ impl Row {
 
     /// Whether so many words may stand behind the switches.
     fn fits(self, count: usize) -> bool
-        ensures { result ≡ fits (row_rule self) count }
+        ensures value { result ≡ fits (row_rule self) count }
+        ensures enough { result ≡ true → before_options (row_rule self).options count ≤ count }
     {
         let is_few = match self.greatest {
             None => true,
@@ -162,7 +163,8 @@ impl Row {
         arguments: &[String],
     ) -> Result<Shape, ShapeFault>
         requires { at + length switches.now + length arguments.now ≤ usize.MAX }
-        ensures { result ≡ decided (row_rule self) at (texts_of switches.now) (texts_of arguments.now) }
+        ensures value { result ≡ decided (row_rule self) at (texts_of switches.now) (texts_of arguments.now) }
+        ensures within { IfOk result (λ shape. shape.arguments + shape.count ≤ at + length switches.now + length arguments.now) }
     {
         let from = at + switches.len();
         if let Some(position) = self.first_bad_switch(at, switches) {
@@ -185,7 +187,8 @@ impl Row {
     /// What the words behind the subcommand are. They stand from a position on.
     pub fn read(self, at: usize, words: &[String]) -> Result<Shape, ShapeFault>
         requires { at + length words.now ≤ usize.MAX }
-        ensures { result ≡ behind (row_rule self) at (texts_of words.now) }
+        ensures value { result ≡ behind (row_rule self) at (texts_of words.now) }
+        ensures within { IfOk result (λ shape. shape.arguments + shape.count ≤ at + length words.now) }
     {
         let count = self.count_switches(words);
         self.decide(at, &words[..count], &words[count..])

@@ -1,6 +1,6 @@
 -- No index stands for a place behind the end, and numbers up to the greatest that a machine has stand for every place.
 use Rattle.std.proofs.Common.{◌≡◌, ◌≢◌, ℕ, zero, suc, ◌+◌, ◌-◌, ◌<◌, ◌≤◌, min, Bool, true, false, not, List, [], ◌∷◌, length, map, take, drop, refl, sym, ap, subst, ◌∙◌, arith, length-drop}
-use Rattle.std.specs.Prelude.{Option, Some, None, Result, Ok, Err, option_map, nat_lt, ◌==◌, slice_index, if◌then◌else◌}
+use Rattle.std.specs.Prelude.{Option, Some, None, Result, Ok, Err, option_map, option_and_then, nat_lt, nat_le, ◌&&◌, ◌==◌, slice_index, if◌then◌else◌}
 use Rattle.std.specs.List.{prefix_len, suffix_len}
 use Rattle.std.proofs.lemmas.Bool.{false≢true}
 use Rattle.std.proofs.lemmas.Bool.Decides.{nat_tests, Decides-eqb}
@@ -9,10 +9,18 @@ use Rattle.std.proofs.lemmas.List.Quantifiers.{position-Some}
 use Rattle.std.proofs.lemmas.List.Sums.{prefix_len-le-length}
 use Rattle.text_model.specs.Lines.{lines, line_of, line_start}
 use Rattle.text_model.proofs.LineLaws.{line_start-le, lines-le-length}
+use Rattle.text_model.specs.Content.{Content, flags}
+use Rattle.text_model.specs.declared.places.Place.{Place}
+use Rattle.mark_table.specs.SharedMarks.{Mark, first_number}
+use Rattle.tag_table.specs.Tags.{Tag}
+use Rattle.std.specs.FinMap as finite
+use Rattle.text_index.specs.Views.{IsView, shown, own_place, shared_place, shown_mark}
+use Rattle.text_index.proofs.ViewLaws.{length-shown}
+use Rattle.text_index.proofs.FlagLaws.{length-part, flags-within}
 use Rattle.text_index.specs.Grammar.{saturated_base, saturated_modifier, WholeIndex}
 use Rattle.text_index.specs.Steps.{saturated_index}
 use Rattle.text_index.specs.Values.{newline_of, in_line, column_of, on_line, line_value, unless_end, lines_on, lines_back, word_front, word_behind, word_end, modified, modified_by, or_fault, first_tagged, last_tagged, base_value, then_modified, index_value}
-use Rattle.text_index.specs.Meanings.{Meanings, AreWithin, value_of}
+use Rattle.text_index.specs.Meanings.{Meanings, AreWithin, value_of, shown_meanings}
 use Rattle.text_index.specs.declared.faults.IndexFault.{IndexFault}
 use Rattle.text_index.specs.declared.faults.IndexFault.TheVariants.{BadIndex}
 use Rattle.text_index.specs.declared.indices.Base.{Base}
@@ -223,3 +231,40 @@ value_of-le is_word meanings text (Some index) within place is =
           let same : modified_by is_word text index.1 from ≡ place = cc in
           omega (arith, modified_by-le is_word text index.1 from (bound from refl))
     ] (base-bounded meanings text index.0 within) is
+
+-- ---- what a view shows
+
+own-within : (start end : ℕ) (place : Place) → own_place start end place ≤ end - start
+own-within start end place = omega arith
+
+shared-within : (start end : ℕ) (place : Place) (found : ℕ) → shared_place start end place ≡ Some found → found ≤ end - start
+shared-within start end place found is =
+    elim (nat_le start place.offset) as (λ b. (if b && nat_le place.offset end then Some (place.offset - start) else None) ≡ Some found → found ≤ end - start) [
+      | false ↦ λ none. absurd (let h : None ≡ Some found = none in cc)
+      | true ↦ elim (nat_le place.offset end) as (λ b. nat_le place.offset end ≡ b → (if b then Some (place.offset - start) else None) ≡ Some found → found ≤ end - start) [
+        | false ↦ λ _ none. absurd (let h : None ≡ Some found = none in cc)
+        | true ↦ λ before there.
+            let within : place.offset ≤ end = grind (arith, nat_tests) in
+            let same : place.offset - start ≡ found = cc in
+            omega arith
+      ] refl
+    ] is
+
+mark-within : (content : Content) (start end number found : ℕ) → shown_mark content start end number ≡ Some found → found ≤ end - start
+mark-within content start end number found is =
+    elim (finite.get content.marks number) as (λ o. option_and_then (λ place. if nat_lt number first_number then Some (own_place start end place) else shared_place start end place) o ≡ Some found → found ≤ end - start) [
+      | None ↦ λ none. absurd (let h : None ≡ Some found = none in cc)
+      | Some place ↦ elim (nat_lt number first_number) as (λ b. (if b then Some (own_place start end place) else shared_place start end place) ≡ Some found → found ≤ end - start) [
+        | true ↦ λ there. let same : own_place start end place ≡ found = cc in omega (arith, own-within start end place)
+        | false ↦ shared-within start end place found
+      ]
+    ] is
+
+pub shown-within : (marks : List Mark) (tags : List Tag) (widget : ℕ) (content : Content) (start end : ℕ) → IsView content start end
+    → AreWithin (shown_meanings marks tags widget content start end) (shown content start end)
+shown-within marks tags widget content start end view =
+    let long = length-shown content start end view in
+    record {
+      places = λ number place is. omega (arith, mark-within content start end number place is);
+      flags = λ slot. omega (arith, length-part (flags slot content.cells) start end (flags-within content slot start end view) view.ordered);
+    }

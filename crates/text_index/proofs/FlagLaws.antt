@@ -55,7 +55,7 @@ suffix-part test flags start end within ordered =
     ∙ suffix-back test (take start front) (drop start front)
     ∙ ap₂ (λ n xs. min n (suffix_len test xs)) long (take-append-drop start front)
 
-length-part : (flags : List Bool) (start end : ℕ) → end ≤ length flags → start ≤ end → length (slice_range flags start end) ≡ end - start
+pub length-part : (flags : List Bool) (start end : ℕ) → end ≤ length flags → start ≤ end → length (slice_range flags start end) ≡ end - start
 length-part flags start end within ordered = length-take-le (end - start) (drop start flags) (omega (arith, length-drop start flags))
 
 -- ---- the first

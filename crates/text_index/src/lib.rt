@@ -5,6 +5,7 @@
 mod faults;
 mod fronts;
 mod indices;
+mod locating;
 mod moves;
 mod names;
 mod numbers;
@@ -24,6 +25,7 @@ mod words;
 
 pub use faults::IndexFault;
 pub use indices::{Base, Index, Modifier, Modifiers, Unit};
+pub use locating::locate;
 pub use moves::{back, forward, lines_back, lines_on};
 pub use names::Names;
 pub use parsing::parse;

@@ -7,11 +7,11 @@ use Rattle.command_table.specs.Reading.{decided}
 use Rattle.command_table.specs.Spelled.{row_rule}
 use Rattle.command_table.proofs.rows.Row.read.Goals as goal
 
-pub returns : goal.returns
-returns c =
+pub returns-clause-value : goal.returns-clause-value
+returns-clause-value c =
     let words = c.args.words.now in
     let count = c.count_switches-count in
-    c.decide.ensures
+    c.decide.ensures.value
     ∙ ap₂ (λ front back. decided (row_rule c.args.self) c.args.at front back)
     (sym (take-map (λ word. chars (string_bytes word)) count.result words) ∙ count.ensures.front)
     (ap texts_of (take_rest words count.result) ∙ sym (drop-map (λ word. chars (string_bytes word)) count.result words)
