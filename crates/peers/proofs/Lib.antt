@@ -1,10 +1,9 @@
-pub mod IndexLaws
+pub mod ArgumentLaws
+pub mod EndLaws
 pub mod InsertLaws
 pub mod KeyLaws
+pub mod LoneLaws
 pub mod NameLaws
-pub mod NumberLaws
-pub mod PositionLaws
-pub mod ValueLaws
-pub mod ViewLaws
+pub mod PromiseLaws
 pub mod WellFormedLaws
 pub mod WordLaws

@@ -1,9 +1,13 @@
+pub mod Arguments
 pub mod Command
-pub mod Index
+pub mod Faults
+pub mod Indices
 pub mod Kept
 pub mod Keys
-pub mod Position
+pub mod Names
+pub mod Promise
 pub mod Step
+pub mod Texts
 pub mod View
 pub mod WellFormed
 pub mod Words

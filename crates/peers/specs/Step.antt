@@ -4,11 +4,16 @@ use Rattle.std.specs.FinSet as set
 use Rattle.peers.specs.declared.answers.Answer.{Answer}
 use Rattle.peers.specs.declared.answers.Answer.TheVariants.{Word}
 use Rattle.peers.specs.declared.answers.Fault.{Fault}
-use Rattle.peers.specs.declared.answers.Fault.TheVariants.{BadOption, WrongArguments, InvalidCommandName, WindowExists, DocumentExists, TooManyWidgets}
-use Rattle.peers.specs.World.{World, Document, Widget, document_of}
+use Rattle.peers.specs.declared.answers.Fault.TheVariants.{WrongArguments, InvalidCommandName, WindowExists, DocumentExists, TooManyWidgets}
+use Rattle.peers.specs.World.{World, Document, Widget, whole_widget, new_mark, document_of}
 use Rattle.peers.specs.Words.{is_same, literal}
 use Rattle.peers.specs.Kept.{is_window_name}
-use Rattle.peers.specs.Command.{Change, command}
+use Rattle.command_table.specs.Reading.{reading}
+use Rattle.command_table.specs.declared.shapes.Shape.{Shape}
+use Rattle.command_table.specs.declared.shapes.ShapeFault.{ShapeFault}
+use Rattle.peers.specs.Faults.{shape_fault}
+use Rattle.peers.specs.Promise.{Change}
+use Rattle.peers.specs.Command.{command, arguments_of}
 
 -- the answer or the fault, and the world after the command
 pub record Outcome : Type 0 where
@@ -23,7 +28,7 @@ widget_named name document = find (λ (widget : Widget). is_same widget.name nam
 
 -- a document of one newline without tags, shown by one widget
 abbrev pub new_document : List ℕ → Document
-new_document name = document_of name (record { character = 10; keys = set.empty } ∷ [])
+new_document name = document_of (record { character = 10; keys = set.empty } ∷ []) (whole_widget name new_mark new_mark)
 
 -- the world with one document, where there may be a widget
 abbrev pub create_first : World → List ℕ → Outcome
@@ -40,27 +45,32 @@ abbrev pub create_named : World → List ℕ → List Document → Outcome
 create_named world name [] = create_first world name
 create_named world name (document ∷ others) = create_beside world (widget_named name document)
 
--- `text W`; each further word would be an option
+-- `text W`
 abbrev pub create : World → List (List ℕ) → Outcome
 create world [] = refuses world WrongArguments
 create world (name ∷ []) = if is_window_name name then create_named world name world.documents else refuses world (InvalidCommandName 1)
-create world (name ∷ option ∷ others) = refuses world (BadOption 2)
+create world (name ∷ more ∷ others) = refuses world WrongArguments
+
+abbrev pub create_shaped : World → List (List ℕ) → Result Shape ShapeFault → Outcome
+create_shaped world words (Err fault) = refuses world (shape_fault fault)
+create_shaped world words (Ok shape) = create world (arguments_of shape words)
 
 -- the world with a document changed
 abbrev pub changed : World → List Document → Change → Outcome
 changed world others change = record { reply = change.reply; world = record world { documents = change.document ∷ others } }
 
 abbrev pub on_found : World → Document → List Document → List (List ℕ) → Option Widget → Outcome
-on_found world document others arguments None = refuses world (InvalidCommandName 0)
-on_found world document others arguments (Some widget) = changed world others (command world.limits document widget arguments)
+on_found world document others words None = refuses world (InvalidCommandName 0)
+on_found world document others words (Some widget) = changed world others (command world.limits document widget words)
 
 -- a command of the widget of that name
 abbrev pub on_widget : World → List ℕ → List (List ℕ) → List Document → Outcome
-on_widget world name arguments [] = refuses world (InvalidCommandName 0)
-on_widget world name arguments (document ∷ others) = on_found world document others arguments (widget_named name document)
+on_widget world name words [] = refuses world (InvalidCommandName 0)
+on_widget world name words (document ∷ others) = on_found world document others words (widget_named name document)
 
 -- a command, of one word at least
 abbrev pub step : World → List (List ℕ) → Outcome
 step world [] = refuses world WrongArguments
-step world (name ∷ arguments) =
-    if is_same name (literal "text") then create world arguments else on_widget world name arguments world.documents
+step world (name ∷ others) =
+    if is_same name (literal "text") then create_shaped world (name ∷ others) (reading (name ∷ others))
+    else on_widget world name (name ∷ others) world.documents

@@ -1,6 +1,8 @@
 -- The part of a document that a widget shows.
-use Rattle.std.specs.Prelude.{ℕ, ◌-◌, List, length, take, drop, unwrap_or}
-use Rattle.peers.specs.World.{Widget, Document, characters}
+use Rattle.std.specs.Prelude.{ℕ, Bool, List, length, map, slice_range, unwrap_or}
+use Rattle.std.specs.FinSet as set
+use Rattle.peers.specs.Keys.{Key}
+use Rattle.peers.specs.World.{Widget, Document, KeyedCell, characters}
 
 abbrev pub view_start : Widget → ℕ
 view_start widget = unwrap_or widget.start 0
@@ -10,5 +12,9 @@ view_end document widget = unwrap_or widget.end (length document.cells)
 
 -- the characters from the start of the view to its end
 abbrev pub shown : Document → Widget → List ℕ
-shown document widget =
-    take (view_end document widget - view_start widget) (drop (view_start widget) (characters document.cells))
+shown document widget = slice_range (characters document.cells) (view_start widget) (view_end document widget)
+
+-- which of its cells have a key
+abbrev pub shown_flags : Document → Widget → Key → List Bool
+shown_flags document widget key =
+    slice_range (map (λ (cell : KeyedCell). set.contains cell.keys key) document.cells) (view_start widget) (view_end document widget)

@@ -1,9 +1,10 @@
 -- All that a session of commands can see later.
-use Rattle.std.specs.Prelude.{ℕ, ℤ, pos, Bool, true, false, List, [], ◌∷◌, Option, None, map, chars, codes}
+use Rattle.std.specs.Prelude.{ℕ, ℤ, pos, Bool, true, false, List, [], ◌∷◌, Option, None, map, unwrap_or, chars, codes}
+use Rattle.std.specs.FinMap as finite
 use Rattle.text_model.specs.declared.cells.Cell.{Cell}
 use Rattle.text_model.specs.declared.places.Gravity.TheVariants.{Right}
 use Rattle.text_model.specs.declared.places.Place.{Place}
-use Rattle.text_model.specs.Content.{Content}
+use Rattle.text_model.specs.Content.{Content, Marks, new_content}
 use Rattle.text_model.specs.LimitTable.{LimitTable}
 use Rattle.undo_stack.specs.History.{History, no_history}
 use Rattle.undo_stack.specs.Modified.{Modified, unmodified}
@@ -48,22 +49,26 @@ pub record World : Type 0 where
 abbrev pub sel : List ℕ
 sel = chars (codes "sel")
 
--- a widget of the whole document, whose own marks stand at its start
-abbrev pub new_widget : List ℕ → Widget
-new_widget name = record {
+-- a mark at the start
+abbrev pub new_mark : Place
+new_mark = record { offset = 0; gravity = Right }
+
+-- a widget of the whole document, whose own marks stand at these places
+abbrev pub whole_widget : List ℕ → Place → Place → Widget
+whole_widget name insert current = record {
   name = name;
   start = None;
   end = None;
   disabled = false;
-  insert = record { offset = 0; gravity = Right };
-  current = record { offset = 0; gravity = Right };
+  insert = insert;
+  current = current;
 }
 
 -- a document of these cells, with one widget and nothing else
-abbrev pub document_of : List ℕ → List KeyedCell → Document
-document_of name cells = record {
+abbrev pub document_of : List KeyedCell → Widget → Document
+document_of cells widget = record {
   cells = cells;
-  widgets = new_widget name ∷ [];
+  widgets = widget ∷ [];
   marks = [];
   tags = sel ∷ [];
   history = no_history;
@@ -77,13 +82,22 @@ document_of name cells = record {
 abbrev pub keyed : List (ℕ × Key) → List Cell → List KeyedCell
 keyed pairs cells = map (λ (cell : Cell). record { character = cell.character; keys = keys_of pairs cell.tags }) cells
 
--- the document of a store whose slots stand for no keys, and its widget
+-- a new text: one newline, and a widget's own two marks at its start
+abbrev pub first_content : Content
+first_content = record new_content { marks = finite.insert (finite.insert finite.empty 0 new_mark) 1 new_mark }
+
+-- where a mark stands, by its number in a store
+abbrev pub mark_of : Marks → ℕ → Place
+mark_of marks number = unwrap_or (finite.get marks number) new_mark
+
+-- the document of a store whose slots stand for no keys, and its widget, whose own marks are the first two
 abbrev pub lone_document : List ℕ → Content → Document
-lone_document name content = document_of name (keyed [] content.cells)
+lone_document name content =
+    document_of (keyed [] content.cells) (whole_widget name (mark_of content.marks 0) (mark_of content.marks 1))
 
 -- the first widget of a document
 abbrev pub first_widget : List ℕ → List Widget → Widget
-first_widget name [] = new_widget name
+first_widget name [] = whole_widget name new_mark new_mark
 first_widget name (widget ∷ widgets) = widget
 
 abbrev pub lone_widget : Document → Widget

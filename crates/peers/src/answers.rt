@@ -1,7 +1,10 @@
 ghost use Rattle.std.specs.Prelude.{◌≡◌};
 ghost use Rattle.peers.specs.declared.answers.Fault.TheVariants.{Memory};
+ghost use Rattle.peers.specs.Faults.{index_fault, shape_fault};
 
+use command_table::ShapeFault;
 use std::alloc::AllocError;
+use text_index::IndexFault;
 use text_model::Text;
 use thiserror::Error;
 
@@ -25,6 +28,10 @@ pub enum Fault {
     /// The word is no index.
     #[error("bad text index")]
     BadIndex(usize),
+    /// No character that the widget shows has the tag of the index at the first number; the second is the length of the tag's
+    /// name in bytes, with which the word begins.
+    #[error("text doesn't contain any characters tagged with a tag")]
+    NoTaggedCharacters(usize, usize),
     /// The word is no subcommand or option.
     #[error("bad option")]
     BadOption(usize),
@@ -37,6 +44,9 @@ pub enum Fault {
     /// The word names a widget that exists.
     #[error("window name already exists")]
     WindowExists(usize),
+    /// The word is no comparison.
+    #[error("bad comparison operator")]
+    BadComparison(usize),
     /// There is a document.
     #[error("a document exists")]
     DocumentExists,
@@ -49,6 +59,29 @@ pub enum Fault {
     /// Memory was refused. Nothing has changed.
     #[error("out of memory")]
     Memory,
+}
+
+impl Fault {
+    /// The fault of an index, which is the word at a position.
+    pub fn of_index(position: usize, fault: IndexFault) -> Fault
+        ensures { result ≡ index_fault position fault }
+    {
+        match fault {
+            IndexFault::BadIndex => Fault::BadIndex(position),
+            IndexFault::NoTaggedCharacters(len) => Fault::NoTaggedCharacters(position, len),
+            IndexFault::Memory => Fault::Memory,
+        }
+    }
+
+    /// The fault of the words of a command.
+    pub fn of_shape(fault: ShapeFault) -> Fault
+        ensures { result ≡ shape_fault fault }
+    {
+        match fault {
+            ShapeFault::BadOption(position) => Fault::BadOption(position),
+            ShapeFault::WrongArguments => Fault::WrongArguments,
+        }
+    }
 }
 
 impl From<AllocError> for Fault {

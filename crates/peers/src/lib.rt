@@ -2,10 +2,13 @@
 #![tactic(auto)]
 
 mod answers;
+mod arguments;
+mod commands;
+mod comparisons;
 mod documents;
+mod edits;
 mod indices;
-mod insertions;
-mod positions;
+mod texts;
 #[cfg(test)]
 mod tests;
 mod words;

@@ -1,12 +1,14 @@
 ghost use Rattle.std.specs.Prelude.{◌≡◌, ◌≢◌, ◌<◌, [], true, length, chars, string_bytes, IfErr};
 ghost use Rattle.tcl_words.specs.Unread.{texts_of};
-ghost use Rattle.peers.specs.Step.{create_first, create, on_widget, step};
+ghost use Rattle.command_table.specs.Reading.{reading};
+ghost use Rattle.peers.specs.Step.{create_first, create, create_shaped, on_widget, step};
 ghost use Rattle.peers.specs.Kept.{is_window_name};
 ghost use Rattle.peers.specs.WellFormed.{IsWellFormed};
 
 use crate::answers::{Answer, Fault};
 use crate::documents::Document;
 use crate::words::{is_window_name, is_word};
+use command_table::shape;
 use std::alloc::Global;
 use std::marker::Model;
 use text_model::{Limits, TextStore};
@@ -62,7 +64,7 @@ impl<S: TextStore> World<S> {
         if self.limits.widgets() == 0 {
             return Err(Fault::TooManyWidgets);
         }
-        let document = Document::new(self.alloc, name)?;
+        let document = Document::new(self.alloc, &self.limits, name)?;
         self.document = Some(document);
         Ok(Answer::Word(1))
     }
@@ -76,12 +78,9 @@ impl<S: TextStore> World<S> {
     {
         // Read first, so that every return knows that the world is well formed.
         let document = &self.document;
-        let [name, options @ ..] = arguments else {
+        let [name] = arguments else {
             return Err(Fault::WrongArguments);
         };
-        if !options.is_empty() {
-            return Err(Fault::BadOption(2));
-        }
         if !is_window_name(name.as_str()) {
             return Err(Fault::InvalidCommandName(1));
         }
@@ -92,12 +91,32 @@ impl<S: TextStore> World<S> {
         }
     }
 
-    /// A command of the widget of a name.
-    fn on_widget(&mut self, name: &str, arguments: &[String]) -> Result<Answer, Fault>
+    /// `text W`, of all its words.
+    fn create_shaped(&mut self, words: &[String]) -> Result<Answer, Fault>
+        requires { 0 < length words.now }
+        ensures reply { result ≢ Err Fault.Memory → result ≡ (create_shaped self.old (texts_of words.now) (reading (texts_of words.now))).reply }
+        ensures world { result ≢ Err Fault.Memory → self.new ≡ (create_shaped self.old (texts_of words.now) (reading (texts_of words.now))).world }
+        ensures refused { IfErr result (λ _. self.new ≡ self.old) }
+        ensures well_formed { IsWellFormed self.new }
+    {
+        // Read first, so that every return knows that the world is well formed.
+        let _document = &self.document;
+        match shape(words) {
+            Err(fault) => Err(Fault::of_shape(fault)),
+            Ok(shape) => {
+                let end = shape.arguments + shape.count;
+                self.create(&words[shape.arguments..end])
+            }
+        }
+    }
+
+    /// A command of the widget of a name, of all its words.
+    fn on_widget(&mut self, name: &str, words: &[String]) -> Result<Answer, Fault>
+        requires { 0 < length words.now }
         ensures reply { result ≢ Err Fault.Memory →
-            result ≡ (on_widget self.old (chars name.now) (texts_of arguments.now) self.old.documents).reply }
+            result ≡ (on_widget self.old (chars name.now) (texts_of words.now) self.old.documents).reply }
         ensures world { result ≢ Err Fault.Memory →
-            self.new ≡ (on_widget self.old (chars name.now) (texts_of arguments.now) self.old.documents).world }
+            self.new ≡ (on_widget self.old (chars name.now) (texts_of words.now) self.old.documents).world }
         ensures refused { IfErr result (λ _. self.new ≡ self.old) }
         ensures well_formed { IsWellFormed self.new }
     {
@@ -107,7 +126,7 @@ impl<S: TextStore> World<S> {
         if !document.is_named(name) {
             return Err(Fault::InvalidCommandName(0));
         }
-        document.command(&self.limits, arguments)
+        document.command(&self.limits, words)
     }
 
     /// Carries out a command of one word or more. A fault leaves the world as it was.
@@ -118,13 +137,13 @@ impl<S: TextStore> World<S> {
         ensures refused { IfErr result (λ _. self.new ≡ self.old) }
         ensures well_formed { IsWellFormed self.new }
     {
-        let [name, arguments @ ..] = words else {
+        let [name, ..] = words else {
             unreachable!()
         };
         if is_word(name.as_str(), "text") {
-            self.create(arguments)
+            self.create_shaped(words)
         } else {
-            self.on_widget(name.as_str(), arguments)
+            self.on_widget(name.as_str(), words)
         }
     }
 }

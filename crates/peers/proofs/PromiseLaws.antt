@@ -1,0 +1,70 @@
+-- How a promise goes through a command, word by word.
+use Rattle.std.proofs.Common.{◌≡◌, ◌≢◌, ℕ, length, refl, sym, ap, ◌∙◌}
+use Rattle.std.specs.Prelude.{Result, Ok, Err, IfErr}
+use Rattle.text_model.specs.LimitTable.{LimitTable}
+use Rattle.peers.specs.declared.answers.Answer.{Answer}
+use Rattle.peers.specs.declared.answers.Fault.{Fault}
+use Rattle.peers.specs.declared.answers.Fault.TheVariants.{Memory}
+use Rattle.peers.specs.World.{Document}
+use Rattle.peers.specs.Faults.{with_value}
+use Rattle.peers.specs.Promise.{Change, Gives, Does, change_with}
+
+-- what is refused for memory is refused for memory
+abbrev refusal : (A : Type 0) → Fault → Result A Fault
+refusal A fault = Err fault
+
+refused-same : (A B : Type 0) (fault : Fault) → refusal A fault ≡ refusal A Memory → refusal B fault ≡ refusal B Memory
+refused-same A B fault is = let same : fault ≡ Memory = cc in ap (refusal B) same
+
+value≢memory : {A : Type 0} (found : Result A Fault) (value : A) → found ≡ Ok value → found ≢ Err Memory
+value≢memory found value is memory = let h : Ok value ≡ Err Memory = sym is ∙ memory in absurd (cc)
+
+-- a value that is found, or its fault, is the one that is defined, since else the command wants memory
+pub gives-through : {A B : Type 0} (found defined : Result A Fault) (result : Result B Fault) (next : A → Result B Fault) → Gives found defined
+    → Gives result (with_value found next) → Gives result (with_value defined next)
+gives-through (Err fault) defined result next found gives other =
+    gives other ∙ ap (λ f. with_value f next) (found (λ memory. other (gives other ∙ refused-same _ _ fault memory)))
+gives-through (Ok value) defined result next found gives other =
+    gives other ∙ ap (λ f. with_value f next) (found (value≢memory (Ok value) value refl))
+
+-- the same of two values
+pub gives-both : {A B C : Type 0} (found defined : Result A Fault) (also known : Result B Fault) (result : Result C Fault) (next : A → B → Result C Fault)
+    → Gives found defined → Gives also known → Gives result (with_value found (λ a. with_value also (next a)))
+    → Gives result (with_value defined (λ a. with_value known (next a)))
+gives-both (Err fault) defined also known result next first second gives =
+    gives-through (Err fault) defined result (λ a. with_value known (next a)) first gives
+gives-both (Ok value) defined also known result next first second gives =
+    gives-through (Ok value) defined result (λ a. with_value known (next a)) first (gives-through also known result (next value) second gives)
+
+-- the same with a value between them that is exact
+pub gives-three : {A B C D : Type 0} (found defined : Result A Fault) (between : Result B Fault) (also known : Result C Fault) (result : Result D Fault) (next : A → B → C → Result D Fault)
+    → Gives found defined → Gives also known → Gives result (with_value found (λ a. with_value between (λ b. with_value also (next a b))))
+    → Gives result (with_value defined (λ a. with_value between (λ b. with_value known (next a b))))
+gives-three (Err fault) defined between also known result next first second gives =
+    gives-through (Err fault) defined result (λ a. with_value between (λ b. with_value known (next a b))) first gives
+gives-three (Ok value) defined (Err fault) also known result next first second gives =
+    gives-through (Ok value) defined result (λ a. Err fault) first gives
+gives-three (Ok value) defined (Ok between) also known result next first second gives =
+    gives-through (Ok value) defined result (λ a. with_value known (next a between)) first (gives-through also known result (next value between) second gives)
+
+-- the same of a command that changes a document
+does-same : (limits : LimitTable) (old new : Document) (result : Result Answer Fault) (one other : Change) → (result ≢ Err Memory → one ≡ other) → Does limits old new result one → Does limits old new result other
+does-same limits old new result one other same does = record {
+  reply = λ not. does.reply not ∙ ap (λ (c : Change). c.reply) (same not);
+  document = λ not. does.document not ∙ ap (λ (c : Change). c.document) (same not);
+  refused = does.refused;
+  well_formed = does.well_formed;
+  widgets = does.widgets;
+}
+
+pub does-through : {A : Type 0} (limits : LimitTable) (old new : Document) (result : Result Answer Fault) (found defined : Result A Fault) (next : A → Change) → Gives found defined
+    → Does limits old new result (change_with old found next) → Does limits old new result (change_with old defined next)
+does-through limits old new result (Err fault) defined next found does =
+    does-same limits old new result _ _ (λ other. ap (λ f. change_with old f next) (found (λ memory. other (does.reply other ∙ refused-same _ _ fault memory)))) does
+does-through limits old new result (Ok value) defined next found does =
+    does-same limits old new result _ _ (λ other. ap (λ f. change_with old f next) (found (value≢memory (Ok value) value refl))) does
+
+-- a command that only reads leaves the document
+pub does-nothing : (limits : LimitTable) (document : Document) (result defined : Result Answer Fault) → Gives result defined → IfErr result (λ _. document ≡ document)
+    → Does limits document document result (record { reply = defined; document = document })
+does-nothing limits document result defined gives same = record { reply = gives; document = λ _. refl; refused = same; well_formed = λ is. is; widgets = refl }

@@ -1,0 +1,65 @@
+-- Commands on indices: `index` and `compare`.
+use Rattle.std.specs.Prelude.{ℕ, ◌+◌, nat_lt, nat_le, ◌==◌, Bool, not, List, Option, None, Some, Result, Ok, Err, if◌then◌else◌}
+use Rattle.text_index.specs.Positions.{position_text}
+use Rattle.peers.specs.declared.answers.Answer.{Answer}
+use Rattle.peers.specs.declared.answers.Answer.TheVariants.{Text, Flag}
+use Rattle.peers.specs.declared.answers.Fault.{Fault}
+use Rattle.peers.specs.declared.answers.Fault.TheVariants.{BadComparison}
+use Rattle.peers.specs.declared.comparisons.Comparison.{Comparison}
+use Rattle.peers.specs.declared.comparisons.Comparison.TheVariants.{Below, UpTo, Same, From, Above, Other}
+use Rattle.peers.specs.Arguments.{one_of, three_of}
+use Rattle.peers.specs.Faults.{at_position, with_value}
+use Rattle.peers.specs.Names.{place_of}
+use Rattle.peers.specs.View.{shown}
+use Rattle.peers.specs.Words.{is_same, literal}
+use Rattle.peers.specs.World.{Document, Widget}
+
+-- the place of the index at a position of the command, or the fault there
+abbrev pub place_at : Document → Widget → ℕ → List ℕ → Result ℕ Fault
+place_at document widget position word = at_position position (place_of document widget word)
+
+-- a place as `line.char`
+abbrev pub position_answer : Document → Widget → ℕ → Result Answer Fault
+position_answer document widget place = Ok (Text (position_text (shown document widget) place))
+
+abbrev pub index_of : Document → Widget → ℕ → List ℕ → Result Answer Fault
+index_of document widget at word = with_value (place_at document widget at word) (position_answer document widget)
+
+-- `W index I`
+abbrev pub index : Document → Widget → ℕ → List (List ℕ) → Result Answer Fault
+index document widget at words = with_value (one_of words) (index_of document widget at)
+
+abbrev pub comparison_of : List ℕ → Option Comparison
+comparison_of word =
+    if is_same word (literal "<") then Some Below
+    else (if is_same word (literal "<=") then Some UpTo
+    else (if is_same word (literal "==") then Some Same
+    else (if is_same word (literal ">=") then Some From
+    else (if is_same word (literal ">") then Some Above
+    else (if is_same word (literal "!=") then Some Other
+    else None)))))
+
+abbrev pub comparison_at : ℕ → Option Comparison → Result Comparison Fault
+comparison_at position None = Err (BadComparison position)
+comparison_at position (Some comparison) = Ok comparison
+
+abbrev pub holds : Comparison → ℕ → ℕ → Bool
+holds Below a b = nat_lt a b
+holds UpTo a b = nat_le a b
+holds Same a b = a == b
+holds From a b = nat_le b a
+holds Above a b = nat_lt b a
+holds Other a b = not (a == b)
+
+-- whether a comparison holds of two places: the first is decided first, then the comparison, then the second
+abbrev pub compared : Result ℕ Fault → Result Comparison Fault → Result ℕ Fault → Result Answer Fault
+compared left operator right =
+    with_value left (λ from. with_value operator (λ comparison. with_value right (λ to. Ok (Flag (holds comparison from to)))))
+
+abbrev pub compared_at : Document → Widget → ℕ → List ℕ × List ℕ × List ℕ → Result Answer Fault
+compared_at document widget at words =
+    compared (place_at document widget at words.0) (comparison_at (at + 1) (comparison_of words.1)) (place_at document widget (at + 2) words.2)
+
+-- `W compare A op B`
+abbrev pub compare : Document → Widget → ℕ → List (List ℕ) → Result Answer Fault
+compare document widget at words = with_value (three_of words) (compared_at document widget at)

@@ -1,0 +1,41 @@
+-- What every command promises.
+use Rattle.std.specs.Prelude.{◌≡◌, ◌≢◌, ℕ, List, length, Result, Ok, Err, IfErr}
+use Rattle.text_model.specs.LimitTable.{LimitTable}
+use Rattle.peers.specs.declared.answers.Answer.{Answer}
+use Rattle.peers.specs.declared.answers.Fault.{Fault}
+use Rattle.peers.specs.declared.answers.Fault.TheVariants.{Memory}
+use Rattle.peers.specs.World.{Document}
+use Rattle.peers.specs.WellFormed.{IsWellFormedDocument}
+
+-- the answer or the fault, and the document after the command
+pub record Change : Type 0 where
+  pub reply : Result Answer Fault
+  pub document : Document
+
+abbrev pub refused : Document → Fault → Change
+refused document fault = record { reply = Err fault; document = document }
+
+abbrev pub answered : Document → Answer → Change
+answered document answer = record { reply = Ok answer; document = document }
+
+-- a command that only reads
+abbrev pub asked : Document → Result Answer Fault → Change
+asked document reply = record { reply = reply; document = document }
+
+-- what follows a value changes the document; a fault refuses the command
+abbrev pub change_with : {A : Type 0} → Document → Result A Fault → (A → Change) → Change
+change_with document (Err fault) next = refused document fault
+change_with document (Ok value) next = next value
+
+-- a command that reads gives what its definition gives, unless memory is wanted
+abbrev pub Gives : {A : Type 0} → Result A Fault → Result A Fault → Type 0
+Gives result defined = result ≢ Err Memory → result ≡ defined
+
+-- A command of a widget gives and leaves what its definition says, unless memory is wanted. Where it is refused, it leaves the
+-- document as it was, and in any case a well-formed one well formed, with its widgets.
+pub record Does (limits : LimitTable) (old new : Document) (result : Result Answer Fault) (change : Change) : Type 0 where
+  pub reply : Gives result change.reply
+  pub document : result ≢ Err Memory → new ≡ change.document
+  pub refused : IfErr result (λ _. new ≡ old)
+  pub well_formed : IsWellFormedDocument limits old → IsWellFormedDocument limits new
+  pub widgets : length new.widgets ≡ length old.widgets
