@@ -1,5 +1,6 @@
 pub mod ArgumentLaws
 pub mod EndLaws
+pub mod FirstLaws
 pub mod InsertLaws
 pub mod KeyLaws
 pub mod LoneLaws

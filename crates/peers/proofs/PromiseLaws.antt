@@ -48,7 +48,7 @@ gives-three (Ok value) defined (Ok between) also known result next first second 
     gives-through (Ok value) defined result (λ a. with_value known (next a between)) first (gives-through also known result (next value between) second gives)
 
 -- the same of a command that changes a document
-does-same : (limits : LimitTable) (old new : Document) (result : Result Answer Fault) (one other : Change) → (result ≢ Err Memory → one ≡ other) → Does limits old new result one → Does limits old new result other
+pub does-same : (limits : LimitTable) (old new : Document) (result : Result Answer Fault) (one other : Change) → (result ≢ Err Memory → one ≡ other) → Does limits old new result one → Does limits old new result other
 does-same limits old new result one other same does = record {
   reply = λ not. does.reply not ∙ ap (λ (c : Change). c.reply) (same not);
   document = λ not. does.document not ∙ ap (λ (c : Change). c.document) (same not);
