@@ -4,6 +4,7 @@ pub mod Grammar
 pub mod Names
 pub mod Pieces
 pub mod Positions
+pub mod Ranges
 pub mod Reading
 pub mod Steps
 pub mod Values

@@ -4,10 +4,9 @@ ghost use Rattle.text_index.specs.Values.{HasSlot, line_value, base_value, modif
 ghost use Rattle.text_index.specs.Words.{is_word};
 
 use crate::faults::IndexFault;
-use crate::indices::{Base, Index, Modifier, Unit};
+use crate::indices::{Base, Direction, Index, Modifier, Unit};
 use crate::moves::{
-    back, forward, in_line, line_end, line_start, lines_back, lines_on, newline_of, word_end,
-    word_start,
+    back, forward, in_line, line_end, line_start, lines_by, newline_of, word_end, word_start,
 };
 use crate::ranges::{first_tagged, last_tagged};
 use crate::views::View;
@@ -87,8 +86,8 @@ fn modified<S: TextStore>(view: &View<'_, S>, place: usize, modifier: Modifier) 
     match modifier {
         Modifier::Forward(Unit::Characters, count) => forward(view, place, count),
         Modifier::Back(Unit::Characters, count) => back(place, count),
-        Modifier::Forward(Unit::Lines, count) => lines_on(view, place, count),
-        Modifier::Back(Unit::Lines, count) => lines_back(view, place, count),
+        Modifier::Forward(Unit::Lines, count) => lines_by(view, place, Direction::Forward, count),
+        Modifier::Back(Unit::Lines, count) => lines_by(view, place, Direction::Back, count),
         Modifier::LineStart => line_start(view, place),
         Modifier::LineEnd => line_end(view, place),
         Modifier::WordStart => word_start(view, place),
