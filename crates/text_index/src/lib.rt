@@ -11,8 +11,12 @@ mod numbers;
 mod parsing;
 #[cfg(test)]
 mod parsing_tests;
+#[cfg(test)]
+mod place_tests;
 mod places;
 mod positions;
+#[cfg(test)]
+mod range_tests;
 mod ranges;
 mod steps;
 #[cfg(test)]

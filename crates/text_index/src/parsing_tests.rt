@@ -44,7 +44,7 @@ static BASES: [(&str, Base); 26] = [
     ("a+1c-2l", Base::Mark(MarkNo(129))),
 ];
 
-static MODIFIERS: [(&str, Modifier); 22] = [
+static MODIFIERS: [(&str, Modifier); 26] = [
     ("1.0+1c", Modifier::Forward(Unit::Characters, 1)),
     ("1.0 + 1 c ", Modifier::Forward(Unit::Characters, 1)),
     ("1.0\t-\t2\tchars", Modifier::Back(Unit::Characters, 2)),
@@ -69,10 +69,20 @@ static MODIFIERS: [(&str, Modifier); 22] = [
     ("1.0 words", Modifier::WordStart),
     ("1.0 wordstart", Modifier::WordStart),
     ("1.0 worde", Modifier::WordEnd),
+    (
+        "1.0 \t+\t 3 \tany\t chars \t",
+        Modifier::Forward(Unit::Characters, 3),
+    ),
+    (
+        "insert\t \t-\t 3any \tlines\t ",
+        Modifier::Back(Unit::Lines, 3),
+    ),
+    ("x.last\t linestart \t", Modifier::LineStart),
+    ("end \t wordend\t ", Modifier::WordEnd),
     ("1.0 wordend", Modifier::WordEnd),
 ];
 
-static NO_INDICES: [&str; 40] = [
+static NO_INDICES: [&str; 49] = [
     "1.en",
     "1.0.0",
     "1.",
@@ -113,6 +123,15 @@ static NO_INDICES: [&str; 40] = [
     "a+1cc",
     "sel.firsts",
     "1.0 linestarts",
+    "1.٣",
+    "１.0",
+    "1.0+٣c",
+    "1.0+1ç",
+    "1.0+1\u{a0}c",
+    "1.0\n",
+    "1.0\n+1c",
+    "\tend",
+    "y.last.z",
 ];
 
 fn create_mark(

@@ -1,6 +1,6 @@
 use crate::faults::IndexFault;
-use crate::indices::{Base, Index, Modifier, Modifiers, Unit};
-use crate::moves::{back, forward, lines_back, lines_on, word_end, word_start};
+use crate::indices::{Base, Direction, Index, Modifier, Modifiers, Unit};
+use crate::moves::{back, forward, lines_by, word_end, word_start};
 use crate::positions::push_index;
 use crate::values::resolve;
 use crate::views::View;
@@ -13,7 +13,11 @@ use text_model::{
 };
 
 // A store of this text, behind which its last newline stands.
-fn store_of<S: TextStore>(rt: &impl Abort, alloc: Global, text: &str) -> Result<S, Fail> {
+pub(crate) fn store_of<S: TextStore>(
+    rt: &impl Abort,
+    alloc: Global,
+    text: &str,
+) -> Result<S, Fail> {
     let mut store = S::new(alloc)?;
     let mut steps = StepList::new(alloc);
     let text = Text::new(String::from_str(alloc, text)?);
@@ -48,12 +52,12 @@ fn check<S: TextStore>(rt: &impl Abort, alloc: Global) -> Result<(), Fail> {
     ] {
         assert!(rt; place <= e);
         assert_eq!(rt;
-            lines_on(&view, place, count),
+            lines_by(&view, place, Direction::Forward, count),
             on,
             "{place} + {count} lines"
         );
         assert_eq!(rt;
-            lines_back(&view, place, count),
+            lines_by(&view, place, Direction::Back, count),
             before,
             "{place} - {count} lines"
         );
@@ -85,7 +89,7 @@ fn letters_digits_and_underscores_make_words(rt: HostRuntime) {
 }
 
 // A mark stands at an offset.
-fn put_mark<S: TextStore>(
+pub(crate) fn put_mark<S: TextStore>(
     rt: &impl Abort,
     alloc: Global,
     store: &mut S,
@@ -103,7 +107,7 @@ fn put_mark<S: TextStore>(
 }
 
 // The characters from one offset to another have the tag of a slot.
-fn set_tag<S: TextStore>(
+pub(crate) fn set_tag<S: TextStore>(
     rt: &impl Abort,
     alloc: Global,
     store: &mut S,
@@ -142,13 +146,13 @@ fn value<S: TextStore>(
     base: Base,
     modifiers: &[Modifier],
 ) -> Result<Result<usize, IndexFault>, Fail> {
-    let mut list = Modifiers::with_capacity(alloc, modifiers.len())?;
+    let mut list = Vec::new(alloc);
     for modifier in modifiers {
         list.push(*modifier)?;
     }
     let index = Index {
         base,
-        modifiers: list,
+        modifiers: Modifiers::new(list),
     };
     assert!(rt; view.shows_lines());
     let is_known = match base {

@@ -105,6 +105,7 @@ pub fn resolve<S: TextStore>(index: &Index, view: &View<'_, S>) -> Result<usize,
     ensures value { result ≡ index_value is_word (shown_mark (S.content view.now.store.now) view.now.s view.now.e)
         (λ slot. shown_flags slot (S.content view.now.store.now) view.now.s view.now.e)
         (shown (S.content view.now.store.now) view.now.s view.now.e) index.now.base index.now.modifiers }
+    ensures within { IfOk result (λ place. view.now.s + place ≤ view.now.e) }
 {
     let place = base_value(view, index.base)?;
     Ok(modified_by(view, place, index.modifiers.as_slice()))
@@ -115,6 +116,7 @@ fn modified_by<S: TextStore>(view: &View<'_, S>, from: usize, modifiers: &[Modif
     requires view { IsView (S.content view.now.store.now) view.now.s view.now.e }
     requires within { view.now.s + from ≤ view.now.e }
     ensures value { result ≡ modified_by is_word (shown (S.content view.now.store.now) view.now.s view.now.e) modifiers.now from }
+    ensures within { view.now.s + result ≤ view.now.e }
 {
     let mut place = from;
     for modifier in modifiers {
