@@ -1,9 +1,8 @@
 -- The ranges of flags: what walks over them, place by place.
-use Rattle.std.proofs.Common.{◌≡◌, ℕ, zero, suc, ◌+◌, ◌-◌, ◌<◌, ◌≤◌, Bool, true, false, cond, not, ◌&&◌, List, [], ◌∷◌, Option, Some, None, length, drop, get_or, refl, sym, ap, ap₂, ◌∙◌, arith, lt-ltb, le-ltb}
-use Rattle.std.specs.Prelude.{nat_le, nat_lt, filter, find}
+use Rattle.std.proofs.Common.{◌≡◌, ℕ, zero, suc, ◌+◌, ◌-◌, ◌<◌, ◌≤◌, Bool, true, false, cond, not, ◌&&◌, List, [], ◌∷◌, Option, Some, None, length, drop, refl, sym, ap, ap₂, ◌∙◌, arith, lt-ltb, le-ltb}
+use Rattle.std.specs.Prelude.{nat_le, filter, find}
 use Rattle.std.specs.List.{prefix_len, last_or}
-use Rattle.std.proofs.lemmas.Bool.{le-leb, lt-leb, leb-true, leb-false}
-use Rattle.std.proofs.lemmas.List.{drop_more}
+use Rattle.std.proofs.lemmas.Bool.{le-leb, lt-leb, leb-true}
 use Rattle.text_model.specs.Changes.{is_alike, flag_at, next_change}
 use Rattle.text_index.specs.Ranges.{is_set, ranges_behind, tag_ranges, begins_from, begins_before, ranges_from, next_range, previous_range, and_later, begins}
 use Rattle.text_index.specs.declared.ranges.TagRange.{TagRange}

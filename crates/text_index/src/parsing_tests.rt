@@ -204,40 +204,38 @@ fn is_none(rt: &impl Abort, alloc: Global, names: &Names, word: &str) {
     assert!(rt; matches!(found, Err(IndexFault::BadIndex)), "{word}");
 }
 
-#[test]
-fn words_have_bases(rt: HostRuntime) -> Result<(), Fail> {
-    let alloc = rt.alloc();
-    let tags = all_tags(&rt, alloc)?;
-    let marks = all_marks(&rt, alloc)?;
-    let names = Names {
-        tags: &tags,
-        marks: &marks,
-        widget: TagSlot(3),
-    };
-    for (word, base) in BASES {
-        begins(&rt, alloc, &names, word, base)?;
+fn all_begin(
+    rt: &impl Abort,
+    alloc: Global,
+    names: &Names,
+    rows: &[(&str, Base)],
+) -> Result<(), Fail> {
+    for (word, base) in rows {
+        begins(rt, alloc, names, word, *base)?;
     }
     Ok(())
 }
 
-#[test]
-fn words_have_modifiers(rt: HostRuntime) -> Result<(), Fail> {
-    let alloc = rt.alloc();
-    let tags = all_tags(&rt, alloc)?;
-    let marks = all_marks(&rt, alloc)?;
-    let names = Names {
-        tags: &tags,
-        marks: &marks,
-        widget: TagSlot(3),
-    };
-    for (word, modifier) in MODIFIERS {
-        moves(&rt, alloc, &names, word, modifier)?;
+fn all_move(
+    rt: &impl Abort,
+    alloc: Global,
+    names: &Names,
+    rows: &[(&str, Modifier)],
+) -> Result<(), Fail> {
+    for (word, modifier) in rows {
+        moves(rt, alloc, names, word, *modifier)?;
     }
     Ok(())
 }
 
+fn all_are_none(rt: &impl Abort, alloc: Global, names: &Names, words: &[&str]) {
+    for word in words {
+        is_none(rt, alloc, names, word);
+    }
+}
+
 #[test]
-fn other_words_are_no_indices(rt: HostRuntime) -> Result<(), Fail> {
+fn words_are_read(rt: HostRuntime) -> Result<(), Fail> {
     let alloc = rt.alloc();
     let tags = all_tags(&rt, alloc)?;
     let marks = all_marks(&rt, alloc)?;
@@ -246,8 +244,8 @@ fn other_words_are_no_indices(rt: HostRuntime) -> Result<(), Fail> {
         marks: &marks,
         widget: TagSlot(3),
     };
-    for word in NO_INDICES {
-        is_none(&rt, alloc, &names, word);
-    }
+    all_begin(&rt, alloc, &names, &BASES)?;
+    all_move(&rt, alloc, &names, &MODIFIERS)?;
+    all_are_none(&rt, alloc, &names, &NO_INDICES);
     Ok(())
 }

@@ -12,412 +12,94 @@ use std::test::Fail;
 use tag_table::TagTable;
 use text_model::{Limits, PlainStore, TagSlot, TextStore};
 
-// A word, and how its place in the view from `s` to `e` is printed. The text is `ab`, `cde`, an empty line and `f`; the
-// widget's `insert` and `current` stand at 8 and 0, the shared marks `m` and `n` at 4 and 9, and the characters from 4 to
-// before 9 have the tag `x`.
-struct Row {
-    s: usize,
-    e: usize,
-    word: &'static str,
-    text: &'static str,
-}
+// The text of these tests is `ab`, `cde`, an empty line and `f`; the widget's `insert` and `current` stand at 8 and 0, the shared
+// marks `m` and `n` at 4 and 9, `lost` nowhere, and the characters from 4 to before 9 have the tag `x`.
 
-static ROWS: [Row; 58] = [
-    Row {
-        s: 0,
-        e: 10,
-        word: "1.0",
-        text: "1.0",
-    },
-    Row {
-        s: 0,
-        e: 10,
-        word: "1.99",
-        text: "1.2",
-    },
-    Row {
-        s: 0,
-        e: 10,
-        word: "0.7",
-        text: "1.0",
-    },
-    Row {
-        s: 0,
-        e: 10,
-        word: "9.9",
-        text: "5.0",
-    },
-    Row {
-        s: 0,
-        e: 10,
-        word: "2.end",
-        text: "2.3",
-    },
-    Row {
-        s: 0,
-        e: 10,
-        word: "end",
-        text: "5.0",
-    },
-    Row {
-        s: 0,
-        e: 10,
-        word: "end-1c",
-        text: "4.1",
-    },
-    Row {
-        s: 0,
-        e: 10,
-        word: "end - 1 lines",
-        text: "4.0",
-    },
-    Row {
-        s: 0,
-        e: 10,
-        word: "end-1l-1l",
-        text: "3.0",
-    },
-    Row {
-        s: 0,
-        e: 10,
-        word: "end -3 lines",
-        text: "2.0",
-    },
-    Row {
-        s: 0,
-        e: 10,
-        word: "2.2 + 1 l",
-        text: "3.0",
-    },
-    Row {
-        s: 0,
-        e: 10,
-        word: "2.2+2l",
-        text: "4.1",
-    },
-    Row {
-        s: 0,
-        e: 10,
-        word: "2.2 +9 lines",
-        text: "4.1",
-    },
-    Row {
-        s: 0,
-        e: 10,
-        word: "2.2-9l",
-        text: "1.2",
-    },
-    Row {
-        s: 0,
-        e: 10,
-        word: "2.1 linestart",
-        text: "2.0",
-    },
-    Row {
-        s: 0,
-        e: 10,
-        word: "2.1 lineend",
-        text: "2.3",
-    },
-    Row {
-        s: 0,
-        e: 10,
-        word: "end linestart",
-        text: "5.0",
-    },
-    Row {
-        s: 0,
-        e: 10,
-        word: "2.1 wordstart",
-        text: "2.0",
-    },
-    Row {
-        s: 0,
-        e: 10,
-        word: "2.1 wordend",
-        text: "2.3",
-    },
-    Row {
-        s: 0,
-        e: 10,
-        word: "1.2 wordend",
-        text: "2.0",
-    },
-    Row {
-        s: 0,
-        e: 10,
-        word: "end-1c wordend",
-        text: "4.1",
-    },
-    Row {
-        s: 0,
-        e: 10,
-        word: "end wordend",
-        text: "5.0",
-    },
-    Row {
-        s: 0,
-        e: 10,
-        word: "1.0+123456789012345678901234567890c",
-        text: "5.0",
-    },
-    Row {
-        s: 0,
-        e: 10,
-        word: "end-123456789012345678901234567890c",
-        text: "1.0",
-    },
-    Row {
-        s: 0,
-        e: 10,
-        word: "1.1+123456789012345678901234567890l",
-        text: "4.1",
-    },
-    Row {
-        s: 0,
-        e: 10,
-        word: "end-123456789012345678901234567890l",
-        text: "1.0",
-    },
-    Row {
-        s: 0,
-        e: 10,
-        word: "123456789012345678901234567890.0",
-        text: "5.0",
-    },
-    Row {
-        s: 0,
-        e: 10,
-        word: "2.123456789012345678901234567890",
-        text: "2.3",
-    },
-    Row {
-        s: 0,
-        e: 10,
-        word: "2.0 \t+ \t1 \tany \tc \t",
-        text: "2.1",
-    },
-    Row {
-        s: 0,
-        e: 10,
-        word: "x.first",
-        text: "2.1",
-    },
-    Row {
-        s: 0,
-        e: 10,
-        word: "x.last",
-        text: "4.1",
-    },
-    Row {
-        s: 0,
-        e: 10,
-        word: "x.last-1c",
-        text: "4.0",
-    },
-    Row {
-        s: 0,
-        e: 10,
-        word: "insert",
-        text: "4.0",
-    },
-    Row {
-        s: 0,
-        e: 10,
-        word: "current",
-        text: "1.0",
-    },
-    Row {
-        s: 0,
-        e: 10,
-        word: "m",
-        text: "2.1",
-    },
-    Row {
-        s: 0,
-        e: 10,
-        word: "m+2l",
-        text: "4.1",
-    },
-    Row {
-        s: 0,
-        e: 10,
-        word: "n",
-        text: "4.1",
-    },
-    Row {
-        s: 3,
-        e: 7,
-        word: "1.0",
-        text: "1.0",
-    },
-    Row {
-        s: 3,
-        e: 7,
-        word: "end",
-        text: "2.0",
-    },
-    Row {
-        s: 3,
-        e: 7,
-        word: "1.9",
-        text: "1.3",
-    },
-    Row {
-        s: 3,
-        e: 7,
-        word: "9.9",
-        text: "2.0",
-    },
-    Row {
-        s: 3,
-        e: 7,
-        word: "end-1l",
-        text: "1.0",
-    },
-    Row {
-        s: 3,
-        e: 7,
-        word: "end-1c wordend",
-        text: "1.3",
-    },
-    Row {
-        s: 3,
-        e: 7,
-        word: "x.first",
-        text: "1.1",
-    },
-    Row {
-        s: 3,
-        e: 7,
-        word: "x.last",
-        text: "2.0",
-    },
-    Row {
-        s: 3,
-        e: 7,
-        word: "insert",
-        text: "1.3",
-    },
-    Row {
-        s: 3,
-        e: 7,
-        word: "current",
-        text: "1.0",
-    },
-    Row {
-        s: 3,
-        e: 7,
-        word: "m",
-        text: "1.1",
-    },
-    Row {
-        s: 3,
-        e: 8,
-        word: "2.0",
-        text: "2.0",
-    },
-    Row {
-        s: 3,
-        e: 8,
-        word: "end",
-        text: "3.0",
-    },
-    Row {
-        s: 3,
-        e: 8,
-        word: "x.last",
-        text: "3.0",
-    },
-    Row {
-        s: 3,
-        e: 8,
-        word: "1.2+1l",
-        text: "2.0",
-    },
-    Row {
-        s: 3,
-        e: 8,
-        word: "insert",
-        text: "2.0",
-    },
-    Row {
-        s: 3,
-        e: 3,
-        word: "1.0",
-        text: "1.0",
-    },
-    Row {
-        s: 3,
-        e: 3,
-        word: "end",
-        text: "1.0",
-    },
-    Row {
-        s: 3,
-        e: 3,
-        word: "end-1l+1c",
-        text: "1.0",
-    },
-    Row {
-        s: 3,
-        e: 3,
-        word: "insert",
-        text: "1.0",
-    },
-    Row {
-        s: 3,
-        e: 3,
-        word: "9.end wordend",
-        text: "1.0",
-    },
+// Words, and how their places are printed in the whole text.
+static WHOLE: [(&str, &str); 39] = [
+    ("1.0", "1.0"),
+    ("1.99", "1.2"),
+    ("0.7", "1.0"),
+    ("0.end", "1.0"),
+    ("9.end", "5.0"),
+    ("9.9", "5.0"),
+    ("2.end", "2.3"),
+    ("end", "5.0"),
+    ("end-1c", "4.1"),
+    ("end - 1 lines", "4.0"),
+    ("end-1l-1l", "3.0"),
+    ("end -3 lines", "2.0"),
+    ("2.2 + 1 l", "3.0"),
+    ("2.2+2l", "4.1"),
+    ("2.2 +9 lines", "4.1"),
+    ("2.2-9l", "1.2"),
+    ("2.1 linestart", "2.0"),
+    ("2.1 lineend", "2.3"),
+    ("end linestart", "5.0"),
+    ("2.1 wordstart", "2.0"),
+    ("2.1 wordend", "2.3"),
+    ("1.2 wordend", "2.0"),
+    ("end-1c wordend", "4.1"),
+    ("end wordend", "5.0"),
+    ("1.0+123456789012345678901234567890c", "5.0"),
+    ("end-123456789012345678901234567890c", "1.0"),
+    ("1.1+123456789012345678901234567890l", "4.1"),
+    ("end-123456789012345678901234567890l", "1.0"),
+    ("123456789012345678901234567890.0", "5.0"),
+    ("2.123456789012345678901234567890", "2.3"),
+    ("2.0 \t+ \t1 \tany \tc \t", "2.1"),
+    ("x.first", "2.1"),
+    ("x.last", "4.1"),
+    ("x.last-1c", "4.0"),
+    ("insert", "4.0"),
+    ("current", "1.0"),
+    ("m", "2.1"),
+    ("m+2l", "4.1"),
+    ("n", "4.1"),
 ];
 
-// A word that has no place, and why.
-struct BadRow {
-    s: usize,
-    e: usize,
-    word: &'static str,
-    fault: IndexFault,
-}
+// Words, and how their places are printed where the second line is all that is seen.
+static ONE_LINE: [(&str, &str); 11] = [
+    ("1.0", "1.0"),
+    ("end", "2.0"),
+    ("1.9", "1.3"),
+    ("9.9", "2.0"),
+    ("end-1l", "1.0"),
+    ("end-1c wordend", "1.3"),
+    ("x.first", "1.1"),
+    ("x.last", "2.0"),
+    ("insert", "1.3"),
+    ("current", "1.0"),
+    ("m", "1.1"),
+];
 
-static BAD_ROWS: [BadRow; 6] = [
-    BadRow {
-        s: 3,
-        e: 7,
-        word: "n",
-        fault: IndexFault::BadIndex,
-    },
-    BadRow {
-        s: 3,
-        e: 3,
-        word: "m",
-        fault: IndexFault::BadIndex,
-    },
-    BadRow {
-        s: 0,
-        e: 10,
-        word: "q",
-        fault: IndexFault::BadIndex,
-    },
-    BadRow {
-        s: 0,
-        e: 3,
-        word: "x.first",
-        fault: IndexFault::NoTaggedCharacters(1),
-    },
-    BadRow {
-        s: 3,
-        e: 3,
-        word: "x.last",
-        fault: IndexFault::NoTaggedCharacters(1),
-    },
-    BadRow {
-        s: 0,
-        e: 10,
-        word: "sel.first",
-        fault: IndexFault::NoTaggedCharacters(3),
-    },
+// Words, and how their places are printed where the second and the third line are seen.
+static TWO_LINES: [(&str, &str); 5] = [
+    ("2.0", "2.0"),
+    ("end", "3.0"),
+    ("x.last", "3.0"),
+    ("1.2+1l", "2.0"),
+    ("insert", "2.0"),
+];
+
+// Words, and how their places are printed where nothing is seen.
+static NO_LINE: [(&str, &str); 5] = [
+    ("1.0", "1.0"),
+    ("end", "1.0"),
+    ("end-1l+1c", "1.0"),
+    ("insert", "1.0"),
+    ("9.end wordend", "1.0"),
+];
+
+// Words that have no place from one offset to another, and why.
+static FAULTS: [(usize, usize, &str, IndexFault); 7] = [
+    (3, 7, "n", IndexFault::BadIndex),
+    (3, 3, "m", IndexFault::BadIndex),
+    (0, 10, "q", IndexFault::BadIndex),
+    (0, 10, "lost", IndexFault::BadIndex),
+    (0, 3, "x.first", IndexFault::NoTaggedCharacters(1)),
+    (3, 3, "x.last", IndexFault::NoTaggedCharacters(1)),
+    (0, 10, "sel.first", IndexFault::NoTaggedCharacters(3)),
 ];
 
 fn store<S: TextStore>(rt: &impl Abort, alloc: Global) -> Result<S, Fail> {
@@ -437,6 +119,8 @@ fn marks(rt: &impl Abort, alloc: Global) -> Result<MarkTable, Fail> {
     marks.create(String::from_str(alloc, "m")?)?;
     assert!(rt; marks.find("n").is_none());
     marks.create(String::from_str(alloc, "n")?)?;
+    assert!(rt; marks.find("lost").is_none());
+    marks.create(String::from_str(alloc, "lost")?)?;
     Ok(marks)
 }
 
@@ -451,61 +135,110 @@ fn tags(rt: &impl Abort, alloc: Global) -> Result<TagTable, Fail> {
 fn is_printed<S: TextStore>(
     rt: &impl Abort,
     alloc: Global,
-    store: &S,
+    view: &View<'_, S>,
     names: &Names,
-    row: &Row,
+    word: &str,
+    wanted: &str,
 ) -> Result<(), Fail> {
-    let view = View {
-        store,
-        s: row.s,
-        e: row.e,
-    };
     assert!(rt; view.shows_lines());
     assert!(rt; names.widget.0 < 64);
-    let index = parse(alloc, row.word, names)?;
-    let place = resolve(&index, &view)?;
+    let index = parse(alloc, word, names)?;
+    let place = resolve(&index, view)?;
     let mut text = String::new(alloc);
-    push_index(&mut text, &view, place)?;
-    assert_eq!(rt; text.as_str(), row.text, "{}", row.word);
+    push_index(&mut text, view, place)?;
+    assert_eq!(rt; text.as_str(), wanted, "{word}");
+    Ok(())
+}
+
+// Each word of a table, in the view from `s` to `e`.
+fn are_printed(
+    rt: &impl Abort,
+    alloc: Global,
+    s: usize,
+    e: usize,
+    rows: &[(&str, &str)],
+) -> Result<(), Fail> {
+    let store: PlainStore = store(rt, alloc)?;
+    let view = View {
+        store: &store,
+        s,
+        e,
+    };
+    let tags = tags(rt, alloc)?;
+    let marks = marks(rt, alloc)?;
+    let names = Names {
+        tags: &tags,
+        marks: &marks,
+        widget: TagSlot(0),
+    };
+    for (word, wanted) in rows {
+        is_printed(rt, alloc, &view, &names, word, wanted)?;
+    }
     Ok(())
 }
 
 fn is_refused<S: TextStore>(
     rt: &impl Abort,
     alloc: Global,
-    store: &S,
+    view: &View<'_, S>,
     names: &Names,
-    row: &BadRow,
-) -> Result<(), Fail> {
-    let view = View {
-        store,
-        s: row.s,
-        e: row.e,
-    };
+    word: &str,
+    fault: IndexFault,
+) {
     assert!(rt; view.shows_lines());
     assert!(rt; names.widget.0 < 64);
-    let found = match parse(alloc, row.word, names) {
-        Ok(index) => resolve(&index, &view),
+    let found = match parse(alloc, word, names) {
+        Ok(index) => resolve(&index, view),
         Err(fault) => Err(fault),
     };
-    assert_eq!(rt; found, Err(row.fault), "{}", row.word);
+    assert_eq!(rt; found, Err(fault), "{word}");
+}
+
+fn are_refused(
+    rt: &impl Abort,
+    alloc: Global,
+    rows: &[(usize, usize, &str, IndexFault)],
+) -> Result<(), Fail> {
+    let store: PlainStore = store(rt, alloc)?;
+    let tags = tags(rt, alloc)?;
+    let marks = marks(rt, alloc)?;
+    let names = Names {
+        tags: &tags,
+        marks: &marks,
+        widget: TagSlot(0),
+    };
+    for (s, e, word, fault) in rows {
+        let view = View {
+            store: &store,
+            s: *s,
+            e: *e,
+        };
+        is_refused(rt, alloc, &view, &names, word, *fault);
+    }
     Ok(())
 }
 
 #[test]
-fn words_have_places(rt: HostRuntime) -> Result<(), Fail> {
-    let alloc = rt.alloc();
-    let store: PlainStore = store(&rt, alloc)?;
-    let names = Names {
-        tags: &tags(&rt, alloc)?,
-        marks: &marks(&rt, alloc)?,
-        widget: TagSlot(0),
-    };
-    for row in &ROWS {
-        is_printed(&rt, alloc, &store, &names, row)?;
-    }
-    for row in &BAD_ROWS {
-        is_refused(&rt, alloc, &store, &names, row)?;
-    }
-    Ok(())
+fn words_in_the_whole_text(rt: HostRuntime) -> Result<(), Fail> {
+    are_printed(&rt, rt.alloc(), 0, 10, &WHOLE)
+}
+
+#[test]
+fn words_in_one_line(rt: HostRuntime) -> Result<(), Fail> {
+    are_printed(&rt, rt.alloc(), 3, 7, &ONE_LINE)
+}
+
+#[test]
+fn words_in_two_lines(rt: HostRuntime) -> Result<(), Fail> {
+    are_printed(&rt, rt.alloc(), 3, 8, &TWO_LINES)
+}
+
+#[test]
+fn words_in_no_line(rt: HostRuntime) -> Result<(), Fail> {
+    are_printed(&rt, rt.alloc(), 3, 3, &NO_LINE)
+}
+
+#[test]
+fn words_without_a_place(rt: HostRuntime) -> Result<(), Fail> {
+    are_refused(&rt, rt.alloc(), &FAULTS)
 }

@@ -90,49 +90,21 @@ fn finds<S: TextStore>(rt: &impl Abort, store: &S, row: &Row) {
     );
 }
 
+fn finds_all<S: TextStore>(rt: &impl Abort, store: &S, rows: &[Row]) {
+    for row in rows {
+        finds(rt, store, row);
+    }
+}
+
 #[test]
 fn ranges_near_a_place(rt: HostRuntime) -> Result<(), Fail> {
     let store: PlainStore = tagged_store(&rt, rt.alloc())?;
-    for row in &ROWS {
-        finds(&rt, &store, row);
-    }
+    finds_all(&rt, &store, &ROWS);
     Ok(())
 }
 
-// The ranges of a part of the text, from its start and back from its end.
-struct Walk {
-    s: usize,
-    e: usize,
-    ranges: &'static [TagRange],
-}
-
-static WALKS: [Walk; 5] = [
-    Walk {
-        s: 0,
-        e: 10,
-        ranges: &[FIRST, SECOND],
-    },
-    Walk {
-        s: 3,
-        e: 7,
-        ranges: &[TagRange { start: 0, end: 1 }, TagRange { start: 2, end: 4 }],
-    },
-    Walk {
-        s: 0,
-        e: 3,
-        ranges: &[TagRange { start: 1, end: 3 }],
-    },
-    Walk {
-        s: 8,
-        e: 10,
-        ranges: &[],
-    },
-    Walk {
-        s: 7,
-        e: 7,
-        ranges: &[],
-    },
-];
+// The ranges in the second line and the third.
+static IN_TWO_LINES: [TagRange; 2] = [TagRange { start: 0, end: 1 }, TagRange { start: 2, end: 4 }];
 
 fn walks_on<S: TextStore>(rt: &impl Abort, view: &View<'_, S>, ranges: &[TagRange]) {
     let mut place = 0;
@@ -161,17 +133,19 @@ fn walks_back<S: TextStore>(rt: &impl Abort, view: &View<'_, S>, ranges: &[TagRa
     assert_eq!(rt; previous_range(view, TagSlot(64), place), None);
 }
 
+fn walks<S: TextStore>(rt: &impl Abort, store: &S, s: usize, e: usize, ranges: &[TagRange]) {
+    let view = View { store, s, e };
+    walks_on(rt, &view, ranges);
+    walks_back(rt, &view, ranges);
+}
+
 #[test]
 fn ranges_are_walked_both_ways(rt: HostRuntime) -> Result<(), Fail> {
     let store: PlainStore = tagged_store(&rt, rt.alloc())?;
-    for walk in &WALKS {
-        let view = View {
-            store: &store,
-            s: walk.s,
-            e: walk.e,
-        };
-        walks_on(&rt, &view, walk.ranges);
-        walks_back(&rt, &view, walk.ranges);
-    }
+    walks(&rt, &store, 0, 10, &[FIRST, SECOND]);
+    walks(&rt, &store, 3, 7, &IN_TWO_LINES);
+    walks(&rt, &store, 0, 3, &[TagRange { start: 1, end: 3 }]);
+    walks(&rt, &store, 8, 10, &[]);
+    walks(&rt, &store, 7, 7, &[]);
     Ok(())
 }

@@ -1,5 +1,4 @@
-use Rattle.std.proofs.Common.{◌≡◌, ◌<◌, ◌-◌, arith, true, sym, ◌∙◌}
-use Rattle.std.specs.Prelude.{slice_range}
+use Rattle.std.proofs.Common.{◌≡◌, ◌-◌, arith, true}
 use Rattle.text_model.specs.Changes.{flag_at}
 use Rattle.text_index.specs.Views.{shown_flags}
 use Rattle.text_index.proofs.WalkLaws.{range-passed, range-ends}

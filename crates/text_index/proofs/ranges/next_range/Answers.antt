@@ -1,6 +1,6 @@
-use Rattle.std.proofs.Common.{◌≡◌, ◌+◌, ◌<◌, ◌≤◌, ◌-◌, ℕ, length, arith, Some, None, sym, ap, ◌∙◌}
+use Rattle.std.proofs.Common.{◌≡◌, ◌+◌, ◌<◌, ◌-◌, length, arith, sym, ap, ◌∙◌}
 use Rattle.text_model.specs.Content.{flags}
-use Rattle.text_index.specs.Ranges.{next_range, and_later, ranges_from, begins}
+use Rattle.text_index.specs.Ranges.{and_later}
 use Rattle.text_index.specs.Views.{shown_flags}
 use Rattle.text_index.proofs.FlagLaws.{flags-within, length-part}
 use Rattle.text_index.proofs.RangeLaws.{next-none, ranges_from-step}

@@ -1,4 +1,4 @@
-use Rattle.std.proofs.Common.{◌≡◌, ◌<◌, ◌-◌, length, arith, false}
+use Rattle.std.proofs.Common.{◌≡◌, ◌-◌, length, arith, false}
 use Rattle.text_model.specs.Changes.{flag_at}
 use Rattle.text_model.specs.Content.{flags}
 use Rattle.text_index.specs.Views.{shown_flags}
