@@ -42,7 +42,7 @@ class Form(NamedTuple):
 FORMS = [
     Form([], ["text"], [[".t", ".window"]]),
     Form(WORLD, [".t", "insert"], [INDICES, TEXTS]),
-    Form(WORLD, [".t", "get"], [INDICES, [None, *INDICES]]),
+    Form(WORLD, [".t", "get"], [INDICES, [None, *indices.PLACES]]),
     Form(WORLD, [".t", "index"], [INDICES]),
 ]
 
