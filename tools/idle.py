@@ -3,8 +3,8 @@
 
     python3 tools/idle.py --program PATH
 
-Runs each form of each command that exists: each optional word left out and given, each base of an index
-at each place of an index. No line of the output is `error: out of memory`, and the status is never 2.
+Runs each form of each command that exists: each optional word left out and given, each base of an index, and each
+modifier behind it that the program reads, at each place of an index. No line of the output is `error: out of memory`, and the status is never 2.
 
 Ends in a line `N passed, M failed`; the exit status is 1 if anything failed.
 """
@@ -14,12 +14,13 @@ import itertools
 import sys
 from typing import NamedTuple
 
+import indices
 from harness import Tally, run_program
 
 OUT_OF_MEMORY = b"error: out of memory"
 
-# One word for each base of an index.
-INDICES = ["1.1", "1.end", "end"]
+# One word for each base of an index, with each modifier.
+INDICES = indices.bare_indices()
 
 # Texts of characters of one byte and of several, short and longer than one read of the program.
 TEXTS = ["x", "é€😀", "abcdefghij" * 500]
@@ -41,7 +42,7 @@ class Form(NamedTuple):
 FORMS = [
     Form([], ["text"], [[".t", ".window"]]),
     Form(WORLD, [".t", "insert"], [INDICES, TEXTS]),
-    Form(WORLD, [".t", "get"], [INDICES, [None, *INDICES]]),
+    Form(WORLD, [".t", "get"], [INDICES, [None, *indices.PLACES]]),
     Form(WORLD, [".t", "index"], [INDICES]),
 ]
 

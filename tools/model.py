@@ -9,11 +9,12 @@ are positions: the number of cells before them.  Nothing here is changed in plac
 world out of the old one, so a refused command leaves the old one as it was.
 
 One function stands for one definition.  A new command gets a function of its own and a line in
-SUBCOMMANDS; a new form of index gets a case in `reads_index` and one in `index_value`.
+SUBCOMMANDS; a new form of index gets a case in `reads_index` and one in `base_value` or `modified`.
 """
 
 import re
 import sys
+import unicodedata
 from dataclasses import dataclass, replace
 from typing import NamedTuple, Optional
 
@@ -264,13 +265,18 @@ def quoted_word(source, place):
     return "".join(word), place + 1
 
 
+def units_before(ends, read_unit, source, place):
+    """What `read_unit` reads from `place` up to where something ends by `ends`; and the place there."""
+    characters = []
+    while not ends(source, place):
+        character, place = read_unit(source, place)
+        characters.append(character)
+    return "".join(characters), place
+
+
 def bare_word(source, place):
     """The word from `place` to the next blank, newline, semicolon or the end; and the place after it."""
-    word = []
-    while not ends_word(source, place):
-        character, place = unit_at(source, place)
-        word.append(character)
-    return "".join(word), place
+    return units_before(ends_word, unit_at, source, place)
 
 
 def word_at(source, place):
@@ -379,11 +385,7 @@ def quoted_element(source, place):
 
 def bare_element(source, place):
     """What stands up to the next white space, with escapes."""
-    element = []
-    while not ends_element(source, place):
-        character, place = list_unit_at(source, place)
-        element.append(character)
-    return "".join(element), place
+    return units_before(ends_element, list_unit_at, source, place)
 
 
 def split_list(text):
@@ -475,17 +477,25 @@ class World:
 
 
 class View(NamedTuple):
-    """The part of a document that a widget shows: its characters, and the offset of the first."""
+    """The part of a document that a widget shows: its cells, and the offset of the first."""
 
     start: int
-    characters: tuple
+    cells: tuple
+
+    @property
+    def end(self):
+        return self.start + len(self.cells)
+
+    @property
+    def characters(self):
+        return tuple(cell.character for cell in self.cells)
 
 
 def view(document, widget):
     """What the widget shows, from its start anchor (else 0) to its end anchor (else the length)."""
     start = 0 if widget.start is None else widget.start
     end = len(document.cells) if widget.end is None else widget.end
-    return View(start, tuple(cell.character for cell in document.cells[start:end]))
+    return View(start, document.cells[start:end])
 
 
 # ---------------------------------------------------------------------------------------------------
@@ -502,6 +512,10 @@ class Fault(Exception):
 
 def bad_index(word):
     return Fault(f'bad text index "{word}"')
+
+
+def no_tagged_characters(tag):
+    return Fault(f'text doesn\'t contain any characters tagged with "{tag}"')
 
 
 def bad_option(word):
@@ -537,7 +551,7 @@ def memory():
 
 
 # ---------------------------------------------------------------------------------------------------
-# The index grammar: which texts are which index
+# The index grammar: which texts are which index, given the names of marks and tags
 
 
 class LineCharacter(NamedTuple):
@@ -557,27 +571,143 @@ class End(NamedTuple):
     """The base `end`."""
 
 
+class MarkName(NamedTuple):
+    """The base that is a mark's name."""
+
+    name: str
+
+
+class FirstTagged(NamedTuple):
+    """The base that is a tag's name with `.first`."""
+
+    tag: str
+
+
+class LastTagged(NamedTuple):
+    """The base that is a tag's name with `.last`."""
+
+    tag: str
+
+
+class Move(NamedTuple):
+    """A modifier that goes on, or back, by a count of `chars` or `lines`."""
+
+    is_forward: bool
+    count: int
+    unit: str
+
+
+class Keyword(NamedTuple):
+    """A modifier that is a word, spelled out."""
+
+    word: str
+
+
 class Index(NamedTuple):
-    """A base and the modifiers after it, from left to right.  There are no modifiers in this stage."""
+    """A base and the modifiers after it, from left to right."""
 
     base: NamedTuple
     modifiers: tuple = ()
 
 
-LINE_FORM = re.compile(r"([0-9]+)\.([0-9]+|end)")
+# What stands before this is closed: the text ends there, or a blank, `+` or `-` follows.
+CLOSED = r"(?![^ \t+-])"
+LINE_FORM = re.compile(r"([0-9]+)\.([0-9]+|end)" + CLOSED)
+END_FORM = re.compile("end" + CLOSED)
+COUNT_FORM = re.compile(r"[ \t]*([+-])[ \t]*([0-9]+)[ \t]*(?:any[ \t]+)?([^ \t+-]+)")
+KEYWORD_FORM = re.compile(r"[ \t]*([^ \t+-]+)")
+
+# Each unit with what it counts, and each keyword with its shortest spelling.
+UNITS = {"chars": "chars", "indices": "chars", "lines": "lines"}
+KEYWORDS = {"linestart": "lines", "lineend": "linee", "wordstart": "words", "wordend": "worde"}
+
+# The two marks that each widget has of its own.
+OWN_MARKS = ("insert", "current")
 
 
-def reads_index(text):
-    """The index that a text spells, or None."""
-    if text == "end":
-        return Index(End())
-    match = LINE_FORM.fullmatch(text)
+def is_closed(text, place):
+    """Whether what stands before `place` is closed: the text ends there, or a blank, `+` or `-` follows."""
+    return place == len(text) or text[place] in " \t+-"
+
+
+def longest_front(text, names):
+    """The longest of the names that begins the text and is closed, or None."""
+    fronts = [name for name in names if text.startswith(name) and is_closed(text, len(name))]
+    return max(fronts, key=len, default=None)
+
+
+def place_base(text):
+    """The base `line.char`, `line.end` or `end` that begins the text, and the place after it, or None."""
+    if END_FORM.match(text):
+        return End(), len("end")
+    match = LINE_FORM.match(text)
     if match is None:
         return None
     line, place = match.groups()
-    if place == "end":
-        return Index(LineEnd(int(line)))
-    return Index(LineCharacter(int(line), int(place)))
+    base = LineEnd(int(line)) if place == "end" else LineCharacter(int(line), int(place))
+    return base, match.end()
+
+
+def mark_base(text, marks):
+    """The longest name of a mark that begins the text, and the place after it, or None."""
+    name = longest_front(text, marks)
+    return None if name is None else (MarkName(name), len(name))
+
+
+def tag_base(text, tags):
+    """The longest name of a tag that begins the text before `.first` or `.last`, and the place after that, or None."""
+    spelled = {tag + ".first": FirstTagged(tag) for tag in tags} | {tag + ".last": LastTagged(tag) for tag in tags}
+    front = longest_front(text, spelled)
+    return None if front is None else (spelled[front], len(front))
+
+
+def unit_of(word):
+    """What a word counts: it is a unit that is spelled out, or the first letters of one."""
+    return next((kind for unit, kind in UNITS.items() if unit.startswith(word)), None)
+
+
+def keyword_of(word):
+    """The keyword that a word abbreviates, or None."""
+    return next(
+        (whole for whole, least in KEYWORDS.items() if word.startswith(least) and whole.startswith(word)), None
+    )
+
+
+def modifier_at(text, place):
+    """The modifier at `place` and the place after it, or None."""
+    match = COUNT_FORM.match(text, place)
+    if match is not None:
+        sign, count, word = match.groups()
+        unit = unit_of(word)
+        return None if unit is None else (Move(sign == "+", int(count), unit), match.end())
+    match = KEYWORD_FORM.match(text, place)
+    word = None if match is None else keyword_of(match.group(1))
+    return None if word is None else (Keyword(word), match.end())
+
+
+def modifiers_from(text, place):
+    """The modifiers from `place` to the end, blanks aside, or None."""
+    modifiers = []
+    while text[place:].strip(" \t") != "":
+        found = modifier_at(text, place)
+        if found is None:
+            return None
+        modifier, place = found
+        modifiers.append(modifier)
+    return tuple(modifiers)
+
+
+def reads_index(text, marks, tags):
+    """The index that a text spells, or None.
+
+    The base is the first that fits of a place, the longest mark and the longest tag, and never another one.
+    """
+    found = place_base(text) or mark_base(text, marks) or tag_base(text, tags)
+    if found is None:
+        return None
+    base, place = found
+    modifiers = modifiers_from(text, place)
+    return None if modifiers is None else Index(base, modifiers)
 
 
 # ---------------------------------------------------------------------------------------------------
@@ -589,34 +719,140 @@ def newlines(characters):
     return [place for place, character in enumerate(characters) if character == "\n"]
 
 
+def line_begin(line, characters):
+    """Where a line begins; lines count from 0 here, and the line behind the last begins at the end."""
+    return 0 if line == 0 else newlines(characters)[line - 1] + 1
+
+
+def in_line(line, character, characters):
+    """The place of a character of a line; of the line's newline where `character` is None or past it."""
+    newline = newlines(characters)[line]
+    return newline if character is None else min(line_begin(line, characters) + character, newline)
+
+
+def line_and_column(place, characters):
+    """The line of a place, and how many characters stand before the place in it."""
+    line = len(newlines(characters[:place]))
+    return line, place - line_begin(line, characters)
+
+
 def line_place(line, character, characters):
-    """The place of a character of a line; of the line's newline where `character` is None.
+    """The place of a character of a line that counts from 1; of the line's newline where `character` is None.
 
     Line 0 stands for the first place, a line past the last one for the end, and a character past the
     newline for the newline.
     """
-    newline_places = newlines(characters)
     if line == 0:
         return 0
-    if line > len(newline_places):
+    if line > len(newlines(characters)):
         return len(characters)
-    begin = 0 if line == 1 else newline_places[line - 2] + 1
-    newline = newline_places[line - 1]
-    return newline if character is None else min(begin + character, newline)
+    return in_line(line - 1, character, characters)
 
 
-def base_value(base, characters):
-    """The place that a base stands for, among the characters of a view."""
+def tag_ranges(flags):
+    """The ranges of a tag, from first to last: the maximal runs of places whose flag is set, each with its end."""
+    ranges = []
+    for place, flag in enumerate(flags):
+        if flag and ranges and ranges[-1][1] == place:
+            ranges[-1] = (ranges[-1][0], place + 1)
+        elif flag:
+            ranges.append((place, place + 1))
+    return ranges
+
+
+def shown_ranges(tag, shown, widget):
+    """The ranges of a tag in what the widget shows; `sel` is its own."""
+    key = ("sel", widget.name) if tag == "sel" else tag
+    return tag_ranges([key in cell.keys for cell in shown.cells])
+
+
+def mark_place(name, shown, document, widget):
+    """Where the widget shows a mark: its own two within its characters; None for a shared one outside its view."""
+    if name in OWN_MARKS:
+        offset = getattr(widget, name).offset
+        return max(shown.start, min(offset, shown.end - 1)) - shown.start
+    offset = dict(document.marks)[name].offset
+    return offset - shown.start if shown.start <= offset <= shown.end else None
+
+
+def base_value(base, shown, document, widget):
+    """The place that a base stands for, or None for a mark that the widget can't use."""
     if isinstance(base, LineCharacter):
-        return line_place(base.line, base.character, characters)
+        return line_place(base.line, base.character, shown.characters)
     if isinstance(base, LineEnd):
-        return line_place(base.line, None, characters)
-    return len(characters)
+        return line_place(base.line, None, shown.characters)
+    if isinstance(base, MarkName):
+        return mark_place(base.name, shown, document, widget)
+    if isinstance(base, (FirstTagged, LastTagged)):
+        ranges = shown_ranges(base.tag, shown, widget)
+        if not ranges:
+            raise no_tagged_characters(base.tag)
+        return ranges[0][0] if isinstance(base, FirstTagged) else ranges[-1][1]
+    return len(shown.characters)
 
 
-def index_value(index, shown):
-    """The place that an index stands for, from 0 to the number of characters of the view."""
-    return base_value(index.base, shown.characters)
+def lines_on(place, count, characters):
+    """The same character so many lines on, or on the last line; the end stays."""
+    if place == len(characters):
+        return place
+    line, column = line_and_column(place, characters)
+    return in_line(min(line + count, len(newlines(characters)) - 1), column, characters)
+
+
+def lines_back(place, count, characters):
+    """The same character so many lines back, or on the first line; the end is on a line behind the last."""
+    line, column = line_and_column(place, characters)
+    line = max(line - count, 0)
+    return len(characters) if line == len(newlines(characters)) else in_line(line, column, characters)
+
+
+def is_word_character(character):
+    """A letter or a decimal digit of any script, or an underscore."""
+    category = unicodedata.category(character)
+    return category.startswith("L") or category == "Nd" or character == "_"
+
+
+def word_of(place, characters):
+    """Where the word of a place begins and ends: a maximal run of word characters, or one other character."""
+    begin, end = place, place + 1
+    if is_word_character(characters[place]):
+        while begin > 0 and is_word_character(characters[begin - 1]):
+            begin -= 1
+        while end < len(characters) and is_word_character(characters[end]):
+            end += 1
+    return begin, end
+
+
+def keyword_place(word, place, characters):
+    """Where a keyword leads from a place.  The end stays, and `wordend` leaves the last place too."""
+    if place == len(characters) or (word == "wordend" and place == len(characters) - 1):
+        return place
+    line, _ = line_and_column(place, characters)
+    return {
+        "linestart": lambda: line_begin(line, characters),
+        "lineend": lambda: in_line(line, None, characters),
+        "wordstart": lambda: word_of(place, characters)[0],
+        "wordend": lambda: word_of(place, characters)[1],
+    }[word]()
+
+
+def modified(place, modifier, characters):
+    """Where a modifier leads from a place."""
+    if isinstance(modifier, Keyword):
+        return keyword_place(modifier.word, place, characters)
+    if modifier.unit == "lines":
+        return (lines_on if modifier.is_forward else lines_back)(place, modifier.count, characters)
+    return min(place + modifier.count, len(characters)) if modifier.is_forward else max(place - modifier.count, 0)
+
+
+def index_value(index, shown, document, widget):
+    """The place that an index stands for, from 0 to the number of characters of the view, or None."""
+    place = base_value(index.base, shown, document, widget)
+    if place is None:
+        return None
+    for modifier in index.modifiers:
+        place = modified(place, modifier, shown.characters)
+    return place
 
 
 def position_text(place, shown):
@@ -626,12 +862,14 @@ def position_text(place, shown):
     return f"{len(before) + 1}.{place - line_begin}"
 
 
-def argument_place(word, shown):
-    """The place that an argument word stands for, or the fault that it isn't an index."""
-    index = reads_index(word)
-    if index is None:
+def argument_place(word, document, widget):
+    """The place that an argument word stands for, or the fault that it isn't an index or has no place."""
+    marks = OWN_MARKS + tuple(name for name, _ in document.marks)
+    index = reads_index(word, marks, document.tags)
+    place = None if index is None else index_value(index, view(document, widget), document, widget)
+    if place is None:
         raise bad_index(word)
-    return index_value(index, shown)
+    return place
 
 
 # ---------------------------------------------------------------------------------------------------
@@ -745,7 +983,7 @@ def text_command(world, words):
 def insert_command(world, document, widget, arguments):
     """`W insert I chars`: puts the text in at I.  The answer is empty."""
     shown = view(document, widget)
-    place = argument_place(arguments[0], shown)
+    place = argument_place(arguments[0], document, widget)
     text = arguments[1]
     if len(document.cells) + len(text) > world.limits.characters:
         raise text_too_long()
@@ -761,7 +999,7 @@ def got(first, last, shown):
 def get_command(world, document, widget, arguments):
     """`W get I ?I?`: the text from the first place to the second, which is one on if left out."""
     shown = view(document, widget)
-    places = [argument_place(word, shown) for word in arguments]
+    places = [argument_place(word, document, widget) for word in arguments]
     first = places[0]
     last = places[1] if len(places) == 2 else first + 1
     return world, got(first, last, shown)
@@ -769,8 +1007,7 @@ def get_command(world, document, widget, arguments):
 
 def index_command(world, document, widget, arguments):
     """`W index I`: the place as `line.char`."""
-    shown = view(document, widget)
-    return world, position_text(argument_place(arguments[0], shown), shown)
+    return world, position_text(argument_place(arguments[0], document, widget), view(document, widget))
 
 
 class Subcommand(NamedTuple):

@@ -5,11 +5,13 @@
 
 One function makes each kind of word, command or fault; all randomness comes from the generator handed
 in, so a seed gives the same script each time.  A new command gets a function of its own and a line in
-COMMANDS; a new form of index gets a line in INDICES.
+COMMANDS.  Which forms of an index the program reads is told by a switch in indices.py.
 """
 
 import random
 import sys
+
+import indices
 
 # ---------------------------------------------------------------------------------------------------
 # Numbers and texts
@@ -138,29 +140,66 @@ def end(chance):
     return "end"
 
 
-INDICES = [(line_character, 6), (line_end, 2), (end, 2)]
+PLACES = [(line_character, 6), (line_end, 2), (end, 2)]
 
-# Words near the forms of an index that are none, among them forms that come in a later stage.
-NEAR_INDICES = [
-    "1", ".", "1.", ".1", "1.e", "1.en", "1.ends", "e", "en", "ends", "END", "End", "1.End", "-1.0", "+1.0",
-    "1.-1", "1.+1", "1..0", "1.0.0", "1,0", "0x1.0", "1.0x", "1e.0", "１.０", "1.٣", "end.0", "end.end",
-    "1.0+1c", "1.0-1c", "end-1c", "end+1l", "1.end-1c", "end-", "1.0lineend", "insert", "current", "sel.first",
-    "sel.last", "x.first", "@0,0", "1.0\x00", "\x001.0", "é", "1.é", "$", "1.$", "end]", "1.0}", "1.0#",
-]
+
+def mark_name(chance):
+    return chance.choice(indices.MARKS)
+
+
+def tag_index(chance):
+    """The first or the last character of a tag, which no character has yet."""
+    return chance.choice(indices.TAGGED)
+
+
+def index_blanks(chance):
+    return "".join(chance.choices(" \t", k=chance.choice([0, 0, 0, 1, 2])))
+
+
+def count_modifier(chance):
+    """A step on, or back, by a count of units that are spelled out or abbreviated."""
+    unit = chance.choice(indices.UNITS)
+    unit = unit[: chance.randrange(1, len(unit) + 1)]
+    any_word = "any" + chance.choice(" \t") + index_blanks(chance) if chance.random() < 0.2 else ""
+    return chance.choice("+-") + index_blanks(chance) + number(chance) + index_blanks(chance) + any_word + unit
+
+
+def keyword_modifier(chance):
+    """A keyword, spelled out or abbreviated, behind a blank."""
+    keyword, least = chance.choice(list(indices.KEYWORDS.items()))
+    return chance.choice(" \t") + keyword[: chance.randrange(len(least), len(keyword) + 1)]
+
+
+def modifiers(chance):
+    """Some modifiers with blanks before and behind them, perhaps none."""
+    parts = ""
+    while chance.random() < 0.4:
+        parts += index_blanks(chance) + pick(chance, [(count_modifier, 3), (keyword_modifier, 2)])
+    return parts + index_blanks(chance)
 
 
 def near_index(chance):
-    return chance.choice(NEAR_INDICES)
+    return chance.choice(indices.NEAR)
+
+
+def whole_index(chance):
+    """An index of any form that has a place."""
+    return pick(chance, PLACES + [(mark_name, 2)]) + modifiers(chance)
+
+
+def place_index(chance):
+    return pick(chance, PLACES)
 
 
 def index(chance):
-    """An index that is one."""
-    return pick(chance, INDICES)
+    """An index that the program reads, and that has a place."""
+    return (whole_index if indices.PROGRAM_READS_ALL else place_index)(chance)
 
 
 def argument_index(chance):
     """A word where an index is wanted: mostly one."""
-    return pick(chance, [(index, 8), (near_index, 1), (text, 0.3)])
+    words = [(index, 8), (near_index, 1), (text, 0.3)]
+    return pick(chance, words + [(tag_index, 0.4)] if indices.PROGRAM_READS_ALL else words)
 
 
 # ---------------------------------------------------------------------------------------------------

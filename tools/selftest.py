@@ -8,6 +8,7 @@ Ends in a line `N passed, M failed`; the exit status is 1 if anything failed.
 
 import sys
 
+import indices
 import model
 import scripts
 import worked
@@ -32,6 +33,9 @@ REACHED_FAULTS = [
     b"error: bad character code",
     b"error: script isn't UTF-8",
 ]
+
+# And where the program reads the whole grammar of indices.
+REACHED_BY_INDICES = [b"error: text doesn't contain any characters tagged with \""]
 
 
 def check_row(row, tally):
@@ -98,6 +102,120 @@ def check_lists(tally):
     tally.check(model.split_list(model.list_text(whole)) == whole, "a list isn't read back")
 
 
+# The names that the words below may have in them.
+MARKS = model.OWN_MARKS + ("a", "a+1c", "", "1.0", "end", "x.first")
+TAGS = ("sel", "x", "y", "y.last.z", "é +")
+
+PLACE = model.LineCharacter(1, 0)
+
+
+def move(count, unit):
+    """A move by a count, back where it is below 0."""
+    return model.Move(count >= 0, abs(count), unit)
+
+
+# Words with the index that each is; None where it is none.
+INDEX_WORDS = [
+    ("1.0", model.Index(PLACE)),
+    ("0012.0345", model.Index(model.LineCharacter(12, 345))),
+    ("1.end", model.Index(model.LineEnd(1))),
+    ("end", model.Index(model.End())),
+    ("a", model.Index(model.MarkName("a"))),
+    ("a+1c", model.Index(model.MarkName("a+1c"))),
+    ("a+1c-2l", model.Index(model.MarkName("a+1c"), (move(-2, "lines"),))),
+    ("", model.Index(model.MarkName(""))),
+    ("\t ", model.Index(model.MarkName(""))),
+    ("+1c", model.Index(model.MarkName(""), (move(1, "chars"),))),
+    ("x.first", model.Index(model.MarkName("x.first"))),
+    ("x.last", model.Index(model.LastTagged("x"))),
+    ("y.last.z.first", model.Index(model.FirstTagged("y.last.z"))),
+    ("y.last.z.last", model.Index(model.LastTagged("y.last.z"))),
+    ("é +.last \t", model.Index(model.LastTagged("é +"))),
+    ("sel.first", model.Index(model.FirstTagged("sel"))),
+    ("insert", model.Index(model.MarkName("insert"))),
+    ("1.0\t-\t2\tchars", model.Index(PLACE, (model.Move(False, 2, "chars"),))),
+    ("1.0+3ind", model.Index(PLACE, (move(3, "chars"),))),
+    ("1.0 + 3 any \t lin", model.Index(PLACE, (move(3, "lines"),))),
+    ("1.0+3any l-1c", model.Index(PLACE, (move(3, "lines"), move(-1, "chars")))),
+    ("1.0 lines linee", model.Index(PLACE, (model.Keyword("linestart"), model.Keyword("lineend")))),
+    ("end wordstart worde ", model.Index(model.End(), (model.Keyword("wordstart"), model.Keyword("wordend")))),
+    ("end-" + "9" * 30 + "c", model.Index(model.End(), (model.Move(False, 10**30 - 1, "chars"),))),
+    ("a+1cx", None),
+    ("b", None),
+    ("y.last.first", None),
+    ("é +", None),
+    ("1.0+3any c d", None),
+]
+
+# Places of the text `ab`, `cde`, an empty line and `f` in views of it: the widget's `insert` and `current` stand at 8 and 0,
+# the marks `m` and `n` at 4 and 9, and the characters from 4 to before 9 have the tag `x`. The number stands for a fault.
+VIEWED_TEXT = "ab\ncde\n\nf\n"
+BAD_INDEX, NO_CHARACTERS = 1, 2
+VALUES = {
+    (None, None): [
+        ("1.99", "1.2"), ("0.7", "1.0"), ("9.9", "5.0"), ("2.end", "2.3"), ("end", "5.0"), ("end-1c", "4.1"), ("end - 1 lines", "4.0"),
+        ("end-1l-1l", "3.0"), ("end -3 lines", "2.0"), ("2.2 + 1 l", "3.0"), ("2.2+2l", "4.1"), ("2.2 +9 lines", "4.1"), ("2.2-9l", "1.2"),
+        ("2.1 linestart", "2.0"), ("2.1 lineend", "2.3"), ("end linestart", "5.0"), ("2.1 wordstart", "2.0"), ("2.1 wordend", "2.3"),
+        ("1.2 wordend", "2.0"), ("end-1c wordend", "4.1"), ("end wordend", "5.0"), ("1.0+" + "9" * 30 + "c", "5.0"),
+        ("end-" + "9" * 30 + "c", "1.0"), ("1.1+" + "9" * 30 + "l", "4.1"), ("end-" + "9" * 30 + "l", "1.0"), ("9" * 30 + ".0", "5.0"),
+        ("x.first", "2.1"), ("x.last", "4.1"), ("x.last-1c", "4.0"), ("insert", "4.0"), ("current", "1.0"), ("m", "2.1"),
+        ("m+2l", "4.1"), ("n", "4.1"), ("q", BAD_INDEX), ("sel.first", NO_CHARACTERS),
+    ],
+    (3, 7): [
+        ("1.0", "1.0"), ("end", "2.0"), ("1.9", "1.3"), ("9.9", "2.0"), ("end-1l", "1.0"), ("end-1c wordend", "1.3"), ("x.first", "1.1"),
+        ("x.last", "2.0"), ("insert", "1.3"), ("current", "1.0"), ("m", "1.1"), ("n", BAD_INDEX),
+    ],
+    (3, 8): [("2.0", "2.0"), ("end", "3.0"), ("x.last", "3.0"), ("1.2+1l", "2.0"), ("insert", "2.0")],
+    (0, 3): [("x.first", NO_CHARACTERS)],
+    (3, 3): [
+        ("1.0", "1.0"), ("end", "1.0"), ("end-1l+1c", "1.0"), ("insert", "1.0"), ("9.end wordend", "1.0"), ("m", BAD_INDEX),
+        ("x.last", NO_CHARACTERS),
+    ],
+}
+
+# Characters with whether each makes words.
+WORD_CHARACTERS = [("aZ0_éß漢٣ªǅ", True), (" -.\n²½Ⅷ\u0301€😀‿", False)]
+
+
+def check_indices(tally):
+    """Words are read as the indices that they are, and no word near an index is one."""
+    for word, wanted in INDEX_WORDS:
+        read = model.reads_index(word, MARKS, TAGS)
+        tally.check(read == wanted, f"{word!r} is read as {read!r}")
+    for word in indices.NEAR:
+        tally.check(model.reads_index(word, model.OWN_MARKS, ("sel",)) is None, f"{word!r} is an index")
+    for characters, makes_words in WORD_CHARACTERS:
+        for character in characters:
+            tally.check(model.is_word_character(character) == makes_words, f"{character!r} makes words or not")
+
+
+def viewed_document():
+    """The document whose places are tried."""
+    cells = [model.Cell(c, frozenset({"x"} if 4 <= k < 9 else ())) for k, c in enumerate(VIEWED_TEXT)]
+    marks = (("m", model.Mark(4)), ("n", model.Mark(9)))
+    return model.Document(cells=tuple(cells), marks=marks, tags=("sel", "x"))
+
+
+def place_found(word, document, widget):
+    """The text of a word's place, or the number of the fault."""
+    try:
+        return model.position_text(model.argument_place(word, document, widget), model.view(document, widget))
+    except model.Fault as fault:
+        return BAD_INDEX if fault.text == f'bad text index "{word}"' else NO_CHARACTERS
+
+
+def check_values(tally):
+    """Words have the places in views that were worked out by hand."""
+    document = viewed_document()
+    for (start, end), rows in VALUES.items():
+        widget = model.Widget(".t", start=start, end=end, insert=model.Mark(8), current=model.Mark(0))
+        for word, wanted in rows:
+            found = place_found(word, document, widget)
+            tally.check(found == wanted, f"{word!r} in {start} to {end} is {found!r}, not {wanted!r}")
+    tally.check(model.tag_ranges([True, False, True, True]) == [(0, 1), (2, 4)], "ranges to the end")
+    tally.check(model.tag_ranges([False, False]) == [] == model.tag_ranges([]), "ranges of none")
+
+
 def check_refused_command(tally):
     """A command that finds no memory prints its error, and the others run as if it weren't there."""
     script = b"text .t; .t insert 1.0 ab; .t insert 1.1 X; .t get 1.0 1.end"
@@ -110,7 +228,7 @@ def check_generator(tally):
     """Scripts are the same for the same seed, and reach every fault and every exit status."""
     runs = [model.run_output(scripts.script(seed)) for seed in range(SEEDS)]
     tally.check(scripts.script(7) == scripts.script(7), "one seed gives two scripts")
-    for fault in REACHED_FAULTS:
+    for fault in REACHED_FAULTS + (REACHED_BY_INDICES if indices.PROGRAM_READS_ALL else []):
         count = sum(run.output.count(fault) for run in runs)
         tally.check(count >= 10, f"{SEEDS} random scripts meet {fault!r} only {count} times")
     for status in (0, 1, 2):
@@ -123,6 +241,8 @@ def main():
     for row in worked.ROWS:
         check_row(row, tally)
     check_lists(tally)
+    check_indices(tally)
+    check_values(tally)
     check_refused_command(tally)
     check_generator(tally)
     return tally.close()

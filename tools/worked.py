@@ -117,11 +117,11 @@ def command_faults():
     return [
         Row(
             "bad index",
-            b"text .t; .t index 1; .t index 1.; .t index .0; .t index 1.0+1c; .t index -1.0; "
+            b"text .t; .t index 1; .t index 1.; .t index .0; .t index 1.0+c; .t index -1.0; "
             b".t index 1.en; .t index END; .t index ends; .t index 1.0.0; "
             b".t insert 1.a x; .t get zz yy; .t get 1.0 yy",
             lines(".t", *(f'error: bad text index "{word}"' for word in
-                          ("1", "1.", ".0", "1.0+1c", "-1.0", "1.en", "END", "ends", "1.0.0",
+                          ("1", "1.", ".0", "1.0+c", "-1.0", "1.en", "END", "ends", "1.0.0",
                            "1.a", "zz", "yy"))),
             1,
         ),

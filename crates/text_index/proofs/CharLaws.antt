@@ -1,16 +1,16 @@
 -- Where a word is cut at a blank or a sign, its characters are too.
-use Rattle.std.proofs.Common.{◌≡◌, ℕ, zero, suc, ◌+◌, ◌-◌, ◌<◌, ◌≤◌, Bool, true, false, cond, not, ◌&&◌, List, [], ◌∷◌, ◌++◌, take, drop, length, get_or, refl, sym, ap, ◌∙◌, arith}
+use Rattle.std.proofs.Common.{◌≡◌, ℕ, ◌+◌, ◌<◌, ◌≤◌, Bool, true, false, cond, not, ◌&&◌, List, [], ◌∷◌, ◌++◌, take, drop, length, get_or, refl, sym, ap, ◌∙◌, arith}
 use Rattle.std.specs.Prelude.{chars, IsUtf8, IsCharBoundary, encode_utf8_all, nat_lt, Option, Some, None, option_map}
 use lib.Utf8.{encode}
 use Rattle.std.specs.List.{list_all, prefix_len}
 use Rattle.std.proofs.lemmas.Bool.Decides.{nat_tests, Decides-ltb}
 use Rattle.std.proofs.lemmas.Bool.{false≢true}
 use Rattle.std.proofs.lemmas.List.{take-append-drop, drop_more}
-use Rattle.std.proofs.lemmas.List.Sums.{prefix_len-le-length, prefix_len_stops}
-use Rattle.std.proofs.lemmas.List.Folds.{list_all-append, length-prefix_len}
-use Rattle.std.proofs.lemmas.Str.{encodes-chars, encode_ascii, chars-append, chars-nil, chars-IsAscii, IsUtf8-take, IsUtf8-from_ascii, IsCharBoundary-before_ascii, IsCharBoundary-end}
+use Rattle.std.proofs.lemmas.List.Sums.{prefix_len-le-length}
+use Rattle.std.proofs.lemmas.List.Folds.{list_all-append}
+use Rattle.std.proofs.lemmas.Str.{encodes-chars, encode_ascii, chars-append, chars-nil, chars-IsAscii, IsUtf8-take, IsUtf8-from_ascii, IsCharBoundary-before_ascii}
 use Rattle.text_index.specs.Characters.{is_break, closes}
-use Rattle.text_index.specs.Grammar.{token, place_base, place_of, of_length, saturated_base}
+use Rattle.text_index.specs.Grammar.{place_base, place_of, of_length, saturated_base}
 use Rattle.text_index.specs.Reading.{read_of}
 use Rattle.text_index.specs.declared.indices.Base.{Base}
 use Rattle.text_index.proofs.LowLaws.{ascii_of}

@@ -1,15 +1,15 @@
 -- The longest closed front of a word, by its bytes.
-use Rattle.std.proofs.Common.{◌≡◌, ℕ, suc, ◌+◌, ◌<◌, ◌≤◌, Bool, true, List, [], ◌∷◌, ◌++◌, take, drop, length, get_or, refl, sym, ap, ◌∙◌, arith}
-use Rattle.std.specs.Prelude.{chars, IsUtf8, IsCharBoundary, Option, Some, None, option_map, slice_range, ◌-◌}
+use Rattle.std.proofs.Common.{◌≡◌, ℕ, suc, ◌+◌, ◌<◌, ◌≤◌, true, List, [], ◌∷◌, ◌++◌, take, drop, length, get_or, refl, sym, ap, ◌∙◌, arith}
+use Rattle.std.specs.Prelude.{chars, IsUtf8, IsCharBoundary, Option, Some, None, slice_range, ◌-◌}
 use Rattle.std.specs.List.{list_all}
-use Rattle.std.proofs.lemmas.List.{drop_more, take-append-drop, take-take, get_or-take, length-append, length-take}
-use Rattle.std.proofs.lemmas.Str.{IsUtf8-take, IsUtf8-drop, IsCharBoundary-after_ascii, chars-append}
+use Rattle.std.proofs.lemmas.List.{drop_more, take-take, get_or-take, length-append, length-take}
+use Rattle.std.proofs.lemmas.Str.{IsUtf8-take, IsUtf8-drop, IsCharBoundary-after_ascii}
 use Rattle.std.proofs.lemmas.Bool.Decides.{Decides-ltb}
 use Rattle.text_index.specs.Characters.{is_break, closes}
 use Rattle.text_index.specs.Grammar.{longest, longest_front, closed_front, saturated_base}
 use Rattle.text_index.specs.Reading.{read_of}
 use Rattle.text_index.specs.declared.indices.Base.{Base}
-use Rattle.text_index.proofs.TokenLaws.{inside, drop-front}
+use Rattle.text_index.proofs.TokenLaws.{inside}
 use Rattle.text_index.proofs.CharLaws.{inside-chars, chars-cut, chars-low, closes-chars, break-low, break-boundary, take-chars, drop-chars}
 use Rattle.text_index.proofs.LongestLaws.{skip-front, skip-all, found-front}
 

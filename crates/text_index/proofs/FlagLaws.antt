@@ -1,11 +1,12 @@
--- The first and the last flag that is set in a part of a list of flags, by where the flags change.
-use Rattle.std.proofs.Common.{◌≡◌, ℕ, zero, suc, ◌+◌, ◌-◌, ◌<◌, ◌≤◌, min, Bool, true, false, cond, List, [], ◌∷◌, ◌++◌, length, take, drop, get_or, Some, None, refl, sym, ap, ap₂, ◌∙◌, arith, lt-ltb, le-ltb, length-drop}
-use Rattle.std.specs.Prelude.{reverse, slice_range, slice_get, nat_lt, not, if◌then◌else◌}
+-- Where flags change, and what that is in a part of a list of flags.
+use Rattle.std.proofs.Common.{◌≡◌, ℕ, zero, suc, ◌+◌, ◌-◌, ◌<◌, ◌≤◌, min, max, Bool, true, false, cond, not, List, [], ◌∷◌, ◌++◌, length, take, drop, get_or, None, Some, refl, sym, ap, ap₂, ◌∙◌, arith, lt-ltb, le-ltb, length-drop}
+use Rattle.std.specs.Prelude.{reverse, slice_range, slice_get, nat_lt, if◌then◌else◌}
 use Rattle.std.specs.List.{prefix_len, suffix_len}
-use Rattle.std.proofs.lemmas.List.{take-append-drop, drop_more, take_more, reverse-append, length-reverse, length-take-le}
+use Rattle.std.proofs.lemmas.List.{take-append-drop, take-take, drop-take, drop-drop, reverse-append, length-reverse, length-take-le, get_or-take, get_or-drop, get_or-reverse, length-map}
+use Rattle.std.proofs.lemmas.List.Sums.{prefix_len_passes, prefix_len_stops, prefix_len-le-length, suffix_len-le-length}
+use Rattle.std.proofs.lemmas.Bool.{ltb-true, ltb-false}
 use Rattle.std.proofs.lemmas.Option.{get_or_from_slice_get}
-use Rattle.text_model.specs.Changes.{is_alike, next_change, previous_change}
-use Rattle.std.proofs.lemmas.List.{length-map}
+use Rattle.text_model.specs.Changes.{is_alike, flag_at, next_change, previous_change}
 use Rattle.std.specs.FinSet as set
 use Rattle.text_model.specs.declared.cells.Cell.{Cell}
 use Rattle.text_model.specs.Content.{Content, flags}
@@ -58,91 +59,166 @@ suffix-part test flags start end within ordered =
 pub length-part : (flags : List Bool) (start end : ℕ) → end ≤ length flags → start ≤ end → length (slice_range flags start end) ≡ end - start
 length-part flags start end within ordered = length-take-le (end - start) (drop start flags) (omega (arith, length-drop start flags))
 
--- ---- the first
+-- ---- a flag and a change of a part
 
-first-found : (part : List Bool) (at : ℕ) → prefix_len not part ≡ at → at < length part → Some at ≡ first_tagged part
+pub part-flag : (flags : List Bool) (start end place : ℕ) (flag : Bool) → start + place < end → slice_get flags (start + place) ≡ Some flag → flag ≡ flag_at (slice_range flags start end) place
+part-flag flags start end place flag within is =
+    sym (get_or-take (end - start) (drop start flags) place false (omega arith) ∙ get_or-drop start flags place false ∙ get_or_from_slice_get flags (start + place) flag false is)
+
+same-flag : (flags : List Bool) (start end place : ℕ) → start + place < end → flag_at (slice_range flags start end) place ≡ flag_at flags (start + place)
+same-flag flags start end place within = get_or-take (end - start) (drop start flags) place false (omega arith) ∙ get_or-drop start flags place false
+
+part-drop : (flags : List Bool) (start end place : ℕ) → start + place ≤ end → drop place (slice_range flags start end) ≡ slice_range flags (start + place) end
+part-drop flags start end place within =
+    let rest = end - (start + place) in
+    ap (λ n. drop place (take n (drop start flags))) (let e : end - start ≡ place + rest = omega arith in e)
+    ∙ drop-take place rest (drop start flags)
+    ∙ ap (take rest) (drop-drop place start flags)
+
+pub part-next : (flags : List Bool) (start end place : ℕ) → end ≤ length flags → start + place < end
+    → min (next_change flags (start + place)) end - start ≡ next_change (slice_range flags start end) place
+part-next flags start end place within inside =
+    let test = is_alike (flag_at flags (start + place)) in
+    let run : prefix_len (is_alike (flag_at (slice_range flags start end) place)) (drop place (slice_range flags start end)) ≡ min (end - (start + place)) (prefix_len test (drop (start + place) flags)) =
+    ap₂ (λ flag xs. prefix_len (is_alike flag) xs) (same-flag flags start end place inside) (part-drop flags start end place (omega arith))
+    ∙ prefix-part test flags (start + place) end within (omega arith) in
+    omega (arith, run)
+
+part-take : (flags : List Bool) (start end place : ℕ) → start + place ≤ end → take place (slice_range flags start end) ≡ slice_range flags start (start + place)
+part-take flags start end place within =
+    take-take place (end - start) (drop start flags) (omega arith) ∙ ap (λ n. take n (drop start flags)) (let e : place ≡ start + place - start = omega arith in e)
+
+pub part-previous : (flags : List Bool) (start end place : ℕ) → end ≤ length flags → 0 < place → start + place ≤ end
+    → max (previous_change flags (start + place)) start - start ≡ previous_change (slice_range flags start end) place
+part-previous flags start end place within some inside =
+    let test = is_alike (flag_at flags (start + place - 1)) in
+    let before : flag_at (slice_range flags start end) (place - 1) ≡ flag_at flags (start + place - 1) =
+    same-flag flags start end (place - 1) (omega arith) ∙ ap (flag_at flags) (let e : start + (place - 1) ≡ start + place - 1 = omega arith in e) in
+    let run : suffix_len (is_alike (flag_at (slice_range flags start end) (place - 1))) (take place (slice_range flags start end)) ≡ min (start + place - start) (suffix_len test (take (start + place) flags)) =
+    ap₂ (λ flag xs. suffix_len (is_alike flag) xs) before (part-take flags start end place inside)
+    ∙ suffix-part test flags start (start + place) (omega arith) (omega arith) in
+    omega (arith, run)
+
+-- ---- up to a change all flags are alike, and there is another one
+
+pub next-alike : (flags : List Bool) (at k : ℕ) → at ≤ k → k < next_change flags at → is_alike (flag_at flags at) (flag_at flags k) ≡ true
+next-alike flags at k from below =
+    let test = is_alike (flag_at flags at) in
+    ap test (sym (get_or-drop at flags (k - at) false ∙ ap (flag_at flags) (let e : at + (k - at) ≡ k = omega arith in e)))
+    ∙ prefix_len_passes test (drop at flags) (k - at) false (omega arith)
+
+pub next-other : (flags : List Bool) (at : ℕ) → next_change flags at < length flags → is_alike (flag_at flags at) (flag_at flags (next_change flags at)) ≡ false
+next-other flags at within =
+    let test = is_alike (flag_at flags at) in
+    ap test (sym (get_or-drop at flags (prefix_len test (drop at flags)) false))
+    ∙ prefix_len_stops test (drop at flags) false (omega (arith, length-drop at flags))
+
+suffix-passes : (test : Bool → Bool) (xs : List Bool) (k : ℕ) → length xs - suffix_len test xs ≤ k → k < length xs → test (get_or xs k false) ≡ true
+suffix-passes test xs k from below =
+    let back = length xs - 1 - k in
+    ap test (sym (get_or-reverse xs back false (omega arith) ∙ ap (λ n. get_or xs n false) (let e : length xs - 1 - back ≡ k = omega arith in e)))
+    ∙ prefix_len_passes test (reverse xs) back false (omega arith)
+
+suffix-stops : (test : Bool → Bool) (xs : List Bool) → 0 < length xs - suffix_len test xs → test (get_or xs (length xs - suffix_len test xs - 1) false) ≡ false
+suffix-stops test xs some =
+    let back = suffix_len test xs in
+    ap test (sym (get_or-reverse xs back false (omega arith) ∙ ap (λ n. get_or xs n false) (let e : length xs - 1 - back ≡ length xs - back - 1 = omega arith in e)))
+    ∙ prefix_len_stops test (reverse xs) false (omega (arith, length-reverse xs))
+
+pub previous-alike : (flags : List Bool) (at k : ℕ) → at ≤ length flags → previous_change flags at ≤ k → k < at → is_alike (flag_at flags (at - 1)) (flag_at flags k) ≡ true
+previous-alike flags at k within from below =
+    let test = is_alike (flag_at flags (at - 1)) in
+    let long : length (take at flags) ≡ at = length-take-le at flags within in
+    ap test (sym (get_or-take at flags k false below)) ∙ suffix-passes test (take at flags) k (omega (arith, long)) (omega (arith, long))
+
+pub previous-other : (flags : List Bool) (at : ℕ) → at ≤ length flags → 0 < previous_change flags at → is_alike (flag_at flags (at - 1)) (flag_at flags (previous_change flags at - 1)) ≡ false
+previous-other flags at within some =
+    let test = is_alike (flag_at flags (at - 1)) in
+    let front = take at flags in
+    let long : length front ≡ at = length-take-le at flags within in
+    ap test (sym (get_or-take at flags (previous_change flags at - 1) false (omega arith)) ∙ ap (λ n. get_or front (n - suffix_len test front - 1) false) (sym long))
+    ∙ suffix-stops test front (omega (arith, long))
+
+-- ---- the first flag that is set, and the place behind the last
+
+first-found : (part : List Bool) (at : ℕ) → prefix_len not part ≡ at → at < length part → first_tagged part ≡ Some at
 first-found part at is within =
-    sym (ap (λ n. cond (nat_lt n (length part)) (Some n) None) is ∙ ap (λ b. cond b (Some at) None) (lt-ltb at (length part) within))
+    ap (λ n. cond (nat_lt n (length part)) (Some n) None) is ∙ ap (λ b. cond b (Some at) None) (lt-ltb at (length part) within)
 
-first-none : (part : List Bool) → prefix_len not part ≡ length part → None ≡ first_tagged part
+first-none : (part : List Bool) → prefix_len not part ≡ length part → first_tagged part ≡ None
 first-none part is =
-    sym (ap (λ n. cond (nat_lt n (length part)) (Some n) None) is ∙ ap (λ b. cond b (Some (length part)) None) (le-ltb (length part) (length part) (omega arith)))
+    ap (λ n. cond (nat_lt n (length part)) (Some n) None) is ∙ ap (λ b. cond b (Some (length part)) None) (le-ltb (length part) (length part) (omega arith))
 
-pub first-set : (flags : List Bool) (start end : ℕ) → end ≤ length flags → start < end → slice_get flags start ≡ Some true → Some 0 ≡ first_tagged (slice_range flags start end)
-first-set flags start end within some set =
-    let flag : get_or flags start false ≡ true = get_or_from_slice_get flags start true false set in
-    let none : prefix_len not (drop start flags) ≡ 0 =
-    ap (prefix_len not) (drop_more flags start false (omega arith)) ∙ ap (λ b. cond (not b) (1 + prefix_len not (drop (start + 1) flags)) 0) flag in
-    first-found (slice_range flags start end) 0 (prefix-part not flags start end within (omega arith) ∙ omega (arith, none))
-    (omega (arith, length-part flags start end within (omega arith)))
-
-next-unset : (flags : List Bool) (start : ℕ) → slice_get flags start ≡ Some false → next_change flags start ≡ start + prefix_len not (drop start flags)
-next-unset flags start unset =
-    ap (λ b. start + prefix_len (is_alike b) (drop start flags)) (get_or_from_slice_get flags start false false unset)
-
-pub first-later : (flags : List Bool) (start end change : ℕ) → end ≤ length flags → start < end → slice_get flags start ≡ Some false → change ≡ next_change flags start
-    → change < end → Some (change - start) ≡ first_tagged (slice_range flags start end)
-first-later flags start end change within some unset is before =
-    let found : change ≡ start + prefix_len not (drop start flags) = is ∙ next-unset flags start unset in
-    first-found (slice_range flags start end) (change - start) (prefix-part not flags start end within (omega arith) ∙ omega (arith, found, before))
-    (omega (arith, length-part flags start end within (omega arith), found))
-
-pub first-never : (flags : List Bool) (start end change : ℕ) → end ≤ length flags → start < end → slice_get flags start ≡ Some false → change ≡ next_change flags start
-    → end ≤ change → None ≡ first_tagged (slice_range flags start end)
-first-never flags start end change within some unset is behind =
-    let found : change ≡ start + prefix_len not (drop start flags) = is ∙ next-unset flags start unset in
-    first-none (slice_range flags start end) (prefix-part not flags start end within (omega arith) ∙ omega (arith, found, behind, length-part flags start end within (omega arith)))
-
--- ---- the last
-
-last-found : (part : List Bool) (behind : ℕ) → suffix_len not part ≡ behind → behind < length part → Some (length part - behind) ≡ last_tagged part
+last-found : (part : List Bool) (behind : ℕ) → suffix_len not part ≡ behind → behind < length part → last_tagged part ≡ Some (length part - behind)
 last-found part behind is within =
-    sym (ap (λ n. if nat_lt n (length part) then Some (length part - n) else None) is
-    ∙ ap (λ b. if b then Some (length part - behind) else None) (lt-ltb behind (length part) within))
+    ap (λ n. if nat_lt n (length part) then Some (length part - n) else None) is
+    ∙ ap (λ b. if b then Some (length part - behind) else None) (lt-ltb behind (length part) within)
 
-last-none : (part : List Bool) → suffix_len not part ≡ length part → None ≡ last_tagged part
+last-none : (part : List Bool) → suffix_len not part ≡ length part → last_tagged part ≡ None
 last-none part is =
-    sym (ap (λ n. if nat_lt n (length part) then Some (length part - n) else None) is
-    ∙ ap (λ b. if b then Some (length part - length part) else None) (le-ltb (length part) (length part) (omega arith)))
+    ap (λ n. if nat_lt n (length part) then Some (length part - n) else None) is
+    ∙ ap (λ b. if b then Some (length part - length part) else None) (le-ltb (length part) (length part) (omega arith))
 
-suffix-one : (test : Bool → Bool) (xs : List Bool) (x : Bool) → suffix_len test (xs ++ x ∷ []) ≡ cond (test x) (1 + suffix_len test xs) 0
-suffix-one test xs x = ap (prefix_len test) (reverse-append xs (x ∷ []))
+unset : (flag : Bool) → not flag ≡ true → flag ≡ false
+unset true is = sym is
+unset false is = refl
 
-suffix-set : (flags : List Bool) (end : ℕ) → 0 < end → end ≤ length flags → slice_get flags (end - 1) ≡ Some true → suffix_len not (take end flags) ≡ 0
-suffix-set flags end some within set =
-    let flag : get_or flags (end - 1) false ≡ true = get_or_from_slice_get flags (end - 1) true false set in
-    ap (λ k. suffix_len not (take k flags)) (let e : end ≡ end - 1 + 1 = omega arith in e)
-    ∙ ap (suffix_len not) (take_more flags (end - 1) false (omega arith))
-    ∙ suffix-one not (take (end - 1) flags) (get_or flags (end - 1) false)
-    ∙ ap (λ b. cond (not b) (1 + suffix_len not (take (end - 1) flags)) 0) flag
+set_there : (flag : Bool) → not flag ≡ false → flag ≡ true
+set_there true is = refl
+set_there false is = sym is
 
-pub last-set : (flags : List Bool) (start end : ℕ) → end ≤ length flags → start < end → slice_get flags (end - 1) ≡ Some true
-    → Some (end - start) ≡ last_tagged (slice_range flags start end)
-last-set flags start end within some set =
-    let long = length-part flags start end within (omega arith) in
-    let none = suffix-set flags end (omega arith) within set in
-    ap Some (let e : end - start ≡ length (slice_range flags start end) - 0 = omega (arith, long) in e)
-    ∙ last-found (slice_range flags start end) 0 (suffix-part not flags start end within (omega arith) ∙ omega (arith, none)) (omega (arith, long))
+pub first-set : (flags : List Bool) (at : ℕ) → first_tagged flags ≡ Some at → (at < length flags) × (flag_at flags at ≡ true) × ((k : ℕ) → k < at → flag_at flags k ≡ false)
+first-set flags at is =
+    let n = prefix_len not flags in
+    elim (nat_lt n (length flags)) as (λ b. nat_lt n (length flags) ≡ b → (at < length flags) × (flag_at flags at ≡ true) × ((k : ℕ) → k < at → flag_at flags k ≡ false)) [
+      | true ↦ λ yes.
+          let within : n < length flags = ltb-true n (length flags) yes in
+          let found : Some n ≡ Some at = sym (first-found flags n refl within) ∙ is in
+          let here : n ≡ at = cc in (
+            omega arith,
+            ap (flag_at flags) (sym here) ∙ set_there (flag_at flags n) (prefix_len_stops not flags false within),
+            λ k below. unset (flag_at flags k) (prefix_len_passes not flags k false (omega arith)),
+          )
+      | false ↦ λ no.
+          let all : n ≡ length flags = omega (arith, ltb-false n (length flags) no, prefix_len-le-length not flags) in
+          absurd (let none : Some at ≡ None = sym is ∙ first-none flags all in cc)
+    ] refl
 
-previous-unset : (flags : List Bool) (end : ℕ) → slice_get flags (end - 1) ≡ Some false → previous_change flags end ≡ end - suffix_len not (take end flags)
-previous-unset flags end unset =
-    ap (λ b. end - suffix_len (is_alike b) (take end flags)) (get_or_from_slice_get flags (end - 1) false false unset)
+pub first-unset : (flags : List Bool) → first_tagged flags ≡ None → (k : ℕ) → k < length flags → flag_at flags k ≡ false
+first-unset flags is k below =
+    let n = prefix_len not flags in
+    elim (nat_lt n (length flags)) as (λ b. nat_lt n (length flags) ≡ b → flag_at flags k ≡ false) [
+      | true ↦ λ yes. absurd (let some : None ≡ Some n = sym is ∙ first-found flags n refl (ltb-true n (length flags) yes) in cc)
+      | false ↦ λ no. unset (flag_at flags k) (prefix_len_passes not flags k false (omega (arith, ltb-false n (length flags) no)))
+    ] refl
 
-pub last-earlier : (flags : List Bool) (start end change : ℕ) → end ≤ length flags → start < end → slice_get flags (end - 1) ≡ Some false → change ≡ previous_change flags end
-    → start < change → Some (change - start) ≡ last_tagged (slice_range flags start end)
-last-earlier flags start end change within some unset is behind =
-    let long = length-part flags start end within (omega arith) in
-    let found : change ≡ end - suffix_len not (take end flags) = is ∙ previous-unset flags end unset in
-    let here : suffix_len not (slice_range flags start end) ≡ end - change = suffix-part not flags start end within (omega arith) ∙ omega (arith, found, behind) in
-    ap Some (let e : change - start ≡ length (slice_range flags start end) - (end - change) = omega (arith, long, found, behind) in e)
-    ∙ last-found (slice_range flags start end) (end - change) here (omega (arith, long, behind))
+pub last-set : (flags : List Bool) (at : ℕ) → last_tagged flags ≡ Some at
+    → (0 < at) × (at ≤ length flags) × (flag_at flags (at - 1) ≡ true) × ((k : ℕ) → at ≤ k → k < length flags → flag_at flags k ≡ false)
+last-set flags at is =
+    let n = suffix_len not flags in
+    elim (nat_lt n (length flags)) as (λ b. nat_lt n (length flags) ≡ b
+    → (0 < at) × (at ≤ length flags) × (flag_at flags (at - 1) ≡ true) × ((k : ℕ) → at ≤ k → k < length flags → flag_at flags k ≡ false)) [
+      | true ↦ λ yes.
+          let within : n < length flags = ltb-true n (length flags) yes in
+          let found : Some (length flags - n) ≡ Some at = sym (last-found flags n refl within) ∙ is in
+          let here : length flags - n ≡ at = cc in (
+            omega arith,
+            omega arith,
+            ap (λ place. flag_at flags (place - 1)) (sym here) ∙ set_there (flag_at flags (length flags - n - 1)) (suffix-stops not flags (omega arith)),
+            λ k from below. unset (flag_at flags k) (suffix-passes not flags k (omega arith) below),
+          )
+      | false ↦ λ no.
+          let all : n ≡ length flags = omega (arith, ltb-false n (length flags) no, suffix_len-le-length not flags) in
+          absurd (let none : Some at ≡ None = sym is ∙ last-none flags all in cc)
+    ] refl
 
-pub last-never : (flags : List Bool) (start end change : ℕ) → end ≤ length flags → start < end → slice_get flags (end - 1) ≡ Some false → change ≡ previous_change flags end
-    → change ≤ start → None ≡ last_tagged (slice_range flags start end)
-last-never flags start end change within some unset is before =
-    let long = length-part flags start end within (omega arith) in
-    let found : change ≡ end - suffix_len not (take end flags) = is ∙ previous-unset flags end unset in
-    last-none (slice_range flags start end) (suffix-part not flags start end within (omega arith) ∙ omega (arith, found, before, long, some))
+pub last-unset : (flags : List Bool) → last_tagged flags ≡ None → (k : ℕ) → k < length flags → flag_at flags k ≡ false
+last-unset flags is k below =
+    let n = suffix_len not flags in
+    elim (nat_lt n (length flags)) as (λ b. nat_lt n (length flags) ≡ b → flag_at flags k ≡ false) [
+      | true ↦ λ yes. absurd (let some : None ≡ Some (length flags - n) = sym is ∙ last-found flags n refl (ltb-true n (length flags) yes) in cc)
+      | false ↦ λ no. unset (flag_at flags k) (suffix-passes not flags k (omega (arith, ltb-false n (length flags) no)) below)
+    ] refl
 
 -- a view's end is within the flags of a slot
 pub flags-within : (content : Content) (slot start end : ℕ) → IsView content start end → end ≤ length (flags slot content.cells)

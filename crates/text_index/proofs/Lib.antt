@@ -11,9 +11,12 @@ pub mod MeaningLaws
 pub mod NameLaws
 pub mod PlaceLaws
 pub mod PositionLaws
+pub mod RangeLaws
+pub mod RangeRows
 pub mod RunLaws
 pub mod StepLaws
 pub mod TagLaws
 pub mod TokenLaws
 pub mod ViewLaws
+pub mod WalkLaws
 pub mod WholeLaws

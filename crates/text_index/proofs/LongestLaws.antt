@@ -1,14 +1,13 @@
 -- The longest closed front, from the last closed front on.
-use Rattle.std.proofs.Common.{◌≡◌, ℕ, zero, suc, ◌+◌, ◌-◌, ◌<◌, ◌≤◌, Bool, true, false, not, ◌&&◌, List, [], ◌∷◌, ◌++◌, take, drop, length, get_or, refl, sym, ap, ◌∙◌, arith}
-use Rattle.std.specs.Prelude.{chars, IsUtf8, IsCharBoundary, nat_lt, Option, Some, None, option_map, if◌then◌else◌}
+use Rattle.std.proofs.Common.{◌≡◌, ℕ, zero, suc, ◌+◌, ◌-◌, ◌<◌, ◌≤◌, Bool, true, false, not, List, [], ◌∷◌, take, drop, length, get_or, refl, sym, ap, ◌∙◌, arith}
+use Rattle.std.specs.Prelude.{nat_lt, Option, Some, None, option_map, if◌then◌else◌}
 use Rattle.std.specs.Option.{option_or}
 use Rattle.std.specs.List.{list_all}
 use Rattle.std.proofs.lemmas.Bool.Decides.{nat_tests, Decides-ltb}
 use Rattle.std.proofs.lemmas.Bool.{false≢true}
-use Rattle.std.proofs.lemmas.List.{drop_more, get_or-drop, get_or-take, take-append-drop, length-append, length-take, length-drop}
+use Rattle.std.proofs.lemmas.List.{drop_more, get_or-drop, get_or-take, length-take, length-drop}
 use Rattle.text_index.specs.Characters.{is_break, closes}
-use Rattle.text_index.specs.Grammar.{longest, longest_front, closed_front, of_length, saturated_base}
-use Rattle.text_index.specs.Reading.{read_of}
+use Rattle.text_index.specs.Grammar.{longest, closed_front, of_length}
 use Rattle.text_index.specs.declared.indices.Base.{Base}
 use Rattle.text_index.proofs.TokenLaws.{inside}
 use Rattle.text_index.proofs.CharLaws.{both}

@@ -1,14 +1,14 @@
 -- Places of bytes, and with numbers up to the greatest that a machine has.
-use Rattle.std.proofs.Common.{◌≡◌, ℕ, zero, suc, ◌+◌, ◌<◌, ◌≤◌, min, Bool, true, false, ◌&&◌, List, [], ◌∷◌, ◌++◌, Option, Some, None, take, drop, get_or, refl, sym, ap, ◌∙◌, arith}
+use Rattle.std.proofs.Common.{◌≡◌, ℕ, suc, ◌+◌, ◌≤◌, min, true, false, ◌&&◌, List, [], ◌∷◌, ◌++◌, Option, Some, None, take, drop, get_or, refl, sym, ap, ◌∙◌, arith}
 use Rattle.std.specs.Str.{chars}
 use Rattle.std.specs.Char.{is_ascii_digit}
-use Rattle.std.specs.Prelude.{fold, bytes_eq, codes, position, option_map, option_and_then, if◌then◌else◌, nat_lt}
-use Rattle.std.proofs.lemmas.Bool.Decides.{nat_tests, Decides-eqb, Decides-ltb}
+use Rattle.std.specs.Prelude.{fold, bytes_eq, codes, position, option_map, option_and_then, if◌then◌else◌}
+use Rattle.std.proofs.lemmas.Bool.Decides.{nat_tests, Decides-eqb}
 use Rattle.std.proofs.lemmas.List.{drop_more, take-append-drop}
 use Rattle.std.proofs.lemmas.List.Folds.{list_all-append}
 use Rattle.std.proofs.lemmas.List.Quantifiers.{position-Some}
 use Rattle.std.specs.List.{list_all}
-use Rattle.std.specs.Prelude.{IsAscii, IsUtf8, slice_index}
+use Rattle.std.specs.Prelude.{IsUtf8}
 use Rattle.std.proofs.lemmas.Bool.{false≢true}
 use Rattle.std.proofs.lemmas.Slice.Eq.{bytes_eq-Decides}
 use Rattle.std.proofs.lemmas.Str.{chars-IsAscii, encodes-IsAscii, encodes-chars}

@@ -1,6 +1,6 @@
 -- A tag's name before `.first` or `.last`, by its bytes.
-use Rattle.std.proofs.Common.{◌≡◌, ℕ, ◌+◌, ◌-◌, Bool, true, false, List, [], ◌∷◌, ◌++◌, take, drop, length, refl, sym, ap, ◌∙◌, arith}
-use Rattle.std.specs.Prelude.{chars, codes, IsUtf8, IsAscii, encode_utf8_all, nat_eq, Option, Some, None, option_map, if◌then◌else◌}
+use Rattle.std.proofs.Common.{◌≡◌, ℕ, ◌-◌, true, false, List, [], ◌∷◌, ◌++◌, take, length, refl, sym, ap, ◌∙◌, arith}
+use Rattle.std.specs.Prelude.{chars, IsUtf8, IsAscii, encode_utf8_all, nat_eq, Option, Some, None, option_map, if◌then◌else◌}
 use Rattle.std.specs.List.{ends_with}
 use Rattle.std.proofs.lemmas.Bool.{false≢true}
 use Rattle.std.proofs.lemmas.Bool.Decides.{Decides-eqb}
@@ -9,7 +9,6 @@ use Rattle.std.proofs.lemmas.Slice.Eq.{ends_is}
 use Rattle.std.proofs.lemmas.Str.{encodes-chars, encodes-append, encodes-IsAscii, chars-append, chars-IsAscii}
 use Rattle.text_model.specs.declared.places.TagSlot.{TagSlot}
 use Rattle.text_index.specs.Grammar.{tagged, without_last, first_tagged, last_tagged}
-use Rattle.text_index.specs.declared.indices.Base.{Base}
 use Rattle.text_index.specs.declared.indices.Base.TheVariants as base
 use Rattle.text_index.proofs.LowLaws.{ascii_of}
 use Rattle.text_index.proofs.TokenLaws.{take-front}

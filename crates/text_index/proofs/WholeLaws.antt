@@ -1,5 +1,5 @@
 -- An index by its base and its modifiers.
-use Rattle.std.proofs.Common.{◌≡◌, ℕ, List, Option, Some, None, drop, refl, sym, ap, ◌∙◌}
+use Rattle.std.proofs.Common.{◌≡◌, ℕ, List, Option, Some, None, drop, refl, ap, ◌∙◌}
 use Rattle.std.specs.Prelude.{option_map, option_and_then}
 use Rattle.text_index.specs.Grammar.{index_of, base_of, modifiers_of, tokens_of, saturated_base, WholeIndex}
 use Rattle.text_index.specs.Reading.{read_of}

@@ -5,6 +5,7 @@ pub mod Meanings
 pub mod Names
 pub mod Pieces
 pub mod Positions
+pub mod Ranges
 pub mod Reading
 pub mod Steps
 pub mod Values

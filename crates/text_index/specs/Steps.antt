@@ -1,7 +1,7 @@
 -- Modifiers as they are read.
-use Rattle.std.specs.Prelude.{ℕ, List, [], ◌∷◌, ◌++◌, map, Option, Some, None, option_map}
+use Rattle.std.specs.Prelude.{ℕ, List, ◌++◌, map, Option, Some, None, option_map}
 use Rattle.std.specs.Borrow.{Bor}
-use Rattle.text_index.specs.Grammar.{Token, tokens_of, modifiers_of, before, saturated_base, saturated_modifier, WholeIndex}
+use Rattle.text_index.specs.Grammar.{tokens_of, modifiers_of, before, saturated_base, saturated_modifier, WholeIndex}
 use Rattle.text_index.specs.declared.indices.Modifier.{Modifier}
 
 -- with numbers as a machine has them

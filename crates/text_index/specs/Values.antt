@@ -8,6 +8,8 @@ use Rattle.text_index.specs.declared.faults.IndexFault.{IndexFault}
 use Rattle.text_index.specs.declared.faults.IndexFault.TheVariants.{BadIndex, NoTaggedCharacters}
 use Rattle.text_index.specs.declared.indices.Base.{Base}
 use Rattle.text_index.specs.declared.indices.Base.TheVariants as base
+use Rattle.text_index.specs.declared.indices.Direction.{Direction}
+use Rattle.text_index.specs.declared.indices.Direction.TheVariants as direction
 use Rattle.text_index.specs.declared.indices.Modifier.{Modifier}
 use Rattle.text_index.specs.declared.indices.Modifier.TheVariants as modifier
 use Rattle.text_index.specs.declared.indices.Unit.TheVariants.{Characters, Lines}
@@ -50,6 +52,10 @@ abbrev pub lines_back : ℕ → List ℕ → ℕ → ℕ
 lines_back count text place =
     let line = line_of text place - count in
     if line == lines text then length text else in_line line (column_of text place) text
+
+abbrev pub lines_by : Direction → ℕ → List ℕ → ℕ → ℕ
+lines_by direction.Forward count text place = lines_on count text place
+lines_by direction.Back count text place = lines_back count text place
 
 -- a letter or a digit of any script, or an underscore
 abbrev pub word_front : (ℕ → Bool) → List ℕ → ℕ → ℕ

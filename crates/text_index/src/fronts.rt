@@ -53,7 +53,7 @@ impl Form {
         requires { names.now.widget.0 < MOST_WIDGETS }
         ensures value { result ≡ named self names.now (chars front.now) }
         ensures saturated { option_map saturated_base result ≡ result }
-    ensures slot { IfSome result HasSlot }
+        ensures slot { IfSome result HasSlot }
     {
         match self {
             Form::Mark => find_mark(front, names),

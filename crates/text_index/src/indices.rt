@@ -1,6 +1,5 @@
-ghost use Rattle.std.specs.Prelude.{◌≡◌, ◌∷◌, [], ◌++◌, IfOk, OnOk, OnErr};
+ghost use Rattle.std.specs.Prelude.{◌≡◌};
 
-use std::alloc::{AllocError, Global};
 use std::marker::Model;
 use text_model::{MarkNo, TagSlot};
 
@@ -26,6 +25,13 @@ pub enum Base {
 pub enum Unit {
     Characters,
     Lines,
+}
+
+/// Which way a count goes.
+#[derive(Clone, Copy, Debug, PartialEq, Eq)]
+pub enum Direction {
+    Forward,
+    Back,
 }
 
 /// A step from one place to another.
@@ -55,22 +61,10 @@ impl Model for Modifiers {
 }
 
 impl Modifiers {
-    /// No modifiers, and room for so many.
-    pub fn with_capacity(alloc: Global, count: usize) -> Result<Modifiers, AllocError>
-        ensures { IfOk result (λ modifiers. modifiers ≡ []) }
+    pub fn new(modifiers: Vec<Modifier>) -> Modifiers
+        ensures { result ≡ modifiers.items }
     {
-        Ok(Modifiers {
-            modifiers: Vec::with_capacity(alloc, count)?,
-        })
-    }
-
-    /// Adds a modifier behind the others.
-    pub fn push(&mut self, modifier: Modifier) -> Result<(), AllocError>
-        ensures ok { OnOk result (self.new ≡ self.old ++ modifier ∷ []) }
-        ensures err { OnErr result (self.new ≡ self.old) }
-    {
-        self.modifiers.push(modifier)?;
-        Ok(())
+        Modifiers { modifiers }
     }
 
     pub fn as_slice(&self) -> &[Modifier]

@@ -12,8 +12,12 @@ mod numbers;
 mod parsing;
 #[cfg(test)]
 mod parsing_tests;
+#[cfg(test)]
+mod place_tests;
 mod places;
 mod positions;
+#[cfg(test)]
+mod range_tests;
 mod ranges;
 mod steps;
 #[cfg(test)]
@@ -24,12 +28,13 @@ mod views;
 mod words;
 
 pub use faults::IndexFault;
-pub use indices::{Base, Index, Modifier, Modifiers, Unit};
+pub use indices::{Base, Direction, Index, Modifier, Modifiers, Unit};
 pub use locating::locate;
-pub use moves::{back, forward, lines_back, lines_on};
+pub use moves::{back, forward, lines_by, word_end, word_start};
 pub use names::Names;
 pub use parsing::parse;
 pub use positions::push_index;
+pub use ranges::{TagRange, next_range, previous_range};
 pub use values::resolve;
 pub use views::View;
 pub use words::is_word;

@@ -2,10 +2,11 @@ ghost use Rattle.std.specs.Prelude.{◌≡◌, ◌≤◌, ◌<◌, ◌+◌, ◌-
 ghost use Rattle.std.specs.List.{prefix_len, suffix_len};
 ghost use Rattle.text_model.specs.Lines.{lines, line_of};
 ghost use Rattle.text_index.specs.Views.{shown, IsView};
-ghost use Rattle.text_index.specs.Values.{in_line, newline_of, column_of, lines_on, lines_back, modified};
+ghost use Rattle.text_index.specs.Values.{in_line, newline_of, column_of, lines_on, lines_back, lines_by, modified};
 ghost use Rattle.text_index.specs.Words.{is_word};
 ghost use Rattle.text_index.specs.declared.indices.Modifier.TheVariants as modifier;
 
+use crate::indices::Direction;
 use crate::views::View;
 use crate::words::is_word;
 use text_model::TextStore;
@@ -59,7 +60,7 @@ pub fn line_and_column<S: TextStore>(view: &View<'_, S>, place: usize) -> (usize
 }
 
 /// The same character so many lines on, or on the last line; its newline where that line is shorter. The end stays.
-pub fn lines_on<S: TextStore>(view: &View<'_, S>, place: usize, count: usize) -> usize
+fn lines_on<S: TextStore>(view: &View<'_, S>, place: usize, count: usize) -> usize
     requires view { IsView (S.content view.now.store.now) view.now.s view.now.e }
     requires within { view.now.s + place ≤ view.now.e }
     ensures value { result ≡ lines_on count (shown (S.content view.now.store.now) view.now.s view.now.e) place }
@@ -78,7 +79,7 @@ pub fn lines_on<S: TextStore>(view: &View<'_, S>, place: usize, count: usize) ->
 
 /// The same character so many lines back, or on the first line; its newline where that line is shorter. The end counts as
 /// the first character of a line behind the last.
-pub fn lines_back<S: TextStore>(view: &View<'_, S>, place: usize, count: usize) -> usize
+fn lines_back<S: TextStore>(view: &View<'_, S>, place: usize, count: usize) -> usize
     requires view { IsView (S.content view.now.store.now) view.now.s view.now.e }
     requires within { view.now.s + place ≤ view.now.e }
     ensures value { result ≡ lines_back count (shown (S.content view.now.store.now) view.now.s view.now.e) place }
@@ -90,6 +91,25 @@ pub fn lines_back<S: TextStore>(view: &View<'_, S>, place: usize, count: usize) 
         return view.len();
     }
     in_line(view, back, column)
+}
+
+/// The same character so many lines forward or back, or on the last or the first line; its newline where that line is
+/// shorter. Forward the end stays; back it counts as the first character of a line behind the last.
+pub fn lines_by<S: TextStore>(
+    view: &View<'_, S>,
+    place: usize,
+    direction: Direction,
+    count: usize,
+) -> usize
+    requires view { IsView (S.content view.now.store.now) view.now.s view.now.e }
+    requires within { view.now.s + place ≤ view.now.e }
+    ensures value { result ≡ lines_by direction count (shown (S.content view.now.store.now) view.now.s view.now.e) place }
+    ensures bound { view.now.s + result ≤ view.now.e }
+{
+    match direction {
+        Direction::Forward => lines_on(view, place, count),
+        Direction::Back => lines_back(view, place, count),
+    }
 }
 
 /// The begin of the word of a place. The end stays.

@@ -44,7 +44,7 @@ static BASES: [(&str, Base); 26] = [
     ("a+1c-2l", Base::Mark(MarkNo(129))),
 ];
 
-static MODIFIERS: [(&str, Modifier); 22] = [
+static MODIFIERS: [(&str, Modifier); 26] = [
     ("1.0+1c", Modifier::Forward(Unit::Characters, 1)),
     ("1.0 + 1 c ", Modifier::Forward(Unit::Characters, 1)),
     ("1.0\t-\t2\tchars", Modifier::Back(Unit::Characters, 2)),
@@ -69,10 +69,20 @@ static MODIFIERS: [(&str, Modifier); 22] = [
     ("1.0 words", Modifier::WordStart),
     ("1.0 wordstart", Modifier::WordStart),
     ("1.0 worde", Modifier::WordEnd),
+    (
+        "1.0 \t+\t 3 \tany\t chars \t",
+        Modifier::Forward(Unit::Characters, 3),
+    ),
+    (
+        "insert\t \t-\t 3any \tlines\t ",
+        Modifier::Back(Unit::Lines, 3),
+    ),
+    ("x.last\t linestart \t", Modifier::LineStart),
+    ("end \t wordend\t ", Modifier::WordEnd),
     ("1.0 wordend", Modifier::WordEnd),
 ];
 
-static NO_INDICES: [&str; 40] = [
+static NO_INDICES: [&str; 49] = [
     "1.en",
     "1.0.0",
     "1.",
@@ -113,6 +123,15 @@ static NO_INDICES: [&str; 40] = [
     "a+1cc",
     "sel.firsts",
     "1.0 linestarts",
+    "1.٣",
+    "１.0",
+    "1.0+٣c",
+    "1.0+1ç",
+    "1.0+1\u{a0}c",
+    "1.0\n",
+    "1.0\n+1c",
+    "\tend",
+    "y.last.z",
 ];
 
 fn create_mark(
@@ -185,40 +204,38 @@ fn is_none(rt: &impl Abort, alloc: Global, names: &Names, word: &str) {
     assert!(rt; matches!(found, Err(IndexFault::BadIndex)), "{word}");
 }
 
-#[test]
-fn words_have_bases(rt: HostRuntime) -> Result<(), Fail> {
-    let alloc = rt.alloc();
-    let tags = all_tags(&rt, alloc)?;
-    let marks = all_marks(&rt, alloc)?;
-    let names = Names {
-        tags: &tags,
-        marks: &marks,
-        widget: TagSlot(3),
-    };
-    for (word, base) in BASES {
-        begins(&rt, alloc, &names, word, base)?;
+fn all_begin(
+    rt: &impl Abort,
+    alloc: Global,
+    names: &Names,
+    rows: &[(&str, Base)],
+) -> Result<(), Fail> {
+    for (word, base) in rows {
+        begins(rt, alloc, names, word, *base)?;
     }
     Ok(())
 }
 
-#[test]
-fn words_have_modifiers(rt: HostRuntime) -> Result<(), Fail> {
-    let alloc = rt.alloc();
-    let tags = all_tags(&rt, alloc)?;
-    let marks = all_marks(&rt, alloc)?;
-    let names = Names {
-        tags: &tags,
-        marks: &marks,
-        widget: TagSlot(3),
-    };
-    for (word, modifier) in MODIFIERS {
-        moves(&rt, alloc, &names, word, modifier)?;
+fn all_move(
+    rt: &impl Abort,
+    alloc: Global,
+    names: &Names,
+    rows: &[(&str, Modifier)],
+) -> Result<(), Fail> {
+    for (word, modifier) in rows {
+        moves(rt, alloc, names, word, *modifier)?;
     }
     Ok(())
 }
 
+fn all_are_none(rt: &impl Abort, alloc: Global, names: &Names, words: &[&str]) {
+    for word in words {
+        is_none(rt, alloc, names, word);
+    }
+}
+
 #[test]
-fn other_words_are_no_indices(rt: HostRuntime) -> Result<(), Fail> {
+fn words_are_read(rt: HostRuntime) -> Result<(), Fail> {
     let alloc = rt.alloc();
     let tags = all_tags(&rt, alloc)?;
     let marks = all_marks(&rt, alloc)?;
@@ -227,8 +244,8 @@ fn other_words_are_no_indices(rt: HostRuntime) -> Result<(), Fail> {
         marks: &marks,
         widget: TagSlot(3),
     };
-    for word in NO_INDICES {
-        is_none(&rt, alloc, &names, word);
-    }
+    all_begin(&rt, alloc, &names, &BASES)?;
+    all_move(&rt, alloc, &names, &MODIFIERS)?;
+    all_are_none(&rt, alloc, &names, &NO_INDICES);
     Ok(())
 }

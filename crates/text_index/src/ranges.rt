@@ -1,47 +1,169 @@
-ghost use Rattle.std.specs.Prelude.{◌≡◌, ◌<◌};
+ghost use Rattle.std.specs.Prelude.{◌≡◌, ◌<◌, ◌≤◌, ◌+◌, ◌-◌, ℕ, length, true, false, IfSome};
+ghost use Rattle.text_model.specs.Changes.{flag_at, next_change, previous_change};
 ghost use Rattle.text_model.specs.TagBits.{slot_count};
+ghost use Rattle.text_index.specs.Ranges.{begins, next_range, previous_range, ranges_from, and_later};
 ghost use Rattle.text_index.specs.Views.{shown_flags, IsView};
 ghost use Rattle.text_index.specs.Values.{first_tagged, last_tagged};
 
 use crate::views::View;
 use text_model::{TagSlot, TextStore};
 
+/// A range of a tag in a view (text(n), "tag ranges"): the place of its first character, and the place behind its last one.
+/// Places count from the start of the view; a range that begins before the view begins at its start.
+#[derive(Clone, Copy, Debug, PartialEq, Eq)]
+pub struct TagRange {
+    pub start: usize,
+    pub end: usize,
+}
+
+/// Whether the character at a place has the tag of a slot.
+fn is_tagged<S: TextStore>(view: &View<'_, S>, slot: TagSlot, place: usize) -> bool
+    requires view { IsView (S.content view.now.store.now) view.now.s view.now.e }
+    requires slot { slot.0 < slot_count }
+    requires within { view.now.s + place < view.now.e }
+    ensures { result ≡ flag_at (shown_flags slot.0 (S.content view.now.store.now) view.now.s view.now.e) place }
+{
+    view.store.has_tag(view.s + place, slot)
+}
+
+/// Where the run of characters ends that are like the one at a place in a tag.
+fn change_behind<S: TextStore>(view: &View<'_, S>, slot: TagSlot, place: usize) -> usize
+    requires view { IsView (S.content view.now.store.now) view.now.s view.now.e }
+    requires slot { slot.0 < slot_count }
+    requires within { view.now.s + place < view.now.e }
+    ensures value { result ≡ next_change (shown_flags slot.0 (S.content view.now.store.now) view.now.s view.now.e) place }
+    ensures above { place < result }
+    ensures bound { view.now.s + result ≤ view.now.e }
+{
+    let change = view.store.next_change(view.s + place, slot);
+    change.min(view.e) - view.s
+}
+
+/// Where the run of characters begins that are like the one before a place in a tag.
+fn change_before<S: TextStore>(view: &View<'_, S>, slot: TagSlot, place: usize) -> usize
+    requires view { IsView (S.content view.now.store.now) view.now.s view.now.e }
+    requires slot { slot.0 < slot_count }
+    requires some { 0 < place }
+    requires within { view.now.s + place ≤ view.now.e }
+    ensures value { result ≡ previous_change (shown_flags slot.0 (S.content view.now.store.now) view.now.s view.now.e) place }
+    ensures below { result < place }
+{
+    let change = view.store.previous_change(view.s + place, slot);
+    change.max(view.s) - view.s
+}
+
+/// The end of the range that begins before a place and goes to it at least; the place itself where there is none.
+fn behind_range<S: TextStore>(view: &View<'_, S>, slot: TagSlot, place: usize) -> usize
+    requires view { IsView (S.content view.now.store.now) view.now.s view.now.e }
+    requires slot { slot.0 < slot_count }
+    requires within { view.now.s + place ≤ view.now.e }
+    ensures passed { (k : ℕ) → place ≤ k → k < result → begins (shown_flags slot.0 (S.content view.now.store.now) view.now.s view.now.e) k ≡ false }
+    ensures here { flag_at (shown_flags slot.0 (S.content view.now.store.now) view.now.s view.now.e) result ≡ true
+        → begins (shown_flags slot.0 (S.content view.now.store.now) view.now.s view.now.e) result ≡ true }
+    ensures above { place ≤ result }
+    ensures bound { view.now.s + result ≤ view.now.e }
+{
+    if place == 0 || !is_tagged(view, slot, place - 1) {
+        return place;
+    }
+    change_behind(view, slot, place - 1)
+}
+
+/// The first place from a place on at which a range begins; the end of the view where there is none.
+fn next_start<S: TextStore>(view: &View<'_, S>, slot: TagSlot, place: usize) -> usize
+    requires view { IsView (S.content view.now.store.now) view.now.s view.now.e }
+    requires slot { slot.0 < slot_count }
+    requires within { view.now.s + place ≤ view.now.e }
+    ensures passed { (k : ℕ) → place ≤ k → k < result → begins (shown_flags slot.0 (S.content view.now.store.now) view.now.s view.now.e) k ≡ false }
+    ensures here { view.now.s + result < view.now.e → begins (shown_flags slot.0 (S.content view.now.store.now) view.now.s view.now.e) result ≡ true }
+    ensures above { place ≤ result }
+    ensures bound { view.now.s + result ≤ view.now.e }
+{
+    let from = behind_range(view, slot, place);
+    if from == view.len() || is_tagged(view, slot, from) {
+        return from;
+    }
+    change_behind(view, slot, from)
+}
+
+/// The place behind the last character before a place that has the tag of a slot; 0 where there is none.
+fn behind_tagged<S: TextStore>(view: &View<'_, S>, slot: TagSlot, place: usize) -> usize
+    requires view { IsView (S.content view.now.store.now) view.now.s view.now.e }
+    requires slot { slot.0 < slot_count }
+    requires within { view.now.s + place ≤ view.now.e }
+    ensures passed { (k : ℕ) → result ≤ k → k < place → flag_at (shown_flags slot.0 (S.content view.now.store.now) view.now.s view.now.e) k ≡ false }
+    ensures here { 0 < result → flag_at (shown_flags slot.0 (S.content view.now.store.now) view.now.s view.now.e) (result - 1) ≡ true }
+    ensures below { result ≤ place }
+{
+    if place == 0 || is_tagged(view, slot, place - 1) {
+        return place;
+    }
+    change_before(view, slot, place)
+}
+
+/// The first range of a tag that begins at a place or behind it (text(n), "tag nextrange"). It takes no memory.
+///
+/// Who walks over all ranges begins at 0, and goes on at the end of each.
+pub fn next_range<S: TextStore>(view: &View<'_, S>, slot: TagSlot, place: usize) -> Option<TagRange>
+    requires view { IsView (S.content view.now.store.now) view.now.s view.now.e }
+    requires slot { slot.0 < slot_count }
+    requires within { view.now.s + place ≤ view.now.e }
+    ensures value { result ≡ next_range (shown_flags slot.0 (S.content view.now.store.now) view.now.s view.now.e) place }
+    ensures later { ranges_from (shown_flags slot.0 (S.content view.now.store.now) view.now.s view.now.e) place
+        ≡ and_later (shown_flags slot.0 (S.content view.now.store.now) view.now.s view.now.e) result }
+    ensures behind { IfSome result (λ range. place ≤ range.start) }
+    ensures some { IfSome result (λ range. range.start < range.end) }
+    ensures bound { IfSome result (λ range. view.now.s + range.end ≤ view.now.e) }
+{
+    let start = next_start(view, slot, place);
+    if start == view.len() {
+        return None;
+    }
+    let end = change_behind(view, slot, start);
+    Some(TagRange { start, end })
+}
+
+/// The last range of a tag that begins before a place (text(n), "tag prevrange"); it may end behind it. It takes no memory.
+pub fn previous_range<S: TextStore>(
+    view: &View<'_, S>,
+    slot: TagSlot,
+    place: usize,
+) -> Option<TagRange>
+    requires view { IsView (S.content view.now.store.now) view.now.s view.now.e }
+    requires slot { slot.0 < slot_count }
+    requires within { view.now.s + place ≤ view.now.e }
+    ensures value { result ≡ previous_range (shown_flags slot.0 (S.content view.now.store.now) view.now.s view.now.e) place }
+    ensures before { IfSome result (λ range. range.start < place) }
+    ensures some { IfSome result (λ range. range.start < range.end) }
+    ensures bound { IfSome result (λ range. view.now.s + range.end ≤ view.now.e) }
+{
+    let behind = behind_tagged(view, slot, place);
+    if behind == 0 {
+        return None;
+    }
+    let start = change_before(view, slot, behind);
+    let end = change_behind(view, slot, start);
+    Some(TagRange { start, end })
+}
+
 /// The first place of the view whose character has the tag of a slot.
 pub fn first_tagged<S: TextStore>(view: &View<'_, S>, slot: TagSlot) -> Option<usize>
     requires view { IsView (S.content view.now.store.now) view.now.s view.now.e }
     requires slot { slot.0 < slot_count }
-    ensures { result ≡ first_tagged (shown_flags slot.0 (S.content view.now.store.now) view.now.s view.now.e) }
+    ensures value { result ≡ first_tagged (shown_flags slot.0 (S.content view.now.store.now) view.now.s view.now.e) }
+    ensures within { IfSome result (λ place. view.now.s + place ≤ view.now.e) }
 {
-    if view.s == view.e {
-        return None;
-    }
-    if view.store.has_tag(view.s, slot) {
-        return Some(0);
-    }
-    let change = view.store.next_change(view.s, slot);
-    if change < view.e {
-        Some(change - view.s)
-    } else {
-        None
-    }
+    let range = next_range(view, slot, 0)?;
+    Some(range.start)
 }
 
 /// The place behind the last character of the view that has the tag of a slot.
 pub fn last_tagged<S: TextStore>(view: &View<'_, S>, slot: TagSlot) -> Option<usize>
     requires view { IsView (S.content view.now.store.now) view.now.s view.now.e }
     requires slot { slot.0 < slot_count }
-    ensures { result ≡ last_tagged (shown_flags slot.0 (S.content view.now.store.now) view.now.s view.now.e) }
+    ensures value { result ≡ last_tagged (shown_flags slot.0 (S.content view.now.store.now) view.now.s view.now.e) }
+    ensures within { IfSome result (λ place. view.now.s + place ≤ view.now.e) }
 {
-    if view.s == view.e {
-        return None;
-    }
-    if view.store.has_tag(view.e - 1, slot) {
-        return Some(view.e - view.s);
-    }
-    let change = view.store.previous_change(view.e, slot);
-    if change > view.s {
-        Some(change - view.s)
-    } else {
-        None
-    }
+    let range = previous_range(view, slot, view.len())?;
+    Some(range.end)
 }

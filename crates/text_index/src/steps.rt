@@ -1,7 +1,7 @@
-ghost use Rattle.std.specs.Prelude.{◌≡◌, ◌≢◌, ◌<◌, ◌≤◌, ◌∷◌, length, None, Some, IfOk, IfErr, IfSome, option_map};
+ghost use Rattle.std.specs.Prelude.{◌≡◌, ◌≢◌, ◌≤◌, ◌+◌, ◌∷◌, length, None, Some, IfOk, IfErr, IfSome, IsTrue, option_map};
 ghost use Rattle.text_index.specs.Grammar.{abbreviates, unit_of, keyword_of, tokens_of, modifiers_of};
 ghost use Rattle.text_index.specs.Grammar as grammar;
-ghost use Rattle.text_index.specs.Pieces.{token_of};
+ghost use Rattle.text_index.specs.Pieces.{token_of, piece_len};
 ghost use Rattle.text_index.specs.Steps.{saturated, stepped};
 ghost use Rattle.text_index.specs.declared.faults.IndexFault.TheVariants.{Memory, BadIndex};
 
@@ -13,7 +13,8 @@ use std::alloc::Global;
 
 /// Whether a word is a front of another of so many bytes at least.
 fn abbreviates(word: &[u8], least: usize, whole: &[u8]) -> bool
-    ensures { result ≡ abbreviates word.now least whole.now }
+    ensures value { result ≡ abbreviates word.now least whole.now }
+    ensures long { IsTrue result → least ≤ length word.now }
 {
     word.len() >= least && whole.starts_with(word)
 }
@@ -33,7 +34,8 @@ fn read_unit(word: &[u8]) -> Option<Unit>
 
 /// The step that a word is, if it is an abbreviation of a keyword.
 fn read_keyword(word: &[u8]) -> Option<Modifier>
-    ensures { result ≡ keyword_of word.now }
+    ensures value { result ≡ keyword_of word.now }
+    ensures long { IfSome result (λ _. 5 ≤ length word.now) }
 {
     if abbreviates(word, 5, b"linestart") {
         return Some(Modifier::LineStart);
@@ -65,7 +67,7 @@ fn read_count(is_plus: bool, digits: &[u8], word: &[u8]) -> Option<Modifier>
 /// What follows a sign: a count and a unit, with `any` before the unit or without; and what stands behind that.
 fn read_counted(is_plus: bool, text: &[u8]) -> Option<(Modifier, &[u8])>
     ensures value { saturated (modifiers_of (grammar.Token.Sign is_plus ∷ tokens_of text.now)) ≡ stepped result }
-    ensures bound { IfSome result (λ found. length found.1.now < length text.now) }
+    ensures bound { IfSome result (λ found. length found.1.now + 2 ≤ length text.now) }
 {
     let (Piece::Digits(digits), text) = next_piece(text)? else {
         return None;
@@ -85,7 +87,7 @@ fn read_counted(is_plus: bool, text: &[u8]) -> Option<(Modifier, &[u8])>
 /// The first modifier of a text after its first piece, and what stands behind it.
 fn read_step<'a>(first: Piece<'a>, text: &'a [u8]) -> Option<(Modifier, &'a [u8])>
     ensures value { saturated (modifiers_of (token_of first.entry ∷ tokens_of text.now)) ≡ stepped result }
-    ensures bound { IfSome result (λ found. length found.1.now ≤ length text.now) }
+    ensures bound { IfSome result (λ found. length found.1.now + 3 ≤ piece_len first.entry + length text.now) }
 {
     match first {
         Piece::Sign(is_plus) => read_counted(is_plus, text),
@@ -99,14 +101,15 @@ pub(crate) fn read_steps(alloc: Global, text: &[u8]) -> Result<Modifiers, IndexF
     ensures ok { IfOk result (λ steps. saturated (modifiers_of (tokens_of text.now)) ≡ Some steps) }
     ensures err { IfErr result (λ fault. fault ≢ Memory → (fault ≡ BadIndex) × (saturated (modifiers_of (tokens_of text.now)) ≡ None)) }
 {
-    let mut modifiers = Modifiers::with_capacity(alloc, text.len() / 2 + 1)?;
+    // No modifier has fewer than three bytes.
+    let mut modifiers = Vec::with_capacity(alloc, text.len() / 3)?;
     let mut rest = text;
     while let Some((first, behind)) = next_piece(rest) {
         let Some((modifier, behind)) = read_step(first, behind) else {
             return Err(IndexFault::BadIndex);
         };
-        modifiers.push(modifier)?;
+        modifiers.push(modifier).unwrap();
         rest = behind;
     }
-    Ok(modifiers)
+    Ok(Modifiers::new(modifiers))
 }

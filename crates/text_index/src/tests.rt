@@ -1,8 +1,6 @@
-use crate::faults::IndexFault;
-use crate::indices::{Base, Index, Modifier, Modifiers, Unit};
-use crate::moves::{back, forward, lines_back, lines_on, word_end, word_start};
+use crate::indices::Direction;
+use crate::moves::{back, forward, lines_by, word_end, word_start};
 use crate::positions::push_index;
-use crate::values::resolve;
 use crate::views::View;
 use crate::words::is_word;
 use std::alloc::Global;
@@ -13,7 +11,11 @@ use text_model::{
 };
 
 // A store of this text, behind which its last newline stands.
-fn store_of<S: TextStore>(rt: &impl Abort, alloc: Global, text: &str) -> Result<S, Fail> {
+pub(crate) fn store_of<S: TextStore>(
+    rt: &impl Abort,
+    alloc: Global,
+    text: &str,
+) -> Result<S, Fail> {
     let mut store = S::new(alloc)?;
     let mut steps = StepList::new(alloc);
     let text = Text::new(String::from_str(alloc, text)?);
@@ -48,12 +50,12 @@ fn check<S: TextStore>(rt: &impl Abort, alloc: Global) -> Result<(), Fail> {
     ] {
         assert!(rt; place <= e);
         assert_eq!(rt;
-            lines_on(&view, place, count),
+            lines_by(&view, place, Direction::Forward, count),
             on,
             "{place} + {count} lines"
         );
         assert_eq!(rt;
-            lines_back(&view, place, count),
+            lines_by(&view, place, Direction::Back, count),
             before,
             "{place} - {count} lines"
         );
@@ -85,7 +87,7 @@ fn letters_digits_and_underscores_make_words(rt: HostRuntime) {
 }
 
 // A mark stands at an offset.
-fn put_mark<S: TextStore>(
+pub(crate) fn put_mark<S: TextStore>(
     rt: &impl Abort,
     alloc: Global,
     store: &mut S,
@@ -103,7 +105,7 @@ fn put_mark<S: TextStore>(
 }
 
 // The characters from one offset to another have the tag of a slot.
-fn set_tag<S: TextStore>(
+pub(crate) fn set_tag<S: TextStore>(
     rt: &impl Abort,
     alloc: Global,
     store: &mut S,
@@ -132,31 +134,6 @@ fn position<S: TextStore>(
     assert!(rt; place <= view.e - view.s);
     push_index(&mut text, view, place)?;
     Ok(text)
-}
-
-// The value of an index in a view, from a base by modifiers.
-fn value<S: TextStore>(
-    rt: &impl Abort,
-    alloc: Global,
-    view: &View<'_, S>,
-    base: Base,
-    modifiers: &[Modifier],
-) -> Result<Result<usize, IndexFault>, Fail> {
-    let mut list = Modifiers::with_capacity(alloc, modifiers.len())?;
-    for modifier in modifiers {
-        list.push(*modifier)?;
-    }
-    let index = Index {
-        base,
-        modifiers: list,
-    };
-    assert!(rt; view.shows_lines());
-    let is_known = match base {
-        Base::First(slot, _) | Base::Last(slot, _) => slot.0 < 256,
-        _ => true,
-    };
-    assert!(rt; is_known);
-    Ok(resolve(&index, view))
 }
 
 #[test]
@@ -211,96 +188,6 @@ fn words_are_runs(rt: HostRuntime) -> Result<(), Fail> {
         assert!(rt; place <= 12);
         assert_eq!(rt; word_start(&view, place), start, "{place}");
         assert_eq!(rt; word_end(&view, place), end, "{place}");
-    }
-    Ok(())
-}
-
-#[test]
-fn indices_have_values(rt: HostRuntime) -> Result<(), Fail> {
-    let alloc = rt.alloc();
-    let store: PlainStore = store_of(&rt, alloc, "ab\ncd")?;
-    let view = View {
-        store: &store,
-        s: 0,
-        e: 6,
-    };
-    for (base, want) in [
-        (Base::At(1, 99), 2),
-        (Base::At(99, 0), 6),
-        (Base::At(0, 5), 0),
-        (Base::LineEnd(1), 2),
-        (Base::LineEnd(0), 0),
-        (Base::End, 6),
-    ] {
-        assert_eq!(rt; value(&rt, alloc, &view, base, &[])?, Ok(want));
-    }
-    for (modifiers, want) in [
-        (
-            [
-                Modifier::Back(Unit::Lines, 1),
-                Modifier::Forward(Unit::Characters, 0),
-            ],
-            3,
-        ),
-        (
-            [
-                Modifier::Back(Unit::Lines, 2),
-                Modifier::Forward(Unit::Lines, 1),
-            ],
-            3,
-        ),
-        ([Modifier::LineStart, Modifier::LineEnd], 6),
-        (
-            [Modifier::Back(Unit::Characters, 1), Modifier::LineStart],
-            3,
-        ),
-        ([Modifier::Back(Unit::Characters, 9), Modifier::LineEnd], 2),
-    ] {
-        assert_eq!(rt; value(&rt, alloc, &view, Base::End, &modifiers)?, Ok(want));
-    }
-    let empty = View {
-        store: &store,
-        s: 3,
-        e: 3,
-    };
-    for base in [Base::At(1, 1), Base::At(7, 0), Base::LineEnd(1), Base::End] {
-        assert_eq!(rt;
-            value(&rt, alloc, &empty, base, &[Modifier::WordEnd])?,
-            Ok(0)
-        );
-    }
-    Ok(())
-}
-
-#[test]
-fn marks_and_tags_have_values(rt: HostRuntime) -> Result<(), Fail> {
-    let alloc = rt.alloc();
-    let mut store: PlainStore = store_of(&rt, alloc, "ab\ncd\nef")?;
-    for (number, offset) in [(0, 8), (1, 0), (128, 4), (129, 9)] {
-        put_mark(&rt, alloc, &mut store, number, offset)?;
-    }
-    for (from, to, slot) in [(1, 3, 64), (4, 5, 64), (6, 7, 65)] {
-        set_tag(&rt, alloc, &mut store, from, to, slot)?;
-    }
-    let view = View {
-        store: &store,
-        s: 3,
-        e: 6,
-    };
-    let tagged = |slot| Base::First(TagSlot(slot), 1);
-    let behind = |slot| Base::Last(TagSlot(slot), 1);
-    for (base, want) in [
-        (Base::Mark(MarkNo(0)), Ok(2)),
-        (Base::Mark(MarkNo(1)), Ok(0)),
-        (Base::Mark(MarkNo(128)), Ok(1)),
-        (Base::Mark(MarkNo(129)), Err(IndexFault::BadIndex)),
-        (Base::Mark(MarkNo(130)), Err(IndexFault::BadIndex)),
-        (tagged(64), Ok(1)),
-        (behind(64), Ok(2)),
-        (tagged(65), Err(IndexFault::NoTaggedCharacters(1))),
-        (behind(65), Err(IndexFault::NoTaggedCharacters(1))),
-    ] {
-        assert_eq!(rt; value(&rt, alloc, &view, base, &[])?, want);
     }
     Ok(())
 }

@@ -1,9 +1,9 @@
-ghost use Rattle.std.specs.Prelude.{◌≡◌, ◌<◌, not, drop, length, position, IfSome};
+ghost use Rattle.std.specs.Prelude.{◌≡◌, ◌<◌, ◌≤◌, ◌+◌, not, drop, length, position, IfSome};
 ghost use Rattle.std.specs.List.{prefix_len};
 ghost use Rattle.std.specs.Char.{is_ascii_digit};
 ghost use Rattle.text_index.specs.Characters.{is_blank, is_sign, is_break};
 ghost use Rattle.text_index.specs.Grammar.{tokens_of};
-ghost use Rattle.text_index.specs.Pieces.{before_rest};
+ghost use Rattle.text_index.specs.Pieces.{before_rest, piece_len};
 
 /// What an index is made of behind its base, without the blanks.
 #[derive(Clone, Copy)]
@@ -97,6 +97,7 @@ fn skip_blanks(text: &[u8]) -> &[u8]
 pub(crate) fn next_piece(text: &[u8]) -> Option<(Piece<'_>, &[u8])>
     ensures value { tokens_of text.now ≡ before_rest result }
     ensures bound { IfSome result (λ found. length found.1.now < length text.now) }
+    ensures taken { IfSome result (λ found. piece_len found.0 + length found.1.now ≤ length text.now) }
 {
     let text = skip_blanks(text);
     let first = *text.first()?;

@@ -4,10 +4,9 @@ ghost use Rattle.text_index.specs.Values.{HasSlot, line_value, base_value, modif
 ghost use Rattle.text_index.specs.Words.{is_word};
 
 use crate::faults::IndexFault;
-use crate::indices::{Base, Index, Modifier, Unit};
+use crate::indices::{Base, Direction, Index, Modifier, Unit};
 use crate::moves::{
-    back, forward, in_line, line_end, line_start, lines_back, lines_on, newline_of, word_end,
-    word_start,
+    back, forward, in_line, line_end, line_start, lines_by, newline_of, word_end, word_start,
 };
 use crate::ranges::{first_tagged, last_tagged};
 use crate::views::View;
@@ -87,8 +86,8 @@ fn modified<S: TextStore>(view: &View<'_, S>, place: usize, modifier: Modifier) 
     match modifier {
         Modifier::Forward(Unit::Characters, count) => forward(view, place, count),
         Modifier::Back(Unit::Characters, count) => back(place, count),
-        Modifier::Forward(Unit::Lines, count) => lines_on(view, place, count),
-        Modifier::Back(Unit::Lines, count) => lines_back(view, place, count),
+        Modifier::Forward(Unit::Lines, count) => lines_by(view, place, Direction::Forward, count),
+        Modifier::Back(Unit::Lines, count) => lines_by(view, place, Direction::Back, count),
         Modifier::LineStart => line_start(view, place),
         Modifier::LineEnd => line_end(view, place),
         Modifier::WordStart => word_start(view, place),
@@ -106,6 +105,7 @@ pub fn resolve<S: TextStore>(index: &Index, view: &View<'_, S>) -> Result<usize,
     ensures value { result ≡ index_value is_word (shown_mark (S.content view.now.store.now) view.now.s view.now.e)
         (λ slot. shown_flags slot (S.content view.now.store.now) view.now.s view.now.e)
         (shown (S.content view.now.store.now) view.now.s view.now.e) index.now.base index.now.modifiers }
+    ensures within { IfOk result (λ place. view.now.s + place ≤ view.now.e) }
 {
     let place = base_value(view, index.base)?;
     Ok(modified_by(view, place, index.modifiers.as_slice()))
@@ -116,6 +116,7 @@ fn modified_by<S: TextStore>(view: &View<'_, S>, from: usize, modifiers: &[Modif
     requires view { IsView (S.content view.now.store.now) view.now.s view.now.e }
     requires within { view.now.s + from ≤ view.now.e }
     ensures value { result ≡ modified_by is_word (shown (S.content view.now.store.now) view.now.s view.now.e) modifiers.now from }
+    ensures within { view.now.s + result ≤ view.now.e }
 {
     let mut place = from;
     for modifier in modifiers {

@@ -1,28 +1,26 @@
-use Rattle.std.proofs.Common.{◌<◌, Some, ap, ◌∙◌, arith}
+use Rattle.std.proofs.Common.{◌≡◌, ◌-◌, length, None, Some, sym, ap, ◌∙◌}
 use Rattle.text_model.specs.Content.{flags}
-use Rattle.text_index.proofs.FlagLaws.{last-set, last-earlier, last-never, flags-within}
+use Rattle.text_index.specs.Ranges.{previous_range}
+use Rattle.text_index.specs.Views.{shown_flags}
+use Rattle.text_index.proofs.FlagLaws.{flags-within, length-part}
+use Rattle.text_index.proofs.ViewLaws.{length-shown}
+use Rattle.text_index.proofs.WalkLaws.{last-end}
 use Rattle.text_index.proofs.ranges.last_tagged.Goals as goal
 
-pub returns-then-has_tag : goal.returns-then-has_tag
-returns-then-has_tag g c =
+pub returns-in_err-range-clause-value : goal.returns-in_err-range-clause-value
+returns-in_err-range-clause-value g c =
     let view = c.args.view.now in
     let content = g.S.TextStore.content view.store.now in
-    let some : view.s < view.e = omega (arith, c.if-view.false, c.requires.view.ordered) in
-    last-set (flags c.args.slot.0 content.cells) view.s view.e (flags-within content c.args.slot.0 view.s view.e c.requires.view) some
-    (c.has_tag.ensures ∙ ap Some c.if-has_tag.true)
+    let shown = shown_flags c.args.slot.0 content view.s view.e in
+    let long : length shown ≡ view.e - view.s = length-part (flags c.args.slot.0 content.cells) view.s view.e (flags-within content c.args.slot.0 view.s view.e c.requires.view) c.requires.view.ordered in
+    let all : c.len.result ≡ length shown = c.len.ensures ∙ length-shown content view.s view.e c.requires.view ∙ sym long in
+    c.from_residual.ensures ∙ last-end shown None ((c.in_err-range.ensures {u = tt}).value ∙ ap (previous_range shown) all)
 
-pub returns-then-change-view : goal.returns-then-change-view
-returns-then-change-view g c =
+pub returns-clause-value : goal.returns-clause-value
+returns-clause-value g c =
     let view = c.args.view.now in
     let content = g.S.TextStore.content view.store.now in
-    let some : view.s < view.e = omega (arith, c.if-view.false, c.requires.view.ordered) in
-    last-earlier (flags c.args.slot.0 content.cells) view.s view.e c.previous_change-change.result (flags-within content c.args.slot.0 view.s view.e c.requires.view) some
-    (c.has_tag.ensures ∙ ap Some c.if-has_tag.false) c.previous_change-change.ensures.value c.if-change-view.true
-
-pub returns-else-change-view : goal.returns-else-change-view
-returns-else-change-view g c =
-    let view = c.args.view.now in
-    let content = g.S.TextStore.content view.store.now in
-    let some : view.s < view.e = omega (arith, c.if-view.false, c.requires.view.ordered) in
-    last-never (flags c.args.slot.0 content.cells) view.s view.e c.previous_change-change.result (flags-within content c.args.slot.0 view.s view.e c.requires.view) some
-    (c.has_tag.ensures ∙ ap Some c.if-has_tag.false) c.previous_change-change.ensures.value c.if-change-view.false
+    let shown = shown_flags c.args.slot.0 content view.s view.e in
+    let long : length shown ≡ view.e - view.s = length-part (flags c.args.slot.0 content.cells) view.s view.e (flags-within content c.args.slot.0 view.s view.e c.requires.view) c.requires.view.ordered in
+    let all : c.len.result ≡ length shown = c.len.ensures ∙ length-shown content view.s view.e c.requires.view ∙ sym long in
+    last-end shown (Some c.in_ok-range.range) ((c.in_ok-range.ensures {u = tt}).value ∙ ap (previous_range shown) all)

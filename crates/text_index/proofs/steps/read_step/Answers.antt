@@ -9,4 +9,4 @@ pub returns-in_ok-read_keyword-in-Word-clause-value : goal.returns-in_ok-read_ke
 returns-in_ok-read_keyword-in-Word-clause-value c =
     ap (λ p. saturated (modifiers_of (token_of p ∷ tokens_of c.args.text.now))) c.in-Word.is
     ∙ keyword-found c.in-Word.word.now (tokens_of c.args.text.now) (Some c.in_ok-read_keyword-in-Word.field-0)
-    (sym (c.in_ok-read_keyword-in-Word.was {u = tt}) ∙ c.read_keyword.ensures)
+    (sym (c.in_ok-read_keyword-in-Word.was {u = tt}) ∙ c.read_keyword.ensures.value)

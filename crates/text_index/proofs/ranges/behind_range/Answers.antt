@@ -1,0 +1,19 @@
+use Rattle.std.proofs.Common.{◌≡◌, ◌-◌, arith, true}
+use Rattle.text_model.specs.Changes.{flag_at}
+use Rattle.text_index.specs.Views.{shown_flags}
+use Rattle.text_index.proofs.WalkLaws.{range-passed, range-ends}
+use Rattle.text_index.proofs.ranges.behind_range.Goals as goal
+
+pub returns-clause-passed : goal.returns-clause-passed
+returns-clause-passed g c = λ k from below.
+    let view = c.args.view.now in
+    let shown = shown_flags c.args.slot.0 (g.S.TextStore.content view.store.now) view.s view.e in
+    let set : flag_at shown (c.args.place - 1) ≡ true = cc in
+    range-passed shown c.args.place c.change_behind.result k (omega arith) set c.change_behind.ensures.value from below
+
+pub returns-clause-here : goal.returns-clause-here
+returns-clause-here g c = λ there.
+    let view = c.args.view.now in
+    let shown = shown_flags c.args.slot.0 (g.S.TextStore.content view.store.now) view.s view.e in
+    let set : flag_at shown (c.args.place - 1) ≡ true = cc in
+    range-ends shown (c.args.place - 1) c.change_behind.result set c.change_behind.ensures.value there
