@@ -1,7 +1,7 @@
 # make run     the program on standard input, or on SCRIPT=file; with no script given, on examples/first.tcl
 # make test    the gate, and then the checks that the gate can't do; the last line counts them
 # make fuzz    the program against the plain model on random scripts: SEEDS=300 of them, FIRST=0 on
-# make bench   the program's time per command as the text grows, into docs/bench.txt
+# make bench   the program's time per command as the text grows, and its memory as the script does, into docs/bench.txt
 
 PROGRAM = crates/tktext/out/tktext
 SHIM = out/refuse.so

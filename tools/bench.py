@@ -4,8 +4,10 @@
     python3 tools/bench.py --program PATH --out FILE [--sizes 5000,10000,20000] [--repeat 3]
 
 Prints a table and writes it to FILE, so that the next change can be compared with it. Each time is the
-least of several runs of the whole program, from its start to its end. The exit status is 1 if a run
-didn't answer as it has to, or if appending 20,000 words takes five seconds or more.
+least of several runs of the whole program, from its start to its end. Below stands the greatest resident
+size over scripts of short commands of three lengths. The exit status is 1 if a run didn't answer as it
+has to, if appending 20,000 words takes five seconds or more, or if the greatest resident size grows with
+the script.
 """
 
 import argparse
@@ -20,6 +22,9 @@ from typing import NamedTuple
 GOAL_COMMANDS = 20_000
 GOAL_SECONDS = 5.0
 TIMEOUT_SECONDS = 300
+# Lengths of scripts of short commands, in bytes, and by how many kB the resident size may differ among them.
+SCRIPT_LENGTHS = [1_000_000, 4_000_000, 16_000_000]
+SIZE_MARGIN = 256
 
 
 class Kind(NamedTuple):
@@ -197,6 +202,44 @@ def measure(program, sizes, repeat, folder):
     return lines, is_met
 
 
+def resident_size(pid):
+    """The greatest resident size of a process so far, in kB."""
+    with open(f"/proc/{pid}/status", encoding="ascii") as file:
+        for line in file:
+            if line.startswith("VmHWM:"):
+                return int(line.split()[1])
+    sys.exit("no greatest resident size is told here")
+
+
+def measure_size(program, length):
+    """The greatest resident size, in kB, over a script of short commands, so many bytes long.
+
+    It is looked at when all but what a pipe holds was read, since it is gone with the process.
+    """
+    command = b".t index end\n"
+    script = b"text .t\n" + command * (length // len(command))
+    with subprocess.Popen([program], stdin=subprocess.PIPE, stdout=subprocess.DEVNULL) as process:
+        process.stdin.write(script)
+        process.stdin.flush()
+        size = resident_size(process.pid)
+        process.stdin.close()
+        status = process.wait(timeout=TIMEOUT_SECONDS)
+    if status != 0:
+        sys.exit(f"status {status} for a script of {length} bytes: this isn't measured")
+    return size
+
+
+def measure_sizes(program, lines):
+    """Adds the lines on the resident size, and tells whether it stays the same."""
+    sizes = [measure_size(program, length) for length in SCRIPT_LENGTHS]
+    is_met = max(sizes) - min(sizes) <= SIZE_MARGIN
+    emit(lines, "")
+    for length, size in zip(SCRIPT_LENGTHS, sizes):
+        emit(lines, f"a script of {length} bytes in short commands: greatest resident size {size} kB")
+    emit(lines, f"(goal: the same within {SIZE_MARGIN} kB, {'met' if is_met else 'MISSED'})")
+    return is_met
+
+
 def sizes_of(text):
     """The sizes as numbers."""
     return [int(size) for size in text.split(",")]
@@ -210,7 +253,8 @@ def main():
     parser.add_argument("--repeat", type=int, default=3)
     options = parser.parse_args()
     with tempfile.TemporaryDirectory() as folder:
-        lines, is_met = measure(options.program, options.sizes, options.repeat, folder)
+        lines, is_fast = measure(options.program, options.sizes, options.repeat, folder)
+    is_met = measure_sizes(options.program, lines) and is_fast
     with open(options.out, "w", encoding="utf-8") as file:
         file.write("".join(line.rstrip() + "\n" for line in lines))
     return 0 if is_met else 1

@@ -1,23 +1,38 @@
 #!/usr/bin/env python3
-"""Runs the program on devices that fail: what it writes on standard error, and how it ends.
+"""Runs the program on devices that fail or are slow: what it writes on standard error, and how it ends.
 
     python3 tools/devices.py --program PATH
 
-A standard input that can't be read, a standard output that is full, closed, or read by nobody, and a
-script that comes a byte at a time.  The last line is `N passed, M failed`.
+A standard input that can't be read, a standard output that is full, closed, or read by nobody, a script
+that comes a byte at a time, and a console that sends a line once the one before it is answered.  Each
+worked script that comes in pieces prints what it prints in one piece, and never wants memory.  The last
+line is `N passed, M failed`.
 """
 
 import argparse
 import os
+import select
 import subprocess
 import sys
 
+import model
+import worked
 from harness import TIMEOUT_SECONDS, Tally
 
 SCRIPT = b"text .t\n.t insert 1.0 ab\n.t get 1.0 end\n"
 ANSWERS = b".t\n\nab\n\n"
-# More answers than a pipe holds while nobody reads it.
-LONG_SCRIPT = b"text .t\n" + b".t index end\n" * 100_000
+# The lines of a console, each with its answer.
+CONVERSATION = [
+    (b"text .t\n", b".t\n"),
+    (b".t insert 1.0 ab\n", b"\n"),
+    (b"\n", b""),
+    (b".t index end\n", b"2.0\n"),
+    (b".u\n", b'error: invalid command name ".u"\n'),
+]
+# The worked scripts come in so many pieces at most.
+MOST_PIECES = 60
+# More than a pipe holds while nobody reads it.
+LONG_SCRIPT = b".t index end\n" * 100_000
 
 
 def run_with(program, script, **devices):
@@ -49,11 +64,15 @@ def closed_output(program):
 
 def abandoned_output(program):
     """A pipe whose reader goes away after a few bytes."""
-    process = subprocess.Popen([program], stdin=subprocess.PIPE, stdout=subprocess.PIPE, stderr=subprocess.PIPE)
-    process.stdin.write(LONG_SCRIPT)
-    process.stdin.close()
-    process.stdout.read(10)
+    process = subprocess.Popen([program], stdin=subprocess.PIPE, stdout=subprocess.PIPE, stderr=subprocess.PIPE, bufsize=0)
+    process.stdin.write(SCRIPT)
+    process.stdout.read(len(ANSWERS))
     process.stdout.close()
+    try:
+        process.stdin.write(LONG_SCRIPT)
+        process.stdin.close()
+    except BrokenPipeError:
+        pass  # the run ended before it had read all
     words = process.stderr.read()
     process.stderr.close()
     return process.wait(timeout=TIMEOUT_SECONDS), words
@@ -70,6 +89,57 @@ def slow_input(program):
     return process.wait(timeout=TIMEOUT_SECONDS), output
 
 
+def read_answer(process, wanted):
+    """What the program writes within the time, up to as many bytes as are wanted."""
+    answer = b""
+    while len(answer) < len(wanted):
+        ready, _, _ = select.select([process.stdout], [], [], TIMEOUT_SECONDS)
+        piece = os.read(process.stdout.fileno(), len(wanted) - len(answer)) if ready else b""
+        if not piece:
+            break
+        answer += piece
+    return answer
+
+
+def console(program):
+    """A console that sends the next line once the one before it is answered."""
+    process = subprocess.Popen([program], stdin=subprocess.PIPE, stdout=subprocess.PIPE, bufsize=0)
+    answers = []
+    for line, wanted in CONVERSATION:
+        process.stdin.write(line)
+        answers.append(read_answer(process, wanted))
+    process.stdin.close()
+    rest = process.stdout.read()
+    process.stdout.close()
+    return process.wait(timeout=TIMEOUT_SECONDS), answers, rest
+
+
+def in_pieces(program, script):
+    """A pipe that hands out a script in pieces."""
+    process = subprocess.Popen(
+        [program], stdin=subprocess.PIPE, stdout=subprocess.PIPE, stderr=subprocess.PIPE, bufsize=0
+    )
+    length = max(1, len(script) // MOST_PIECES)
+    try:
+        for place in range(0, len(script), length):
+            process.stdin.write(script[place:place + length])
+    except BrokenPipeError:
+        pass  # a script fault ended the run
+    output, errors = process.communicate(timeout=TIMEOUT_SECONDS)
+    return process.returncode, output, errors
+
+
+def check_worked_scripts(program, tally):
+    """Each worked script in pieces: what the model prints, and nothing on standard error."""
+    for name, script in worked.program_scripts():
+        plain = model.run_output(script)
+        given = in_pieces(program, script)
+        tally.check(
+            given == (plain.status, plain.output, b""),
+            f"{name!r} in pieces: status {given[0]}, standard error {given[2]!r}, output {given[1][:200]!r}",
+        )
+
+
 def main():
     parser = argparse.ArgumentParser(description="runs the program on devices that fail")
     parser.add_argument("--program", required=True)
@@ -81,10 +151,12 @@ def main():
         ("an output that is closed", closed_output, (2, b"write failed\n")),
         ("an output that nobody reads", abandoned_output, (2, b"write failed\n")),
         ("an input that comes a byte at a time", slow_input, (0, ANSWERS)),
+        ("a console", console, (1, [answer for _, answer in CONVERSATION], b"")),
     ]
     for name, run, wanted in cases:
         given = run(program)
         tally.check(given == wanted, f"{name}: wanted {wanted!r}, given {given!r}")
+    check_worked_scripts(program, tally)
     return tally.close()
 
 

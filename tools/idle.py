@@ -5,6 +5,7 @@
 
 Runs each form of each command that exists: each optional word left out and given, each base of an index, and each
 modifier behind it that the program reads, at each place of an index. No line of the output is `error: out of memory`, and the status is never 2.
+Runs each worked script too: it prints what the model says, and the run never ends for want of memory.
 
 Ends in a line `N passed, M failed`; the exit status is 1 if anything failed.
 """
@@ -15,6 +16,8 @@ import sys
 from typing import NamedTuple
 
 import indices
+import model
+import worked
 from harness import Tally, run_program
 
 OUT_OF_MEMORY = b"error: out of memory"
@@ -64,6 +67,16 @@ def check_script(program, script, tally):
     )
 
 
+def check_worked(program, name, script, tally):
+    """One run of a worked script: the model's output and status, and nothing on standard error."""
+    plain = model.run_output(script)
+    result = run_program(program, script)
+    tally.check(
+        (result.output, result.status, result.errors) == (plain.output, plain.status, b""),
+        f"{name!r}: status {result.status}, standard error {result.errors!r}, output {result.output[:200]!r}",
+    )
+
+
 def main():
     parser = argparse.ArgumentParser(description="looks for want of memory where memory is ample")
     parser.add_argument("--program", required=True)
@@ -72,6 +85,8 @@ def main():
     for form in FORMS:
         for script in scripts_of(form):
             check_script(options.program, script, tally)
+    for name, script in worked.program_scripts():
+        check_worked(options.program, name, script, tally)
     return tally.close()
 
 

@@ -26,7 +26,7 @@ pub const AMPLE: Numbers = Numbers {
     reads: 1_073_741_824,
 };
 
-pub static ROWS: [Row; 34] = [
+pub static ROWS: [Row; 35] = [
     Row {
         name: "the empty script",
         script: b"",
@@ -258,7 +258,20 @@ pub static ROWS: [Row; 34] = [
             widgets: 64,
             reads: 1,
         },
-        output: "",
+        output: ".t\n",
+        status: 2,
+    },
+    Row {
+        name: "a fault where no read is left",
+        script: b"text .t\n[",
+        numbers: Numbers {
+            chars: 16_777_216,
+            tags: 192,
+            marks: 4_096,
+            widgets: 64,
+            reads: 1,
+        },
+        output: ".t\nerror: substitution isn't supported\n",
         status: 2,
     },
     Row {

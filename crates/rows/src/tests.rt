@@ -1,5 +1,5 @@
 use crate::readers::Pieces;
-use crate::table::{ROWS, Row};
+use crate::table::{AMPLE, ROWS, Row};
 use script_cli::{Watched, outcome, run};
 use std::alloc::{AllocError, Global};
 use std::process::Abort;
@@ -38,11 +38,20 @@ fn check_row<S: TextStore>(
     Ok(())
 }
 
+/// The lengths of reads that a row is run with: a row that limits the reads is for a reader that hands out all at once.
+fn lengths(row: &Row) -> &'static [usize] {
+    if row.numbers.reads == AMPLE.reads {
+        &[1, 3, 4096]
+    } else {
+        &[4096]
+    }
+}
+
 /// Runs each row with reads of several lengths.
 fn check_rows<S: TextStore>(rt: &impl Abort, alloc: Global) -> Result<(), AllocError> {
     for row in &ROWS {
-        for most in [1, 3, 4096] {
-            check_row::<S>(rt, alloc, row, most)?;
+        for most in lengths(row) {
+            check_row::<S>(rt, alloc, row, *most)?;
         }
     }
     Ok(())

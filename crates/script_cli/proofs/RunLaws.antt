@@ -1,12 +1,12 @@
 -- A run so far, and whatever the rest of it prints.
-use Rattle.std.proofs.Common.{◌≡◌, ℕ, suc, ◌+◌, ◌<◌, take, Bool, true, false, not, cond, List, [], ◌∷◌, ◌++◌, length, Option, None, Some, ◌⊎◌, inl, inr, refl, sym, ap, ◌∙◌, append_assoc, arith, encode_utf8_all}
-use Rattle.std.specs.Prelude.{is_some, is_err, is_ok, Result, Ok, Err, IsErrOf, IfOk, OnErr, unwrap_or, IfSome}
-use Rattle.std.specs.Result.{result_err}
-use Rattle.std.proofs.lemmas.Option.{same_Some}
+use Rattle.std.proofs.Common.{◌≡◌, ℕ, suc, ◌+◌, ◌<◌, ◌||◌, take, Bool, true, false, not, cond, List, [], ◌∷◌, ◌++◌, length, Option, None, Some, ◌⊎◌, inl, inr, refl, sym, ap, ◌∙◌, append_assoc, arith, encode_utf8_all}
+use Rattle.std.specs.Prelude.{is_some, is_err, is_ok, Result, Ok, Err, OnOk, OnErr}
+use Rattle.std.proofs.lemmas.Bool.{false≢true}
 use Rattle.std.proofs.lemmas.List.{append-nil}
 use Rattle.std.proofs.lemmas.Str.{encodes-append}
 use Rattle.text_model.specs.LimitTable.{LimitTable}
-use Rattle.tcl_words.specs.ScriptGrammar.{ReadsScript}
+use Rattle.tcl_words.specs.ScriptGrammar.{IsCommandBefore}
+use Rattle.tcl_words.specs.Unread.{Unread, IsNextCommand, HasNoCommand, HasFault}
 use Rattle.tcl_words.specs.declared.fault.ScriptFault.{ScriptFault}
 use Rattle.tcl_words.proofs.Readings.{a_reading}
 use Rattle.peers.specs.World.{World}
@@ -15,39 +15,16 @@ use Rattle.script_cli.specs.declared.summary.RunSummary.{RunSummary}
 use Rattle.script_cli.specs.declared.summary.RunFault.{RunFault}
 use Rattle.script_cli.specs.declared.turns.Met.{Met}
 use Rattle.script_cli.specs.declared.turns.Met.TheVariants as kinds
-use Rattle.script_cli.specs.Devices.{Appends, Consumes}
+use Rattle.script_cli.specs.Carrying.{RunsBytes, MayFollow, Carries, CarriesOut, Carried, Cuts}
+use Rattle.script_cli.specs.Devices.{ReadLog, WriteLog, HandsOut, Takes}
 use Rattle.script_cli.specs.Pieces.{piece, error_line}
-use Rattle.script_cli.specs.Run.{no_documents, last_piece, run_output, refused_count, RunsTo, WritesRun, WritesFront, WritesFrontOfRead}
+use Rattle.script_cli.specs.Run.{no_documents, run_output, refused_count, RunsTo, Holds, WritesRun, WritesFront}
 use Rattle.peers.specs.Words.{literal}
 use Rattle.script_cli.specs.PlainRun.{IsPlain, IsPlainUpToRefusal}
+use Rattle.script_cli.specs.Reading.{Feeds}
 use Rattle.script_cli.specs.Sending.{Sends, Gathers}
 use Rattle.script_cli.specs.Turns.{Replies, MeetsCommand, Meets}
-use Rattle.script_cli.proofs.SendingLaws.{Appends-nil, Appends-then}
-
--- a run of a script: so many commands, of which so many are refused, and this printed
-abbrev pub Whole : LimitTable → List ℕ → ℕ → ℕ → Option ScriptFault → List ℕ → Type 0
-Whole limits script met refused fault out =
-    (commands : List (List (List ℕ))) × ReadsScript script commands fault × RunsTo (no_documents limits) commands fault out refused
-    × (met ≡ length commands)
-
--- whatever the rest of the script prints in this world
-abbrev pub Continues : LimitTable → List ℕ → ℕ → ℕ → List ℕ → World → List ℕ → Type 0
-Continues limits script met refused out world rest =
-    (commands : List (List (List ℕ))) (fault : Option ScriptFault) (more : List ℕ) (others : ℕ)
-    → ReadsScript rest commands fault → RunsTo world commands fault more others
-    → Whole limits script (met + length commands) (refused + others) fault (out ++ more)
-
--- From old to now a run was written so far, but for the bytes that wait.
-abbrev pub SoFar : LimitTable → List ℕ → ℕ → ℕ → World → List ℕ → Option (List ℕ) → Option (List ℕ) → List ℕ → Type 0
-SoFar limits script met refused world rest old now waits =
-    (out : List ℕ) × (sent : List ℕ) × (encode_utf8_all out ≡ sent ++ waits) × Appends old now sent
-    × Continues limits script met refused out world rest
-
--- From old to now a whole run was written, but for the bytes that wait.
-abbrev pub Ended : LimitTable → List ℕ → ℕ → ℕ → Option ScriptFault → Option (List ℕ) → Option (List ℕ) → List ℕ → Type 0
-Ended limits script met refused fault old now waits =
-    (out : List ℕ) × (sent : List ℕ) × (encode_utf8_all out ≡ sent ++ waits) × Appends old now sent
-    × Whole limits script met refused fault out
+use Rattle.script_cli.proofs.SendingLaws.{Takes-nil, Takes-then, HandsOut-nil, HandsOut-then}
 
 -- the run without refusals for memory is one of the runs
 pub plain_runs : (commands : List (List (List ℕ))) (world : World) (fault : Option ScriptFault)
@@ -60,15 +37,25 @@ plain_runs (words ∷ commands) world fault =
 none : (n : ℕ) → 0 + n ≡ n
 none n = omega arith
 
-continues_all : (limits : LimitTable) (script : List ℕ) → Continues limits script 0 0 [] (no_documents limits) script
-continues_all limits script commands fault more others reads runs = (commands, reads, rw (none others) runs, omega arith)
+nothing_later : (n : ℕ) → n + 0 ≡ n
+nothing_later n = omega arith
 
--- the bytes of what was printed, with a text more
-more_bytes : (out text sent waits later left : List ℕ) → encode_utf8_all out ≡ sent ++ waits → waits ++ encode_utf8_all text ≡ later ++ left
-    → encode_utf8_all (out ++ text) ≡ (sent ++ later) ++ left
-more_bytes out text sent waits later left e f =
-    encodes-append out text ∙ ap (λ xs. xs ++ encode_utf8_all text) e ∙ append_assoc sent waits (encode_utf8_all text)
-    ∙ ap (λ xs. sent ++ xs) f ∙ sym (append_assoc sent later left)
+-- a command that is next stays next before what may follow
+before_later : (left later : List ℕ) (words : List (List ℕ)) (used : List ℕ) → later ≡ [] → IsCommandBefore left words used
+    → IsCommandBefore (left ++ later) words used
+before_later left later words used none (inl whole) = inl whole
+before_later left later words used none (inr last) = inr (ap (λ xs. left ++ xs) none ∙ append-nil left ∙ last.0, last.1)
+
+holds_more : (finished ended : Bool) (rest left later used : List ℕ) (words : List (List ℕ)) (commands : List (List (List ℕ))) (fault : Option ScriptFault)
+    → rest ≡ used ++ left → IsNextCommand finished left words used → MayFollow finished ended later
+    → Holds ended (left ++ later) commands fault → Holds ended (rest ++ later) (words ∷ commands) fault
+holds_more false true rest left later used words commands fault is next may holds =
+    (used, left ++ later, ap (λ xs. xs ++ later) is ∙ append_assoc used left later, inl next, holds)
+holds_more false false rest left later used words commands fault is next may holds =
+    (used, left ++ later, ap (λ xs. xs ++ later) is ∙ append_assoc used left later, next, holds)
+holds_more true true rest left later used words commands fault is next may holds =
+    (used, left ++ later, ap (λ xs. xs ++ later) is ∙ append_assoc used left later, before_later left later words used may.1 next, holds)
+holds_more true false rest left later used words commands fault is next may holds = absurd (false≢true may.0)
 
 -- a command more
 runs_more : (world after : World) (words : List (List ℕ)) (commands : List (List (List ℕ))) (fault : Option ScriptFault) (refused : Bool)
@@ -79,235 +66,469 @@ runs_more world after words commands fault refused text more others (inl by_step
 runs_more world after words commands fault refused text more others (inr by_memory) runs =
     inr (more, others, ap (λ xs. xs ++ more) by_memory.0, ap (λ b. cond b 1 0 + others) by_memory.1, rw by_memory.2 at runs)
 
-one_more : (met rest all : ℕ) → met + suc rest ≡ all → met + 1 + rest ≡ all
-one_more met rest all is = omega (arith, is)
+-- nothing was carried out
+carries_none : (finished : Bool) (world : World) (bytes : List ℕ) → Carries finished world bytes 0 0 [] world bytes
+carries_none finished world bytes ended later others others_refused fault more may runs =
+    (runs.0, runs.1, rw (none others_refused) runs.2, none others ∙ runs.3)
 
-none_more : (met all : ℕ) → met + 0 ≡ all → met ≡ all
-none_more met all is = omega (arith, is)
+one_more : (met others all : ℕ) → met + suc others ≡ all → met + 1 + others ≡ all
+one_more met others all is = omega (arith, is)
 
-continues_more : (limits : LimitTable) (script : List ℕ) (met refused : ℕ) (out : List ℕ) (world after : World) (rest left text : List ℕ) (is_refused : Bool)
-    → Continues limits script met refused out world rest → MeetsCommand world rest after left is_refused text
-    → Continues limits script (met + 1) (refused + cond is_refused 1 0) (out ++ text) after left
-continues_more limits script met refused out world after rest left text is_refused goes_on meets commands fault more others reads runs =
+-- a command more
+carries_more : (finished : Bool) (old : World) (bytes : List ℕ) (met refused : ℕ) (out : List ℕ) (world after : World) (rest left text : List ℕ) (is_refused : Bool)
+    → Carries finished old bytes met refused out world rest → MeetsCommand finished world rest after left is_refused text
+    → Carries finished old bytes (met + 1) (refused + cond is_refused 1 0) (out ++ text) after left
+carries_more finished old bytes met refused out world after rest left text is_refused carries meets ended later others others_refused fault more may runs =
     let words = meets.0 in
-    let whole = goes_on (words ∷ commands) fault (text ++ more) (cond is_refused 1 0 + others)
-    (meets.1, left, meets.2, meets.4, reads) (runs_more world after words commands fault is_refused text more others meets.5 runs) in
-    let counts : refused + cond is_refused 1 0 + others ≡ refused + (cond is_refused 1 0 + others) = omega arith in
-    (whole.0, whole.1, rw (append_assoc out text more, counts) whole.2, one_more met (length commands) (length whole.0) whole.3)
+    let here : RunsBytes world ended (rest ++ later) (suc others) (cond is_refused 1 0 + others_refused) fault (text ++ more) = (
+      words ∷ runs.0,
+      holds_more finished ended rest left later meets.1 words runs.0 fault meets.2 meets.4 may runs.1,
+      runs_more world after words runs.0 fault is_refused text more others_refused meets.5 runs.2,
+      ap suc runs.3,
+    ) in
+    let all = carries ended later (suc others) (cond is_refused 1 0 + others_refused) fault (text ++ more) may here in
+    let counts : refused + cond is_refused 1 0 + others_refused ≡ refused + (cond is_refused 1 0 + others_refused) = omega arith in
+    (all.0, all.1, rw (append_assoc out text more, counts) all.2, one_more met others (length all.0) all.3)
 
-so_far_more : (limits : LimitTable) (script : List ℕ) (met refused : ℕ) (world after : World) (rest left text : List ℕ) (is_refused : Bool)
-    (old now new : Option (List ℕ)) (waits left_waiting : List ℕ)
-    → SoFar limits script met refused world rest old now waits → MeetsCommand world rest after left is_refused text
-    → Gathers now waits new left_waiting (encode_utf8_all text) true
-    → SoFar limits script (met + 1) (refused + cond is_refused 1 0) after left old new left_waiting
-so_far_more limits script met refused world after rest left text is_refused old now new waits left_waiting so_far meets gathers = (
-  so_far.0 ++ text,
-  so_far.1 ++ gathers.0,
-  more_bytes so_far.0 text so_far.1 waits gathers.0 left_waiting so_far.2 gathers.1,
-  Appends-then old now new so_far.1 gathers.0 so_far.3 gathers.2,
-  continues_more limits script met refused so_far.0 world after rest left text is_refused so_far.4 meets,
+-- the same bytes, and others behind them
+pub carries_fed : (old : World) (bytes : List ℕ) (met refused : ℕ) (out : List ℕ) (world : World) (rest piece : List ℕ)
+    → Carries false old bytes met refused out world rest → Carries false old (bytes ++ piece) met refused out world (rest ++ piece)
+carries_fed old bytes met refused out world rest piece carries ended later others others_refused fault more may runs =
+    rw (append_assoc bytes piece later) (carries ended (piece ++ later) others others_refused fault more tt (rw (append_assoc rest piece later) at runs))
+
+apart : (a b c : ℕ) → (a + b) + c ≡ a + (b + c)
+apart a b c = omega arith
+
+-- one after the other
+carries_then : (finished : Bool) (old : World) (bytes : List ℕ) (met refused : ℕ) (out : List ℕ) (world : World) (rest : List ℕ)
+    (more_met more_refused : ℕ) (text : List ℕ) (new : World) (left : List ℕ)
+    → Carries false old bytes met refused out world rest → Carries finished world rest more_met more_refused text new left
+    → Carries finished old bytes (met + more_met) (refused + more_refused) (out ++ text) new left
+carries_then finished old bytes met refused out world rest more_met more_refused text new left first second ended later others others_refused fault more may runs =
+    let all = first ended later (more_met + others) (more_refused + others_refused) fault (text ++ more) tt
+    (second ended later others others_refused fault more may runs) in
+    (all.0, all.1, rw (append_assoc out text more, apart refused more_refused others_refused) all.2, apart met more_met others ∙ all.3)
+
+ends_so : (finished : Bool) → MayFollow finished finished []
+ends_so true = (refl, refl)
+ends_so false = tt
+
+-- all of the rest is run
+runs_all : (finished ended : Bool) (old : World) (bytes : List ℕ) (met refused : ℕ) (out : List ℕ) (world : World) (rest : List ℕ)
+    (others others_refused : ℕ) (fault : Option ScriptFault) (text : List ℕ) → MayFollow finished ended []
+    → Carries finished old bytes met refused out world rest → RunsBytes world ended rest others others_refused fault text
+    → RunsBytes old ended bytes (met + others) (refused + others_refused) fault (out ++ text)
+runs_all finished ended old bytes met refused out world rest others others_refused fault text may carries runs =
+    let all = carries ended [] others others_refused fault text may (rw (append-nil rest) runs) in rw (append-nil bytes) at all
+
+-- no command and no fault is met in the rest
+runs_none : (ended : Bool) (world : World) (rest : List ℕ) → Holds ended rest [] None → RunsBytes world ended rest 0 0 None []
+runs_none ended world rest holds = ([], holds, (refl, refl), refl)
+
+runs_so_far : (finished ended : Bool) (old : World) (bytes : List ℕ) (met refused : ℕ) (out : List ℕ) (world : World) (rest : List ℕ)
+    → MayFollow finished ended [] → Carries finished old bytes met refused out world rest → Holds ended rest [] None
+    → RunsBytes old ended bytes met refused None out
+runs_so_far finished ended old bytes met refused out world rest may carries holds =
+    let all = runs_all finished ended old bytes met refused out world rest 0 0 None [] may carries (runs_none ended world rest holds) in
+    rw (append-nil out, nothing_later met, nothing_later refused) at all
+
+-- the bytes of what was printed, with a text more
+more_bytes : (out text sent waits later left : List ℕ) → encode_utf8_all out ≡ sent ++ waits → waits ++ encode_utf8_all text ≡ later ++ left
+    → encode_utf8_all (out ++ text) ≡ (sent ++ later) ++ left
+more_bytes out text sent waits later left e f =
+    encodes-append out text ∙ ap (λ xs. xs ++ encode_utf8_all text) e ∙ append_assoc sent waits (encode_utf8_all text)
+    ∙ ap (λ xs. sent ++ xs) f ∙ sym (append_assoc sent later left)
+
+-- From old to new the commands at hand were carried out so far, so many of all and so many refused, and what they print was
+-- written, but for the bytes that wait.
+abbrev pub SoFar : Bool → World → List ℕ → RunSummary → World → List ℕ → ℕ → ℕ → WriteLog → WriteLog → List ℕ → Type 0
+SoFar finished old bytes before new left all all_refused sink_old sink waits =
+    (met : ℕ) × (refused : ℕ) × (out : List ℕ) × (sent : List ℕ)
+    × (all ≡ before.commands + met) × (all_refused ≡ before.refused + refused)
+    × (encode_utf8_all out ≡ sent ++ waits) × Takes sink_old sink sent
+    × Carries finished old bytes met refused out new left
+
+-- the same, until no command was left, or up to a fault
+abbrev Closed : Bool → World → List ℕ → RunSummary → World → List ℕ → ℕ → ℕ → Bool → WriteLog → WriteLog → List ℕ → Type 0
+Closed finished old bytes before new left all all_refused faulted sink_old sink waits =
+    (met : ℕ) × (refused : ℕ) × (out : List ℕ) × (sent : List ℕ)
+    × (all ≡ before.commands + met) × (all_refused ≡ before.refused + refused)
+    × (encode_utf8_all out ≡ sent ++ waits) × Takes sink_old sink sent
+    × CarriesOut finished old bytes met refused out new left faulted
+
+pub so_far_none : (finished : Bool) (world : World) (bytes : List ℕ) (before : RunSummary) (log : WriteLog)
+    → SoFar finished world bytes before world bytes before.commands before.refused log log []
+so_far_none finished world bytes before log = (
+  0,
+  0,
+  [],
+  [],
+  sym (nothing_later before.commands),
+  sym (nothing_later before.refused),
+  refl,
+  Takes-nil log,
+  carries_none finished world bytes,
 )
 
-pub answers_more : (limits : LimitTable) (script : List ℕ) (met refused : ℕ) (world after : World) (rest left text : List ℕ)
-    (old now new : Option (List ℕ)) (waits left_waiting : List ℕ)
-    → SoFar limits script met refused world rest old now waits → Meets world rest after left kinds.Answer text
-    → Gathers now waits new left_waiting (encode_utf8_all text) true
-    → SoFar limits script (met + 1) refused after left old new left_waiting
-answers_more limits script met refused world after rest left text old now new waits left_waiting so_far meets gathers =
-    let same : refused + 0 ≡ refused = omega arith in
-    rw same at (so_far_more limits script met refused world after rest left text false old now new waits left_waiting so_far meets gathers)
-
-pub refuses_more : (limits : LimitTable) (script : List ℕ) (met refused : ℕ) (world after : World) (rest left text : List ℕ)
-    (old now new : Option (List ℕ)) (waits left_waiting : List ℕ)
-    → SoFar limits script met refused world rest old now waits → Meets world rest after left kinds.Refusal text
-    → Gathers now waits new left_waiting (encode_utf8_all text) true
-    → SoFar limits script (met + 1) (refused + 1) after left old new left_waiting
-refuses_more limits script met refused world after rest left text old now new waits left_waiting so_far meets gathers =
-    so_far_more limits script met refused world after rest left text true old now new waits left_waiting so_far meets gathers
-
--- the last text of a run
-whole_last : (limits : LimitTable) (script : List ℕ) (met refused : ℕ) (out : List ℕ) (world : World) (rest text : List ℕ) (fault : Option ScriptFault)
-    → Continues limits script met refused out world rest → ReadsScript rest [] fault → text ≡ last_piece fault
-    → Whole limits script met refused fault (out ++ text)
-whole_last limits script met refused out world rest text fault goes_on reads is =
-    let whole = goes_on [] fault text 0 reads (is, refl) in
-    let counts : refused + 0 ≡ refused = omega arith in
-    (whole.0, whole.1, rw counts at whole.2, none_more met (length whole.0) whole.3)
-
-ended : (limits : LimitTable) (script : List ℕ) (met refused : ℕ) (world : World) (rest text : List ℕ) (fault : Option ScriptFault)
-    (old now new : Option (List ℕ)) (waits left_waiting : List ℕ)
-    → SoFar limits script met refused world rest old now waits → ReadsScript rest [] fault → text ≡ last_piece fault
-    → Gathers now waits new left_waiting (encode_utf8_all text) true
-    → Ended limits script met refused fault old new left_waiting
-ended limits script met refused world rest text fault old now new waits left_waiting so_far reads is gathers = (
-  so_far.0 ++ text,
-  so_far.1 ++ gathers.0,
-  more_bytes so_far.0 text so_far.1 waits gathers.0 left_waiting so_far.2 gathers.1,
-  Appends-then old now new so_far.1 gathers.0 so_far.3 gathers.2,
-  whole_last limits script met refused so_far.0 world rest text fault so_far.4 reads is,
+-- a command more
+so_far_more : (finished : Bool) (old : World) (bytes : List ℕ) (before : RunSummary) (world after : World) (rest left text : List ℕ) (is_refused : Bool)
+    (all all_refused : ℕ) (sink_old sink new : WriteLog) (waits left_waiting : List ℕ)
+    → SoFar finished old bytes before world rest all all_refused sink_old sink waits
+    → MeetsCommand finished world rest after left is_refused text
+    → Gathers sink waits new left_waiting (encode_utf8_all text) true
+    → SoFar finished old bytes before after left (all + 1) (all_refused + cond is_refused 1 0) sink_old new left_waiting
+so_far_more finished old bytes before world after rest left text is_refused all all_refused sink_old sink new waits left_waiting so_far meets gathers = (
+  so_far.0 + 1,
+  so_far.1 + cond is_refused 1 0,
+  so_far.2 ++ text,
+  so_far.3 ++ gathers.0,
+  ap (λ n. n + 1) so_far.4 ∙ apart before.commands so_far.0 1,
+  ap (λ n. n + cond is_refused 1 0) so_far.5 ∙ apart before.refused so_far.1 (cond is_refused 1 0),
+  more_bytes so_far.2 text so_far.3 waits gathers.0 left_waiting so_far.6 gathers.1,
+  Takes-then sink_old sink new so_far.3 gathers.0 so_far.7 gathers.2,
+  carries_more finished old bytes so_far.0 so_far.1 so_far.2 world after rest left text is_refused so_far.8 meets,
 )
 
-pub ends : (limits : LimitTable) (script : List ℕ) (met refused : ℕ) (world after : World) (rest left text : List ℕ)
-    (old now new : Option (List ℕ)) (waits left_waiting : List ℕ)
-    → SoFar limits script met refused world rest old now waits → Meets world rest after left kinds.End text
-    → Gathers now waits new left_waiting (encode_utf8_all text) true
-    → Ended limits script met refused None old new left_waiting
-ends limits script met refused world after rest left text old now new waits left_waiting so_far meets gathers =
-    ended limits script met refused world rest text None old now new waits left_waiting so_far meets.0 meets.1 gathers
+pub answers_more : (finished : Bool) (old : World) (bytes : List ℕ) (before : RunSummary) (world after : World) (rest left text : List ℕ)
+    (all all_refused : ℕ) (sink_old sink new : WriteLog) (waits left_waiting : List ℕ)
+    → SoFar finished old bytes before world rest all all_refused sink_old sink waits
+    → Meets finished world rest after left kinds.Answer text
+    → Gathers sink waits new left_waiting (encode_utf8_all text) true
+    → SoFar finished old bytes before after left (all + 1) all_refused sink_old new left_waiting
+answers_more finished old bytes before world after rest left text all all_refused sink_old sink new waits left_waiting so_far meets gathers =
+    rw (nothing_later all_refused) at
+    (so_far_more finished old bytes before world after rest left text false all all_refused sink_old sink new waits left_waiting so_far meets gathers)
 
-pub faults : (limits : LimitTable) (script : List ℕ) (met refused : ℕ) (world after : World) (rest left text : List ℕ)
-    (old now new : Option (List ℕ)) (waits left_waiting : List ℕ)
-    → SoFar limits script met refused world rest old now waits → (meets : Meets world rest after left kinds.Fault text)
-    → Gathers now waits new left_waiting (encode_utf8_all text) true
-    → Ended limits script met refused (Some meets.0) old new left_waiting
-faults limits script met refused world after rest left text old now new waits left_waiting so_far meets gathers =
-    ended limits script met refused world rest text (Some meets.0) old now new waits left_waiting so_far meets.1 meets.2 gathers
+pub refuses_more : (finished : Bool) (old : World) (bytes : List ℕ) (before : RunSummary) (world after : World) (rest left text : List ℕ)
+    (all all_refused : ℕ) (sink_old sink new : WriteLog) (waits left_waiting : List ℕ)
+    → SoFar finished old bytes before world rest all all_refused sink_old sink waits
+    → Meets finished world rest after left kinds.Refusal text
+    → Gathers sink waits new left_waiting (encode_utf8_all text) true
+    → SoFar finished old bytes before after left (all + 1) (all_refused + 1) sink_old new left_waiting
+refuses_more finished old bytes before world after rest left text all all_refused sink_old sink new waits left_waiting so_far meets gathers =
+    so_far_more finished old bytes before world after rest left text true all all_refused sink_old sink new waits left_waiting so_far meets gathers
+
+-- a fault that is met in the rest, as a run of it
+holds_fault : (finished : Bool) (rest : List ℕ) (fault : ScriptFault) → HasFault finished rest fault → Holds finished rest [] (Some fault)
+holds_fault true rest fault has = has
+holds_fault false rest fault has = has
+
+-- where no command is left
+holds_none : (finished : Bool) (rest : List ℕ) → HasNoCommand finished rest → Holds finished rest [] None
+holds_none true rest none = none
+holds_none false rest none = tt
+
+-- the script ends at a fault
+runs_to_fault : (finished : Bool) (old : World) (bytes : List ℕ) (met refused : ℕ) (out : List ℕ) (world after : World) (rest left text : List ℕ)
+    → Carries finished old bytes met refused out world rest → (meets : Meets finished world rest after left kinds.Fault text)
+    → RunsBytes old finished bytes met refused (Some meets.0) (out ++ text)
+runs_to_fault finished old bytes met refused out world after rest left text carries meets =
+    let all = runs_all finished finished old bytes met refused out world rest 0 0 (Some meets.0) text (ends_so finished) carries
+    ([], holds_fault finished rest meets.0 meets.1, (meets.2, refl), refl) in
+    rw (nothing_later met, nothing_later refused) at all
+
+pub closes_at_fault : (finished : Bool) (old : World) (bytes : List ℕ) (before : RunSummary) (world after new_world : World) (rest left text : List ℕ)
+    (all all_refused : ℕ) (sink_old sink new : WriteLog) (waits left_waiting : List ℕ)
+    → SoFar finished old bytes before world rest all all_refused sink_old sink waits
+    → Meets finished world rest after left kinds.Fault text
+    → Gathers sink waits new left_waiting (encode_utf8_all text) true
+    → Closed finished old bytes before new_world left all all_refused true sink_old new left_waiting
+closes_at_fault finished old bytes before world after new_world rest left text all all_refused sink_old sink new waits left_waiting so_far meets gathers = (
+  so_far.0,
+  so_far.1,
+  so_far.2 ++ text,
+  so_far.3 ++ gathers.0,
+  so_far.4,
+  so_far.5,
+  more_bytes so_far.2 text so_far.3 waits gathers.0 left_waiting so_far.6 gathers.1,
+  Takes-then sink_old sink new so_far.3 gathers.0 so_far.7 gathers.2,
+  (meets.0, runs_to_fault finished old bytes so_far.0 so_far.1 so_far.2 world after rest left text so_far.8 meets),
+)
+
+pub closes_at_end : (finished : Bool) (old : World) (bytes : List ℕ) (before : RunSummary) (world after : World) (rest left text : List ℕ)
+    (all all_refused : ℕ) (sink_old sink new : WriteLog) (waits left_waiting : List ℕ)
+    → SoFar finished old bytes before world rest all all_refused sink_old sink waits
+    → Meets finished world rest after left kinds.End text
+    → Gathers sink waits new left_waiting (encode_utf8_all text) true
+    → Closed finished old bytes before after left all all_refused false sink_old new left_waiting
+closes_at_end finished old bytes before world after rest left text all all_refused sink_old sink new waits left_waiting so_far meets gathers =
+    let out : so_far.2 ++ text ≡ so_far.2 = ap (λ xs. so_far.2 ++ xs) meets.3 ∙ append-nil so_far.2 in (
+      so_far.0,
+      so_far.1,
+      so_far.2,
+      so_far.3 ++ gathers.0,
+      so_far.4,
+      so_far.5,
+      sym (ap encode_utf8_all out) ∙ more_bytes so_far.2 text so_far.3 waits gathers.0 left_waiting so_far.6 gathers.1,
+      Takes-then sink_old sink new so_far.3 gathers.0 so_far.7 gathers.2,
+      (
+        rw (meets.1, meets.2) so_far.8,
+        rw meets.2 meets.0,
+      ),
+    )
 
 -- all that waited is written
-pub writes_run : (limits : LimitTable) (script : List ℕ) (fault : Option ScriptFault) (summary : RunSummary) (old now new : Option (List ℕ)) (waits : List ℕ)
-    → Ended limits script summary.commands summary.refused fault old now waits → summary.script_fault ≡ is_some fault → Sends now new waits true
-    → WritesRun limits script old new summary
-writes_run limits script fault summary old now new waits end is sends =
-    (end.4.0, fault, end.0, end.4.1, end.4.2, rw end.2 (Appends-then old now new end.1 waits end.3 sends), end.4.3, is)
+pub closed_ok : {T : Type 0} (result : Result T RunFault) (unread : Unread) (old : World) (before : RunSummary) (new : World) (left : List ℕ) (after : RunSummary)
+    (sink_old sink sink_new : WriteLog) (waits : List ℕ)
+    → Closed unread.finished old unread.rest before new left after.commands after.refused after.script_fault sink_old sink waits
+    → Sends sink sink_new waits (is_ok result)
+    → OnOk result (Carried old unread before new left after sink_old sink_new)
+closed_ok (Ok value) unread old before new left after sink_old sink sink_new waits closed sends = (
+  closed.0,
+  closed.1,
+  closed.2,
+  closed.8,
+  closed.4,
+  closed.5,
+  rw closed.6 (Takes-then sink_old sink sink_new closed.3 waits closed.7 sends),
+)
+closed_ok (Err fault) unread old before new left after sink_old sink sink_new waits closed sends = tt
+
+-- a run of the bytes that prints this
+runs_closed : (finished : Bool) (old : World) (bytes : List ℕ) (met refused : ℕ) (out : List ℕ) (new : World) (left : List ℕ) (faulted : Bool)
+    → CarriesOut finished old bytes met refused out new left faulted
+    → (fault : Option ScriptFault) × RunsBytes old finished bytes met refused fault out
+runs_closed finished old bytes met refused out new left false carries =
+    (None, runs_so_far finished finished old bytes met refused out new left (ends_so finished) carries.0 (holds_none finished left carries.1))
+runs_closed finished old bytes met refused out new left true carries = (Some carries.0, carries.1)
 
 -- the writer fails at what waited
-pub writes_front : (limits : LimitTable) (script : List ℕ) (met refused : ℕ) (fault : Option ScriptFault) (old now new : Option (List ℕ)) (waits : List ℕ)
-    → Ended limits script met refused fault old now waits → Sends now new waits false → WritesFront limits script old new
-writes_front limits script met refused fault old now new waits end sends = (
-  end.4.0,
-  fault,
-  end.0,
-  refused,
-  end.1 ++ sends.0,
-  sends.1,
-  end.4.1,
-  end.4.2,
-  end.2 ∙ ap (λ xs. end.1 ++ xs) sends.2 ∙ sym (append_assoc end.1 sends.0 sends.1),
-  Appends-then old now new end.1 sends.0 end.3 sends.3,
-)
+pub closed_err : {T : Type 0} (result : Result T RunFault) (finished : Bool) (old : World) (bytes : List ℕ) (before : RunSummary) (new : World) (left : List ℕ)
+    (all all_refused : ℕ) (faulted : Bool) (sink_old sink sink_new : WriteLog) (waits : List ℕ)
+    → Closed finished old bytes before new left all all_refused faulted sink_old sink waits
+    → Sends sink sink_new waits (is_ok result)
+    → OnErr result (Cuts old finished bytes sink_old sink_new)
+closed_err (Ok value) finished old bytes before new left all all_refused faulted sink_old sink sink_new waits closed sends = tt
+closed_err (Err fault) finished old bytes before new left all all_refused faulted sink_old sink sink_new waits closed sends =
+    let runs = runs_closed finished old bytes closed.0 closed.1 closed.2 new left faulted closed.8 in (
+      closed.0,
+      closed.1,
+      runs.0,
+      closed.2,
+      closed.3 ++ sends.0,
+      sends.1,
+      runs.1,
+      closed.6 ∙ ap (λ xs. closed.3 ++ xs) sends.2 ∙ sym (append_assoc closed.3 sends.0 sends.1),
+      Takes-then sink_old sink sink_new closed.3 sends.0 closed.7 sends.3,
+    )
 
--- a run of the script that begins with this text
-abbrev Begins : LimitTable → List ℕ → List ℕ → Type 0
-Begins limits script out =
-    (met : ℕ) × (refused : ℕ) × (fault : Option ScriptFault) × (more : List ℕ) × Whole limits script met refused fault (out ++ more)
+-- a run of the bytes that begins with this text
+abbrev Begins : World → Bool → List ℕ → List ℕ → Type 0
+Begins world ended bytes out =
+    (met : ℕ) × (refused : ℕ) × (fault : Option ScriptFault) × (more : List ℕ) × RunsBytes world ended bytes met refused fault (out ++ more)
 
-begins : (limits : LimitTable) (script : List ℕ) (met refused : ℕ) (out : List ℕ) (world : World) (rest : List ℕ)
-    → Continues limits script met refused out world rest → Begins limits script out
-begins limits script met refused out world rest goes_on =
-    let reading = a_reading rest in let commands = reading.0 in let fault = reading.1 in (
+begins : (finished : Bool) (old : World) (bytes : List ℕ) (met refused : ℕ) (out : List ℕ) (world : World) (rest : List ℕ)
+    → Carries finished old bytes met refused out world rest → Begins old finished bytes out
+begins true old bytes met refused out world rest carries =
+    let reading = a_reading rest in let commands = reading.0 in let fault = reading.1 in
+    let text = run_output world commands fault in (
       met + length commands,
       refused + refused_count world commands,
       fault,
-      run_output world commands fault,
-      goes_on commands fault (run_output world commands fault) (refused_count world commands) reading.2 (plain_runs commands world fault),
+      text,
+      runs_all true true old bytes met refused out world rest (length commands) (refused_count world commands) fault text (refl, refl) carries
+          (commands, reading.2, plain_runs commands world fault, refl),
     )
+begins false old bytes met refused out world rest carries =
+    (met, refused, None, [], rw (append-nil out) (runs_so_far false false old bytes met refused out world rest tt carries tt))
 
-begins_with : (limits : LimitTable) (script : List ℕ) (met refused : ℕ) (out : List ℕ) (world after : World) (rest left text : List ℕ) (found : Met)
-    → Continues limits script met refused out world rest → Meets world rest after left found text → Begins limits script (out ++ text)
-begins_with limits script met refused out world after rest left text kinds.Answer goes_on meets =
-    begins limits script (met + 1) (refused + 0) (out ++ text) after left
-    (continues_more limits script met refused out world after rest left text false goes_on meets)
-begins_with limits script met refused out world after rest left text kinds.Refusal goes_on meets =
-    begins limits script (met + 1) (refused + 1) (out ++ text) after left
-    (continues_more limits script met refused out world after rest left text true goes_on meets)
-begins_with limits script met refused out world after rest left text kinds.Fault goes_on meets = (
+begins_with : (finished : Bool) (old : World) (bytes : List ℕ) (met refused : ℕ) (out : List ℕ) (world after : World) (rest left text : List ℕ) (found : Met)
+    → Carries finished old bytes met refused out world rest → Meets finished world rest after left found text
+    → Begins old finished bytes (out ++ text)
+begins_with finished old bytes met refused out world after rest left text kinds.Answer carries meets =
+    begins finished old bytes (met + 1) (refused + 0) (out ++ text) after left
+    (carries_more finished old bytes met refused out world after rest left text false carries meets)
+begins_with finished old bytes met refused out world after rest left text kinds.Refusal carries meets =
+    begins finished old bytes (met + 1) (refused + 1) (out ++ text) after left
+    (carries_more finished old bytes met refused out world after rest left text true carries meets)
+begins_with finished old bytes met refused out world after rest left text kinds.Fault carries meets = (
   met,
   refused,
   Some meets.0,
   [],
-  rw append-nil (whole_last limits script met refused out world rest text (Some meets.0) goes_on meets.1 meets.2),
+  rw (append-nil (out ++ text)) (runs_to_fault finished old bytes met refused out world after rest left text carries meets),
 )
-begins_with limits script met refused out world after rest left text kinds.End goes_on meets =
-    (met, refused, None, [], rw append-nil (whole_last limits script met refused out world rest text None goes_on meets.0 meets.1))
-
--- a front of what such a run prints was written
-front_of : (limits : LimitTable) (script out front back : List ℕ) (old new : Option (List ℕ)) → Begins limits script out
-    → encode_utf8_all out ≡ front ++ back → Appends old new front → WritesFront limits script old new
-front_of limits script out front back old new begun is appends = (
-  begun.4.0,
-  begun.2,
-  out ++ begun.3,
-  begun.1,
-  front,
-  back ++ encode_utf8_all begun.3,
-  begun.4.1,
-  begun.4.2,
-  encodes-append out begun.3 ∙ ap (λ xs. xs ++ encode_utf8_all begun.3) is ∙ append_assoc front back (encode_utf8_all begun.3),
-  appends,
-)
+begins_with finished old bytes met refused out world after rest left text kinds.End carries meets =
+    let same : out ++ text ≡ out = ap (λ xs. out ++ xs) meets.3 ∙ append-nil out in (
+      met,
+      refused,
+      None,
+      [],
+      rw (append-nil (out ++ text), same)
+          (runs_so_far finished finished old bytes met refused out world rest (ends_so finished) carries (holds_none finished rest meets.0)),
+    )
 
 -- the writer fails at this text
-pub cuts : (limits : LimitTable) (script : List ℕ) (met refused : ℕ) (world after : World) (rest left text : List ℕ) (found : Met)
-    (old now new : Option (List ℕ)) (waits left_waiting : List ℕ)
-    → SoFar limits script met refused world rest old now waits → Meets world rest after left found text
-    → Gathers now waits new left_waiting (encode_utf8_all text) false
-    → WritesFront limits script old new
-cuts limits script met refused world after rest left text found old now new waits left_waiting so_far meets gathers =
-    front_of limits script (so_far.0 ++ text) (so_far.1 ++ gathers.0) gathers.1 old new
-    (begins_with limits script met refused so_far.0 world after rest left text found so_far.4 meets)
-    (more_bytes so_far.0 text so_far.1 waits gathers.0 gathers.1 so_far.2 gathers.2)
-    (Appends-then old now new so_far.1 gathers.0 so_far.3 gathers.3)
-
--- nothing was written
-pub nothing_written : (limits : LimitTable) (script : List ℕ) (known : Option (List ℕ)) → WritesFront limits script known known
-nothing_written limits script known =
-    front_of limits script [] [] [] known known
-    (begins limits script 0 0 [] (no_documents limits) script (continues_all limits script)) refl (Appends-nil known)
-
-pub nothing_written_of_read : (limits : LimitTable) (script read : List ℕ) (unread known : Option (List ℕ)) → Consumes (Some script) unread read
-    → WritesFrontOfRead limits script unread known known
-nothing_written_of_read limits script read None known consumed = tt
-nothing_written_of_read limits script read (Some unread) known consumed =
-    (read, consumed.2 ∙ ap (λ known_bytes. read ++ unwrap_or known_bytes []) (sym consumed.1), [], None, [], 0, [], [], tt, (refl, refl), refl, Appends-nil known)
-
-pub nothing_written_of_known : (limits : LimitTable) (read known : Option (List ℕ)) → IfSome read (λ script. WritesFront limits script known known)
-nothing_written_of_known limits None known = tt
-nothing_written_of_known limits (Some script) known = nothing_written limits script known
-
-pub nothing_written_of_part : (limits : LimitTable) (old unread known : Option (List ℕ)) (read : List ℕ) → Consumes old unread read
-    → IfSome old (λ script. WritesFrontOfRead limits script unread known known)
-nothing_written_of_part limits None unread known read consumed = tt
-nothing_written_of_part limits (Some script) unread known read consumed = nothing_written_of_read limits script read unread known consumed
-
--- the same fault, whatever the run answers
-pub same_fault : {A B E : Type 0} (fault other : E) → IsErrOf {T = A} (Err fault) other → IsErrOf {T = B} (Err fault) other
-same_fault fault other is = ap Err (same_Some fault other (ap result_err is))
-
-pub one_of_faults : {A B E : Type 0} (fault other another : E) → IsErrOf {T = A} (Err fault) other ⊎ IsErrOf {T = A} (Err fault) another
-    → IsErrOf {T = B} (Err fault) other ⊎ IsErrOf {T = B} (Err fault) another
-one_of_faults fault other another (inl is) = inl (same_fault fault other is)
-one_of_faults fault other another (inr is) = inr (same_fault fault another is)
-
--- what waited is written at the end, or the writer fails
-pub ended_run : (limits : LimitTable) (script : List ℕ) (fault : Option ScriptFault) (summary : RunSummary) (result : Result RunSummary RunFault)
-    (old now new : Option (List ℕ)) (waits : List ℕ) → Ended limits script summary.commands summary.refused fault old now waits
-    → summary.script_fault ≡ is_some fault → Sends now new waits (is_ok result) → IfOk result (λ ended. ended ≡ summary)
-    → IfOk result (λ ended. WritesRun limits script old new ended)
-ended_run limits script fault summary (Ok ended) old now new waits end is sends same =
-    rw same (writes_run limits script fault summary old now new waits end is sends)
-ended_run limits script fault summary (Err run_fault) old now new waits end is sends same = tt
-
-pub ended_front : (limits : LimitTable) (script : List ℕ) (fault : Option ScriptFault) (met refused : ℕ) (result : Result RunSummary RunFault)
-    (old now new : Option (List ℕ)) (waits : List ℕ) → Ended limits script met refused fault old now waits
-    → Sends now new waits (is_ok result) → OnErr result (WritesFront limits script old new)
-ended_front limits script fault met refused (Ok ended) old now new waits end sends = tt
-ended_front limits script fault met refused (Err run_fault) old now new waits end sends =
-    writes_front limits script met refused fault old now new waits end sends
+pub cuts : (finished : Bool) (old : World) (bytes : List ℕ) (before : RunSummary) (world after : World) (rest left text : List ℕ) (found : Met)
+    (all all_refused : ℕ) (sink_old sink new : WriteLog) (waits left_waiting : List ℕ)
+    → SoFar finished old bytes before world rest all all_refused sink_old sink waits
+    → Meets finished world rest after left found text
+    → Gathers sink waits new left_waiting (encode_utf8_all text) false
+    → Cuts old finished bytes sink_old new
+cuts finished old bytes before world after rest left text found all all_refused sink_old sink new waits left_waiting so_far meets gathers =
+    let begun = begins_with finished old bytes so_far.0 so_far.1 so_far.2 world after rest left text found so_far.8 meets in
+    let is = more_bytes so_far.2 text so_far.3 waits gathers.0 gathers.1 so_far.6 gathers.2 in (
+      begun.0,
+      begun.1,
+      begun.2,
+      (so_far.2 ++ text) ++ begun.3,
+      so_far.3 ++ gathers.0,
+      gathers.1 ++ encode_utf8_all begun.3,
+      begun.4,
+      encodes-append (so_far.2 ++ text) begun.3 ∙ ap (λ xs. xs ++ encode_utf8_all begun.3) is
+          ∙ append_assoc (so_far.3 ++ gathers.0) gathers.1 (encode_utf8_all begun.3),
+      Takes-then sink_old sink new so_far.3 gathers.0 so_far.7 gathers.3,
+    )
 
 -- a turn of which it is known what it met and whether the writer failed
-abbrev pub Turned : World → World → List ℕ → List ℕ → Option (List ℕ) → Option (List ℕ) → List ℕ → List ℕ → Met → Bool → Type 0
-Turned world after rest left now new waits left_waiting found done =
-    (text : List ℕ) × Meets world rest after left found text × Gathers now waits new left_waiting (encode_utf8_all text) done
+abbrev pub Turned : Bool → World → World → List ℕ → List ℕ → WriteLog → WriteLog → List ℕ → List ℕ → Met → Bool → Type 0
+Turned finished world after rest left sink new waits left_waiting found done =
+    (text : List ℕ) × Meets finished world rest after left found text × Gathers sink waits new left_waiting (encode_utf8_all text) done
 
 from_not : (done is_cut : Bool) → not done ≡ is_cut → done ≡ not is_cut
 from_not true is_cut is = ap not is
 from_not false is_cut is = ap not is
 
-pub turned : (world after : World) (rest left : List ℕ) (now new : Option (List ℕ)) (waits left_waiting : List ℕ) (found kind : Met) (done is_cut : Bool)
-    → found ≡ kind → not done ≡ is_cut → Turned world after rest left now new waits left_waiting found done
-    → Turned world after rest left now new waits left_waiting kind (not is_cut)
-turned world after rest left now new waits left_waiting found kind done is_cut is cut turn =
+pub turned : (finished : Bool) (world after : World) (rest left : List ℕ) (sink new : WriteLog) (waits left_waiting : List ℕ) (found kind : Met) (done is_cut : Bool)
+    → found ≡ kind → not done ≡ is_cut → Turned finished world after rest left sink new waits left_waiting found done
+    → Turned finished world after rest left sink new waits left_waiting kind (not is_cut)
+turned finished world after rest left sink new waits left_waiting found kind done is_cut is cut turn =
     let is_done = from_not done is_cut cut in rw (is, is_done) at turn
+
+-- From old to new reads were made, and the commands that are whole in the bytes that they brought were carried out and
+-- answered.
+abbrev pub Running : LimitTable → ReadLog → ReadLog → WriteLog → WriteLog → World → List ℕ → ℕ → ℕ → Type 0
+Running limits source_old source sink_old sink world rest met refused =
+    (read : List ℕ) × (out : List ℕ) × HandsOut source_old source read false × Takes sink_old sink (encode_utf8_all out)
+    × Carries false (no_documents limits) read met refused out world rest
+
+pub running_none : (limits : LimitTable) (source : ReadLog) (sink : WriteLog)
+    → Running limits source source sink sink (no_documents limits) [] 0 0
+running_none limits source sink = ([], [], HandsOut-nil source, Takes-nil sink, carries_none false (no_documents limits) [])
+
+-- the last read brought this, but no more is run
+pub running_lost : (limits : LimitTable) (source_old source source_new : ReadLog) (sink_old sink : WriteLog) (world : World) (rest : List ℕ) (met refused : ℕ) (piece : List ℕ)
+    → Running limits source_old source sink_old sink world rest met refused → HandsOut source source_new piece false
+    → WritesFront limits source_old source_new sink_old sink
+running_lost limits source_old source source_new sink_old sink world rest met refused piece running hands =
+    let runs = runs_so_far false false (no_documents limits) (running.0 ++ piece) met refused running.1 world (rest ++ piece) tt
+    (carries_fed (no_documents limits) running.0 met refused running.1 world rest piece running.4) tt in (
+      running.0 ++ piece,
+      false,
+      runs.0,
+      None,
+      running.1,
+      refused,
+      encode_utf8_all running.1,
+      [],
+      HandsOut-then source_old source source_new running.0 piece false running.2 hands,
+      runs.1,
+      runs.2,
+      sym (append-nil (encode_utf8_all running.1)),
+      running.3,
+    )
+
+pub running_stops : (limits : LimitTable) (source_old source : ReadLog) (sink_old sink : WriteLog) (world : World) (rest : List ℕ) (met refused : ℕ)
+    → Running limits source_old source sink_old sink world rest met refused → WritesFront limits source_old source sink_old sink
+running_stops limits source_old source sink_old sink world rest met refused running =
+    running_lost limits source_old source source sink_old sink world rest met refused [] running (HandsOut-nil source)
+
+-- the writer fails at what the last read brought
+pub running_cut : (limits : LimitTable) (source_old source source_new : ReadLog) (sink_old sink sink_new : WriteLog) (world : World) (rest : List ℕ) (met refused : ℕ)
+    (unread_now : Unread) (ended : Bool) → Running limits source_old source sink_old sink world rest met refused
+    → Feeds source source_new rest unread_now ended → Cuts world unread_now.finished unread_now.rest sink sink_new
+    → WritesFront limits source_old source_new sink_old sink_new
+running_cut limits source_old source source_new sink_old sink sink_new world rest met refused unread_now ended running feeds cut_by =
+    let piece = feeds.0 in
+    let cut = rw feeds.3 at cut_by in
+    let runs = runs_all false ended (no_documents limits) (running.0 ++ piece) met refused running.1 world (rest ++ piece) cut.0 cut.1 cut.2 cut.3 tt
+    (carries_fed (no_documents limits) running.0 met refused running.1 world rest piece running.4) cut.6 in (
+      running.0 ++ piece,
+      ended,
+      runs.0,
+      cut.2,
+      running.1 ++ cut.3,
+      refused + cut.1,
+      encode_utf8_all running.1 ++ cut.4,
+      cut.5,
+      HandsOut-then source_old source source_new running.0 piece ended running.2 feeds.1,
+      runs.1,
+      runs.2,
+      encodes-append running.1 cut.3 ∙ ap (λ xs. encode_utf8_all running.1 ++ xs) cut.7 ∙ sym (append_assoc (encode_utf8_all running.1) cut.4 cut.5),
+      Takes-then sink_old sink sink_new (encode_utf8_all running.1) cut.4 running.3 cut.8,
+    )
+
+-- the run goes on behind what a read brought
+pub running_more : (limits : LimitTable) (source_old source source_new : ReadLog) (sink_old sink sink_new : WriteLog) (world : World) (rest : List ℕ)
+    (before : RunSummary) (unread_now : Unread) (new : World) (left : List ℕ) (after : RunSummary)
+    → Running limits source_old source sink_old sink world rest before.commands before.refused
+    → Feeds source source_new rest unread_now false → Carried world unread_now before new left after sink sink_new → after.script_fault ≡ false
+    → Running limits source_old source_new sink_old sink_new new left after.commands after.refused
+running_more limits source_old source source_new sink_old sink sink_new world rest before unread_now new left after running feeds carried_by unfaulted =
+    let piece = feeds.0 in
+    let carried = rw (feeds.3, unfaulted) at carried_by in (
+      running.0 ++ piece,
+      running.1 ++ carried.2,
+      HandsOut-then source_old source source_new running.0 piece false running.2 feeds.1,
+      rw (encodes-append running.1 carried.2)
+          (Takes-then sink_old sink sink_new (encode_utf8_all running.1) (encode_utf8_all carried.2) running.3 carried.6),
+      rw (carried.4, carried.5)
+          (carries_then false (no_documents limits) (running.0 ++ piece) before.commands before.refused running.1 world (rest ++ piece) carried.0 carried.1
+          carried.2 new left (carries_fed (no_documents limits) running.0 before.commands before.refused running.1 world rest piece running.4) carried.3.0),
+    )
+
+or_fault : (ended : Bool) → (ended || true) ≡ true
+or_fault true = refl
+or_fault false = refl
+
+-- a whole run
+run_of : (limits : LimitTable) (source_old source source_new : ReadLog) (sink_old sink sink_new : WriteLog) (world : World) (rest : List ℕ)
+    (before after : RunSummary) (ended : Bool) (piece : List ℕ) (met refused : ℕ) (fault : Option ScriptFault) (text : List ℕ)
+    → Running limits source_old source sink_old sink world rest before.commands before.refused
+    → HandsOut source source_new piece ended → RunsBytes world ended (rest ++ piece) met refused fault text → (ended || is_some fault) ≡ true
+    → after.commands ≡ before.commands + met → after.refused ≡ before.refused + refused → after.script_fault ≡ is_some fault
+    → Takes sink sink_new (encode_utf8_all text) → WritesRun limits source_old source_new sink_old sink_new after
+run_of limits source_old source source_new sink_old sink sink_new world rest before after ended piece met refused fault text running hands runs_rest over all all_refused faulted takes =
+    let runs = runs_all false ended (no_documents limits) (running.0 ++ piece) before.commands before.refused running.1 world (rest ++ piece) met refused fault text tt
+    (carries_fed (no_documents limits) running.0 before.commands before.refused running.1 world rest piece running.4) runs_rest in (
+      running.0 ++ piece,
+      ended,
+      runs.0,
+      fault,
+      running.1 ++ text,
+      HandsOut-then source_old source source_new running.0 piece ended running.2 hands,
+      runs.1,
+      over,
+      rw all_refused runs.2,
+      rw (encodes-append running.1 text)
+          (Takes-then sink_old sink sink_new (encode_utf8_all running.1) (encode_utf8_all text) running.3 takes),
+      all ∙ runs.3,
+      faulted,
+    )
+
+-- the run ends at a script fault
+pub run_to_fault : (limits : LimitTable) (source_old source source_new : ReadLog) (sink_old sink sink_new : WriteLog) (world : World) (rest : List ℕ)
+    (before : RunSummary) (unread_now : Unread) (ended : Bool) (new : World) (left : List ℕ) (after : RunSummary)
+    → Running limits source_old source sink_old sink world rest before.commands before.refused
+    → Feeds source source_new rest unread_now ended → Carried world unread_now before new left after sink sink_new → after.script_fault ≡ true
+    → WritesRun limits source_old source_new sink_old sink_new after
+run_to_fault limits source_old source source_new sink_old sink sink_new world rest before unread_now ended new left after running feeds carried_by faulted =
+    let carried = rw (feeds.3, faulted) at carried_by in
+    run_of limits source_old source source_new sink_old sink sink_new world rest before after ended feeds.0 carried.0 carried.1 (Some carried.3.0) carried.2
+    running feeds.1 carried.3.1 (or_fault ended) carried.4 carried.5 faulted carried.6
+
+-- the run ends with its script
+pub run_to_end : (limits : LimitTable) (source_old source source_new : ReadLog) (sink_old sink sink_new : WriteLog) (world : World) (rest : List ℕ)
+    (before : RunSummary) (unread_now : Unread) (new : World) (left : List ℕ) (after : RunSummary)
+    → Running limits source_old source sink_old sink world rest before.commands before.refused
+    → Feeds source source_new rest unread_now true → Carried world unread_now before new left after sink sink_new → after.script_fault ≡ false
+    → WritesRun limits source_old source_new sink_old sink_new after
+run_to_end limits source_old source source_new sink_old sink sink_new world rest before unread_now new left after running feeds carried_by unfaulted =
+    let carried = rw (feeds.3, unfaulted) at carried_by in
+    run_of limits source_old source source_new sink_old sink sink_new world rest before after true feeds.0 carried.0 carried.1 None carried.2
+    running feeds.1
+    (runs_so_far true true world (rest ++ feeds.0) carried.0 carried.1 carried.2 new left (refl, refl) carried.3.0 carried.3.1)
+    refl carried.4 carried.5 unfaulted carried.6
 
 one_past : (k n : ℕ) → k < n → suc k < suc n
 one_past k n below = omega (arith, below)

@@ -1,8 +1,7 @@
 -- What a turn of a run prints, and what it leaves.
-use Rattle.std.proofs.Common.{◌≡◌, ◌≢◌, ◌<◌, length, ℕ, Bool, true, List, None, inl, inr, refl, ap, rules}
+use Rattle.std.proofs.Common.{◌≡◌, ◌≢◌, ◌<◌, length, ℕ, Bool, true, List, [], None, inl, inr, refl, ap, rules}
 use Rattle.std.specs.Prelude.{Result, Ok, Err, IfErr, is_err}
-use Rattle.tcl_words.specs.ScriptGrammar.{MeetsFault}
-use Rattle.tcl_words.specs.Unread.{Unread, TakesCommand, StopsAt}
+use Rattle.tcl_words.specs.Unread.{Unread, TakesCommand, HasFault, HasNoCommand, StopsAt}
 use Rattle.tcl_words.specs.declared.fault.ScriptFault.{ScriptFault}
 use Rattle.peers.specs.declared.answers.Answer.{Answer}
 use Rattle.peers.specs.declared.answers.Fault.{Fault}
@@ -29,22 +28,25 @@ replies world new words (Ok answer) same goes kept = by_step world new words (Ok
 replies world new words (Err fault.Memory) same goes kept = inr (refl, refl, kept)
 replies world new words (Err fault) same goes kept = by_step world new words (Err fault) (same (search rules)) (goes (search rules))
 
--- the command that is taken at the end of the script
+-- the command that is taken
 pub meets : (world after : World) (old new : Unread) (words : List (List ℕ)) (refused : Bool) (text : List ℕ)
-    → old.finished ≡ true → length new.rest < length old.rest → TakesCommand old words new → Replies world after words refused text
-    → MeetsCommand world old.rest after new.rest refused text
-meets world after old new words refused text finished shorter takes reply =
-    let next = rw finished at takes.4 in (words, takes.0, takes.2, shorter, next, reply)
+    → length new.rest < length old.rest → TakesCommand old words new → Replies world after words refused text
+    → MeetsCommand old.finished world old.rest after new.rest refused text
+meets world after old new words refused text shorter takes reply = (words, takes.0, takes.2, shorter, takes.4, reply)
 
--- the fault that is met at the end of the script
-pub meets_fault : (old new : Unread) (fault : ScriptFault) → old.finished ≡ true → old.fault ≡ None → StopsAt old fault new → MeetsFault old.rest fault
-meets_fault old new fault finished none stops =
-    let is = stops.0 in let at_none = rw none at is in rw finished at at_none
+-- the fault that is met
+pub meets_fault : (old new : Unread) (fault : ScriptFault) → old.fault ≡ None → StopsAt old fault new → HasFault old.finished old.rest fault
+meets_fault old new fault none stops = let is = stops.0 in rw none at is
+
+-- no command is at hand
+pub meets_end : (world : World) (old new : Unread) → new ≡ old → HasNoCommand old.finished old.rest
+    → Meets old.finished world old.rest world new.rest met.End []
+meets_end world old new same none = (none, refl, ap (λ (u : Unread). u.rest) same, refl)
 
 -- a command that was met goes on, and is refused or not
-pub meets_command : (met : Met) (world after : World) (rest left text : List ℕ) → goes_on met ≡ true
-    → MeetsCommand world rest after left (is_refusal met) text → Meets world rest after left met text
-meets_command met.Answer world after rest left text on meets = meets
-meets_command met.Refusal world after rest left text on meets = meets
-meets_command met.Fault world after rest left text on meets = absurd (false≢true on)
-meets_command met.End world after rest left text on meets = absurd (false≢true on)
+pub meets_command : (met : Met) (finished : Bool) (world after : World) (rest left text : List ℕ) → goes_on met ≡ true
+    → MeetsCommand finished world rest after left (is_refusal met) text → Meets finished world rest after left met text
+meets_command met.Answer finished world after rest left text on meets = meets
+meets_command met.Refusal finished world after rest left text on meets = meets
+meets_command met.Fault finished world after rest left text on meets = absurd (false≢true on)
+meets_command met.End finished world after rest left text on meets = absurd (false≢true on)

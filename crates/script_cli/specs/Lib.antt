@@ -1,3 +1,4 @@
+pub mod Carrying
 pub mod Devices
 pub mod Pieces
 pub mod PlainRun
@@ -5,4 +6,5 @@ pub mod Reading
 pub mod Run
 pub mod Sending
 pub mod Status
+pub mod Told
 pub mod Turns

@@ -1,19 +1,19 @@
--- What reading a whole script does.
-use Rattle.std.specs.Prelude.{◌≡◌, ℕ, ◌≤◌, true, false, List, [], length, Option, None}
-use Rattle.tcl_words.specs.Unread.{Unread, fed}
-use Rattle.script_cli.specs.Devices.{Consumes, IsAtEnd}
+-- What a read brings to a script.
+use Rattle.std.specs.Prelude.{◌≡◌, ℕ, ◌≤◌, Bool, true, false, List, ◌++◌, length, None}
+use Rattle.tcl_words.specs.Unread.{Unread}
+use Rattle.script_cli.specs.Devices.{ReadLog, HandsOut}
 use Rattle.script_cli.specs.declared.reading.Brought.{Brought}
 use Rattle.script_cli.specs.declared.reading.Brought.TheVariants.{Bytes, End}
 
--- a script of these bytes so far, of which no command was given
-abbrev pub read_so_far : List ℕ → Unread
-read_so_far bytes = record { rest = bytes; finished = false; fault = None }
+-- a script of which these bytes are left, and whether it ends with them; no fault was met
+abbrev pub unread : List ℕ → Bool → Unread
+unread rest finished = record { rest = rest; finished = finished; fault = None }
 
--- a whole script of these bytes, of which no command was given
-abbrev pub whole_script : List ℕ → Unread
-whole_script bytes = record { rest = bytes; finished = true; fault = None }
+abbrev pub is_end : Brought → Bool
+is_end Bytes = false
+is_end End = true
 
--- a read fed the bytes that it took from the device, or met the end
-abbrev pub Feeds : Option (List ℕ) → Option (List ℕ) → Unread → Unread → Brought → Type 0
-Feeds old new unread after Bytes = (piece : List ℕ) × Consumes old new piece × (length piece ≤ 4096) × (after ≡ fed unread piece)
-Feeds old new unread after End = Consumes old new [] × IsAtEnd new × (after ≡ unread)
+-- From old to new a read handed out bytes, and perhaps the end, and these were fed.
+abbrev pub Feeds : ReadLog → ReadLog → List ℕ → Unread → Bool → Type 0
+Feeds old new rest after ended =
+    (piece : List ℕ) × HandsOut old new piece ended × (length piece ≤ 4096) × (after ≡ unread (rest ++ piece) ended)

@@ -1,5 +1,5 @@
 -- What a whole script prints.
-use Rattle.std.specs.Prelude.{◌≡◌, ℕ, ◌+◌, ◌⊎◌, List, [], ◌∷◌, ◌++◌, length, Option, None, Some, is_some, is_err, encode_utf8_all, Err, if◌then◌else◌}
+use Rattle.std.specs.Prelude.{◌≡◌, ℕ, ◌+◌, ◌⊎◌, Bool, true, false, ◌||◌, List, [], ◌∷◌, ◌++◌, length, Option, None, Some, is_some, is_err, encode_utf8_all, Err, if◌then◌else◌}
 use Rattle.text_model.specs.LimitTable.{LimitTable}
 use Rattle.tcl_words.specs.ScriptGrammar.{ReadsScript, ReadsFront}
 use Rattle.tcl_words.specs.declared.fault.ScriptFault.{ScriptFault}
@@ -7,7 +7,7 @@ use Rattle.peers.specs.declared.answers.Fault.TheVariants.{Memory}
 use Rattle.peers.specs.World.{World}
 use Rattle.peers.specs.Step.{step}
 use Rattle.script_cli.specs.declared.summary.RunSummary.{RunSummary}
-use Rattle.script_cli.specs.Devices.{Appends}
+use Rattle.script_cli.specs.Devices.{ReadLog, WriteLog, HandsOut, Takes}
 use Rattle.script_cli.specs.Pieces.{piece, error_line, script_fault_text}
 
 -- the world before the first command
@@ -42,28 +42,25 @@ RunsTo world (words ∷ commands) fault out refused =
     ⊎ ((rest : List ℕ) × (others : ℕ) × (out ≡ piece words (Err Memory) ++ rest)
     × (refused ≡ 1 + others) × RunsTo world commands fault rest others)
 
--- From old to new the run of a script was written, of which this is the summary.
-abbrev pub WritesRun : LimitTable → List ℕ → Option (List ℕ) → Option (List ℕ) → RunSummary → Type 0
-WritesRun limits script old new summary =
-    (commands : List (List (List ℕ))) × (fault : Option ScriptFault) × (out : List ℕ)
-    × ReadsScript script commands fault × RunsTo (no_documents limits) commands fault out summary.refused
-    × Appends old new (encode_utf8_all out)
+-- These commands stand in the bytes that were read, and then perhaps a fault: all those of the script where its end was
+-- met, and else those that are whole, with a fault that the bytes hold however they go on.
+abbrev pub Holds : Bool → List ℕ → List (List (List ℕ)) → Option ScriptFault → Type 0
+Holds true read commands fault = ReadsScript read commands fault
+Holds false read commands fault = ReadsFront read commands fault
+
+-- From old to new the reader handed out bytes, and the writer took the whole run of these, up to the script's end or its
+-- fault; this is its summary.
+abbrev pub WritesRun : LimitTable → ReadLog → ReadLog → WriteLog → WriteLog → RunSummary → Type 0
+WritesRun limits source_old source_new sink_old sink_new summary =
+    (read : List ℕ) × (ended : Bool) × (commands : List (List (List ℕ))) × (fault : Option ScriptFault) × (out : List ℕ)
+    × HandsOut source_old source_new read ended × Holds ended read commands fault × ((ended || is_some fault) ≡ true)
+    × RunsTo (no_documents limits) commands fault out summary.refused × Takes sink_old sink_new (encode_utf8_all out)
     × (summary.commands ≡ length commands) × (summary.script_fault ≡ is_some fault)
 
--- From old to new a front of the run of a script was written.
-abbrev pub WritesFront : LimitTable → List ℕ → Option (List ℕ) → Option (List ℕ) → Type 0
-WritesFront limits script old new =
-    (commands : List (List (List ℕ))) × (fault : Option ScriptFault) × (out : List ℕ) × (refused : ℕ)
-    × (front : List ℕ) × (back : List ℕ)
-    × ReadsScript script commands fault × RunsTo (no_documents limits) commands fault out refused
-    × (encode_utf8_all out ≡ front ++ back) × Appends old new front
-
--- The same of the commands that are whole in the bytes read, and of a fault that these hold however they go on.
-abbrev pub WritesFrontOfRead : LimitTable → List ℕ → Option (List ℕ) → Option (List ℕ) → Option (List ℕ) → Type 0
-WritesFrontOfRead limits script None old new = Unit {0}
-WritesFrontOfRead limits script (Some unread) old new =
-    (read : List ℕ) × (script ≡ read ++ unread)
-    × (commands : List (List (List ℕ))) × (fault : Option ScriptFault) × (out : List ℕ) × (refused : ℕ)
-    × (front : List ℕ) × (back : List ℕ)
-    × ReadsFront read commands fault × RunsTo (no_documents limits) commands fault out refused
-    × (encode_utf8_all out ≡ front ++ back) × Appends old new front
+-- From old to new the reader handed out bytes, and the writer took a front of the run of these.
+abbrev pub WritesFront : LimitTable → ReadLog → ReadLog → WriteLog → WriteLog → Type 0
+WritesFront limits source_old source_new sink_old sink_new =
+    (read : List ℕ) × (ended : Bool) × (commands : List (List (List ℕ))) × (fault : Option ScriptFault) × (out : List ℕ)
+    × (refused : ℕ) × (front : List ℕ) × (back : List ℕ)
+    × HandsOut source_old source_new read ended × Holds ended read commands fault
+    × RunsTo (no_documents limits) commands fault out refused × (encode_utf8_all out ≡ front ++ back) × Takes sink_old sink_new front

@@ -4,6 +4,7 @@
 mod devices;
 pub mod laws;
 mod output;
+mod passed_bytes;
 mod pieces;
 mod read_count;
 mod reading;

@@ -8,7 +8,7 @@ use std::marker::Model;
 #[tactic(auto, using(crate::proofs::SendingLaws::writing))]
 pub fn write_all<W: ByteSink>(sink: &mut W, bytes: &[u8]) -> bool
     requires { W.is_failed sink.old ≡ false }
-    ensures bytes { Sends (W.written sink.old) (W.written sink.new) bytes.now result }
+    ensures bytes { Sends (W.log sink.old) (W.log sink.new) bytes.now result }
     ensures flag { W.is_failed sink.new ≡ not result }
 {
     let mut sent = 0;
@@ -55,7 +55,7 @@ impl Output {
     #[tactic(auto, using(crate::proofs::SendingLaws::gathering))]
     pub fn push<W: ByteSink>(&mut self, sink: &mut W, bytes: &[u8]) -> bool
         requires { W.is_failed sink.old ≡ false }
-        ensures bytes { Gathers (W.written sink.old) self.old (W.written sink.new) self.new bytes.now result }
+        ensures bytes { Gathers (W.log sink.old) self.old (W.log sink.new) self.new bytes.now result }
         ensures flag { W.is_failed sink.new ≡ not result }
     {
         if self.has_room(bytes.len()) {
@@ -75,7 +75,7 @@ impl Output {
     /// Writes all that waits, and answers false where the writer fails.
     pub fn flush<W: ByteSink>(&mut self, sink: &mut W) -> bool
         requires { W.is_failed sink.old ≡ false }
-        ensures bytes { Sends (W.written sink.old) (W.written sink.new) self.old result }
+        ensures bytes { Sends (W.log sink.old) (W.log sink.new) self.old result }
         ensures flag { W.is_failed sink.new ≡ not result }
         ensures empty { self.new ≡ [] }
     {

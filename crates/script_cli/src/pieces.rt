@@ -97,7 +97,7 @@ impl<'a> Piece<'a> {
     /// Puts the bytes behind those that wait, and answers false where the writer fails.
     pub fn push_to<W: ByteSink>(&self, output: &mut Output, sink: &mut W) -> bool
         requires { W.is_failed sink.old ≡ false }
-        ensures bytes { Gathers (W.written sink.old) output.old (W.written sink.new) output.new self.now result }
+        ensures bytes { Gathers (W.log sink.old) output.old (W.log sink.new) output.new self.now result }
         ensures flag { W.is_failed sink.new ≡ not result }
     {
         if !output.push(sink, self.before.as_bytes()) {

@@ -2,7 +2,7 @@ ghost use Rattle.std.specs.Prelude.{◌≡◌, ◌+◌, ℕ};
 
 use std::marker::Model;
 
-/// How many reads were made, which only contracts can see.
+/// A number of reads, which only contracts can see.
 #[derive(Drop)]
 pub struct ReadCount {
     ghost count: { ℕ },

@@ -1,11 +1,11 @@
-ghost use Rattle.std.specs.Prelude.{◌≡◌, ◌+◌, ◌≤◌, ◌⊎◌, ◌^◌, true, false, IfOk, IfErr, OnOk, OnErr, IfSome, IsErrOf, is_ok, is_err, length};
-ghost use Rattle.script_cli.specs.Reading.{whole_script};
-ghost use Rattle.script_cli.specs.Run.{WritesRun, WritesFront, WritesFrontOfRead};
+ghost use Rattle.std.specs.Prelude.{◌≡◌, ◌≢◌, ◌+◌, ◌≤◌, ◌^◌, [], None, true, false, IfOk, IfErr, OnOk, OnErr, IsErrOf, is_ok, is_err, length};
+ghost use Rattle.script_cli.specs.Carrying.{Carried, Cuts};
+ghost use Rattle.script_cli.specs.Run.{WritesRun, WritesFront};
 ghost use Rattle.script_cli.specs.Sending.{Sends};
 
 use crate::devices::{ByteSink, ByteSource};
 use crate::output::Output;
-use crate::reading::read_all;
+use crate::reading::{Brought, feed_read};
 use crate::summary::{RunFault, RunSummary};
 use crate::turns::{Met, take_turn};
 use peers::World;
@@ -13,11 +13,13 @@ use std::alloc::Global;
 use tcl_words::Splitter;
 use text_model::{Limits, TextStore};
 
-/// Runs a script: reads all of it, carries out its commands in order, and writes the answer or the fault of each.
+/// Runs a script as it is read: after each read, of up to 4,096 bytes, carries out the commands that are whole, and writes
+/// the answer or the fault of each before it reads on. The end of the script ends its last command, and a script fault that
+/// the bytes hold however they go on ends the run.
 ///
-/// Where both devices tell their bytes, what is written is the answers and faults that one list of tagged characters
-/// per document, with marks as positions, gives to the commands of all the bytes read, where any command may be
-/// refused for memory, which leaves everything as it was.
+/// What the writer takes is the answers and faults that one list of tagged characters per document, with marks as
+/// positions, gives to the commands of the bytes that the reader hands out, where any command may be refused for memory,
+/// which leaves everything as it was.
 pub fn run<S: TextStore, R: ByteSource, W: ByteSink>(
     alloc: Global,
     source: &mut R,
@@ -27,53 +29,70 @@ pub fn run<S: TextStore, R: ByteSource, W: ByteSink>(
     requires source { R.is_failed source.old ≡ false }
     requires sink { W.is_failed sink.old ≡ false }
     // The main theorem.
-    ensures run { IfOk result (λ summary. IfSome (R.remaining source.old) (λ script.
-        WritesRun limits script (W.written sink.old) (W.written sink.new) summary)) }
+    ensures run { IfOk result (λ summary.
+        WritesRun limits (R.log source.old) (R.log source.new) (W.log sink.old) (W.log sink.new) summary) }
     // What was written before a run that ended early.
-    ensures front { IsErrOf result RunFault.Write ⊎ IsErrOf result RunFault.Memory → IfSome (R.remaining source.old) (λ script.
-        WritesFront limits script (W.written sink.old) (W.written sink.new)) }
-    ensures front_of_read { IsErrOf result RunFault.Read ⊎ IsErrOf result RunFault.Endless → IfSome (R.remaining source.old) (λ script.
-        WritesFrontOfRead limits script (R.remaining source.new) (W.written sink.old) (W.written sink.new)) }
+    ensures front { OnErr result
+        (WritesFront limits (R.log source.old) (R.log source.new) (W.log sink.old) (W.log sink.new)) }
     // How the devices are left.
     ensures flags { OnOk result ((R.is_failed source.new ≡ false) × (W.is_failed sink.new ≡ false)) }
     ensures read { IsErrOf result RunFault.Read → R.is_failed source.new ≡ true }
     ensures write { IsErrOf result RunFault.Write → W.is_failed sink.new ≡ true }
-    // How many reads were made.
-    ensures reads { R.reads source.new ≤ R.reads source.old + limits.reads }
-    ensures endless { IsErrOf result RunFault.Endless → R.reads source.new ≡ R.reads source.old + limits.reads }
-{
-    let mut splitter = Splitter::new(alloc);
-    match read_all(source, &mut splitter, limits.reads()) {
-        Ok(()) => carry_out::<S, W>(alloc, limits, &mut splitter, sink),
-        Err(fault) => Err(fault),
-    }
-}
-
-/// Carries out the commands of a script that was read to its end.
-fn carry_out<S: TextStore, W: ByteSink>(
-    alloc: Global,
-    limits: Limits,
-    splitter: &mut Splitter,
-    sink: &mut W,
-) -> Result<RunSummary, RunFault>
-    requires sink { W.is_failed sink.old ≡ false }
-    requires whole { splitter.old ≡ whole_script splitter.old.rest }
-    requires most { length splitter.old.rest ≤ 2 ^ 44 }
-    ensures run { IfOk result (λ summary.
-        WritesRun limits splitter.old.rest (W.written sink.old) (W.written sink.new) summary) }
-    ensures front { OnErr result (WritesFront limits splitter.old.rest (W.written sink.old) (W.written sink.new)) }
-    ensures flag { W.is_failed sink.new ≡ is_err result }
-    ensures fault { IfErr result (λ fault. fault ≡ RunFault.Write) }
+    // How many reads were made, and that none brought the end where the run ended early, but for a failed write.
+    ensures reads { (R.log source.new).reads ≤ (R.log source.old).reads + limits.reads }
+    ensures endless { IsErrOf result RunFault.Endless → (R.log source.new).reads ≡ (R.log source.old).reads + limits.reads }
+    ensures no_end { IfErr result (λ fault. fault ≢ RunFault.Write → (R.log source.new).ends ≡ (R.log source.old).ends) }
 {
     let mut world = World::<S>::new(alloc, limits);
+    let mut splitter = Splitter::new(alloc);
     let mut output = Output::new();
     let mut summary = RunSummary {
         commands: 0,
         refused: 0,
         script_fault: false,
     };
+    for _made in 0..limits.reads() {
+        let brought = feed_read(source, &mut splitter)?;
+        carry_out(&mut world, &mut splitter, &mut output, sink, &mut summary)?;
+        if summary.script_fault {
+            return Ok(summary);
+        }
+        match brought {
+            Brought::Bytes => {}
+            Brought::End => return Ok(summary),
+        }
+    }
+    Err(RunFault::Endless)
+}
+
+/// Carries out the commands that are at hand, and writes what they print.
+fn carry_out<S: TextStore, W: ByteSink>(
+    world: &mut World<S>,
+    splitter: &mut Splitter,
+    output: &mut Output,
+    sink: &mut W,
+    summary: &mut RunSummary,
+) -> Result<(), RunFault>
+    requires sink { W.is_failed sink.old ≡ false }
+    requires no_fault { splitter.old.fault ≡ None }
+    requires empty { output.old ≡ [] }
+    requires unfaulted { summary.old.script_fault ≡ false }
+    requires most { summary.old.commands + length splitter.old.rest ≤ 2 ^ 44 }
+    requires refused { summary.old.refused ≤ summary.old.commands }
+    ensures carried { OnOk result
+        (Carried world.old splitter.old summary.old world.new splitter.new.rest summary.new (W.log sink.old) (W.log sink.new)) }
+    ensures cut { OnErr result
+        (Cuts world.old splitter.old.finished splitter.old.rest (W.log sink.old) (W.log sink.new)) }
+    ensures same { OnOk result (summary.new.script_fault ≡ false → splitter.new ≡ record splitter.old { rest = splitter.new.rest }) }
+    ensures empty { OnOk result (output.new ≡ []) }
+    ensures most { OnOk result (summary.new.script_fault ≡ false →
+        summary.new.commands + length splitter.new.rest ≤ summary.old.commands + length splitter.old.rest) }
+    ensures refused { OnOk result (summary.new.refused ≤ summary.new.commands) }
+    ensures flag { W.is_failed sink.new ≡ is_err result }
+    ensures fault { IfErr result (λ fault. fault ≡ RunFault.Write) }
+{
     loop {
-        let turn = take_turn(&mut world, splitter, &mut output, sink);
+        let turn = take_turn(world, splitter, output, sink);
         if !turn.is_written {
             return Err(RunFault::Write);
         }
@@ -85,27 +104,23 @@ fn carry_out<S: TextStore, W: ByteSink>(
             }
             Met::Fault => {
                 summary.script_fault = true;
-                return finish(summary, &mut output, sink);
+                return send(output, sink);
             }
-            Met::End => return finish(summary, &mut output, sink),
+            Met::End => return send(output, sink),
         }
     }
 }
 
-/// Writes all that waits at the end of a run.
-fn finish<W: ByteSink>(
-    summary: RunSummary,
-    output: &mut Output,
-    sink: &mut W,
-) -> Result<RunSummary, RunFault>
+/// Writes all that waits.
+fn send<W: ByteSink>(output: &mut Output, sink: &mut W) -> Result<(), RunFault>
     requires sink { W.is_failed sink.old ≡ false }
-    ensures bytes { Sends (W.written sink.old) (W.written sink.new) output.old (is_ok result) }
-    ensures summary { IfOk result (λ ended. ended ≡ summary) }
+    ensures bytes { Sends (W.log sink.old) (W.log sink.new) output.old (is_ok result) }
+    ensures empty { output.new ≡ [] }
     ensures flag { W.is_failed sink.new ≡ is_err result }
     ensures fault { IfErr result (λ fault. fault ≡ RunFault.Write) }
 {
     if output.flush(sink) {
-        Ok(summary)
+        Ok(())
     } else {
         Err(RunFault::Write)
     }

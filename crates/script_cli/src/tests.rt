@@ -6,8 +6,10 @@ use crate::running::run;
 use crate::summary::{RunFault, RunSummary, outcome};
 use crate::watched::Watched;
 use std::alloc::Global;
+use std::cell::Cell;
 use std::io;
 use std::io::{Read, Write};
+use std::process::Abort;
 use std::test::Fail;
 use text_model::{Limits, PlainStore};
 
@@ -17,10 +19,12 @@ struct TestReader {
     script: &'static [u8],
     most: usize,
     before_failure: Option<usize>,
+    reads: usize,
 }
 
 impl Read for TestReader {
     fn read(&mut self, buf: &mut [u8]) -> io::Result<usize> {
+        self.reads = self.reads.saturating_add(1);
         let mut most = self.most.min(self.script.len()).min(buf.len());
         if let Some(before_failure) = self.before_failure {
             if before_failure == 0 {
@@ -74,6 +78,7 @@ fn reader(script: &'static [u8], most: usize, before_failure: Option<usize>) -> 
         script,
         most,
         before_failure,
+        reads: 0,
     })
 }
 
@@ -133,30 +138,50 @@ fn tells_how_a_run_ended(rt: HostRuntime) {
     }
 }
 
+// How many bytes a read brings and a write takes at most, and how many writes there are: a piece of 34 bytes is written
+// before the next read.
+static LENGTHS: [(usize, usize); 3] = [(1, 102), (3, 36), (4096, 2)];
+
 #[test]
 fn runs_whatever_the_reads_and_the_writes(rt: HostRuntime) -> Result<(), Fail> {
     let all = output_of(rt.alloc(), SCRIPT)?;
-    assert_eq!(rt; all.iter().filter(|byte| **byte == b'\n').count(), 3);
-    for most in [1, 3, 4096] {
+    assert_eq!(rt; all.len(), 102);
+    for (most, writes) in LENGTHS {
         let mut source = reader(SCRIPT, most, None);
         let mut sink = writer(rt.alloc(), most, usize::MAX, false);
         let ended = run::<PlainStore, _, _>(rt.alloc(), &mut source, &mut sink, limits(100)?);
         assert_eq!(rt; ended, Ok(REFUSED));
         assert_eq!(rt; sink.get_ref().written, all);
-        assert_eq!(rt; sink.get_ref().writes, all.len().div_ceil(most));
+        assert_eq!(rt; sink.get_ref().writes, writes);
+        assert_eq!(rt; source.get_ref().reads, SCRIPT.len().div_ceil(most) + 1);
     }
     Ok(())
 }
 
+// How many bytes the commands print that are whole in so many bytes of the script.
+fn printed_before(place: usize) -> usize {
+    match place {
+        0..4 => 0,
+        4..12 => 34,
+        _ => 68,
+    }
+}
+
 #[test]
 fn a_reader_fails_at_each_place(rt: HostRuntime) -> Result<(), Fail> {
+    let all = output_of(rt.alloc(), SCRIPT)?;
     for place in 0..=SCRIPT.len() {
         let mut source = reader(SCRIPT, 3, Some(place));
         let mut sink = writer(rt.alloc(), 4096, usize::MAX, false);
         let ended = run::<PlainStore, _, _>(rt.alloc(), &mut source, &mut sink, limits(100)?);
         assert_eq!(rt; ended, Err(RunFault::Read), "after {place} bytes");
-        assert!(rt; sink.get_ref().written.is_empty());
+        let written = &sink.get_ref().written;
+        assert!(rt; all.starts_with(written));
+        assert_eq!(rt; written.len(), printed_before(place), "after {place} bytes");
+        let reads = source.get_ref().reads;
+        assert_eq!(rt; reads, place.div_ceil(3) + 1);
         assert_eq!(rt; source.read(&mut [0; 4]), 0);
+        assert_eq!(rt; source.get_ref().reads, reads);
     }
     Ok(())
 }
@@ -164,37 +189,127 @@ fn a_reader_fails_at_each_place(rt: HostRuntime) -> Result<(), Fail> {
 #[test]
 fn a_writer_fails_at_each_place(rt: HostRuntime) -> Result<(), Fail> {
     let all = output_of(rt.alloc(), SCRIPT)?;
-    for place in 0..all.len() {
-        let mut source = reader(SCRIPT, 4096, None);
-        let mut sink = writer(rt.alloc(), 5, place, place % 2 == 0);
-        let ended = run::<PlainStore, _, _>(rt.alloc(), &mut source, &mut sink, limits(100)?);
-        assert_eq!(rt; ended, Err(RunFault::Write), "after {place} bytes");
-        assert_eq!(rt; &sink.get_ref().written[..], &all[..place]);
-        assert_eq!(rt; sink.write(b"more"), 0);
+    for most in [1, 3, 4096] {
+        for place in 0..all.len() {
+            let mut source = reader(SCRIPT, most, None);
+            let mut sink = writer(rt.alloc(), 5, place, place % 2 == 0);
+            let ended = run::<PlainStore, _, _>(rt.alloc(), &mut source, &mut sink, limits(100)?);
+            assert_eq!(rt; ended, Err(RunFault::Write), "after {place} bytes");
+            assert_eq!(rt; &sink.get_ref().written[..], &all[..place]);
+            let writes = sink.get_ref().writes;
+            assert_eq!(rt; sink.write(b"more"), 0);
+            assert_eq!(rt; sink.get_ref().writes, writes);
+        }
+    }
+    Ok(())
+}
+
+// A script, how many reads it may take, whether the run ends by itself in these, and what is printed.
+static ALLOWED: [(&'static [u8], u32, bool, &'static str); 16] = [
+    (b"", 0, false, ""),
+    (b"", 1, true, ""),
+    (b"text .t", 1, false, ""),
+    (b"text .t", 2, true, ".t\n"),
+    (b"text .t", u32::MAX, true, ".t\n"),
+    (b"text .t\n", 0, false, ""),
+    (b"text .t\n", 1, false, ".t\n"),
+    (b"text .t\n", 2, true, ".t\n"),
+    (b"text .t\n[", 0, false, ""),
+    (
+        b"text .t\n[",
+        1,
+        true,
+        ".t\nerror: substitution isn't supported\n",
+    ),
+    (b"text .t\n\"", 1, false, ".t\n"),
+    (b"text .t\n\"", 2, true, ".t\nerror: missing \"\n"),
+    (&[b' '; 4096], 1, false, ""),
+    (&[b' '; 4096], 2, true, ""),
+    (&[b' '; 4097], 2, false, ""),
+    (&[b' '; 4097], 3, true, ""),
+];
+
+fn check_allowed(
+    rt: &impl Abort,
+    alloc: Global,
+    script: &'static [u8],
+    reads: u32,
+    ends: bool,
+    output: &str,
+) -> Result<(), Fail> {
+    let mut source = reader(script, 4096, None);
+    let mut sink = writer(alloc, 4096, usize::MAX, false);
+    let ended = run::<PlainStore, _, _>(alloc, &mut source, &mut sink, limits(reads)?);
+    assert_eq!(rt; ended.is_ok(), ends, "in {reads} reads");
+    assert_eq!(rt; ended == Err(RunFault::Endless), !ends);
+    assert_eq!(rt; &sink.get_ref().written[..], output.as_bytes());
+    if !ends {
+        assert_eq!(rt; source.get_ref().reads as u64, u64::from(reads));
     }
     Ok(())
 }
 
 #[test]
 fn reads_no_more_than_it_may(rt: HostRuntime) -> Result<(), Fail> {
-    let tries: [(&'static [u8], u32, bool); 5] = [
-        (b"", 0, false),
-        (b"", 1, true),
-        (b"foo", 1, false),
-        (b"foo", 2, true),
-        (b"foo", u32::MAX, true),
-    ];
-    for (script, reads, ends) in tries {
-        let mut source = reader(script, 4096, None);
-        let mut sink = writer(rt.alloc(), 4096, usize::MAX, false);
-        let ended = run::<PlainStore, _, _>(rt.alloc(), &mut source, &mut sink, limits(reads)?);
-        assert_eq!(rt; ended.is_ok(), ends, "in {reads} reads");
-        assert_eq!(rt; ended == Err(RunFault::Endless), !ends);
-        assert_eq!(rt;
-            source.get_ref().script.is_empty(),
-            reads > 0 || script.is_empty()
-        );
+    for (script, reads, ends, output) in ALLOWED {
+        check_allowed(&rt, rt.alloc(), script, reads, ends, output)?;
     }
+    Ok(())
+}
+
+// Hands out one byte a read, and notes how many bytes the writer had taken when the ninth read was made.
+#[derive(Drop)]
+struct LineReader<'a> {
+    script: &'static [u8],
+    taken: &'a Cell<usize>,
+    reads: usize,
+    taken_at_ninth: usize,
+}
+
+impl Read for LineReader<'_> {
+    fn read(&mut self, buf: &mut [u8]) -> io::Result<usize> {
+        self.reads = self.reads.saturating_add(1);
+        if self.reads == 9 {
+            self.taken_at_ninth = self.taken.get();
+        }
+        let most = 1.min(self.script.len()).min(buf.len());
+        buf[..most].copy_from_slice(&self.script[..most]);
+        self.script = &self.script[most..];
+        Ok(most)
+    }
+}
+
+// Takes all, and tells how many bytes.
+#[derive(Drop)]
+struct LineWriter<'a> {
+    taken: &'a Cell<usize>,
+}
+
+impl Write for LineWriter<'_> {
+    fn write(&mut self, buf: &[u8]) -> io::Result<usize> {
+        self.taken.set(self.taken.get().saturating_add(buf.len()));
+        Ok(buf.len())
+    }
+
+    fn flush(&mut self) -> io::Result<()> {
+        Ok(())
+    }
+}
+
+#[test]
+fn a_command_is_answered_before_the_next_read(rt: HostRuntime) -> Result<(), Fail> {
+    let taken = Cell::new(0);
+    let mut source = Watched::new(LineReader {
+        script: b"text .t\n.t index end\n",
+        taken: &taken,
+        reads: 0,
+        taken_at_ninth: usize::MAX,
+    });
+    let mut sink = Watched::new(LineWriter { taken: &taken });
+    let ended = run::<PlainStore, _, _>(rt.alloc(), &mut source, &mut sink, limits(100)?);
+    assert!(rt; ended.is_ok());
+    assert_eq!(rt; source.get_ref().taken_at_ninth, 3);
+    assert_eq!(rt; taken.get(), 7);
     Ok(())
 }
 

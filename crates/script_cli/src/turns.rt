@@ -3,7 +3,7 @@ ghost use Rattle.tcl_words.specs.Unread.{texts_of};
 ghost use Rattle.peers.specs.World.{World as WorldState};
 ghost use Rattle.script_cli.specs.Run.{last_piece};
 ghost use Rattle.script_cli.specs.Sending.{Gathers};
-ghost use Rattle.script_cli.specs.Turns.{Replies, Meets, goes_on, is_refusal};
+ghost use Rattle.script_cli.specs.Turns.{Replies, Meets, goes_on, is_fault, is_refusal};
 
 use crate::devices::ByteSink;
 use crate::output::Output;
@@ -21,7 +21,7 @@ pub enum Met {
     Refusal,
     /// A script fault.
     Fault,
-    /// The end of the script.
+    /// That no command is at hand: none that is whole before the end of the script, and then none at all.
     End,
 }
 
@@ -33,21 +33,20 @@ pub struct Turn {
     pub is_written: bool,
 }
 
-/// Takes the next command and prints its answer or its fault.
+/// Takes the next command that is at hand, and prints its answer or its fault.
 pub fn take_turn<S: TextStore, W: ByteSink>(
     world: &mut World<S>,
     splitter: &mut Splitter,
     output: &mut Output,
     sink: &mut W,
 ) -> Turn
-    requires finished { splitter.old.finished ≡ true }
     requires no_fault { splitter.old.fault ≡ None }
     requires sink { W.is_failed sink.old ≡ false }
     ensures met { (text : List ℕ)
-        × Meets world.old splitter.old.rest world.new splitter.new.rest result.met text
-        × Gathers (W.written sink.old) output.old (W.written sink.new) output.new (encode_utf8_all text) result.is_written }
+        × Meets splitter.old.finished world.old splitter.old.rest world.new splitter.new.rest result.met text
+        × Gathers (W.log sink.old) output.old (W.log sink.new) output.new (encode_utf8_all text) result.is_written }
     ensures flag { W.is_failed sink.new ≡ not result.is_written }
-    ensures going { goes_on result.met ≡ true → (splitter.new.finished ≡ true) × (splitter.new.fault ≡ None) }
+    ensures same { is_fault result.met ≡ false → splitter.new ≡ record splitter.old { rest = splitter.new.rest } }
 {
     match splitter.next_command() {
         Ok(Some(words)) => answer(world, &words, output, sink),
@@ -72,7 +71,7 @@ fn answer<S: TextStore, W: ByteSink>(
     requires some { 0 < length words.now }
     requires sink { W.is_failed sink.old ≡ false }
     ensures met { (text : List ℕ) × Replies world.old world.new (texts_of words.now) (is_refusal result.met) text
-        × Gathers (W.written sink.old) output.old (W.written sink.new) output.new (encode_utf8_all text) result.is_written }
+        × Gathers (W.log sink.old) output.old (W.log sink.new) output.new (encode_utf8_all text) result.is_written }
     ensures flag { W.is_failed sink.new ≡ not result.is_written }
     ensures going { goes_on result.met ≡ true }
 {
@@ -95,14 +94,13 @@ fn met_by(reply: &Result<Answer, Fault>) -> Met
 
 /// Drops a command whose words find no memory, and prints that.
 fn refuse<W: ByteSink>(splitter: &mut Splitter, output: &mut Output, sink: &mut W) -> Turn
-    requires finished { splitter.old.finished ≡ true }
     requires no_fault { splitter.old.fault ≡ None }
     requires sink { W.is_failed sink.old ≡ false }
     ensures met { (world : WorldState) → (text : List ℕ)
-        × Meets world splitter.old.rest world splitter.new.rest result.met text
-        × Gathers (W.written sink.old) output.old (W.written sink.new) output.new (encode_utf8_all text) result.is_written }
+        × Meets splitter.old.finished world splitter.old.rest world splitter.new.rest result.met text
+        × Gathers (W.log sink.old) output.old (W.log sink.new) output.new (encode_utf8_all text) result.is_written }
     ensures flag { W.is_failed sink.new ≡ not result.is_written }
-    ensures going { goes_on result.met ≡ true → (splitter.new.finished ≡ true) × (splitter.new.fault ≡ None) }
+    ensures same { is_fault result.met ≡ false → splitter.new ≡ record splitter.old { rest = splitter.new.rest } }
 {
     match splitter.skip_command() {
         Ok(true) => Turn {
@@ -121,7 +119,7 @@ fn refuse<W: ByteSink>(splitter: &mut Splitter, output: &mut Output, sink: &mut 
 fn stop<W: ByteSink>(fault: ScriptFault, output: &mut Output, sink: &mut W) -> Turn
     requires sink { W.is_failed sink.old ≡ false }
     ensures met { result.met ≡ Met.Fault }
-    ensures text { Gathers (W.written sink.old) output.old (W.written sink.new) output.new
+    ensures text { Gathers (W.log sink.old) output.old (W.log sink.new) output.new
         (encode_utf8_all (last_piece (Some fault))) result.is_written }
     ensures flag { W.is_failed sink.new ≡ not result.is_written }
 {

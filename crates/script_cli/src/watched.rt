@@ -1,16 +1,22 @@
 mod sink;
 mod source;
 
-ghost use Rattle.std.specs.Prelude.{◌≡◌, false};
+ghost use Rattle.std.specs.Prelude.{◌≡◌, [], false};
 
+use crate::passed_bytes::PassedBytes;
 use crate::read_count::ReadCount;
 
 /// A reader or a writer, and whether it has failed. After its first failure it isn't called again.
+///
+/// What came of its calls is remembered for contracts alone, and takes no bytes: how many reads were made, how many of
+/// them brought the end, and all the bytes that reads handed out, or that writes took.
 #[derive(Drop)]
 pub struct Watched<T> {
     inner: T,
     failed: bool,
     reads: ReadCount,
+    ends: ReadCount,
+    passed: PassedBytes,
 }
 
 impl<T> Watched<T> {
@@ -19,11 +25,15 @@ impl<T> Watched<T> {
         ensures flag { result.failed ≡ false }
         ensures device { result.inner ≡ inner }
         ensures reads { result.reads.count ≡ 0 }
+        ensures ends { result.ends.count ≡ 0 }
+        ensures passed { result.passed.bytes ≡ [] }
     {
         Watched {
             inner,
             failed: false,
             reads: ReadCount::new(),
+            ends: ReadCount::new(),
+            passed: PassedBytes::new(),
         }
     }
 

@@ -1,4 +1,4 @@
-ghost use Rattle.std.specs.Prelude.{◌≡◌, ◌≢◌, ◌<◌, ◌≤◌, List, ℕ, length, take, drop, IsUtf8, vec_len, true, false, IfOk, IfErr, OnOk, OnErr, IsSome, IsOk, IfSome, IfNone};
+ghost use Rattle.std.specs.Prelude.{◌≡◌, ◌≢◌, ◌<◌, ◌≤◌, List, ℕ, length, take, drop, IsUtf8, vec_len, ◌+◌, true, false, IfOk, IfErr, OnOk, OnErr, IsSome, IsOk, IfSome, IfNone};
 ghost use Rattle.tcl_words.specs.Progression.{IsCommandOf};
 ghost use Rattle.tcl_words.specs.Unread.{nothing_fed, fed, TakesCommand, HasNoCommand, HasNoFault, StopsAt, texts_of};
 
@@ -11,12 +11,13 @@ use std::marker::Model;
 /// Splits a script, which comes in pieces of any length, into commands of words.
 ///
 /// What contracts see is what is still to be given: the bytes not yet given as commands, whether the script ends
-/// with them, and the script fault that was met.
+/// with them, and the script fault that was met. The bytes of commands that were given go with a later piece, so that a
+/// splitter whose commands are taken as they come needs memory for its longest command alone.
 #[derive(Drop)]
 pub struct Splitter {
-    // all that was fed
+    // what was fed, but for bytes at its front that were given as commands
     script: Vec<u8>,
-    // how many of its bytes were given as commands
+    // how many bytes at the front of that were given since
     given: usize,
     // how far the bytes after them were read
     progress: Progress,
@@ -38,6 +39,9 @@ impl Model for Splitter {
 }
 
 impl Splitter {
+    // Room for so many bytes isn't given back.
+    const ROOM: usize = 16_384;
+
     /// A splitter of a script of which nothing has come. It takes no memory.
     pub fn new(alloc: Global) -> Self
         ensures { result ≡ nothing_fed }
@@ -59,9 +63,27 @@ impl Splitter {
         ensures stopped { IsSome self.old.fault → IsOk result }
     {
         if self.fault.is_none() {
+            self.leave_given();
             self.script.extend_from_slice(piece)?;
         }
         Ok(())
+    }
+
+    // Drops the bytes that were given, once those that are left are no more, so that a byte is moved only for one that
+    // goes. Room of which less than a quarter is needed goes with them.
+    fn leave_given(&mut self)
+        ensures { self.new ≡ self.old }
+    {
+        let left = self.script.len() - self.given;
+        if self.given < left {
+            return;
+        }
+        remove_front(&mut self.script, self.given);
+        self.given = 0;
+        let room = left.max(Splitter::ROOM);
+        if self.script.capacity() / 4 > room {
+            self.script.shrink_to(room);
+        }
     }
 
     /// Ends the script, and so its last command. A second call changes nothing. It takes no memory.
@@ -120,7 +142,7 @@ impl Splitter {
         ensures { result.now ≡ take len self.now.rest }
     {
         let rest = &self.script[self.given..];
-        str::from_utf8(&rest[..len]).unwrap()
+        unsafe { str::from_utf8_unchecked(&rest[..len]) }
     }
 
     // How many bytes the next command has, if there is one. A fault is kept.
@@ -153,4 +175,15 @@ impl Splitter {
         self.given += len;
         self.progress = Progress::starting(self.progress.valid.saturating_sub(len));
     }
+}
+
+// Drops so many bytes of the front.
+fn remove_front(bytes: &mut Vec<u8>, count: usize)
+    requires { count ≤ vec_len bytes.old }
+    ensures items { bytes.new.items ≡ drop count bytes.old.items }
+    ensures len { vec_len bytes.new + count ≡ vec_len bytes.old }
+{
+    let len = bytes.len();
+    bytes.copy_within(count..len, 0);
+    bytes.truncate(len - count);
 }

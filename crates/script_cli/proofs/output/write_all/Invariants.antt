@@ -1,11 +1,11 @@
 use Rattle.std.proofs.Common.{◌≡◌, length, ◌-◌, ◌≤◌, take, false}
-use Rattle.script_cli.specs.Devices.{Appends}
+use Rattle.script_cli.specs.Devices.{Takes}
 use Rattle.script_cli.proofs.output.write_all.Given as goal
 
 abbrev pub invariant-loop-sent : goal.invariant-loop-sent
 invariant-loop-sent g l = record {
   within : l.sent ≤ length l.bytes;
-  appends : Appends (g.W.ByteSink.written l.fn.sink) (g.W.ByteSink.written l.sink) (take l.sent l.bytes);
+  takes : Takes (g.W.ByteSink.log l.fn.sink) (g.W.ByteSink.log l.sink) (take l.sent l.bytes);
   up : g.W.ByteSink.is_failed l.sink ≡ false;
 }
 

@@ -15,8 +15,7 @@ returns-in-Ok-true-clause-met g c =
     let taken = c.in-Ok-true.ensures.skipped is in
     let text = piece [] (Err Memory) in (
       text,
-      meets world world c.args.splitter.now c.skip_command.new.self taken.0 true text c.requires.finished
-          (c.in-Ok-true.ensures.shorter is) taken.1 (inr (refl, refl, refl)),
+      meets world world c.args.splitter.now c.skip_command.new.self taken.0 true text (c.in-Ok-true.ensures.shorter is) taken.1 (inr (refl, refl, refl)),
       rw c.of_reply.ensures at c.push_to.ensures.bytes,
     )
 
@@ -25,6 +24,6 @@ returns-in-Err-clause-met g c =
     λ world.
     let old = c.args.splitter.now in let new = c.skip_command.new.self in let fault = c.in-Err.fault in
     let text = last_piece (Some fault) in
-    let stops : Meets world old.rest world new.rest met.Fault text =
-    (fault, meets_fault old new fault c.requires.finished c.requires.no_fault c.in-Err.ensures.fault.1, refl) in
+    let stops : Meets old.finished world old.rest world new.rest met.Fault text =
+    (fault, meets_fault old new fault c.requires.no_fault c.in-Err.ensures.fault.1, refl) in
     (text, rw c.stop.ensures.met stops, c.stop.ensures.text)

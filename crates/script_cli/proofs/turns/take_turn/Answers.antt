@@ -1,5 +1,4 @@
 use Rattle.std.proofs.Common.{refl, ap, Some}
-use Rattle.std.proofs.lemmas.Bool.{false≢true}
 use Rattle.std.specs.Prelude.{Err}
 use Rattle.script_cli.specs.declared.turns.Met.TheVariants as met
 use Rattle.script_cli.specs.Run.{last_piece}
@@ -15,9 +14,9 @@ returns-in-Ok-Some-clause-met g c =
     let h = rw c.in-Ok-Some.field-0-is at c.in-Ok-Some.ensures in
     let text = answered.0 in (
       text,
-      meets_command met c.args.world.now c.answer.new.world old.rest new.rest text c.answer.ensures.going
+      meets_command met old.finished c.args.world.now c.answer.new.world old.rest new.rest text c.answer.ensures.going
           (meets c.args.world.now c.answer.new.world old new (texts_of c.in-Ok-Some.words.items) (is_refusal met) text
-          c.requires.finished (h.shorter refl) h.command answered.1),
+          (h.shorter refl) h.command answered.1),
       answered.2,
     )
 
@@ -31,9 +30,6 @@ returns-in_default-clause-met g c =
     let world = c.args.world.now in
     let old = c.args.splitter.now in let new = c.next_command.new.self in let fault = c.in-Err.fault in
     let text = last_piece (Some fault) in let d = c.in_default in
-    let stops : Meets world old.rest world new.rest met.Fault text =
-    (fault, meets_fault old new fault c.requires.finished c.requires.no_fault (c.in-Err.ensures.fault c.in_default.not-Memory), refl) in
+    let stops : Meets old.finished world old.rest world new.rest met.Fault text =
+    (fault, meets_fault old new fault c.requires.no_fault (c.in-Err.ensures.fault c.in_default.not-Memory), refl) in
     (text, rw c.stop.ensures.met stops, c.stop.ensures.text)
-
-pub returns-in_default-clause-going : goal.returns-in_default-clause-going
-returns-in_default-clause-going g c = rw c.stop.ensures.met (λ on. absurd (false≢true on))

@@ -4,7 +4,7 @@ use Rattle.script_cli.proofs.pieces.Piece.push_to.Goals as goal
 
 pub returns-then-not-push-clause-bytes : goal.returns-then-not-push-clause-bytes
 returns-then-not-push-clause-bytes g c =
-    let written = g.W.ByteSink.written in let p = c.self.inside in
+    let written = g.W.ByteSink.log in let p = c.self.inside in
     let first = rw c.as_bytes.ensures.value at c.if-not-push.ensures.bytes in
     rw (← c.self.view_is)
     (Gathers-stop (written c.args.sink.now) (written c.push.new.sink) c.args.output.now c.push.new.self c.push.new.self
@@ -12,7 +12,7 @@ returns-then-not-push-clause-bytes g c =
 
 pub returns-then-not-push-2-clause-bytes : goal.returns-then-not-push-2-clause-bytes
 returns-then-not-push-2-clause-bytes g c =
-    let written = g.W.ByteSink.written in let p = c.self.inside in
+    let written = g.W.ByteSink.log in let p = c.self.inside in
     let first = rw c.as_bytes.ensures.value at c.if-not-push.ensures.bytes in
     let second = rw c.as_bytes-2.ensures.value at c.if-not-push-2.ensures.bytes in
     rw (← c.self.view_is)
@@ -23,7 +23,7 @@ returns-then-not-push-2-clause-bytes g c =
 
 pub returns-clause-bytes : goal.returns-clause-bytes
 returns-clause-bytes g c =
-    let written = g.W.ByteSink.written in let p = c.self.inside in
+    let written = g.W.ByteSink.log in let p = c.self.inside in
     let first = rw c.as_bytes.ensures.value at c.if-not-push.ensures.bytes in
     let second = rw c.as_bytes-2.ensures.value at c.if-not-push-2.ensures.bytes in
     let third = rw c.as_bytes-3.ensures.value at c.push-3.ensures.bytes in

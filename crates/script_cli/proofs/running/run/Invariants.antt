@@ -1,0 +1,18 @@
+use Rattle.std.proofs.Common.{◌≡◌, ◌+◌, ◌*◌, ◌≤◌, [], false, length}
+use Rattle.script_cli.specs.Reading.{unread}
+use Rattle.script_cli.proofs.RunLaws.{Running}
+use Rattle.script_cli.proofs.running.run.Given as goal
+
+abbrev pub invariant-loop-made : goal.invariant-loop-made
+invariant-loop-made g l = record {
+  running : Running l.fn.limits (g.R.ByteSource.log l.fn.source) (g.R.ByteSource.log l.source) (g.W.ByteSink.log l.fn.sink) (g.W.ByteSink.log l.sink)
+      l.world l.splitter.rest l.summary.commands l.summary.refused;
+  fed : l.splitter ≡ unread l.splitter.rest false;
+  empty : l.output ≡ [];
+  unfaulted : l.summary.script_fault ≡ false;
+  source_up : g.R.ByteSource.is_failed l.source ≡ false;
+  sink_up : g.W.ByteSink.is_failed l.sink ≡ false;
+  most : l.summary.commands + length l.splitter.rest ≤ 4096 * l._made;
+  refused : l.summary.refused ≤ l.summary.commands;
+  counted : (g.R.ByteSource.log l.source).reads ≡ (g.R.ByteSource.log l.fn.source).reads + l._made;
+}
