@@ -47,6 +47,8 @@ FORMS = [
     Form(WORLD, [".t", "insert"], [INDICES, TEXTS]),
     Form(WORLD, [".t", "get"], [INDICES, [None, *indices.PLACES]]),
     Form(WORLD, [".t", "index"], [INDICES]),
+    Form(WORLD, [".t", "compare"], [INDICES, ["<"], indices.PLACES]),
+    Form(WORLD, [".t", "compare"], [indices.PLACES, list(model.COMPARISONS), INDICES]),
 ]
 
 

@@ -5,7 +5,7 @@ modifiers too: then the random scripts, and the search for idle refusals, have s
 grammar either way, so no word here is an index to one of the two alone.
 """
 
-PROGRAM_READS_ALL = False
+PROGRAM_READS_ALL = True
 
 # One word for each base.
 PLACES = ["1.1", "1.end", "end"]

@@ -518,6 +518,10 @@ def no_tagged_characters(tag):
     return Fault(f'text doesn\'t contain any characters tagged with "{tag}"')
 
 
+def bad_comparison(word):
+    return Fault(f'bad comparison operator "{word}"')
+
+
 def bad_option(word):
     return Fault(f'bad option "{word}"')
 
@@ -1010,6 +1014,25 @@ def index_command(world, document, widget, arguments):
     return world, position_text(argument_place(arguments[0], document, widget), view(document, widget))
 
 
+COMPARISONS = {
+    "<": lambda left, right: left < right,
+    "<=": lambda left, right: left <= right,
+    "==": lambda left, right: left == right,
+    ">=": lambda left, right: left >= right,
+    ">": lambda left, right: left > right,
+    "!=": lambda left, right: left != right,
+}
+
+
+def compare_command(world, document, widget, arguments):
+    """`W compare A op B`: 1 or 0.  A is decided first, then the operator, then B."""
+    left = argument_place(arguments[0], document, widget)
+    if arguments[1] not in COMPARISONS:
+        raise bad_comparison(arguments[1])
+    right = argument_place(arguments[2], document, widget)
+    return world, "1" if COMPARISONS[arguments[1]](left, right) else "0"
+
+
 class Subcommand(NamedTuple):
     """A widget's subcommand: what it does, and the least and greatest number of its arguments."""
 
@@ -1022,7 +1045,41 @@ SUBCOMMANDS = {
     "insert": Subcommand(insert_command, 2, 2),
     "get": Subcommand(get_command, 1, 2),
     "index": Subcommand(index_command, 1, 1),
+    "compare": Subcommand(compare_command, 3, 3),
 }
+
+# The subcommands whose words are known and which do nothing yet: the least and the greatest number of their arguments.
+COMING = {
+    ("delete",): (1, None),
+    ("replace",): (3, None),
+    ("mark", "gravity"): (1, 2),
+    ("mark", "names"): (0, 0),
+    ("mark", "next"): (1, 1),
+    ("mark", "previous"): (1, 1),
+    ("mark", "set"): (2, 2),
+    ("mark", "unset"): (0, None),
+    ("tag", "add"): (2, None),
+    ("tag", "remove"): (2, None),
+    ("tag", "delete"): (1, None),
+    ("tag", "names"): (0, 1),
+    ("tag", "ranges"): (1, 1),
+    ("tag", "nextrange"): (2, 3),
+    ("tag", "prevrange"): (2, 3),
+    ("tag", "raise"): (1, 2),
+    ("tag", "lower"): (1, 2),
+}
+
+
+def refusal(words):
+    """Why a subcommand that isn't there is refused: by its words, or as a bad option."""
+    for names, (least, greatest) in COMING.items():
+        if tuple(words[1 : 1 + len(names)]) == names:
+            count = len(words) - 1 - len(names)
+            fits = least <= count and (greatest is None or count <= greatest)
+            return bad_option(words[1]) if fits else wrong_arguments()
+    if all(names[0] != words[1] for names in COMING):
+        return bad_option(words[1])
+    return wrong_arguments() if len(words) == 2 else bad_option(words[2])
 
 
 def widget_command(world, document, widget, words):
@@ -1031,7 +1088,7 @@ def widget_command(world, document, widget, words):
         raise wrong_arguments()
     subcommand = SUBCOMMANDS.get(words[1])
     if subcommand is None:
-        raise bad_option(words[1])
+        raise refusal(words)
     arguments = words[2:]
     if not subcommand.least <= len(arguments) <= subcommand.greatest:
         raise wrong_arguments()

@@ -12,6 +12,7 @@ import random
 import sys
 
 import indices
+import model
 
 # ---------------------------------------------------------------------------------------------------
 # Numbers and texts
@@ -211,10 +212,10 @@ NO_COMMANDS = [
     "foo", "puts", "destroy", "pack", "Text", "TEXT", "texts", "tex", "insert", "$", "]", "end", "\x00", "", "#", "text .t",
 ]
 NO_SUBCOMMANDS = [
-    "foo", "ins", "Insert", "inserts", "ge", "gets", "ind", "indexes", "delete", "replace", "mark", "tag", "edit",
-    "peer", "configure", "cget", "search", "count", "dump", "compare", "-undo", "$", "]", "#", ".t", "text", "é",
-    "", " ", "get ", "{", "\\",
+    "foo", "ins", "Insert", "inserts", "ge", "gets", "ind", "indexes", "edit", "peer", "configure", "cget", "search", "count",
+    "dump", "-undo", "$", "]", "#", ".t", "text", "é", "", " ", "get ", "{", "\\", "names", "gravity",
 ]
+NO_COMPARISONS = ["", "=", "<>", "< ", "===", "!", "lt", "é", "1.0", "=<"]
 
 
 def widget(chance):
@@ -250,12 +251,22 @@ def index_command(chance):
     return [widget(chance), "index", argument_index(chance)]
 
 
+def operator(chance):
+    """A comparison, or now and then a word that is none."""
+    return chance.choice(list(model.COMPARISONS) if chance.random() < 0.9 else NO_COMPARISONS)
+
+
+def compare_command(chance):
+    return [widget(chance), "compare", argument_index(chance), operator(chance), argument_index(chance)]
+
+
 def wrong_count_command(chance):
     """A command of too few words or too many, whose other words may be wrong too."""
     subcommand, counts = chance.choice([
         ("insert", [0, 1, 3, 4, 5]),
         ("get", [0, 3, 4, 9]),
         ("index", [0, 2, 3]),
+        ("compare", [0, 1, 2, 4]),
         (None, [0]),
     ])
     arguments = [argument_index(chance) for _ in range(chance.choice(counts))]
@@ -270,6 +281,13 @@ def bad_option_command(chance):
     """A widget with a subcommand that it doesn't have, and any words after it."""
     arguments = [argument_index(chance) for _ in range(chance.randrange(0, 4))]
     return [widget(chance), chance.choice(NO_SUBCOMMANDS)] + arguments
+
+
+def coming_command(chance):
+    """A subcommand whose words are known and which isn't there yet, or the front of one, with any words after it."""
+    names = chance.choice(list(model.COMING))
+    arguments = [argument_index(chance) for _ in range(chance.randrange(0, 4))]
+    return [widget(chance), *names[: chance.choice([1, 2, 2])], *arguments]
 
 
 def unknown_command(chance):
@@ -288,12 +306,14 @@ COMMANDS = [
     (insert_command, 12),
     (get_command, 7),
     (index_command, 5),
+    (compare_command, 2),
     (text_command, 1),
     (text_with_bad_name, 0.4),
     (text_with_options, 0.5),
     (text_alone, 0.1),
     (wrong_count_command, 1),
     (bad_option_command, 1),
+    (coming_command, 1),
     (unknown_command, 0.7),
     (any_words, 0.7),
 ]

@@ -23,6 +23,7 @@ REACHED_FAULTS = [
     b'error: bad option "',
     b"error: wrong # args",
     b'error: invalid command name "',
+    b'error: bad comparison operator "',
     b'error: window name "',
     b"error: a document exists",
     b"error: missing close-brace",

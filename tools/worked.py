@@ -40,6 +40,49 @@ SUBSTITUTION = "error: substitution isn't supported"
 NOT_UTF8 = "error: script isn't UTF-8"
 
 
+def places():
+    """Indices with names and modifiers, and places compared."""
+    return [
+        Row(
+            "two lines",
+            b'text .t; .t insert 1.0 "ab\\ncd"; .t index 1.end; .t index 1.99; .t index 99.0; .t index 0.5; '
+            b'.t index "2.1 - 1 lines"; .t index "end - 1 lines"; .t index "1.0 + 3 lines"; .t index "end linestart"',
+            lines(".t", "", "1.2", "1.2", "3.0", "1.0", "1.1", "2.0", "2.0", "3.0"),
+            0,
+        ),
+        Row(
+            "words and long counts",
+            'text .t; .t insert 1.0 "foo_bar é2!"; .t index "1.0 + 99999999999999999999999999 chars"; .t index "1.2 wordend"; '
+            '.t index "1.8 wordend"; .t index "1.10 wordstart"; .t index end-1c'.encode("utf-8"),
+            lines(".t", "", "2.0", "1.7", "1.10", "1.10", "1.11"),
+            0,
+        ),
+        Row(
+            "own marks",
+            b'text .t; .t index insert; .t insert end ab; .t index insert; .t index "current -1c"; .t get "insert - 2 c" insert',
+            lines(".t", "1.0", "", "1.2", "1.1", "ab"),
+            0,
+        ),
+        Row(
+            "nothing selected",
+            b'text .t; .t index sel.first; .t get 1.0 "sel.last - 1c"; .t index sel.firsts; .t index x.first; .t compare sel.first < 1.0',
+            lines(".t", *2 * ('error: text doesn\'t contain any characters tagged with "sel"',),
+                  'error: bad text index "sel.firsts"', 'error: bad text index "x.first"',
+                  'error: text doesn\'t contain any characters tagged with "sel"'),
+            1,
+        ),
+        Row(
+            "places compared",
+            b'text .t; .t insert 1.0 "ab\\ncd\\n\\nef"; .t compare 1.end < 2.0; .t compare 2.0 <= 1.0; .t compare end == 9.0; '
+            b".t compare 1.0 >= 2.0; .t compare end > insert; .t compare 1.9 != 1.end; .t compare 1.0 <> 1.0; .t compare q <> r; "
+            b".t compare 1.0 <> r; .t compare 1.0 < r; .t compare 1.0 <",
+            lines(".t", "", "1", "0", "1", "0", "1", "0", 'error: bad comparison operator "<>"', 'error: bad text index "q"',
+                  'error: bad comparison operator "<>"', 'error: bad text index "r"', "error: wrong # args"),
+            1,
+        ),
+    ]
+
+
 def whole_runs():
     """Runs of several commands."""
     return [
@@ -156,7 +199,7 @@ def command_faults():
         ),
         Row(
             "bad option",
-            b"text .t; .t foo; .t ins 1.0 a; .t delete 1.0; .t configure; .t Insert zz; .t mark names q",
+            b"text .t; .t foo; .t ins 1.0 a; .t delete 1.0; .t configure; .t Insert zz; .t mark names",
             lines(".t", *(f'error: bad option "{word}"' for word in
                           ("foo", "ins", "delete", "configure", "Insert", "mark"))),
             1,
@@ -354,7 +397,7 @@ def script_faults():
     ]
 
 
-ROWS = whole_runs() + quoting() + command_faults() + script_faults()
+ROWS = whole_runs() + places() + quoting() + command_faults() + script_faults()
 
 
 def long_scripts():

@@ -7,10 +7,14 @@ mod commands;
 mod comparisons;
 mod documents;
 mod edits;
+#[cfg(test)]
+mod index_tests;
 mod indices;
-mod texts;
 #[cfg(test)]
 mod tests;
+#[cfg(test)]
+mod text_tests;
+mod texts;
 mod words;
 mod world;
 

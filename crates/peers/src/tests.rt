@@ -6,7 +6,7 @@ use std::test::Fail;
 use text_model::{Limits, PlainStore};
 
 // Commands and what each gives in turn: the answer as a text, or the fault.
-const COMMANDS: [(&[&str], Result<&str, Fault>); 86] = [
+static COMMANDS: [(&[&str], Result<&str, Fault>); 26] = [
     // Without a document.
     (&["tex"], Err(Fault::InvalidCommandName(0))),
     (&[""], Err(Fault::InvalidCommandName(0))),
@@ -29,92 +29,17 @@ const COMMANDS: [(&[&str], Result<&str, Fault>); 86] = [
     (&[".é", ""], Err(Fault::BadOption(1))),
     (&[".é", "text"], Err(Fault::BadOption(1))),
     (&[".é", "inserts", "q"], Err(Fault::BadOption(1))),
-    (&[".é", "insert", "q"], Err(Fault::WrongArguments)),
-    (&[".é", "insert", "q", "a", "b"], Err(Fault::WrongArguments)),
-    (&[".é", "get"], Err(Fault::WrongArguments)),
-    (&[".é", "get", "q", "r", "s"], Err(Fault::WrongArguments)),
-    (&[".é", "index"], Err(Fault::WrongArguments)),
-    (&[".é", "index", "q", "r"], Err(Fault::WrongArguments)),
-    (&[".é", "insert", "q", "a"], Err(Fault::BadIndex(2))),
-    (&[".é", "insert", "", ""], Err(Fault::BadIndex(2))),
-    (&[".é", "get", "q"], Err(Fault::BadIndex(2))),
-    (&[".é", "get", "q", "r"], Err(Fault::BadIndex(2))),
-    (&[".é", "get", "1.0", "r"], Err(Fault::BadIndex(3))),
-    (&[".é", "index", "q"], Err(Fault::BadIndex(2))),
-    (&[".é", "get", "0.0", "end"], Ok("\n")),
-    (&[".é", "get", "1.0"], Ok("\n")),
-    (&[".é", "get", "end"], Ok("")),
-    (&[".é", "index", "1.end"], Ok("1.0")),
-    (&[".é", "index", "end"], Ok("2.0")),
-    // Two lines.
-    (&[".é", "insert", "1.0", "ab\ncd"], Ok("")),
-    (&[".é", "get", "1.0", "end"], Ok("ab\ncd\n")),
-    (&[".é", "index", "0.7"], Ok("1.0")),
-    (&[".é", "index", "0.end"], Ok("1.0")),
-    (&[".é", "index", "1.1"], Ok("1.1")),
-    (&[".é", "index", "1.2"], Ok("1.2")),
-    (&[".é", "index", "1.3"], Ok("1.2")),
-    (&[".é", "index", "1.end"], Ok("1.2")),
-    (&[".é", "index", "2.0"], Ok("2.0")),
-    (&[".é", "index", "2.end"], Ok("2.2")),
-    (&[".é", "index", "3.0"], Ok("3.0")),
-    (&[".é", "index", "3.1"], Ok("3.0")),
-    (&[".é", "index", "4.end"], Ok("3.0")),
-    (&[".é", "index", "end"], Ok("3.0")),
-    // Numbers of 26 digits.
-    (&[".é", "index", "2.99999999999999999999999999"], Ok("2.2")),
-    (&[".é", "index", "99999999999999999999999999.0"], Ok("3.0")),
-    (
-        &[".é", "index", "99999999999999999999999999.end"],
-        Ok("3.0"),
-    ),
-    (
-        &[
-            ".é",
-            "index",
-            "00000000000000000000000002.00000000000000000000000001",
-        ],
-        Ok("2.1"),
-    ),
-    // One character, and the characters between two places.
-    (&[".é", "get", "1.2"], Ok("\n")),
-    (&[".é", "get", "1.9"], Ok("\n")),
-    (&[".é", "get", "2.1"], Ok("d")),
-    (&[".é", "get", "3.0"], Ok("")),
-    (&[".é", "get", "1.1", "2.1"], Ok("b\nc")),
-    (&[".é", "get", "1.9", "2.0"], Ok("\n")),
-    (&[".é", "get", "2.0", "2.0"], Ok("")),
-    (&[".é", "get", "2.0", "1.0"], Ok("")),
-    (&[".é", "get", "2.end", "9.9"], Ok("\n")),
-    // At the end a text goes before the last newline, and positions count characters.
-    (&[".é", "insert", "end", "é"], Ok("")),
-    (&[".é", "insert", "99.0", "日本\nf"], Ok("")),
-    (&[".é", "get", "2.0", "end"], Ok("cdé日本\nf\n")),
-    (&[".é", "get", "2.3"], Ok("日")),
-    (&[".é", "get", "2.2", "2.4"], Ok("é日")),
-    (&[".é", "index", "2.end"], Ok("2.5")),
-    (&[".é", "index", "3.end"], Ok("3.1")),
-    (&[".é", "index", "end"], Ok("4.0")),
-    // Before the first line, past a newline, and nothing at all.
-    (&[".é", "insert", "0.5", "x"], Ok("")),
-    (&[".é", "insert", "1.9", "y"], Ok("")),
-    (&[".é", "insert", "2.2", "z"], Ok("")),
-    (&[".é", "insert", "3.0", ""], Ok("")),
-    (&[".é", "insert", "end", ""], Ok("")),
-    (&[".é", "get", "1.0", "end"], Ok("xaby\ncdzé日本\nf\n")),
-    // What is refused changes nothing.
-    (&[".é", "insert", "1.-1", "a"], Err(Fault::BadIndex(2))),
-    (&[".é", "insert", "1.0"], Err(Fault::WrongArguments)),
-    (&["text", ".u"], Err(Fault::DocumentExists)),
-    (&["text", ".é"], Err(Fault::WindowExists(1))),
+    // What the table of commands knows and isn't there yet.
+    (&[".é", "mark"], Err(Fault::WrongArguments)),
+    (&[".é", "mark", "foo"], Err(Fault::BadOption(2))),
+    (&[".é", "mark", "names"], Err(Fault::BadOption(1))),
+    (&[".é", "delete", "1.0"], Err(Fault::BadOption(1))),
+    (&[".é", "delete"], Err(Fault::WrongArguments)),
     (&["é", "index", "end"], Err(Fault::InvalidCommandName(0))),
-    (&[".é", "get", "1.0", "1.end"], Ok("xaby")),
-    (&[".é", "get", "2.0", "end"], Ok("cdzé日本\nf\n")),
-    (&[".é", "index", "end"], Ok("4.0")),
 ];
 
 // Commands where a text has at most four characters.
-const FOUR_CHARACTERS: [(&[&str], Result<&str, Fault>); 10] = [
+static FOUR_CHARACTERS: [(&[&str], Result<&str, Fault>); 10] = [
     (&["text", ".t"], Ok(".t")),
     (&[".t", "insert", "1.0", "abcd"], Err(Fault::TextTooLong)),
     (&[".t", "get", "1.0", "end"], Ok("\n")),
@@ -128,22 +53,21 @@ const FOUR_CHARACTERS: [(&[&str], Result<&str, Fault>); 10] = [
 ];
 
 // Commands where there may be no widget.
-const NO_WIDGETS: [(&[&str], Result<&str, Fault>); 4] = [
+static NO_WIDGETS: [(&[&str], Result<&str, Fault>); 4] = [
     (&["text", ".t"], Err(Fault::TooManyWidgets)),
     (&["text", "t"], Err(Fault::InvalidCommandName(1))),
     (&["text", ".t", "-x"], Err(Fault::BadOption(2))),
     (&[".t", "index", "end"], Err(Fault::InvalidCommandName(0))),
 ];
 
-// Words that are no indices.
-const NO_INDICES: [&str; 20] = [
-    "", ".", "1", "1.", ".1", "1.e", "1.ends", "1.-1", "-1.0", "+1.0", " 1.0", "1.0 ", "1.0.0",
-    "1. end", "1.End", "End", "end.0", "end ", "é.0", "١.0",
-];
-
 // Faults with their texts.
-const FAULTS: [(Fault, &str); 9] = [
+const FAULTS: [(Fault, &str); 11] = [
     (Fault::BadIndex(2), "bad text index"),
+    (
+        Fault::NoTaggedCharacters(2, 3),
+        "text doesn't contain any characters tagged with a tag",
+    ),
+    (Fault::BadComparison(3), "bad comparison operator"),
     (Fault::BadOption(1), "bad option"),
     (Fault::WrongArguments, "wrong # args"),
     (Fault::InvalidCommandName(0), "invalid command name"),
@@ -168,7 +92,8 @@ fn shown<'a>(answer: &'a Answer, words: &'a [String]) -> &'a str {
     match answer {
         Answer::Empty => "",
         Answer::Word(at) => words.get(*at).map(String::as_str).unwrap_or("no word"),
-        Answer::Flag(_) => "a flag",
+        Answer::Flag(true) => "1",
+        Answer::Flag(false) => "0",
         Answer::Text(text) => text.as_str(),
     }
 }
@@ -187,47 +112,45 @@ fn check(
     }
 }
 
-#[test]
-fn carries_out_commands(rt: HostRuntime) -> Result<(), Fail> {
-    let limits = Limits::new(16_777_216, 192, 4_096, 64, 1_073_741_824).ok_or("limits")?;
-    let mut world = World::new(rt.alloc(), limits);
-    for (texts, wanted) in COMMANDS {
-        check(&rt, &mut world, &words_of(rt.alloc(), texts)?, wanted);
+// Carries out commands in turn under some limits, and compares what each gives.
+pub fn check_all(
+    rt: &impl Abort,
+    alloc: Global,
+    limits: Limits,
+    commands: &[(&[&str], Result<&str, Fault>)],
+) -> Result<(), Fail> {
+    let mut world = World::new(alloc, limits);
+    for (texts, wanted) in commands {
+        check(rt, &mut world, &words_of(alloc, texts)?, *wanted);
     }
     Ok(())
 }
 
+// The same under the limits of the program.
+pub fn check_commands(
+    rt: &impl Abort,
+    alloc: Global,
+    commands: &[(&[&str], Result<&str, Fault>)],
+) -> Result<(), Fail> {
+    let limits = Limits::new(16_777_216, 192, 4_096, 64, 1_073_741_824).ok_or("limits")?;
+    check_all(rt, alloc, limits, commands)
+}
+
 #[test]
-fn knows_no_other_indices(rt: HostRuntime) -> Result<(), Fail> {
-    let limits = Limits::new(1, 0, 0, 1, 0).ok_or("limits")?;
-    let mut world = World::new(rt.alloc(), limits);
-    let words = words_of(rt.alloc(), &["text", ".t"])?;
-    check(&rt, &mut world, &words, Ok(".t"));
-    for word in NO_INDICES {
-        let words = words_of(rt.alloc(), &[".t", "index", word])?;
-        check(&rt, &mut world, &words, Err(Fault::BadIndex(2)));
-    }
-    Ok(())
+fn finds_widgets_and_subcommands(rt: HostRuntime) -> Result<(), Fail> {
+    check_commands(&rt, rt.alloc(), &COMMANDS)
 }
 
 #[test]
 fn keeps_a_text_short(rt: HostRuntime) -> Result<(), Fail> {
     let limits = Limits::new(4, 0, 0, 1, 0).ok_or("limits")?;
-    let mut world = World::new(rt.alloc(), limits);
-    for (texts, wanted) in FOUR_CHARACTERS {
-        check(&rt, &mut world, &words_of(rt.alloc(), texts)?, wanted);
-    }
-    Ok(())
+    check_all(&rt, rt.alloc(), limits, &FOUR_CHARACTERS)
 }
 
 #[test]
 fn makes_no_widget_too_many(rt: HostRuntime) -> Result<(), Fail> {
     let limits = Limits::new(4, 0, 0, 0, 0).ok_or("limits")?;
-    let mut world = World::new(rt.alloc(), limits);
-    for (texts, wanted) in NO_WIDGETS {
-        check(&rt, &mut world, &words_of(rt.alloc(), texts)?, wanted);
-    }
-    Ok(())
+    check_all(&rt, rt.alloc(), limits, &NO_WIDGETS)
 }
 
 #[test]

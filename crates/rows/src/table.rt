@@ -26,7 +26,7 @@ pub const AMPLE: Numbers = Numbers {
     reads: 1_073_741_824,
 };
 
-pub static ROWS: [Row; 35] = [
+pub static ROWS: [Row; 40] = [
     Row {
         name: "the empty script",
         script: b"",
@@ -307,5 +307,40 @@ pub static ROWS: [Row; 35] = [
         numbers: AMPLE,
         output: ".t\nerror: script isn't UTF-8\n",
         status: 2,
+    },
+    Row {
+        name: "indices of two lines",
+        script: b"text .t; .t insert 1.0 \"ab\\ncd\"; .t index 1.end; .t index 1.99; .t index 99.0; .t index 0.5; .t index \"2.1 - 1 lines\"; .t index \"end - 1 lines\"; .t index \"1.0 + 3 lines\"; .t index \"end linestart\"",
+        numbers: AMPLE,
+        output: ".t\n\n1.2\n1.2\n3.0\n1.0\n1.1\n2.0\n2.0\n3.0\n",
+        status: 0,
+    },
+    Row {
+        name: "words and long counts",
+        script: b"text .t; .t insert 1.0 \"foo_bar \xc3\xa92!\"; .t index \"1.0 + 99999999999999999999999999 chars\"; .t index \"1.2 wordend\"; .t index \"1.8 wordend\"; .t index \"1.10 wordstart\"; .t index end-1c",
+        numbers: AMPLE,
+        output: ".t\n\n2.0\n1.7\n1.10\n1.10\n1.11\n",
+        status: 0,
+    },
+    Row {
+        name: "marks of the widget's own",
+        script: b"text .t; .t index insert; .t insert end ab; .t index insert; .t index \"current -1c\"; .t get \"insert - 2 c\" insert",
+        numbers: AMPLE,
+        output: ".t\n1.0\n\n1.2\n1.1\nab\n",
+        status: 0,
+    },
+    Row {
+        name: "nothing is selected",
+        script: b"text .t; .t index sel.first; .t get 1.0 \"sel.last - 1c\"; .t index sel.firsts; .t index x.first; .t compare sel.first < 1.0",
+        numbers: AMPLE,
+        output: ".t\nerror: text doesn't contain any characters tagged with \"sel\"\nerror: text doesn't contain any characters tagged with \"sel\"\nerror: bad text index \"sel.firsts\"\nerror: bad text index \"x.first\"\nerror: text doesn't contain any characters tagged with \"sel\"\n",
+        status: 1,
+    },
+    Row {
+        name: "places compared",
+        script: b"text .t; .t insert 1.0 \"ab\\ncd\\n\\nef\"; .t compare 1.end < 2.0; .t compare 2.0 <= 1.0; .t compare end == 9.0; .t compare 1.0 >= 2.0; .t compare end > insert; .t compare 1.9 != 1.end; .t compare 1.0 <> 1.0; .t compare q <> r; .t compare 1.0 <> r; .t compare 1.0 < r; .t compare 1.0 <",
+        numbers: AMPLE,
+        output: ".t\n\n1\n0\n1\n0\n1\n0\nerror: bad comparison operator \"<>\"\nerror: bad text index \"q\"\nerror: bad comparison operator \"<>\"\nerror: bad text index \"r\"\nerror: wrong # args\n",
+        status: 1,
     },
 ];

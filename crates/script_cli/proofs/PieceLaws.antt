@@ -1,13 +1,16 @@
 -- The characters of what is printed.
-use Rattle.std.proofs.Common.{◌≡◌, ℕ, ◌<◌, ◌≤◌, arith, List, [], ◌∷◌, ◌++◌, length, get_or, String, string_bytes, encode_utf8_all, codes, refl, sym, ap, ◌∙◌, append_assoc}
+use Rattle.std.proofs.Common.{◌≡◌, ℕ, ◌<◌, ◌≤◌, true, false, take, arith, List, [], ◌∷◌, ◌++◌, length, get_or, String, string_bytes, encode_utf8_all, codes, refl, sym, ap, ◌∙◌, append_assoc}
 use Rattle.std.specs.Str.{chars, IsUtf8}
+use Rattle.std.specs.Str.{IsCharBoundary}
+use Rattle.std.specs.Prelude.{if◌then◌else◌}
+use Rattle.std.proofs.lemmas.Bool.Decides.{nat_tests}
 use Rattle.std.proofs.Math.ListN.{get_or-eq_default}
 use Rattle.std.proofs.lemmas.Grind.{common_steps}
 use Rattle.std.proofs.lemmas.List.{append-nil, get_or-map}
 use Rattle.std.proofs.lemmas.Str.{encodes-append, encodes-chars}
 use Rattle.tcl_words.specs.Unread.{texts_of}
 use Rattle.peers.specs.Words.{literal}
-use Rattle.script_cli.specs.Pieces.{quoted, error_line, word_at}
+use Rattle.script_cli.specs.Pieces.{quoted, error_line, word_at, is_boundary, front_of}
 
 -- the bytes of three texts
 pub three_texts : (before word after : List ℕ) → IsUtf8 before → IsUtf8 word → IsUtf8 after
@@ -36,6 +39,15 @@ bad_index word = ap (λ text. codes "error: bad text index \"" ++ text) (sym (ap
 pub bad_option : (word : List ℕ) → chars (codes "error: bad option \"") ++ (word ++ chars (codes "\"\n")) ≡ error_line (literal "bad option " ++ quoted word)
 unfolding chars
 bad_option word = ap (λ text. codes "error: bad option \"" ++ text) (sym (append_assoc word (34 ∷ []) (10 ∷ [])))
+
+pub no_tagged : (word : List ℕ) → chars (codes "error: text doesn't contain any characters tagged with \"") ++ (word ++ chars (codes "\"\n"))
+    ≡ error_line (literal "text doesn't contain any characters tagged with " ++ quoted word)
+unfolding chars
+no_tagged word = ap (λ text. codes "error: text doesn't contain any characters tagged with \"" ++ text) (sym (append_assoc word (34 ∷ []) (10 ∷ [])))
+
+pub bad_comparison : (word : List ℕ) → chars (codes "error: bad comparison operator \"") ++ (word ++ chars (codes "\"\n")) ≡ error_line (literal "bad comparison operator " ++ quoted word)
+unfolding chars
+bad_comparison word = ap (λ text. codes "error: bad comparison operator \"" ++ text) (sym (append_assoc word (34 ∷ []) (10 ∷ [])))
 
 pub bad_name : (word : List ℕ) → chars (codes "error: invalid command name \"") ++ (word ++ chars (codes "\"\n")) ≡ error_line (literal "invalid command name " ++ quoted word)
 unfolding chars
@@ -108,3 +120,28 @@ no_characters = refl
 pub no_word : {Z : Type 0} (words : List (String Z)) (position : ℕ) → length words ≤ position → chars [] ≡ word_at (texts_of words) position
 unfolding chars
 no_word words position past = sym (get_or-eq_default (texts_of words) [] (grind (arith, common_steps)))
+
+boundary-yes : (bytes : List ℕ) (at : ℕ) → IsCharBoundary bytes at → is_boundary bytes at ≡ true
+boundary-yes bytes at is = grind (arith, nat_tests, common_steps)
+
+boundary-of : (bytes : List ℕ) (at : ℕ) → is_boundary bytes at ≡ true → IsCharBoundary bytes at
+boundary-of bytes at is = (grind (arith, nat_tests, common_steps), grind (arith, nat_tests, common_steps))
+
+boundary-no : (bytes : List ℕ) (at : ℕ) → ¬ IsCharBoundary bytes at → is_boundary bytes at ≡ false
+boundary-no bytes at isn't =
+    elim (is_boundary bytes at) as (λ b. is_boundary bytes at ≡ b → b ≡ false) [
+      | false ↦ λ _. refl
+      | true ↦ λ is. absurd (isn't (boundary-of bytes at is))
+    ] refl
+
+-- the front of a word, where its bytes are some characters, and else
+pub front-some : (word front : List ℕ) (len : ℕ) → IsUtf8 word → IsCharBoundary word len → front ≡ take len word → chars front ≡ front_of len (chars word)
+front-some word front len utf8 boundary is =
+    let bytes : encode_utf8_all (chars word) ≡ word = encodes-chars word utf8 in
+    ap chars (is ∙ ap (take len) (sym bytes))
+    ∙ sym (ap (λ b. if b then chars (take len (encode_utf8_all (chars word))) else chars word) (ap (λ bs. is_boundary bs len) bytes ∙ boundary-yes word len boundary))
+
+pub front-none : (word : List ℕ) (len : ℕ) → IsUtf8 word → ¬ IsCharBoundary word len → chars word ≡ front_of len (chars word)
+front-none word len utf8 cut =
+    let bytes : encode_utf8_all (chars word) ≡ word = encodes-chars word utf8 in
+    sym (ap (λ b. if b then chars (take len (encode_utf8_all (chars word))) else chars word) (ap (λ bs. is_boundary bs len) bytes ∙ boundary-no word len cut))

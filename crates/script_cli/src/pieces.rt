@@ -1,6 +1,6 @@
 ghost use Rattle.std.specs.Prelude.{◌≡◌, ◌++◌, false, not, Ok, Err, chars, encode_utf8_all};
 ghost use Rattle.tcl_words.specs.Unread.{texts_of};
-ghost use Rattle.script_cli.specs.Pieces.{piece, error_line, script_fault_text, answer_text as spec_answer_text, word_at as spec_word_at};
+ghost use Rattle.script_cli.specs.Pieces.{piece, error_line, script_fault_text, answer_text as spec_answer_text, word_at as spec_word_at, front_of as spec_front_of};
 ghost use Rattle.script_cli.specs.Sending.{Gathers};
 
 use crate::devices::ByteSink;
@@ -51,6 +51,11 @@ impl<'a> Piece<'a> {
                 word_at(words, position),
                 "\"\n",
             ),
+            Fault::NoTaggedCharacters(position, len) => Piece::around(
+                "error: text doesn't contain any characters tagged with \"",
+                front_of(word_at(words, position), len),
+                "\"\n",
+            ),
             Fault::BadOption(position) => Piece::around(
                 "error: bad option \"",
                 word_at(words, position),
@@ -66,6 +71,11 @@ impl<'a> Piece<'a> {
                 "error: window name \"",
                 word_at(words, position),
                 "\" already exists\n",
+            ),
+            Fault::BadComparison(position) => Piece::around(
+                "error: bad comparison operator \"",
+                word_at(words, position),
+                "\"\n",
             ),
             Fault::DocumentExists => Piece::plain("error: a document exists\n"),
             Fault::TooManyWidgets => Piece::plain("error: too many widgets\n"),
@@ -139,6 +149,16 @@ fn answer_text<'a>(words: &'a [String], answer: &'a Answer) -> &'a str
         Answer::Flag(true) => "1",
         Answer::Flag(false) => "0",
         Answer::Text(text) => text.as_str(),
+    }
+}
+
+/// The text that so many bytes at the front of a word are; the whole word where these cut a character.
+fn front_of(word: &str, len: usize) -> &str
+    ensures { chars result.now ≡ spec_front_of len (chars word.now) }
+{
+    match word.split_at_checked(len) {
+        Some((front, _)) => front,
+        None => word,
     }
 }
 

@@ -1,13 +1,25 @@
 use Rattle.std.proofs.Common.{encode_utf8_all, ap, ◌∙◌}
 use Rattle.tcl_words.specs.Unread.{texts_of}
-use Rattle.script_cli.specs.Pieces.{word_at}
-use Rattle.script_cli.proofs.PieceLaws.{bad_index, bad_option, bad_name, window_exists, wrong_arguments, document_exists, too_many_widgets, too_long, no_memory}
+use Rattle.script_cli.specs.Pieces.{word_at, front_of}
+use Rattle.script_cli.proofs.PieceLaws.{bad_index, no_tagged, bad_comparison, bad_option, bad_name, window_exists, wrong_arguments, document_exists, too_many_widgets, too_long, no_memory}
 use Rattle.script_cli.proofs.pieces.Piece.of_fault.Goals as goal
 
 pub returns-in-BadIndex : goal.returns-in-BadIndex
 returns-in-BadIndex c =
     let line = rw c.word_at.ensures at c.around.ensures in
     rw c.in-BadIndex.is (line ∙ ap encode_utf8_all (bad_index (word_at (texts_of c.args.words.now) c.in-BadIndex.position)))
+
+pub returns-in-NoTaggedCharacters : goal.returns-in-NoTaggedCharacters
+returns-in-NoTaggedCharacters c =
+    let found = c.in-NoTaggedCharacters in
+    let name = rw c.word_at-in-NoTaggedCharacters.ensures at c.front_of.ensures in
+    let line = rw name at c.around-in-NoTaggedCharacters.ensures in
+    rw found.is (line ∙ ap encode_utf8_all (no_tagged (front_of found.len (word_at (texts_of c.args.words.now) found.position))))
+
+pub returns-in-BadComparison : goal.returns-in-BadComparison
+returns-in-BadComparison c =
+    let line = rw c.word_at-in-BadComparison.ensures at c.around-in-BadComparison.ensures in
+    rw c.in-BadComparison.is (line ∙ ap encode_utf8_all (bad_comparison (word_at (texts_of c.args.words.now) c.in-BadComparison.position)))
 
 pub returns-in-BadOption : goal.returns-in-BadOption
 returns-in-BadOption c =
