@@ -10,3 +10,6 @@ text .t
 .t get 1.0 1.end
 .t index 1.99
 .t index end
+.t get "end - 1 lines" "2.0 lineend"
+.t index "2.1 wordend + 1 any chars"
+.t compare insert >= "end - 2 lines"
