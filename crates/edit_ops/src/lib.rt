@@ -7,6 +7,7 @@ mod deletions;
 mod drafts;
 mod faults;
 mod insertions;
+pub mod laws;
 mod pieces;
 mod plans;
 mod replacements;

@@ -1,0 +1,5 @@
+use Rattle.edit_ops.proofs.KeepLaws.{texts-kept, replaced-kept, deleted-kept, tagged-kept}
+use Rattle.edit_ops.proofs.laws.edits_fit.Goals as goal
+
+pub returns : goal.returns
+returns c = record { inserted = texts-kept; replaced = replaced-kept; deleted = deleted-kept; tagged = tagged-kept }
