@@ -69,7 +69,7 @@ next_line-drawn text from to ordered within =
     let after : next_line (removed from to text) from ≡ from + rest = next_line-removed text from to (omega arith) in
     (omega (arith, before), omega (arith, before, after))
 
-number-of : (b : Bool) (m n : ℕ) → suc n ≡ cond b 1 0 + m → (if b then n else suc n) ≡ m
+pub number-of : (b : Bool) (m n : ℕ) → suc n ≡ cond b 1 0 + m → (if b then n else suc n) ≡ m
 number-of true m n is = omega (arith, is)
 number-of false m n is = omega (arith, is)
 
@@ -88,7 +88,7 @@ begins-same c m (suc n) rest others is same =
     let number = number-of (is_newline c) m n is in
     ap (λ k. 1 + line_start k rest) number ∙ ap (λ k. 1 + k) same ∙ sym (ap (λ k. 1 + line_start k others) number)
 
-line-append-same : (xs ys zs : List ℕ) → line_start (lines xs) (xs ++ ys) ≡ line_start (lines xs) (xs ++ zs)
+pub line-append-same : (xs ys zs : List ℕ) → line_start (lines xs) (xs ++ ys) ≡ line_start (lines xs) (xs ++ zs)
 line-append-same [] ys zs = refl
 line-append-same (c ∷ xs) ys zs = begins-same c (lines xs) (lines (c ∷ xs)) (xs ++ ys) (xs ++ zs) (lines-cons c xs) (line-append-same xs ys zs)
 
