@@ -59,10 +59,10 @@ note-kept limit recording kind action state content new kept made content_is log
     × (b ≡ false → (if b then made_history else history).undone ≡ [])) [
       | true ↦ λ on. (note-fits limit state.log.most kind action recording.separators history text found kept.fits made, (λ off. absurd (true≢false off)), (λ off. absurd (true≢false off)))
       | false ↦ λ off. (
-          empty-fits limit text found history kept.fits (kept.groups off) (kept.undone off) (repeat-back limit action text found kept.fits.short made).1,
-          (λ _. kept.groups off),
-          (λ _. kept.undone off),
-        )
+        empty-fits limit text found history kept.fits (kept.groups off) (kept.undone off) (repeat-back limit action text found kept.fits.short made).1,
+        (λ _. kept.groups off),
+        (λ _. kept.undone off),
+      )
     ] refl in
     subst (λ (c : Content). IsKept limit recording (record new { content = c })) (sym content_is)
     (subst (λ (l : Log). IsKept limit recording (record new { content = content; log = l })) (sym log_is)
@@ -70,7 +70,7 @@ note-kept limit recording kind action state content new kept made content_is log
 
 -- ---- texts that are put in
 
-characters-of : (text : List ℕ) (slots : Slots) → characters (cells_of text slots) ≡ text
+pub characters-of : (text : List ℕ) (slots : Slots) → characters (cells_of text slots) ≡ text
 characters-of text slots = map-map (λ (cell : Cell). cell.character) (λ character. record { character = character; tags = slots }) text ∙ map-id text
 
 put-made : (limit at : ℕ) (text : List ℕ) (slots : Slots) (content : Content) → at < length content.cells → length content.cells + length text ≤ limit
@@ -94,10 +94,10 @@ text-kept limit at recording kind piece state kept within short =
     elim (length piece.text == 0) as (λ b. (length piece.text == 0) ≡ b → IsKept limit recording (if b then state else made) × (length (if b then state else made).content.cells ≡ length state.content.cells + length piece.text)) [
       | true ↦ λ none. (kept, (let gone = eqb-true (length piece.text) 0 none in omega (arith, gone)))
       | false ↦ λ some. (
-          note-kept limit recording kind (record { inserts = true; at = at; text = piece.text }) state (after_insertion at piece.text slots state.content) made kept
-              (put-made limit at piece.text slots state.content within short) refl refl,
-          length-cells_inserted at piece.text slots state.content.cells (omega (arith, within)),
-        )
+        note-kept limit recording kind (record { inserts = true; at = at; text = piece.text }) state (after_insertion at piece.text slots state.content) made kept
+            (put-made limit at piece.text slots state.content within short) refl refl,
+        length-cells_inserted at piece.text slots state.content.cells (omega (arith, within)),
+      )
     ] refl
 
 pub texts-kept : (limit at : ℕ) (recording : Recording) (kind : EditKind) (pieces : List Piece) (state : State) → IsKept limit recording state → at < length state.content.cells
@@ -138,10 +138,10 @@ span-kept limit from to recording kind state kept ordered within =
     elim (from == to) as (λ b. (from == to) ≡ b → IsKept limit recording (if b then state else made) × (length (if b then state else made).content.cells ≡ length state.content.cells - (to - from))) [
       | true ↦ λ none. (kept, (let same = eqb-true from to none in omega (arith, same)))
       | false ↦ λ some. (
-          note-kept limit recording kind (record { inserts = false; at = from; text = taken }) state (after_removal from to state.content) made kept
-              (take-made limit from to state.content ordered within) refl refl,
-          (let h = length-removed from to state.content.cells ordered (omega (arith, within)) in omega (arith, h)),
-        )
+        note-kept limit recording kind (record { inserts = false; at = from; text = taken }) state (after_removal from to state.content) made kept
+            (take-made limit from to state.content ordered within) refl refl,
+        (let h = length-removed from to state.content.cells ordered (omega (arith, within)) in omega (arith, h)),
+      )
     ] refl
 
 -- the marks don't matter
@@ -239,19 +239,19 @@ set-below text start end offset spans some within =
     elim (set (end - 1)) as (λ b. set (end - 1) ≡ b → (if b then (set offset && not (offset == end - 1)
     || (offset + 1 == run_start set (end - 1) && nat_le start offset && is_newline (get_or text offset 0))) else set offset) ≡ true → offset + 1 < end) [
       | true ↦ λ last is. elim (or_cases (set offset && not (offset == end - 1)) (offset + 1 == run_start set (end - 1) && nat_le start offset && is_newline (get_or text offset 0)) is) [
-          | inl inner ↦
-              let parts = and_parts (set offset) (not (offset == end - 1)) inner in
-              let below = in-within spans end offset within parts.0 in
-              let other = eqb-false offset (end - 1) (not-true (offset == end - 1) parts.1) in
-              elim (cases_eq offset (end - 1)) [
-                | inl same ↦ absurd (other same)
-                | inr differs ↦ omega (arith, below, differs)
-              ]
-          | inr before ↦
-              let at = eqb-true (offset + 1) (run_start set (end - 1)) (first-of (offset + 1 == run_start set (end - 1)) (nat_le start offset) (is_newline (get_or text offset 0)) before) in
-              let first = run-start-le set (end - 1) in
-              omega (arith, at, first, some)
-        ]
+        | inl inner ↦
+            let parts = and_parts (set offset) (not (offset == end - 1)) inner in
+            let below = in-within spans end offset within parts.0 in
+            let other = eqb-false offset (end - 1) (not-true (offset == end - 1) parts.1) in
+            elim (cases_eq offset (end - 1)) [
+              | inl same ↦ absurd (other same)
+              | inr differs ↦ omega (arith, below, differs)
+            ]
+        | inr before ↦
+            let at = eqb-true (offset + 1) (run_start set (end - 1)) (first-of (offset + 1 == run_start set (end - 1)) (nat_le start offset) (is_newline (get_or text offset 0)) before) in
+            let first = run-start-le set (end - 1) in
+            omega (arith, at, first, some)
+      ]
       | false ↦ λ none is.
           let below = in-within spans end offset within is in
           elim (cases_eq offset (end - 1)) [

@@ -5,4 +5,5 @@ pub mod KeepLaws
 pub mod TagLaws
 pub mod RemovalLaws
 pub mod ReplaceLaws
+pub mod ReversalLaws
 pub mod RunLaws

@@ -10,6 +10,7 @@ ghost use Rattle.edit_ops.specs.Deletions.{deleted};
 ghost use Rattle.edit_ops.specs.Insertions.{inserted_texts, total};
 ghost use Rattle.edit_ops.specs.Keeping.{IsKept};
 ghost use Rattle.edit_ops.specs.Removals.{replaced};
+ghost use Rattle.edit_ops.specs.Reversals.{undone, redone};
 ghost use Rattle.edit_ops.specs.States.{State, Log, state_of};
 ghost use Rattle.edit_ops.specs.Tagging.{SpanFits, tagged};
 
@@ -25,6 +26,10 @@ pub fn edits_fit()
     ensures deleted { (limit start end : ℕ) (recording : Recording) (spans : List Span) (state : State) →
         IsKept limit recording state → start < end → end ≤ length state.content.cells → All (λ (span : Span). span.to ≤ end) spans →
         IsKept limit recording (deleted recording start end spans state) }
+    ensures undone { (limit mark : ℕ) (recording : Recording) (state : State) →
+        IsKept limit recording state → IsKept limit recording (undone mark state) }
+    ensures redone { (limit mark : ℕ) (recording : Recording) (state : State) →
+        IsKept limit recording state → IsKept limit recording (redone mark state) }
     ensures tagged { (limit slot : ℕ) (on : Bool) (recording : Recording) (spans : List Span) (state : State) →
         IsKept limit recording state → All (SpanFits (length state.content.cells)) spans →
         IsKept limit recording (state_of (tagged slot on spans state.content) state.anchors state.log) }
