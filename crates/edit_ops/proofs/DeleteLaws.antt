@@ -1,8 +1,8 @@
 -- Spans are taken out of a text, the last first.
-use Rattle.std.proofs.Common.{◌≡◌, ℕ, zero, suc, ◌+◌, ◌-◌, ◌<◌, ◌≤◌, ◌==◌, Bool, true, false, inl, inr, List, [], ◌∷◌, ◌++◌, map, length, get_or, take, drop, refl, sym, ap, ap₂, ◌∙◌, arith, subst, ne_eqb, length-take, length-drop, length-append}
+use Rattle.std.proofs.Common.{◌≡◌, ℕ, zero, suc, ◌+◌, ◌-◌, ◌<◌, ◌≤◌, Bool, true, false, inl, inr, List, [], ◌∷◌, ◌++◌, map, length, take, drop, refl, sym, ap, ap₂, ◌∙◌, arith, subst, ne_eqb, length-take, length-drop}
 use Rattle.std.specs.Prelude.{nat_le, slice_range, if◌then◌else◌}
 use Rattle.std.proofs.lemmas.Bool.{le-leb, lt-leb, cases_lt}
-use Rattle.std.proofs.lemmas.List.{take-append-drop, length-map, drop-take}
+use Rattle.std.proofs.lemmas.List.{length-map, drop-take}
 use Rattle.std.proofs.lemmas.List.Folds.{drop_split}
 use Rattle.std.proofs.Math.ListN.{drop_of_length-le}
 use Rattle.text_model.specs.declared.cells.Cell.{Cell}
@@ -12,10 +12,8 @@ use Rattle.text_model.specs.Content.{Content, characters}
 use Rattle.text_model.specs.Lines.{line_of, line_start}
 use Rattle.text_model.specs.Splices.{removed}
 use Rattle.text_model.specs.Steps.{Fits, after, after_step, after_removal, without_slots}
-use Rattle.text_model.proofs.LineLaws.{line_start-le}
 use Rattle.text_model.proofs.SpliceLaws.{length-removed, map-removed, take-removed, drop-removed, map-changed, changed-same}
 use Rattle.text_model.proofs.StepLaws.{Fits-append, after-append}
-use Rattle.undo_stack.specs.declared.actions.Action.{Action}
 use Rattle.undo_stack.specs.declared.actions.EditKind.{EditKind}
 use Rattle.undo_stack.specs.declared.actions.EditKind.TheVariants.{Delete}
 use Rattle.edit_ops.specs.declared.anchors.Anchors.{Anchors}

@@ -1,11 +1,11 @@
 -- The history goes on fitting the text.
-use Rattle.std.proofs.Common.{◌≡◌, ℕ, zero, suc, ◌+◌, ◌-◌, ◌<◌, ◌≤◌, ◌==◌, ◌&&◌, Bool, true, false, inl, inr, List, [], ◌∷◌, ◌++◌, Option, Some, None, map, length, get_or, take, drop, refl, sym, ap, ap₂, ◌∙◌, arith, subst, ne_eqb, eq-eqb, length-take, length-drop}
+use Rattle.std.proofs.Common.{◌≡◌, ℕ, zero, suc, ◌+◌, ◌-◌, ◌<◌, ◌≤◌, ◌==◌, ◌&&◌, Bool, true, false, inl, inr, List, [], ◌∷◌, Option, Some, None, map, length, get_or, drop, refl, sym, ap, ap₂, ◌∙◌, arith, subst, length-take, length-drop}
 use Rattle.std.specs.Prelude.{slice_range, bytes_eq, nat_lt, nat_le, min, not, ◌||◌, if◌then◌else◌, option_and_then}
 use Rattle.std.specs.FinMap as finite
 use Rattle.std.specs.List.{All}
-use Rattle.std.proofs.lemmas.Bool.{true≢false, eqb-false, le-leb, lt-ltb, cases_eq, cases_lt, or_cases, and_parts, eqb-true, both_ways, not-true, cases_Bool}
+use Rattle.std.proofs.lemmas.Bool.{true≢false, eqb-false, le-leb, lt-ltb, cases_eq, or_cases, and_parts, eqb-true, both_ways, not-true}
 use Rattle.std.proofs.lemmas.Slice.Eq.{bytes_eq-Decides}
-use Rattle.std.proofs.lemmas.List.{length-map, map-id}
+use Rattle.std.proofs.lemmas.List.{map-id}
 use Rattle.std.proofs.lemmas.List.Elements.{All-tail}
 use Rattle.text_model.specs.declared.cells.Cell.{Cell}
 use Rattle.text_model.specs.declared.edits.Step.TheVariants.{ClearTags}
@@ -14,11 +14,11 @@ use Rattle.text_model.specs.Content.{Content, Slots, characters}
 use Rattle.text_model.specs.Splices.{inserted, removed, changed}
 use Rattle.text_model.specs.Lines.{is_newline}
 use Rattle.text_model.specs.Steps.{cells_of, after_step, after_insertion, after_removal, with_slot, without_slots}
-use Rattle.text_model.proofs.SpliceLaws.{length-inserted, length-cells_inserted, length-removed, length-changed, map-inserted, map-removed, map-map, map-changed, changed-same}
+use Rattle.text_model.proofs.SpliceLaws.{length-cells_inserted, length-removed, length-changed, map-inserted, map-removed, map-map, map-changed, changed-same}
 use Rattle.undo_stack.specs.declared.actions.Action.{Action}
 use Rattle.undo_stack.specs.declared.actions.EditKind.{EditKind}
 use Rattle.undo_stack.specs.declared.actions.EditKind.TheVariants.{Replace, Delete}
-use Rattle.undo_stack.specs.Fits.{FitsText, repeated, put_in, take_out}
+use Rattle.undo_stack.specs.Fits.{FitsText, repeated}
 use Rattle.undo_stack.specs.History.{History, noted}
 use Rattle.undo_stack.proofs.FitsLaws.{repeat-back, note-fits}
 use Rattle.edit_ops.specs.declared.pieces.Piece.{Piece}
@@ -28,7 +28,7 @@ use Rattle.edit_ops.specs.Anchors.{anchors_moved, anchors_removed}
 use Rattle.edit_ops.specs.Deletions.{in_spans, run_start, delete_set, onto_runs, runs_below, AreApart, removed_spans, deleted}
 use Rattle.edit_ops.specs.Insertions.{shared_slots, slots_or, inserted_text, inserted_texts, total}
 use Rattle.edit_ops.specs.Keeping.{IsKept}
-use Rattle.edit_ops.specs.Removals.{removed_span, clipped, with_mark, replaced_span, replaced}
+use Rattle.edit_ops.specs.Removals.{removed_span, clipped, with_mark, replaced}
 use Rattle.edit_ops.specs.States.{State, Log, log_noted, state_of}
 use Rattle.edit_ops.specs.Tagging.{SpanFits, tagged}
 use Rattle.edit_ops.proofs.InsertLaws.{total-cons}

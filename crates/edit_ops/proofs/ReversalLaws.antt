@@ -1,22 +1,22 @@
 -- The history goes on fitting the text where a group is undone or redone.
-use Rattle.std.proofs.Common.{◌≡◌, ℕ, ◌+◌, ◌-◌, ◌<◌, ◌≤◌, ◌&&◌, Bool, true, false, List, [], ◌∷◌, Option, Some, None, length, refl, sym, ap, ap₂, ◌∙◌, arith, subst}
-use Rattle.std.specs.Prelude.{slice_range, slice_get, bytes_eq, nat_lt, nat_le, option_and_then, if◌then◌else◌}
+use Rattle.std.proofs.Common.{◌≡◌, ℕ, ◌+◌, ◌-◌, ◌&&◌, Bool, true, false, List, [], ◌∷◌, Option, Some, None, length, refl, sym, ap, ◌∙◌, subst}
+use Rattle.std.specs.Prelude.{slice_range, slice_get, bytes_eq, nat_lt, nat_le, if◌then◌else◌}
 use Rattle.std.proofs.lemmas.Option.{option_and_then_some}
 use Rattle.text_model.specs.declared.cells.Cell.{Cell}
 use Rattle.text_model.specs.declared.places.Place.{Place}
-use Rattle.text_model.specs.Content.{Content, Slots, characters}
+use Rattle.text_model.specs.Content.{Content, characters}
 use Rattle.text_model.specs.Splices.{inserted, removed}
-use Rattle.text_model.specs.Steps.{cells_of, after_insertion, after_removal}
+use Rattle.text_model.specs.Steps.{cells_of}
 use Rattle.text_model.proofs.SpliceLaws.{map-inserted, map-removed}
 use Rattle.undo_stack.specs.declared.actions.Action.{Action}
 use Rattle.undo_stack.specs.Fits.{FitsText, put_in, take_out, repeated, reverted, repeated_group, reverted_group}
-use Rattle.undo_stack.specs.History.{History, next_undo, next_redo, after_undo, after_redo}
+use Rattle.undo_stack.specs.History.{next_undo, next_redo, after_undo, after_redo}
 use Rattle.undo_stack.proofs.FitsLaws.{undo-goes, undo-fits, redo-goes, redo-fits}
 use Rattle.edit_ops.specs.declared.plans.Recording.{Recording}
 use Rattle.edit_ops.specs.Insertions.{shared_slots}
 use Rattle.edit_ops.specs.Keeping.{IsKept}
 use Rattle.edit_ops.specs.Removals.{with_mark}
-use Rattle.edit_ops.specs.Reversals.{put_back, taken_back, action_redone, action_undone, group_redone, group_undone, undo_end, redo_end, stood, undone_group, redone_group, undone, redone}
+use Rattle.edit_ops.specs.Reversals.{put_back, taken_back, action_redone, action_undone, group_redone, group_undone, undone_group, redone_group, undone, redone}
 use Rattle.edit_ops.specs.States.{State}
 use Rattle.edit_ops.proofs.KeepLaws.{characters-of}
 

@@ -1,4 +1,4 @@
-use Rattle.std.proofs.Common.{take_all, rules, subst, ◌∙◌, sym}
+use Rattle.std.proofs.Common.{take_all, rules, subst}
 use Rattle.std.specs.List.{All}
 use Rattle.std.proofs.lemmas.List.Elements.{All-more}
 use Rattle.edit_ops.specs.Anchors.{AnchorsStand}

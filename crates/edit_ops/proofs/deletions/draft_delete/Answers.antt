@@ -1,6 +1,4 @@
-use Rattle.std.proofs.Common.{length, ap, sym, ◌∙◌, arith, subst}
-use Rattle.text_model.specs.Content.{characters}
-use Rattle.edit_ops.specs.Deletions.{AreApart}
+use Rattle.std.proofs.Common.{length}
 use Rattle.edit_ops.proofs.RunLaws.{apart-wider}
 use Rattle.edit_ops.proofs.DeleteLaws.{delete-made}
 use Rattle.edit_ops.proofs.deletions.draft_delete.Goals as goal

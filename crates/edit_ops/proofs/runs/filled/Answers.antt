@@ -1,5 +1,4 @@
-use Rattle.std.proofs.Common.{◌<◌, ap, sym, ◌∙◌, subst, take_all, ◌++◌, [], ◌∷◌}
-use Rattle.std.specs.List.{All}
+use Rattle.std.proofs.Common.{◌<◌, ap, ◌∙◌, take_all}
 use Rattle.std.proofs.lemmas.List.Elements.{All-push}
 use Rattle.edit_ops.specs.declared.spans.Span.{Span}
 use Rattle.edit_ops.specs.Deletions.{in_spans}

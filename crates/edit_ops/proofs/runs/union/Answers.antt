@@ -1,10 +1,9 @@
-use Rattle.std.proofs.Common.{◌≡◌, ℕ, ◌+◌, ◌≤◌, ◌++◌, ◌||◌, [], ◌∷◌, List, length, ap, sym, ◌∙◌, subst, arith}
+use Rattle.std.proofs.Common.{◌≡◌, ℕ, ◌+◌, ◌++◌, [], ◌∷◌, length, ap, sym, ◌∙◌, arith}
 use Rattle.std.specs.Prelude.{IsSome}
 use Rattle.std.specs.Option.{option_to_list}
 use Rattle.std.proofs.lemmas.List.{nil_from_length, length_push}
-use Rattle.edit_ops.specs.declared.spans.Span.{Span}
-use Rattle.edit_ops.specs.Deletions.{in_spans, AreApart}
-use Rattle.edit_ops.proofs.RunLaws.{Merging, merging-first, merging-joined, merging-next, some_is, merged-in, apart-below, in-within}
+use Rattle.edit_ops.specs.Deletions.{in_spans}
+use Rattle.edit_ops.proofs.RunLaws.{merging-first, merging-joined, merging-next, some_is, merged-in, apart-below, in-within}
 use Rattle.edit_ops.proofs.runs.union.Goals as goal
 use Rattle.edit_ops.proofs.runs.union.Goals.{in-Some-pop+then-span-run+in_ok-push, in-Some-pop+else-span-run, in_default-pop}
 
