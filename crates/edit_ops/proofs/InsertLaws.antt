@@ -137,7 +137,7 @@ pub record Inserting (draft new : Draft) (from start : ℕ) (around : Slots) (pi
       → IsBetween around behind start from (after draft.steps state.content).cells
       → InsertedSoFar recording kind draft new state from pieces at len shared behind rest
 
-total-cons : (piece : Piece) (rest : List Piece) → total (piece ∷ rest) ≡ length piece.text + total rest
+pub total-cons : (piece : Piece) (rest : List Piece) → total (piece ∷ rest) ≡ length piece.text + total rest
 total-cons piece rest = sum_by-cons (λ (p : Piece). length p.text) piece rest
 
 -- a text more

@@ -54,7 +54,7 @@ next_line-is text offset within =
     ∙ next-append (take offset text) (drop offset text)
     ∙ ap (λ n. n + line_start 1 (drop offset text)) (let e : length (take offset text) ≡ offset = length-take offset text ∙ omega arith in e)
 
-next_line-removed : (text : List ℕ) (from to : ℕ) → from ≤ length text → next_line (removed from to text) from ≡ from + line_start 1 (drop to text)
+pub next_line-removed : (text : List ℕ) (from to : ℕ) → from ≤ length text → next_line (removed from to text) from ≡ from + line_start 1 (drop to text)
 next_line-removed text from to within =
     ap (λ n. line_start (n + 1) (removed from to text)) (line_of-removed_before from to text from within (omega arith))
     ∙ next-append (take from text) (drop to text)
@@ -69,7 +69,7 @@ next_line-drawn text from to ordered within =
     let after : next_line (removed from to text) from ≡ from + rest = next_line-removed text from to (omega arith) in
     (omega (arith, before), omega (arith, before, after))
 
-number-of : (b : Bool) (m n : ℕ) → suc n ≡ cond b 1 0 + m → (if b then n else suc n) ≡ m
+pub number-of : (b : Bool) (m n : ℕ) → suc n ≡ cond b 1 0 + m → (if b then n else suc n) ≡ m
 number-of true m n is = omega (arith, is)
 number-of false m n is = omega (arith, is)
 
@@ -81,6 +81,45 @@ begins-before c m (suc n) rest len is below =
 line-append : (xs ys : List ℕ) → line_start (lines xs) (xs ++ ys) ≤ length xs
 line-append [] ys = omega arith
 line-append (c ∷ xs) ys = begins-before c (lines xs) (lines (c ∷ xs)) (xs ++ ys) (length xs) (lines-cons c xs) (line-append xs ys)
+
+begins-same : (c m n : ℕ) (rest others : List ℕ) → n ≡ cond (is_newline c) 1 0 + m → line_start m rest ≡ line_start m others → line_start n (c ∷ rest) ≡ line_start n (c ∷ others)
+begins-same c m zero rest others is same = refl
+begins-same c m (suc n) rest others is same =
+    let number = number-of (is_newline c) m n is in
+    ap (λ k. 1 + line_start k rest) number ∙ ap (λ k. 1 + k) same ∙ sym (ap (λ k. 1 + line_start k others) number)
+
+pub line-append-same : (xs ys zs : List ℕ) → line_start (lines xs) (xs ++ ys) ≡ line_start (lines xs) (xs ++ zs)
+line-append-same [] ys zs = refl
+line-append-same (c ∷ xs) ys zs = begins-same c (lines xs) (lines (c ∷ xs)) (xs ++ ys) (xs ++ zs) (lines-cons c xs) (line-append-same xs ys zs)
+
+-- where a line begins hangs on what stands before the offset alone
+pub line-front : (text other : List ℕ) (offset : ℕ) → take offset text ≡ take offset other → line_start (line_of text offset) text ≡ line_start (line_of other offset) other
+line-front text other offset same =
+    ap (line_start (line_of text offset)) (sym (take-append-drop offset text))
+    ∙ line-append-same (take offset text) (drop offset text) (drop offset other)
+    ∙ ap (λ front. line_start (lines front) (front ++ drop offset other)) same
+    ∙ ap (line_start (line_of other offset)) (take-append-drop offset other)
+
+-- the next line begins in a front, or behind it, whatever follows
+pub next-within : (xs ys zs : List ℕ) → line_start 1 (xs ++ ys) ≤ length xs → (line_start 1 ys ≡ 0 → line_start 1 zs ≡ 0) → line_start 1 (xs ++ zs) ≡ line_start 1 (xs ++ ys)
+next-within [] ys zs within none = let gone : line_start 1 ys ≡ 0 = omega (arith, within) in none gone ∙ sym gone
+next-within (c ∷ xs) ys zs within none =
+    elim (is_newline c) as (λ b. 1 + line_start (if b then 0 else 1) (xs ++ ys) ≤ suc (length xs) → 1 + line_start (if b then 0 else 1) (xs ++ zs) ≡ 1 + line_start (if b then 0 else 1) (xs ++ ys)) [
+      | true ↦ λ _. refl
+      | false ↦ λ inner. ap (λ n. 1 + n) (next-within xs ys zs (omega (arith, inner)) none)
+    ] within
+
+pub next-behind : (xs ys zs : List ℕ) → length xs < line_start 1 (xs ++ ys) → line_start 1 (xs ++ zs) ≡ length xs + line_start 1 zs
+next-behind [] ys zs behind = omega arith
+next-behind (c ∷ xs) ys zs behind =
+    elim (is_newline c) as (λ b. suc (length xs) < 1 + line_start (if b then 0 else 1) (xs ++ ys) → 1 + line_start (if b then 0 else 1) (xs ++ zs) ≡ suc (length xs) + line_start 1 zs) [
+      | true ↦ λ inner. absurd (omega (arith, inner))
+      | false ↦ λ inner. ap (λ n. 1 + n) (next-behind xs ys zs (omega (arith, inner))) ∙ omega arith
+    ] behind
+
+pub no-next : (text : List ℕ) → line_start 1 text ≡ 0 → length text ≡ 0
+no-next [] none = refl
+no-next (c ∷ text) none = absurd (omega (arith, none))
 
 -- a line begins at or before each offset in it
 pub line-before : (text : List ℕ) (offset : ℕ) → offset ≤ length text → line_start (line_of text offset) text ≤ offset

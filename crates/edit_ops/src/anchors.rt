@@ -120,7 +120,8 @@ pub fn draw_anchors(all: &mut [Anchors], line: usize, next: usize, from: usize, 
 }
 
 fn stands(anchor: Option<usize>, len: usize) -> bool
-    ensures { result ≡ true → IfSome anchor (λ place. place ≤ len) }
+    ensures yes { result ≡ true → IfSome anchor (λ place. place ≤ len) }
+    ensures no { IfSome anchor (λ place. place ≤ len) → result ≡ true }
 {
     match anchor {
         None => true,
@@ -130,7 +131,8 @@ fn stands(anchor: Option<usize>, len: usize) -> bool
 
 impl Anchors {
     fn stand_in(self, len: usize) -> bool
-        ensures { result ≡ true → AnchorsStand len self }
+        ensures yes { result ≡ true → AnchorsStand len self }
+        ensures no { AnchorsStand len self → result ≡ true }
     {
         stands(self.start, len) && stands(self.end, len)
     }
@@ -138,7 +140,8 @@ impl Anchors {
 
 /// Whether no anchor stands behind the end of a text of so many characters.
 pub fn anchors_stand(all: &[Anchors], len: usize) -> bool
-    ensures { result ≡ true → All (AnchorsStand len) all.now }
+    ensures yes { result ≡ true → All (AnchorsStand len) all.now }
+    ensures no { All (AnchorsStand len) all.now → result ≡ true }
 {
     for anchors in all {
         if !anchors.stand_in(len) {

@@ -3,18 +3,22 @@
 #![tactic(auto)]
 
 mod anchors;
+mod deletions;
 mod drafts;
 mod faults;
 mod insertions;
+pub mod laws;
 mod pieces;
 mod plans;
 mod replacements;
+mod runs;
 mod spans;
 mod tagging;
 #[cfg(test)]
 mod tests;
 
 pub use anchors::{Anchors, anchors_stand};
+pub use deletions::plan_delete;
 pub use faults::EditFault;
 pub use insertions::plan_insert;
 pub use pieces::Piece;

@@ -21,7 +21,7 @@ use text_model::{Limits, MarkNo, Place, Text, TextStore};
 use undo_stack::{EditKind, UndoStack};
 
 /// Where the line of an offset begins.
-fn line_at<S: TextStore>(store: &S, offset: usize) -> usize
+pub fn line_at<S: TextStore>(store: &S, offset: usize) -> usize
     requires { offset ≤ length (S.content store.now).cells }
     ensures { result ≡ line_start (line_of (characters (S.content store.now).cells) offset) (characters (S.content store.now).cells) }
 {
@@ -29,7 +29,7 @@ fn line_at<S: TextStore>(store: &S, offset: usize) -> usize
 }
 
 /// Where the line after that of an offset begins; the length where there is none.
-fn line_behind<S: TextStore>(store: &S, offset: usize) -> usize
+pub fn line_behind<S: TextStore>(store: &S, offset: usize) -> usize
     requires { offset ≤ length (S.content store.now).cells }
     ensures { result ≡ next_line (characters (S.content store.now).cells) offset }
 {

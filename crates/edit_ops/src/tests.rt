@@ -1,6 +1,9 @@
+ghost use Rattle.std.specs.Prelude.{◌≡◌, ◌≤◌, true};
+ghost use Rattle.std.specs.List.{All};
+
 use crate::{
-    Anchors, EditFault, Piece, Recording, Span, anchors_stand, commit, plan_insert, plan_replace,
-    plan_tag,
+    Anchors, EditFault, Piece, Recording, Span, anchors_stand, commit, plan_delete, plan_insert,
+    plan_replace, plan_tag,
 };
 use std::alloc::{AllocError, Global};
 use std::process::Abort;
@@ -260,122 +263,530 @@ fn put_mark<S: TextStore>(
     Ok(())
 }
 
+// A text with the acting widget's mark at an offset, and where the mark stands once `hi` took the place of its first five
+// characters.
+struct Clipped {
+    offset: usize,
+    wanted: usize,
+}
+
+static CLIPPED: [Clipped; 7] = [
+    Clipped {
+        offset: 0,
+        wanted: 0,
+    },
+    Clipped {
+        offset: 1,
+        wanted: 1,
+    },
+    Clipped {
+        offset: 3,
+        wanted: 2,
+    },
+    Clipped {
+        offset: 4,
+        wanted: 2,
+    },
+    Clipped {
+        offset: 5,
+        wanted: 2,
+    },
+    Clipped {
+        offset: 6,
+        wanted: 3,
+    },
+    Clipped {
+        offset: 11,
+        wanted: 8,
+    },
+];
+
+// A store of a text, behind which its last newline stands.
+fn store_of<S: TextStore>(rt: &impl Abort, alloc: Global, text: &str) -> Result<S, Fail> {
+    let mut store = S::new(alloc)?;
+    let mut history = UndoStack::new(alloc);
+    let pieces = [piece(alloc, text, None)?];
+    let made = insert(
+        rt,
+        alloc,
+        &mut store,
+        &mut history,
+        &mut [NO_ANCHORS],
+        0,
+        &pieces,
+    );
+    assert_eq!(rt; made, Ok(()));
+    Ok(store)
+}
+
+fn check_clipped(rt: &impl Abort, alloc: Global, row: &Clipped) -> Result<(), Fail> {
+    let mut store: PlainStore = store_of(rt, alloc, "hello world")?;
+    let mut history = UndoStack::new(alloc);
+    let mut anchors = [NO_ANCHORS];
+    put_mark(rt, alloc, &mut store, row.offset)?;
+    let pieces = [piece(alloc, "hi", None)?];
+    let made = replace(
+        rt,
+        alloc,
+        &mut store,
+        &mut history,
+        &mut anchors,
+        0,
+        5,
+        &pieces,
+    );
+    assert_eq!(rt; made, Ok(()));
+    let text = text_of(&store)?;
+    assert_eq!(rt; text.as_str(), "hi world\n");
+    let Some(place) = store.mark_place(MarkNo(0)) else {
+        return Err("the mark".into());
+    };
+    assert_eq!(rt; place.offset, row.wanted, "a mark at {}", row.offset);
+    Ok(())
+}
+
 // A mark before a character that is replaced stays as far behind the place as it was, or goes to the end of the new text;
 // others move as by a removal and an insertion.
 #[test]
 fn a_replacement_clips_the_mark(rt: HostRuntime) -> Result<(), Fail> {
     let alloc = rt.alloc();
-    for (offset, wanted) in [(0, 0), (1, 1), (3, 2), (4, 2), (5, 2), (6, 3), (11, 8)] {
-        let mut store = PlainStore::new(alloc)?;
-        let mut history = UndoStack::new(alloc);
-        let mut anchors = [NO_ANCHORS];
-        let pieces = [piece(alloc, "hello world", None)?];
-        let made = insert(
-            &rt,
-            alloc,
-            &mut store,
-            &mut history,
-            &mut anchors,
-            0,
-            &pieces,
-        );
-        assert_eq!(rt; made, Ok(()));
-        put_mark(&rt, alloc, &mut store, offset)?;
-        let pieces = [piece(alloc, "hi", None)?];
-        let made = replace(
-            &rt,
-            alloc,
-            &mut store,
-            &mut history,
-            &mut anchors,
-            5,
-            0,
-            &pieces,
-        );
-        assert_eq!(rt; made, Err(EditFault::IndexOrder));
-        let made = replace(
-            &rt,
-            alloc,
-            &mut store,
-            &mut history,
-            &mut anchors,
-            0,
-            5,
-            &pieces,
-        );
-        assert_eq!(rt; made, Ok(()));
-        let text = text_of(&store)?;
-        assert_eq!(rt; text.as_str(), "hi world\n");
-        let Some(place) = store.mark_place(MarkNo(0)) else {
-            return Err("the mark".into());
-        };
-        assert_eq!(rt; place.offset, wanted, "a mark at {offset}");
-        let pieces = [piece(alloc, "Q", None)?];
-        let made = replace(
-            &rt,
-            alloc,
-            &mut store,
-            &mut history,
-            &mut anchors,
-            0,
-            99,
-            &pieces,
-        );
-        assert_eq!(rt; made, Ok(()));
-        let text = text_of(&store)?;
-        assert_eq!(rt; text.as_str(), "Q\n");
+    for row in &CLIPPED {
+        check_clipped(&rt, alloc, row)?;
     }
     Ok(())
 }
 
-// Anchors at a removal of `[from, to)` from the text of four lines of two characters.
+// What takes the place of characters of `abcd`, how many actions that is, and the text that it makes.
+struct Replaced {
+    from: usize,
+    to: usize,
+    text: &'static str,
+    wanted: Result<usize, EditFault>,
+    made: &'static str,
+}
+
+static REPLACED: [Replaced; 8] = [
+    Replaced {
+        from: 1,
+        to: 2,
+        text: "xyz",
+        wanted: Ok(2),
+        made: "axyzcd\n",
+    },
+    Replaced {
+        from: 0,
+        to: 3,
+        text: "x",
+        wanted: Ok(2),
+        made: "xd\n",
+    },
+    Replaced {
+        from: 1,
+        to: 3,
+        text: "",
+        wanted: Ok(1),
+        made: "ad\n",
+    },
+    Replaced {
+        from: 4,
+        to: 9,
+        text: "x",
+        wanted: Ok(1),
+        made: "abcdx\n",
+    },
+    Replaced {
+        from: 2,
+        to: 2,
+        text: "",
+        wanted: Ok(0),
+        made: "abcd\n",
+    },
+    Replaced {
+        from: 0,
+        to: 99,
+        text: "Q",
+        wanted: Ok(2),
+        made: "Q\n",
+    },
+    Replaced {
+        from: 2,
+        to: 0,
+        text: "x",
+        wanted: Err(EditFault::IndexOrder),
+        made: "abcd\n",
+    },
+    Replaced {
+        from: 1,
+        to: 4,
+        text: "0123456789012345678",
+        wanted: Err(EditFault::TextTooLong),
+        made: "abcd\n",
+    },
+];
+
+// How many actions the last group has.
+fn actions_of(history: &UndoStack) -> usize {
+    match history.last_undo() {
+        None => 0,
+        Some(group) => group.len(),
+    }
+}
+
+fn check_replaced(rt: &impl Abort, alloc: Global, row: &Replaced) -> Result<(), Fail> {
+    let mut store: PlainStore = store_of(rt, alloc, "abcd")?;
+    let mut history = UndoStack::new(alloc);
+    let pieces = [piece(alloc, row.text, None)?];
+    let made = replace(
+        rt,
+        alloc,
+        &mut store,
+        &mut history,
+        &mut [NO_ANCHORS],
+        row.from,
+        row.to,
+        &pieces,
+    );
+    match made {
+        Ok(()) => assert_eq!(rt; Ok(actions_of(&history)), row.wanted),
+        Err(fault) => assert_eq!(rt; Err(fault), row.wanted),
+    }
+    let text = text_of(&store)?;
+    assert_eq!(rt; text.as_str(), row.made);
+    Ok(())
+}
+
+// It grows and shrinks, does one half, does nothing, and is refused.
+#[test]
+fn a_span_is_replaced(rt: HostRuntime) -> Result<(), Fail> {
+    let alloc = rt.alloc();
+    for row in &REPLACED {
+        check_replaced(&rt, alloc, row)?;
+    }
+    Ok(())
+}
+
+// The end of a removal of the text of four lines of two characters, seen by widgets that show the second of them.
+struct Drawn {
+    from: usize,
+    to: usize,
+    start: usize,
+    end: usize,
+}
+
+static DRAWN: [Drawn; 7] = [
+    Drawn {
+        from: 3,
+        to: 4,
+        start: 2,
+        end: 5,
+    },
+    Drawn {
+        from: 0,
+        to: 4,
+        start: 0,
+        end: 0,
+    },
+    Drawn {
+        from: 0,
+        to: 2,
+        start: 0,
+        end: 2,
+    },
+    Drawn {
+        from: 2,
+        to: 4,
+        start: 2,
+        end: 2,
+    },
+    Drawn {
+        from: 4,
+        to: 6,
+        start: 2,
+        end: 4,
+    },
+    Drawn {
+        from: 1,
+        to: 3,
+        start: 0,
+        end: 2,
+    },
+    Drawn {
+        from: 1,
+        to: 5,
+        start: 0,
+        end: 0,
+    },
+];
+
+const SECOND: Anchors = Anchors {
+    start: Some(2),
+    end: Some(4),
+};
+
+fn check_drawn(rt: &impl Abort, alloc: Global, row: &Drawn) -> Result<(), Fail> {
+    let mut store: PlainStore = store_of(rt, alloc, "a\nb\nc\nd")?;
+    let mut history = UndoStack::new(alloc);
+    let mut anchors = [SECOND; 64];
+    let made = replace(
+        rt,
+        alloc,
+        &mut store,
+        &mut history,
+        &mut anchors,
+        row.from,
+        row.to,
+        &[],
+    );
+    assert_eq!(rt; made, Ok(()));
+    let wanted = Anchors {
+        start: Some(row.start),
+        end: Some(row.end),
+    };
+    for pair in &anchors {
+        assert_eq!(rt; *pair, wanted);
+    }
+    Ok(())
+}
+
 #[test]
 fn anchors_are_drawn(rt: HostRuntime) -> Result<(), Fail> {
     let alloc = rt.alloc();
-    for (from, to, start, end) in [
-        (3, 4, 2, 5),
-        (0, 4, 0, 0),
-        (0, 2, 0, 2),
-        (2, 4, 2, 2),
-        (4, 6, 2, 4),
-        (1, 3, 0, 2),
-        (1, 5, 0, 0),
-    ] {
-        let mut store = PlainStore::new(alloc)?;
-        let mut history = UndoStack::new(alloc);
-        let mut anchors = [NO_ANCHORS];
-        let pieces = [piece(alloc, "a\nb\nc\nd", None)?];
-        let made = insert(
-            &rt,
-            alloc,
-            &mut store,
-            &mut history,
-            &mut anchors,
-            0,
-            &pieces,
-        );
-        assert_eq!(rt; made, Ok(()));
-        let mut anchors = [Anchors {
-            start: Some(2),
-            end: Some(4),
-        }];
-        let made = replace(
-            &rt,
-            alloc,
-            &mut store,
-            &mut history,
-            &mut anchors,
-            from,
-            to,
-            &[],
-        );
-        assert_eq!(rt; made, Ok(()));
-        let wanted = Anchors {
-            start: Some(start),
-            end: Some(end),
-        };
-        assert_eq!(rt; anchors[0], wanted, "from {from} to {to}");
+    for row in &DRAWN {
+        check_drawn(&rt, alloc, row)?;
     }
+    Ok(())
+}
+
+// Spans that are deleted of what a widget shows, how many runs go, and the text that is left.
+struct Deleted {
+    text: &'static str,
+    start: usize,
+    end: usize,
+    spans: &'static [Span],
+    runs: usize,
+    left: &'static str,
+}
+
+static DELETED: [Deleted; 14] = [
+    Deleted {
+        text: "a\nb",
+        start: 0,
+        end: 4,
+        spans: &[Span { from: 2, to: 4 }],
+        runs: 1,
+        left: "a\n",
+    },
+    Deleted {
+        text: "a",
+        start: 0,
+        end: 2,
+        spans: &[Span { from: 0, to: 2 }],
+        runs: 1,
+        left: "\n",
+    },
+    Deleted {
+        text: "",
+        start: 0,
+        end: 1,
+        spans: &[Span { from: 0, to: 1 }],
+        runs: 0,
+        left: "\n",
+    },
+    Deleted {
+        text: "a\nb",
+        start: 0,
+        end: 4,
+        spans: &[Span { from: 3, to: 4 }],
+        runs: 0,
+        left: "a\nb\n",
+    },
+    Deleted {
+        text: "abcdefgh",
+        start: 0,
+        end: 9,
+        spans: &[
+            Span { from: 0, to: 4 },
+            Span { from: 2, to: 6 },
+            Span { from: 0, to: 1 },
+        ],
+        runs: 1,
+        left: "gh\n",
+    },
+    Deleted {
+        text: "abcdefgh",
+        start: 0,
+        end: 9,
+        spans: &[Span { from: 1, to: 2 }, Span { from: 5, to: 7 }],
+        runs: 2,
+        left: "acdeh\n",
+    },
+    Deleted {
+        text: "abcdefgh",
+        start: 0,
+        end: 9,
+        spans: &[Span { from: 3, to: 5 }, Span { from: 1, to: 3 }],
+        runs: 1,
+        left: "afgh\n",
+    },
+    Deleted {
+        text: "abcdefgh",
+        start: 0,
+        end: 9,
+        spans: &[
+            Span { from: 2, to: 3 },
+            Span { from: 1, to: 6 },
+            Span { from: 8, to: 8 },
+            Span { from: 7, to: 2 },
+        ],
+        runs: 1,
+        left: "agh\n",
+    },
+    Deleted {
+        text: "abcdefgh",
+        start: 0,
+        end: 9,
+        spans: &[],
+        runs: 0,
+        left: "abcdefgh\n",
+    },
+    Deleted {
+        text: "a\nb\nc\nd",
+        start: 2,
+        end: 4,
+        spans: &[Span { from: 2, to: 4 }],
+        runs: 1,
+        left: "a\n\nc\nd\n",
+    },
+    Deleted {
+        text: "a\nb\nc\nd",
+        start: 2,
+        end: 8,
+        spans: &[Span { from: 4, to: 8 }],
+        runs: 1,
+        left: "a\nb\n",
+    },
+    Deleted {
+        text: "a\nb\nc",
+        start: 0,
+        end: 6,
+        spans: &[Span { from: 4, to: 6 }, Span { from: 0, to: 1 }],
+        runs: 2,
+        left: "\nb\n",
+    },
+    Deleted {
+        text: "ab\ncd",
+        start: 0,
+        end: 6,
+        spans: &[Span { from: 3, to: 6 }, Span { from: 0, to: 2 }],
+        runs: 1,
+        left: "\n",
+    },
+    Deleted {
+        text: "ab\ncd",
+        start: 0,
+        end: 6,
+        spans: &[Span { from: 5, to: 6 }, Span { from: 4, to: 5 }],
+        runs: 1,
+        left: "ab\nc\n",
+    },
+];
+
+// Whether spans end by an offset.
+fn end_by(spans: &[Span], end: usize) -> bool
+    ensures { result ≡ true → All (λ span. span.to ≤ end) spans.now }
+{
+    for span in spans {
+        if span.to > end {
+            return false;
+        }
+    }
+    true
+}
+
+fn delete<S: TextStore>(
+    rt: &impl Abort,
+    alloc: Global,
+    store: &mut S,
+    history: &mut UndoStack,
+    anchors: &mut [Anchors],
+    start: usize,
+    end: usize,
+    spans: &[Span],
+) -> Result<(), EditFault> {
+    assert!(rt; start < end && end <= store.len());
+    assert!(rt; end_by(spans, end));
+    let plan = plan_delete(alloc, store, history, anchors, start, end, spans, KEPT)?;
+    commit(plan, store, history, anchors);
+    Ok(())
+}
+
+fn check_deleted(rt: &impl Abort, alloc: Global, row: &Deleted) -> Result<(), Fail> {
+    let mut store: PlainStore = store_of(rt, alloc, row.text)?;
+    let mut history = UndoStack::new(alloc);
+    let made = delete(
+        rt,
+        alloc,
+        &mut store,
+        &mut history,
+        &mut [NO_ANCHORS],
+        row.start,
+        row.end,
+        row.spans,
+    );
+    assert_eq!(rt; made, Ok(()));
+    let text = text_of(&store)?;
+    assert_eq!(rt; text.as_str(), row.left);
+    assert_eq!(rt; actions_of(&history), row.runs);
+    assert_eq!(rt; history.modified(), row.runs > 0);
+    Ok(())
+}
+
+// Spans in any order, that overlap, adjoin, nest or are empty; the last line that a widget shows, alone and with others.
+#[test]
+fn spans_are_deleted(rt: HostRuntime) -> Result<(), Fail> {
+    let alloc = rt.alloc();
+    for row in &DELETED {
+        check_deleted(&rt, alloc, row)?;
+    }
+    Ok(())
+}
+
+// The last character that a widget shows loses its slots, also where nothing goes.
+#[test]
+fn the_last_character_loses_its_tags(rt: HostRuntime) -> Result<(), Fail> {
+    let alloc = rt.alloc();
+    let mut store: PlainStore = store_of(&rt, alloc, "ab")?;
+    let mut history = UndoStack::new(alloc);
+    let mut anchors = [NO_ANCHORS];
+    assert!(rt; 3 <= store.len());
+    let spans = [Span { from: 0, to: 3 }];
+    let Ok(plan) = plan_tag(
+        alloc,
+        &mut store,
+        &mut history,
+        &anchors,
+        &spans,
+        TagSlot(5),
+        true,
+    ) else {
+        return Err("a plan".into());
+    };
+    commit(plan, &mut store, &mut history, &mut anchors);
+    let spans = [Span { from: 2, to: 3 }];
+    let made = delete(
+        &rt,
+        alloc,
+        &mut store,
+        &mut history,
+        &mut anchors,
+        0,
+        3,
+        &spans,
+    );
+    assert_eq!(rt; made, Ok(()));
+    assert!(rt; 2 < store.len());
+    assert!(rt; store.has_tag(1, TagSlot(5)) && !store.has_tag(2, TagSlot(5)));
+    assert!(rt; history.last_undo().is_none() && !history.modified());
     Ok(())
 }
 

@@ -1,0 +1,5 @@
+use Rattle.edit_ops.specs.States.{log_of}
+use Rattle.edit_ops.proofs.deletions.plan_delete.Goals as goal
+
+pub prepare-requires : goal.prepare-requires
+prepare-requires g c = (c.in_ok-draft.ensures.makes c.args.recording (log_of c.args.history.now)).0

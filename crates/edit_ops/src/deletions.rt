@@ -1,0 +1,154 @@
+ghost use Rattle.std.specs.Prelude.{◌≡◌, ℕ, ◌+◌, ◌-◌, ◌<◌, ◌≤◌, ◌^◌, ◌&&◌, ◌∷◌, [], nat_le, nat_lt, get_or, length, OnOk, IfOk, IfErr, if◌then◌else◌};
+ghost use Rattle.std.specs.List.{All};
+ghost use Rattle.edit_ops.specs.Deletions.{in_spans, delete_set, AreApart, deleted, removed_spans};
+ghost use Rattle.edit_ops.specs.States.{State, Log, log_of, state_of, drafted, planned, HasRoom};
+ghost use Rattle.text_model.specs.Content.{Content, characters};
+ghost use Rattle.text_model.specs.Lines.{is_newline};
+ghost use Rattle.text_model.specs.Steps.{Fits, after};
+ghost use Rattle.edit_ops.specs.declared.plans.Recording.{Recording};
+
+use crate::anchors::Anchors;
+use crate::drafts::Draft;
+use crate::faults::EditFault;
+use crate::plans::{Plan, Recording, prepare};
+use crate::replacements::{line_at, line_behind};
+use crate::runs::{spare_last, union};
+use crate::spans::Span;
+use std::alloc::{AllocError, Global};
+use text_model::{Step, StepList, Text, TextStore};
+use undo_stack::{EditKind, UndoStack};
+
+/// How far behind an offset the next line begins, where the old text goes on to a border, in which the next line begins
+/// at `behind`, and from the border it is so many characters to the next line.
+fn to_next_line(offset: usize, behind: usize, border: usize, rest: usize) -> usize
+    requires behind { offset ≤ behind }
+    requires before { offset ≤ border }
+    requires fits { border + rest < 2 ^ 64 }
+    ensures { result ≡ (if nat_le behind border then behind - offset else border - offset + rest) }
+{
+    if behind <= border {
+        behind - offset
+    } else {
+        border - offset + rest
+    }
+}
+
+impl Draft {
+    /// Takes spans of a text out, the last first.
+    fn remove_spans<S: TextStore>(&mut self, store: &S, spans: &[Span]) -> Result<(), AllocError>
+        requires apart { AreApart (length (S.content store.now).cells) spans.now }
+        ensures widgets { OnOk result (length self.new.anchors ≡ length self.old.anchors) }
+        ensures makes { OnOk result ((recording : Recording) (kind : EditKind) (state : State) →
+            Fits self.old.steps state.content →
+            characters (after self.old.steps state.content).cells ≡ characters (S.content store.now).cells →
+            Fits self.new.steps state.content ×
+            (drafted recording kind self.new state ≡ removed_spans recording kind spans.now (drafted recording kind self.old state))) }
+    {
+        let mut border = store.len();
+        let mut rest = 0;
+        for span in spans {
+            let behind = line_behind(store, span.to);
+            rest = to_next_line(span.to, behind, border, rest);
+            let text = Text::new(store.copy_text(span.from, span.to)?);
+            let line = line_at(store, span.from);
+            self.remove(span.from, span.to, text, line, span.from + rest)?;
+            border = span.from;
+        }
+        Ok(())
+    }
+}
+
+/// Whether a newline stands before an offset, which a widget shows that begins at `start`.
+fn newline_before<S: TextStore>(store: &S, start: usize, offset: usize) -> bool
+    requires { offset ≤ length (S.content store.now).cells }
+    ensures { result ≡ (nat_lt start offset && is_newline (get_or (characters (S.content store.now).cells) (offset - 1) 0)) }
+{
+    start < offset && store.char_at(offset - 1) == '\n'
+}
+
+/// Makes of runs of characters that are to be deleted those that go: the last character that a widget shows from `start` to
+/// `end` stays. Whether it was among them.
+fn spare_shown<S: TextStore>(store: &S, start: usize, end: usize, runs: &mut Vec<Span>) -> bool
+    requires shows { start < end }
+    requires within { end ≤ length (S.content store.now).cells }
+    requires apart { AreApart (end + 1) runs.old.items }
+    ensures takes { result ≡ in_spans runs.old.items (end - 1) }
+    ensures apart { AreApart end runs.new.items }
+    ensures covers { (offset : ℕ) → in_spans runs.new.items offset
+        ≡ delete_set (characters (S.content store.now).cells) start end (in_spans runs.old.items) offset }
+{
+    if runs.is_empty() || runs[0].to < end {
+        return false;
+    }
+    let joins = newline_before(store, start, runs[0].from);
+    spare_last(runs, end - 1, joins);
+    true
+}
+
+/// The step that takes all slots off a character, if it is to be made.
+fn bare(alloc: Global, offset: usize, is_bared: bool) -> Result<StepList, AllocError>
+    ensures { IfOk result (λ steps. steps ≡ (if is_bared then Step.ClearTags offset ∷ [] else [])) }
+{
+    let mut steps = StepList::new(alloc);
+    if is_bared {
+        steps.push(Step::ClearTags(offset))?;
+    }
+    Ok(steps)
+}
+
+/// The edit that deletes spans of what a widget shows.
+fn draft_delete<S: TextStore>(
+    alloc: Global,
+    store: &S,
+    anchors: &[Anchors],
+    start: usize,
+    end: usize,
+    spans: &[Span],
+) -> Result<Draft, AllocError>
+    requires shows { start < end }
+    requires within { end ≤ length (S.content store.now).cells }
+    requires spans { All (λ span. span.to ≤ end) spans.now }
+    ensures widgets { IfOk result (λ draft. length draft.anchors ≡ length anchors.now) }
+    ensures makes { IfOk result (λ draft. (recording : Recording) (log : Log) →
+        Fits draft.steps (S.content store.now) ×
+        (drafted recording EditKind.Delete draft (state_of (S.content store.now) anchors.now log)
+        ≡ deleted recording start end spans.now (state_of (S.content store.now) anchors.now log))) }
+{
+    let mut runs = union(alloc, spans)?;
+    let takes_last = spare_shown(store, start, end, &mut runs);
+    let steps = bare(alloc, end - 1, takes_last)?;
+    let mut draft = Draft::of_steps(alloc, anchors, steps)?;
+    draft.remove_spans(store, &runs)?;
+    Ok(draft)
+}
+
+/// A plan that deletes spans, in any order, of what a widget shows from `start` to `end`; spans may overlap or be empty. The
+/// last character that it shows stays, and if it is in a span it loses its tags; then a newline before the run that held it
+/// goes in its place, if the widget shows that. What goes is taken out run by run, the last first, and each run is an action
+/// (text(n), "delete").
+pub fn plan_delete<S: TextStore>(
+    alloc: Global,
+    store: &mut S,
+    history: &mut UndoStack,
+    anchors: &[Anchors],
+    start: usize,
+    end: usize,
+    spans: &[Span],
+    recording: Recording,
+) -> Result<Plan<S>, EditFault>
+    requires shows { start < end }
+    requires within { end ≤ length (S.content store.old).cells }
+    requires spans { All (λ span. span.to ≤ end) spans.now }
+    ensures content { S.content store.new ≡ S.content store.old }
+    ensures log { log_of history.new ≡ log_of history.old }
+    ensures refused { IfErr result (λ fault. fault ≡ EditFault.Memory) }
+    ensures ready { IfOk result (λ plan. S.ready store.new plan.prepared) }
+    ensures room { IfOk result (λ plan. HasRoom plan.recording plan.actions.items history.new) }
+    ensures widgets { IfOk result (λ plan. length plan.anchors.items ≡ length anchors.now) }
+    ensures outcome { IfOk result (λ plan.
+        planned plan.recording plan.kind (S.outcome store.new plan.prepared) plan.anchors.items plan.actions.items (log_of history.old)
+        ≡ deleted recording start end spans.now (state_of (S.content store.old) anchors.now (log_of history.old))) }
+{
+    let draft = draft_delete(alloc, store, anchors, start, end, spans)?;
+    Ok(prepare(store, history, draft, EditKind::Delete, recording)?)
+}
