@@ -45,14 +45,17 @@ IsWellFormedDocument-lone limits name content kept fits =
       fits = omega (arith, long);
       keys = no_keys (lone_document name content) content.cells;
       shown = omega arith;
-      widgets = (record {
-        name = kept.named;
-        start = λ at none. absurd (cc);
-        end = λ at none. absurd (cc);
-        ordered = omega arith;
-        insert = omega (arith, long, stands (finite.get content.marks 0) (length content.cells) (kept.marks 0));
-        current = omega (arith, long, stands (finite.get content.marks 1) (length content.cells) (kept.marks 1));
-      }, tt);
+      widgets = (
+        record {
+          name = kept.named;
+          start = λ at none. absurd (cc);
+          end = λ at none. absurd (cc);
+          ordered = omega arith;
+          insert = omega (arith, long, stands (finite.get content.marks 0) (length content.cells) (kept.marks 0));
+          current = omega (arith, long, stands (finite.get content.marks 1) (length content.cells) (kept.marks 1));
+        },
+        tt,
+      );
       widget_names = distinct_one name;
       marks = tt;
       mark_names = distinct_none;

@@ -11,7 +11,10 @@ static INDICES: [(&[&str], Result<&str, Fault>); 50] = [
     (&[".t", "index", "end"], Ok("2.0")),
     (&[".t", "index", "end-1c"], Ok("1.0")),
     (&[".t", "index", "insert"], Ok("1.0")),
-    (&[".t", "index", "sel.first"], Err(Fault::NoTaggedCharacters(2, 3))),
+    (
+        &[".t", "index", "sel.first"],
+        Err(Fault::NoTaggedCharacters(2, 3)),
+    ),
     (&[".t", "insert", "1.0", "ab\ncd"], Ok("")),
     (&[".t", "index", "0.7"], Ok("1.0")),
     (&[".t", "index", "0.end"], Ok("1.0")),
@@ -46,10 +49,20 @@ static INDICES: [(&[&str], Result<&str, Fault>); 50] = [
     // Numbers of 26 digits.
     (&[".t", "index", "2.99999999999999999999999999"], Ok("2.2")),
     (&[".t", "index", "99999999999999999999999999.0"], Ok("3.0")),
-    (&[".t", "index", "1.0 + 99999999999999999999999999 chars"], Ok("3.0")),
-    (&[".t", "index", "end-99999999999999999999999999l"], Ok("1.0")),
     (
-        &[".t", "index", "00000000000000000000000002.00000000000000000000000001"],
+        &[".t", "index", "1.0 + 99999999999999999999999999 chars"],
+        Ok("3.0"),
+    ),
+    (
+        &[".t", "index", "end-99999999999999999999999999l"],
+        Ok("1.0"),
+    ),
+    (
+        &[
+            ".t",
+            "index",
+            "00000000000000000000000002.00000000000000000000000001",
+        ],
         Ok("2.1"),
     ),
     // Words.
@@ -67,7 +80,10 @@ static COMPARISONS: [(&[&str], Result<&str, Fault>); 24] = [
     (&["text", ".t"], Ok(".t")),
     (&[".t", "insert", "end", "ab\ncd"], Ok("")),
     (&[".t", "compare", "1.0", "<"], Err(Fault::WrongArguments)),
-    (&[".t", "compare", "1.0", "<", "1.1", "x"], Err(Fault::WrongArguments)),
+    (
+        &[".t", "compare", "1.0", "<", "1.1", "x"],
+        Err(Fault::WrongArguments),
+    ),
     (&[".t", "compare", "1.end", "<", "2.0"], Ok("1")),
     (&[".t", "compare", "2.0", "<", "1.end"], Ok("0")),
     (&[".t", "compare", "2.0", "<", "1.0+1l"], Ok("0")),
@@ -83,10 +99,22 @@ static COMPARISONS: [(&[&str], Result<&str, Fault>); 24] = [
     (&[".t", "compare", "end", ">", "insert"], Ok("1")),
     // The first place is decided first, then the comparison, then the second place.
     (&[".t", "compare", "q", "<>", "r"], Err(Fault::BadIndex(2))),
-    (&[".t", "compare", "1.0", "<>", "r"], Err(Fault::BadComparison(3))),
-    (&[".t", "compare", "1.0", "=", "1.0"], Err(Fault::BadComparison(3))),
-    (&[".t", "compare", "1.0", "", "1.0"], Err(Fault::BadComparison(3))),
-    (&[".t", "compare", "1.0", "< ", "1.0"], Err(Fault::BadComparison(3))),
+    (
+        &[".t", "compare", "1.0", "<>", "r"],
+        Err(Fault::BadComparison(3)),
+    ),
+    (
+        &[".t", "compare", "1.0", "=", "1.0"],
+        Err(Fault::BadComparison(3)),
+    ),
+    (
+        &[".t", "compare", "1.0", "", "1.0"],
+        Err(Fault::BadComparison(3)),
+    ),
+    (
+        &[".t", "compare", "1.0", "< ", "1.0"],
+        Err(Fault::BadComparison(3)),
+    ),
     (&[".t", "compare", "1.0", "<", "r"], Err(Fault::BadIndex(4))),
     (
         &[".t", "compare", "1.0", "<", "sel.last"],

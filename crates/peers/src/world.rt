@@ -137,9 +137,7 @@ impl<S: TextStore> World<S> {
         ensures refused { IfErr result (λ _. self.new ≡ self.old) }
         ensures well_formed { IsWellFormed self.new }
     {
-        let [name, ..] = words else {
-            unreachable!()
-        };
+        let [name, ..] = words else { unreachable!() };
         if is_word(name.as_str(), "text") {
             self.create_shaped(words)
         } else {

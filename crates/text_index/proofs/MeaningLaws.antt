@@ -100,9 +100,9 @@ tagged-same one other text same front =
       | false ↦ elim (ends_with nat_eq front (codes ".last")) as (λ b.
           option_map (meant one text) (if b then option_map (last_tagged of_last) (one.tags of_last) else None)
           ≡ option_map (meant other text) (if b then option_map (last_tagged of_last) (other.tags of_last) else None)) [
-        | true ↦ last-same one other text of_last (one.tags of_last) (other.tags of_last) (same.tags of_last)
-        | false ↦ refl
-      ]
+            | true ↦ last-same one other text of_last (one.tags of_last) (other.tags of_last) (same.tags of_last)
+            | false ↦ refl
+          ]
     ]
 
 -- ---- places in lines have no names in them

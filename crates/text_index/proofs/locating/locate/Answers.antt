@@ -29,7 +29,11 @@ returns-clause-within g c =
     let long = length-shown content view.s view.e c.requires.view in
     let within = shown-within names.marks.now.marks names.tags.now.tags names.widget.0 content view.s view.e c.requires.view in
     elim c.resolve.result as (λ r. c.resolve.result ≡ r → IfOk r (λ place. view.s + place ≤ view.e)) [
-      | Ok place ↦ λ is. omega (arith, long, c.requires.view.ordered,
-          value_of-le is_word meanings (shown content view.s view.e) (Some (c.in_ok-index.index.base, c.in_ok-index.index.modifiers)) within place (sym c.resolve.ensures.value ∙ is))
+      | Ok place ↦ λ is. omega (
+        arith,
+        long,
+        c.requires.view.ordered,
+        value_of-le is_word meanings (shown content view.s view.e) (Some (c.in_ok-index.index.base, c.in_ok-index.index.modifiers)) within place (sym c.resolve.ensures.value ∙ is),
+      )
       | Err fault ↦ λ _. tt
     ] refl

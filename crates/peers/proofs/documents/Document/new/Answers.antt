@@ -12,11 +12,13 @@ use Rattle.peers.proofs.documents.Document.new.Goals as goal
 pub invariant_of-result : goal.invariant_of-result
 invariant_of-result g c =
     let name = chars (string_bytes c.in_ok-from_str.field-0) in
-    let named : is_window_name name ≡ true = ap (λ bytes. is_window_name (chars bytes)) c.in_ok-from_str.ensures.ok ∙ c.requires in
-    (subst (IsKept name) (sym c.in_ok-new_store.ensures) (kept-first name named), record {
-      sel_alone = ap (λ (t : Tags). t.tags) c.in_ok-new.ensures;
-      none_shared = ap (λ (m : SharedMarks). m.marks) c.in_ok-new-2.ensures;
-    })
+    let named : is_window_name name ≡ true = ap (λ bytes. is_window_name (chars bytes)) c.in_ok-from_str.ensures.ok ∙ c.requires in (
+      subst (IsKept name) (sym c.in_ok-new_store.ensures) (kept-first name named),
+      record {
+        sel_alone = ap (λ (t : Tags). t.tags) c.in_ok-new.ensures;
+        none_shared = ap (λ (m : SharedMarks). m.marks) c.in_ok-new-2.ensures;
+      },
+    )
 
 pub returns-clause-value : goal.returns-clause-value
 returns-clause-value g c =
