@@ -13,43 +13,13 @@ Ends in a line `N passed, M failed`; the exit status is 1 if anything failed.
 import argparse
 import itertools
 import sys
-from typing import NamedTuple
 
-import indices
 import model
 import worked
 from harness import Tally, run_program
+from scripts import FORMS
 
 OUT_OF_MEMORY = b"error: out of memory"
-
-# One word for each base of an index, with each modifier.
-INDICES = indices.bare_indices()
-
-# Texts of characters of one byte and of several, short and longer than one read of the program.
-TEXTS = ["x", "é€😀", "abcdefghij" * 500]
-
-WORLD = ["text .t", ".t insert 1.0 ab"]
-
-
-class Form(NamedTuple):
-    """A command: the commands before it, its first words, and the choices of words at each further place.
-
-    A place that may be left out has the choice None; so may no place before one that is given.
-    """
-
-    before: list
-    words: list
-    places: list
-
-
-FORMS = [
-    Form([], ["text"], [[".t", ".window"]]),
-    Form(WORLD, [".t", "insert"], [INDICES, TEXTS]),
-    Form(WORLD, [".t", "get"], [INDICES, [None, *indices.PLACES]]),
-    Form(WORLD, [".t", "index"], [INDICES]),
-    Form(WORLD, [".t", "compare"], [INDICES, ["<"], indices.PLACES]),
-    Form(WORLD, [".t", "compare"], [indices.PLACES, list(model.COMPARISONS), INDICES]),
-]
 
 
 def scripts_of(form):

@@ -10,6 +10,7 @@ COMMANDS.  Which forms of an index the program reads is told by a switch in indi
 
 import random
 import sys
+from typing import NamedTuple
 
 import indices
 import model
@@ -316,6 +317,38 @@ COMMANDS = [
     (coming_command, 1),
     (unknown_command, 0.7),
     (any_words, 0.7),
+]
+
+# ---------------------------------------------------------------------------------------------------
+# Each form of each command, for the search for idle refusals
+
+# One word for each base of an index, with each modifier.
+FORM_INDICES = indices.bare_indices()
+
+# Texts of characters of one byte and of several, short and longer than one read of the program.
+FORM_TEXTS = ["x", "é€😀", "abcdefghij" * 500]
+
+FORM_WORLD = ["text .t", ".t insert 1.0 ab"]
+
+
+class Form(NamedTuple):
+    """A command: the commands before it, its first words, and the choices of words at each further place.
+
+    A place that may be left out has the choice None; so may no place before one that is given.
+    """
+
+    before: list
+    words: list
+    places: list
+
+
+FORMS = [
+    Form([], ["text"], [[".t", ".window"]]),
+    Form(FORM_WORLD, [".t", "insert"], [FORM_INDICES, FORM_TEXTS]),
+    Form(FORM_WORLD, [".t", "get"], [FORM_INDICES, [None, *indices.PLACES]]),
+    Form(FORM_WORLD, [".t", "index"], [FORM_INDICES]),
+    Form(FORM_WORLD, [".t", "compare"], [FORM_INDICES, ["<"], indices.PLACES]),
+    Form(FORM_WORLD, [".t", "compare"], [indices.PLACES, list(model.COMPARISONS), FORM_INDICES]),
 ]
 
 # ---------------------------------------------------------------------------------------------------
