@@ -10,7 +10,7 @@ use Rattle.std.proofs.lemmas.List.{append-nil, get_or-map}
 use Rattle.std.proofs.lemmas.Str.{encodes-append, encodes-chars}
 use Rattle.tcl_words.specs.Unread.{texts_of}
 use Rattle.peers.specs.Words.{literal}
-use Rattle.script_cli.specs.Pieces.{quoted, error_line, word_at, is_boundary, front_of}
+use Rattle.script_cli.specs.Pieces.{Line, line_text, error_line, word_at, is_boundary, front_of}
 
 -- the bytes of three texts
 pub three_texts : (before word after : List ℕ) → IsUtf8 before → IsUtf8 word → IsUtf8 after
@@ -31,51 +31,6 @@ pub word_characters : {Z : Type 0} (words : List (String Z)) (position : ℕ) (w
     → word ≡ get_or words position word → chars (string_bytes word) ≡ word_at (texts_of words) position
 word_characters words position word within is =
     ap (λ w. chars (string_bytes w)) is ∙ sym (get_or-map (λ w. chars (string_bytes w)) words position word [] within)
-
-pub bad_index : (word : List ℕ) → chars (codes "error: bad text index \"") ++ (word ++ chars (codes "\"\n")) ≡ error_line (literal "bad text index " ++ quoted word)
-unfolding chars
-bad_index word = ap (λ text. codes "error: bad text index \"" ++ text) (sym (append_assoc word (34 ∷ []) (10 ∷ [])))
-
-pub bad_option : (word : List ℕ) → chars (codes "error: bad option \"") ++ (word ++ chars (codes "\"\n")) ≡ error_line (literal "bad option " ++ quoted word)
-unfolding chars
-bad_option word = ap (λ text. codes "error: bad option \"" ++ text) (sym (append_assoc word (34 ∷ []) (10 ∷ [])))
-
-pub no_tagged : (word : List ℕ) → chars (codes "error: text doesn't contain any characters tagged with \"") ++ (word ++ chars (codes "\"\n"))
-    ≡ error_line (literal "text doesn't contain any characters tagged with " ++ quoted word)
-unfolding chars
-no_tagged word = ap (λ text. codes "error: text doesn't contain any characters tagged with \"" ++ text) (sym (append_assoc word (34 ∷ []) (10 ∷ [])))
-
-pub bad_comparison : (word : List ℕ) → chars (codes "error: bad comparison operator \"") ++ (word ++ chars (codes "\"\n")) ≡ error_line (literal "bad comparison operator " ++ quoted word)
-unfolding chars
-bad_comparison word = ap (λ text. codes "error: bad comparison operator \"" ++ text) (sym (append_assoc word (34 ∷ []) (10 ∷ [])))
-
-pub bad_name : (word : List ℕ) → chars (codes "error: invalid command name \"") ++ (word ++ chars (codes "\"\n")) ≡ error_line (literal "invalid command name " ++ quoted word)
-unfolding chars
-bad_name word = ap (λ text. codes "error: invalid command name \"" ++ text) (sym (append_assoc word (34 ∷ []) (10 ∷ [])))
-
-pub window_exists : (word : List ℕ) → chars (codes "error: window name \"") ++ (word ++ chars (codes "\" already exists\n"))
-    ≡ error_line (literal "window name " ++ quoted word ++ literal " already exists")
-unfolding chars
-window_exists word =
-    ap (λ text. codes "error: window name \"" ++ text)
-    (sym (append_assoc word (34 ∷ codes " already exists") (10 ∷ []))
-    ∙ ap (λ text. text ++ 10 ∷ []) (sym (append_assoc word (34 ∷ []) (codes " already exists"))))
-
-pub wrong_arguments : chars (codes "error: wrong # args\n") ≡ error_line (literal "wrong # args")
-unfolding chars
-wrong_arguments = refl
-
-pub document_exists : chars (codes "error: a document exists\n") ≡ error_line (literal "a document exists")
-unfolding chars
-document_exists = refl
-
-pub too_many_widgets : chars (codes "error: too many widgets\n") ≡ error_line (literal "too many widgets")
-unfolding chars
-too_many_widgets = refl
-
-pub too_long : chars (codes "error: text is too long\n") ≡ error_line (literal "text is too long")
-unfolding chars
-too_long = refl
 
 pub no_memory : chars (codes "error: out of memory\n") ≡ error_line (literal "out of memory")
 unfolding chars
@@ -145,3 +100,8 @@ pub front-none : (word : List ℕ) (len : ℕ) → IsUtf8 word → ¬ IsCharBoun
 front-none word len utf8 cut =
     let bytes : encode_utf8_all (chars word) ≡ word = encodes-chars word utf8 in
     sym (ap (λ b. if b then chars (take len (encode_utf8_all (chars word))) else chars word) (ap (λ bs. is_boundary bs len) bytes ∙ boundary-no word len cut))
+
+-- the bytes of a line are those of its three parts
+pub line-bytes : (before word after : List ℕ) (line : Line) → chars before ≡ line.before → chars word ≡ line.word → chars after ≡ line.after
+    → encode_utf8_all (chars before ++ (chars word ++ chars after)) ≡ encode_utf8_all (line_text line)
+line-bytes before word after line first second third = λ i. encode_utf8_all (first i ++ (second i ++ third i))

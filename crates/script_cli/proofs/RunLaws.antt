@@ -17,9 +17,8 @@ use Rattle.script_cli.specs.declared.turns.Met.{Met}
 use Rattle.script_cli.specs.declared.turns.Met.TheVariants as kinds
 use Rattle.script_cli.specs.Carrying.{RunsBytes, MayFollow, Carries, CarriesOut, Carried, Cuts}
 use Rattle.script_cli.specs.Devices.{ReadLog, WriteLog, HandsOut, Takes}
-use Rattle.script_cli.specs.Pieces.{piece, error_line}
+use Rattle.script_cli.specs.Pieces.{piece, memory_line}
 use Rattle.script_cli.specs.Run.{no_documents, run_output, refused_count, RunsTo, Holds, WritesRun, WritesFront}
-use Rattle.peers.specs.Words.{literal}
 use Rattle.script_cli.specs.PlainRun.{IsPlain, IsPlainUpToRefusal}
 use Rattle.script_cli.specs.Reading.{Feeds}
 use Rattle.script_cli.specs.Sending.{Sends, Gathers}
@@ -553,7 +552,7 @@ plain_more world words commands fault out rest refused others is count (inr cut)
       suc cut.0,
       cut.1,
       one_past cut.0 (length commands) cut.2,
-      is ∙ ap (λ more. text ++ more) cut.3 ∙ sym (append_assoc text before (error_line (literal "out of memory") ++ cut.1)),
+      is ∙ ap (λ more. text ++ more) cut.3 ∙ sym (append_assoc text before (memory_line ++ cut.1)),
     )
 
 pub plain_up_to_refusal : (commands : List (List (List ℕ))) (world : World) (fault : Option ScriptFault) (out : List ℕ) (refused : ℕ)

@@ -6,6 +6,7 @@ use Rattle.peers.specs.declared.answers.Fault.{Fault}
 use Rattle.peers.specs.declared.answers.Fault.TheVariants.{BadIndex, NoTaggedCharacters, BadOption, WrongArguments, InvalidCommandName, WindowExists, BadComparison, DocumentExists, TooManyWidgets, TextTooLong, Memory}
 use Rattle.tcl_words.specs.declared.fault.ScriptFault.{ScriptFault}
 use Rattle.tcl_words.specs.declared.fault.ScriptFault.TheVariants as script
+use Prim.Native.String.{String}
 use Rattle.peers.specs.Words.{literal}
 
 -- the word of a command at a position
@@ -30,23 +31,35 @@ answer_text words (Flag true) = literal "1"
 answer_text words (Flag false) = literal "0"
 answer_text words (Text text) = text
 
--- a word in quotes
-abbrev pub quoted : List ℕ → List ℕ
-quoted word = 34 ∷ word ++ 34 ∷ []
+-- a line that is printed: a word of the command, or a part of one, between two texts of the program
+pub record Line : Type 0 where
+  pub before : List ℕ
+  pub word : List ℕ
+  pub after : List ℕ
 
-abbrev pub fault_text : List (List ℕ) → Fault → List ℕ
-fault_text words (BadIndex position) = literal "bad text index " ++ quoted (word_at words position)
-fault_text words (NoTaggedCharacters position len) =
-    literal "text doesn't contain any characters tagged with " ++ quoted (front_of len (word_at words position))
-fault_text words (BadOption position) = literal "bad option " ++ quoted (word_at words position)
-fault_text words WrongArguments = literal "wrong # args"
-fault_text words (InvalidCommandName position) = literal "invalid command name " ++ quoted (word_at words position)
-fault_text words (WindowExists position) = literal "window name " ++ quoted (word_at words position) ++ literal " already exists"
-fault_text words (BadComparison position) = literal "bad comparison operator " ++ quoted (word_at words position)
-fault_text words DocumentExists = literal "a document exists"
-fault_text words TooManyWidgets = literal "too many widgets"
-fault_text words TextTooLong = literal "text is too long"
-fault_text words Memory = literal "out of memory"
+abbrev pub around : String → List ℕ → String → Line
+around before word after = record { before = literal before; word = word; after = literal after }
+
+abbrev pub alone : String → Line
+alone text = around text (literal "") ""
+
+-- the lines of the faults
+abbrev pub fault_line : List (List ℕ) → Fault → Line
+fault_line words (BadIndex position) = around "error: bad text index \"" (word_at words position) "\"\n"
+fault_line words (NoTaggedCharacters position len) =
+    around "error: text doesn't contain any characters tagged with \"" (front_of len (word_at words position)) "\"\n"
+fault_line words (BadOption position) = around "error: bad option \"" (word_at words position) "\"\n"
+fault_line words WrongArguments = alone "error: wrong # args\n"
+fault_line words (InvalidCommandName position) = around "error: invalid command name \"" (word_at words position) "\"\n"
+fault_line words (WindowExists position) = around "error: window name \"" (word_at words position) "\" already exists\n"
+fault_line words (BadComparison position) = around "error: bad comparison operator \"" (word_at words position) "\"\n"
+fault_line words DocumentExists = alone "error: a document exists\n"
+fault_line words TooManyWidgets = alone "error: too many widgets\n"
+fault_line words TextTooLong = alone "error: text is too long\n"
+fault_line words Memory = alone "error: out of memory\n"
+
+abbrev pub line_text : Line → List ℕ
+line_text line = line.before ++ (line.word ++ line.after)
 
 abbrev pub script_fault_text : ScriptFault → List ℕ
 script_fault_text script.MissingBrace = literal "missing close-brace"
@@ -61,7 +74,10 @@ script_fault_text script.Memory = literal "out of memory"
 abbrev pub error_line : List ℕ → List ℕ
 error_line text = literal "error: " ++ text ++ 10 ∷ []
 
+abbrev pub memory_line : List ℕ
+memory_line = line_text (alone "error: out of memory\n")
+
 -- the piece of a command: its answer or its fault, and a newline
 abbrev pub piece : List (List ℕ) → Result Answer Fault → List ℕ
 piece words (Ok answer) = answer_text words answer ++ 10 ∷ []
-piece words (Err fault) = error_line (fault_text words fault)
+piece words (Err fault) = line_text (fault_line words fault)

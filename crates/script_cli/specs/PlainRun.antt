@@ -1,9 +1,8 @@
 -- How a run in which commands may be refused for memory stands to the one without.
 use Rattle.std.specs.Prelude.{◌≡◌, ℕ, ◌<◌, List, ◌++◌, length, take, Option, None}
 use Rattle.tcl_words.specs.declared.fault.ScriptFault.{ScriptFault}
-use Rattle.peers.specs.Words.{literal}
 use Rattle.peers.specs.World.{World}
-use Rattle.script_cli.specs.Pieces.{error_line}
+use Rattle.script_cli.specs.Pieces.{memory_line}
 use Rattle.script_cli.specs.Run.{run_output, refused_count}
 
 -- all of the plain run
@@ -14,4 +13,4 @@ IsPlain world commands fault out refused = (out ≡ run_output world commands fa
 abbrev pub IsPlainUpToRefusal : World → List (List (List ℕ)) → List ℕ → Type 0
 IsPlainUpToRefusal world commands out =
     (before : ℕ) × (rest : List ℕ) × (before < length commands)
-    × (out ≡ run_output world (take before commands) None ++ (error_line (literal "out of memory") ++ rest))
+    × (out ≡ run_output world (take before commands) None ++ (memory_line ++ rest))

@@ -1,13 +1,85 @@
 ghost use Rattle.std.specs.Prelude.{◌≡◌, ◌++◌, false, not, Ok, Err, chars, encode_utf8_all};
 ghost use Rattle.tcl_words.specs.Unread.{texts_of};
-ghost use Rattle.script_cli.specs.Pieces.{piece, error_line, script_fault_text, answer_text as spec_answer_text, word_at as spec_word_at, front_of as spec_front_of};
+ghost use Rattle.script_cli.specs.Pieces.{piece, fault_line, error_line, script_fault_text, answer_text as spec_answer_text, word_at as spec_word_at, front_of as spec_front_of};
 ghost use Rattle.script_cli.specs.Sending.{Gathers};
+ghost use Rattle.peers.specs.Words.{literal};
 
 use crate::devices::ByteSink;
 use crate::output::Output;
 use peers::{Answer, Fault};
 use std::marker::Model;
 use tcl_words::ScriptFault;
+
+/// A line that is printed: a word of the command, or a part of one, between two texts of the program.
+#[derive(Drop)]
+struct Line<'a> {
+    before: &'static str,
+    word: &'a str,
+    after: &'static str,
+}
+
+impl<'a> Line<'a> {
+    fn around(before: &'static str, word: &'a str, after: &'static str) -> Line<'a>
+        ensures before { result.before.now ≡ before.now }
+        ensures word { result.word.now ≡ word.now }
+        ensures after { result.after.now ≡ after.now }
+    {
+        Line {
+            before,
+            word,
+            after,
+        }
+    }
+
+    fn alone(text: &'static str) -> Line<'a>
+        ensures before { result.before.now ≡ text.now }
+        ensures word { chars result.word.now ≡ literal "" }
+        ensures after { chars result.after.now ≡ literal "" }
+    {
+        Line::around(text, "", "")
+    }
+
+    /// The line of a fault.
+    fn of_fault(words: &'a [String], fault: Fault) -> Line<'a>
+        ensures before { chars result.before.now ≡ (fault_line (texts_of words.now) fault).before }
+        ensures word { chars result.word.now ≡ (fault_line (texts_of words.now) fault).word }
+        ensures after { chars result.after.now ≡ (fault_line (texts_of words.now) fault).after }
+    {
+        match fault {
+            Fault::BadIndex(position) => {
+                Line::around("error: bad text index \"", word_at(words, position), "\"\n")
+            }
+            Fault::NoTaggedCharacters(position, len) => Line::around(
+                "error: text doesn't contain any characters tagged with \"",
+                front_of(word_at(words, position), len),
+                "\"\n",
+            ),
+            Fault::BadOption(position) => {
+                Line::around("error: bad option \"", word_at(words, position), "\"\n")
+            }
+            Fault::WrongArguments => Line::alone("error: wrong # args\n"),
+            Fault::InvalidCommandName(position) => Line::around(
+                "error: invalid command name \"",
+                word_at(words, position),
+                "\"\n",
+            ),
+            Fault::WindowExists(position) => Line::around(
+                "error: window name \"",
+                word_at(words, position),
+                "\" already exists\n",
+            ),
+            Fault::BadComparison(position) => Line::around(
+                "error: bad comparison operator \"",
+                word_at(words, position),
+                "\"\n",
+            ),
+            Fault::DocumentExists => Line::alone("error: a document exists\n"),
+            Fault::TooManyWidgets => Line::alone("error: too many widgets\n"),
+            Fault::TextTooLong => Line::alone("error: text is too long\n"),
+            Fault::Memory => Line::alone("error: out of memory\n"),
+        }
+    }
+}
 
 /// The text that is printed for a command: a word or a text between two texts of the program.
 #[derive(Drop)]
@@ -45,43 +117,8 @@ impl<'a> Piece<'a> {
     fn of_fault(words: &'a [String], fault: Fault) -> Piece<'a>
         ensures { result ≡ encode_utf8_all (piece (texts_of words.now) (Err fault)) }
     {
-        match fault {
-            Fault::BadIndex(position) => Piece::around(
-                "error: bad text index \"",
-                word_at(words, position),
-                "\"\n",
-            ),
-            Fault::NoTaggedCharacters(position, len) => Piece::around(
-                "error: text doesn't contain any characters tagged with \"",
-                front_of(word_at(words, position), len),
-                "\"\n",
-            ),
-            Fault::BadOption(position) => Piece::around(
-                "error: bad option \"",
-                word_at(words, position),
-                "\"\n",
-            ),
-            Fault::WrongArguments => Piece::plain("error: wrong # args\n"),
-            Fault::InvalidCommandName(position) => Piece::around(
-                "error: invalid command name \"",
-                word_at(words, position),
-                "\"\n",
-            ),
-            Fault::WindowExists(position) => Piece::around(
-                "error: window name \"",
-                word_at(words, position),
-                "\" already exists\n",
-            ),
-            Fault::BadComparison(position) => Piece::around(
-                "error: bad comparison operator \"",
-                word_at(words, position),
-                "\"\n",
-            ),
-            Fault::DocumentExists => Piece::plain("error: a document exists\n"),
-            Fault::TooManyWidgets => Piece::plain("error: too many widgets\n"),
-            Fault::TextTooLong => Piece::plain("error: text is too long\n"),
-            Fault::Memory => Piece::plain("error: out of memory\n"),
-        }
+        let line = Line::of_fault(words, fault);
+        Piece::around(line.before, line.word, line.after)
     }
 
     /// The fault of a script.
