@@ -1,9 +1,11 @@
-//! The worked rows: whole scripts with what they print, run on each store. This crate holds tests alone.
+//! The worked rows: whole scripts with what they print, run on each store by this crate's tests, and the reader that hands
+//! them out in pieces.
 #![tactic(auto)]
 
-#[cfg(test)]
 mod readers;
 #[cfg(test)]
 mod table;
 #[cfg(test)]
 mod tests;
+
+pub use readers::Pieces;
