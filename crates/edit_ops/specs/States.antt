@@ -1,5 +1,5 @@
 -- What edits change: a text with its marks, the anchors of each widget, and what is kept of the edits.
-use Rattle.std.specs.Prelude.{◌≡◌, ◌≤◌, ℕ, true, length, List, [], ◌∷◌, if◌then◌else◌}
+use Rattle.std.specs.Prelude.{ℕ, List, [], ◌∷◌, if◌then◌else◌}
 use Rattle.text_model.specs.Content.{Content}
 use Rattle.text_model.specs.Steps.{after}
 use Rattle.text_model.specs.declared.edits.Step.{Step}
@@ -51,11 +51,3 @@ drafted recording kind draft state = record {
 
 abbrev pub state_of : Content → List Anchors → Log → State
 state_of content anchors log = record { content = content; anchors = anchors; log = log }
-
--- what a plan leaves
-abbrev pub planned : Recording → EditKind → Content → List Anchors → List Action → Log → State
-planned recording kind content anchors actions log = state_of content anchors (all_noted recording kind actions log)
-
--- there is room for the actions, if they are kept
-abbrev pub HasRoom : Recording → List Action → Kept → Type 0
-HasRoom recording actions kept = recording.undo ≡ true → length actions ≤ kept.room

@@ -1,7 +1,8 @@
 ghost use Rattle.std.specs.Prelude.{◌≡◌, ℕ, ◌+◌, ◌-◌, ◌<◌, ◌≤◌, ◌^◌, ◌&&◌, ◌∷◌, [], nat_le, nat_lt, get_or, length, OnOk, IfOk, IfErr, if◌then◌else◌};
 ghost use Rattle.std.specs.List.{All};
 ghost use Rattle.edit_ops.specs.Deletions.{in_spans, delete_set, AreApart, deleted, removed_spans};
-ghost use Rattle.edit_ops.specs.States.{State, Log, log_of, state_of, drafted, planned, HasRoom};
+ghost use Rattle.edit_ops.specs.Plans.{planned, HasRoom};
+ghost use Rattle.edit_ops.specs.States.{State, Log, log_of, state_of, drafted};
 ghost use Rattle.text_model.specs.Content.{Content, characters};
 ghost use Rattle.text_model.specs.Lines.{is_newline};
 ghost use Rattle.text_model.specs.Steps.{Fits, after};
@@ -143,10 +144,10 @@ pub fn plan_delete<S: TextStore>(
     ensures log { log_of history.new ≡ log_of history.old }
     ensures refused { IfErr result (λ fault. fault ≡ EditFault.Memory) }
     ensures ready { IfOk result (λ plan. S.ready store.new plan.prepared) }
-    ensures room { IfOk result (λ plan. HasRoom plan.recording plan.actions.items history.new) }
+    ensures room { IfOk result (λ plan. HasRoom plan.notes history.new) }
     ensures widgets { IfOk result (λ plan. length plan.anchors.items ≡ length anchors.now) }
     ensures outcome { IfOk result (λ plan.
-        planned plan.recording plan.kind (S.outcome store.new plan.prepared) plan.anchors.items plan.actions.items (log_of history.old)
+        planned plan.notes (S.outcome store.new plan.prepared) plan.anchors.items (log_of history.old)
         ≡ deleted recording start end spans.now (state_of (S.content store.old) anchors.now (log_of history.old))) }
 {
     let draft = draft_delete(alloc, store, anchors, start, end, spans)?;

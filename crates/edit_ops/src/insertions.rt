@@ -3,7 +3,8 @@ ghost use Rattle.std.specs.FinSet as set;
 ghost use Rattle.std.specs.List.{All};
 ghost use Rattle.edit_ops.specs.Anchors.{AnchorsStand};
 ghost use Rattle.edit_ops.specs.Insertions.{inserted_texts, slots_around, slots_or, total, IsBetween};
-ghost use Rattle.edit_ops.specs.States.{State, Log, log_of, state_of, drafted, planned, HasRoom};
+ghost use Rattle.edit_ops.specs.Plans.{planned, HasRoom};
+ghost use Rattle.edit_ops.specs.States.{State, Log, log_of, state_of, drafted};
 ghost use Rattle.text_model.specs.Content.{Content, slot_sets};
 ghost use Rattle.text_model.specs.Steps.{Fits, after};
 
@@ -149,10 +150,10 @@ pub fn plan_insert<S: TextStore>(
     ensures too_long { (result ≡ Err EditFault.TextTooLong) ↔ (limits.now.chars < length (S.content store.old).cells + total pieces.now) }
     ensures never { result ≢ Err EditFault.IndexOrder }
     ensures ready { IfOk result (λ plan. S.ready store.new plan.prepared) }
-    ensures room { IfOk result (λ plan. HasRoom plan.recording plan.actions.items history.new) }
+    ensures room { IfOk result (λ plan. HasRoom plan.notes history.new) }
     ensures widgets { IfOk result (λ plan. length plan.anchors.items ≡ length anchors.now) }
     ensures outcome { IfOk result (λ plan.
-        planned plan.recording plan.kind (S.outcome store.new plan.prepared) plan.anchors.items plan.actions.items (log_of history.old)
+        planned plan.notes (S.outcome store.new plan.prepared) plan.anchors.items (log_of history.old)
         ≡ inserted_texts recording EditKind.Insert at pieces.now (state_of (S.content store.old) anchors.now (log_of history.old))) }
 {
     if is_too_long(limits, store.len(), pieces) {

@@ -22,7 +22,7 @@ pub use deletions::plan_delete;
 pub use faults::EditFault;
 pub use insertions::plan_insert;
 pub use pieces::Piece;
-pub use plans::{Plan, Recording, commit};
+pub use plans::{Notes, Plan, Recording, commit};
 pub use replacements::plan_replace;
 pub use spans::Span;
 pub use tagging::plan_tag;

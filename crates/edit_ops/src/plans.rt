@@ -1,6 +1,7 @@
 ghost use Rattle.std.specs.Prelude.{◌≡◌, ◌≤◌, true, length, IfOk};
 ghost use Rattle.text_model.specs.Steps.{Fits};
-ghost use Rattle.edit_ops.specs.States.{log_of, state_of, all_noted, drafted, planned, HasRoom};
+ghost use Rattle.edit_ops.specs.Plans.{log_after, planned, HasRoom};
+ghost use Rattle.edit_ops.specs.States.{log_of, state_of, all_noted, drafted};
 
 use crate::anchors::Anchors;
 use crate::drafts::Draft;
@@ -17,14 +18,23 @@ pub struct Recording {
     pub separators: bool,
 }
 
+/// What a plan does to the history.
+#[derive(Drop)]
+pub enum Notes {
+    /// Actions of an edit of a kind are noted.
+    Made(EditKind, VecDeque<Action>, Recording),
+    /// The last group is undone.
+    Undone,
+    /// The group that was undone last is redone.
+    Redone,
+}
+
 /// The whole effect of a command, for which all memory is there.
 #[derive(Drop)]
 pub struct Plan<S: TextStore> {
     prepared: S::Prepared,
     anchors: Vec<Anchors>,
-    actions: VecDeque<Action>,
-    kind: EditKind,
-    recording: Recording,
+    notes: Notes,
 }
 
 /// Notes actions of an edit of a kind, for which there is room.
@@ -45,6 +55,22 @@ fn note_all(
     }
 }
 
+/// Does to the history what a plan says.
+fn note(history: &mut UndoStack, notes: Notes)
+    requires { HasRoom notes history.old }
+    ensures { log_of history.new ≡ log_after notes (log_of history.old) }
+{
+    match notes {
+        Notes::Made(kind, actions, recording) => note_all(history, kind, actions, recording),
+        Notes::Undone => {
+            let _ = history.take_undo();
+        }
+        Notes::Redone => {
+            let _ = history.take_redo();
+        }
+    }
+}
+
 /// Makes a plan of a draft, with all memory that it takes. Nothing that can be seen changes.
 pub fn prepare<S: TextStore>(
     store: &mut S,
@@ -57,9 +83,9 @@ pub fn prepare<S: TextStore>(
     ensures content { S.content store.new ≡ S.content store.old }
     ensures log { log_of history.new ≡ log_of history.old }
     ensures ready { IfOk result (λ plan. S.ready store.new plan.prepared) }
-    ensures room { IfOk result (λ plan. HasRoom plan.recording plan.actions.items history.new) }
+    ensures room { IfOk result (λ plan. HasRoom plan.notes history.new) }
     ensures outcome { IfOk result (λ plan.
-        planned plan.recording plan.kind (S.outcome store.new plan.prepared) plan.anchors.items plan.actions.items (log_of history.old)
+        planned plan.notes (S.outcome store.new plan.prepared) plan.anchors.items (log_of history.old)
         ≡ drafted recording kind draft (state_of (S.content store.old) draft.anchors (log_of history.old))) }
     ensures widgets { IfOk result (λ plan. plan.anchors.items ≡ draft.anchors) }
 {
@@ -76,9 +102,7 @@ pub fn prepare<S: TextStore>(
     Ok(Plan {
         prepared,
         anchors,
-        actions,
-        kind,
-        recording,
+        notes: Notes::Made(kind, actions, recording),
     })
 }
 
@@ -91,19 +115,17 @@ pub fn commit<S: TextStore>(
     anchors: &mut [Anchors],
 )
     requires ready { S.ready store.old plan.prepared }
-    requires room { HasRoom plan.recording plan.actions.items history.old }
+    requires room { HasRoom plan.notes history.old }
     requires widgets { length plan.anchors.items ≡ length anchors.old }
     ensures { state_of (S.content store.new) anchors.new (log_of history.new)
-        ≡ planned plan.recording plan.kind (S.outcome store.old plan.prepared) plan.anchors.items plan.actions.items (log_of history.old) }
+        ≡ planned plan.notes (S.outcome store.old plan.prepared) plan.anchors.items (log_of history.old) }
 {
     let Plan {
         prepared,
         anchors: places,
-        actions,
-        kind,
-        recording,
+        notes,
     } = plan;
     store.commit(prepared);
     anchors.copy_from_slice(&places);
-    note_all(history, kind, actions, recording);
+    note(history, notes);
 }

@@ -4,7 +4,8 @@ ghost use Rattle.std.specs.List.{All};
 ghost use Rattle.edit_ops.specs.Anchors.{AnchorsStand, next_line};
 ghost use Rattle.edit_ops.specs.Insertions.{total};
 ghost use Rattle.edit_ops.specs.Removals.{clipped, removed_span, replaced_span, replaced};
-ghost use Rattle.edit_ops.specs.States.{Log, log_of, state_of, drafted, planned, HasRoom};
+ghost use Rattle.edit_ops.specs.Plans.{planned, HasRoom};
+ghost use Rattle.edit_ops.specs.States.{Log, log_of, state_of, drafted};
 ghost use Rattle.text_model.specs.Content.{characters};
 ghost use Rattle.text_model.specs.Lines.{line_of, line_start};
 ghost use Rattle.text_model.specs.Splices.{removed};
@@ -145,10 +146,10 @@ pub fn plan_replace<S: TextStore>(
     ensures too_long { (result ≡ Err EditFault.TextTooLong) ↔ ((from ≤ to) ×
         (limits.now.chars < length (S.content store.old).cells - (min to last - min from last) + total pieces.now)) }
     ensures ready { IfOk result (λ plan. S.ready store.new plan.prepared) }
-    ensures room { IfOk result (λ plan. HasRoom plan.recording plan.actions.items history.new) }
+    ensures room { IfOk result (λ plan. HasRoom plan.notes history.new) }
     ensures widgets { IfOk result (λ plan. length plan.anchors.items ≡ length anchors.now) }
     ensures outcome { IfOk result (λ plan.
-        planned plan.recording plan.kind (S.outcome store.new plan.prepared) plan.anchors.items plan.actions.items (log_of history.old)
+        planned plan.notes (S.outcome store.new plan.prepared) plan.anchors.items (log_of history.old)
         ≡ replaced recording mark.0 last from to pieces.now (state_of (S.content store.old) anchors.now (log_of history.old))) }
 {
     if to < from {

@@ -1,7 +1,8 @@
 ghost use Rattle.std.specs.Prelude.{◌≡◌, ◌<◌, ◌++◌, ◌∷◌, [], length, IfOk, OnOk, IfErr, take, true};
 ghost use Rattle.std.specs.List.{All};
 ghost use Rattle.edit_ops.specs.Tagging.{SpanFits, tagged};
-ghost use Rattle.edit_ops.specs.States.{log_of, state_of, planned, HasRoom};
+ghost use Rattle.edit_ops.specs.Plans.{planned, HasRoom};
+ghost use Rattle.edit_ops.specs.States.{log_of, state_of};
 ghost use Rattle.text_model.specs.Content.{Content};
 ghost use Rattle.text_model.specs.Steps.{Fits, after};
 ghost use Rattle.text_model.specs.TagBits.{slot_count};
@@ -51,10 +52,10 @@ pub fn plan_tag<S: TextStore>(
     ensures log { log_of history.new ≡ log_of history.old }
     ensures refused { IfErr result (λ fault. fault ≡ EditFault.Memory) }
     ensures ready { IfOk result (λ plan. S.ready store.new plan.prepared) }
-    ensures room { IfOk result (λ plan. HasRoom plan.recording plan.actions.items history.new) }
+    ensures room { IfOk result (λ plan. HasRoom plan.notes history.new) }
     ensures widgets { IfOk result (λ plan. length plan.anchors.items ≡ length anchors.now) }
     ensures outcome { IfOk result (λ plan.
-        planned plan.recording plan.kind (S.outcome store.new plan.prepared) plan.anchors.items plan.actions.items (log_of history.old)
+        planned plan.notes (S.outcome store.new plan.prepared) plan.anchors.items (log_of history.old)
         ≡ state_of (tagged slot.0 is_on spans.now (S.content store.old)) anchors.now (log_of history.old)) }
 {
     let steps = tag_steps(alloc, spans, slot, is_on, store.len())?;
