@@ -118,7 +118,7 @@ fn draft_delete<S: TextStore>(
     let mut runs = union(alloc, spans)?;
     let takes_last = spare_shown(store, start, end, &mut runs);
     let steps = bare(alloc, end - 1, takes_last)?;
-    let mut draft = Draft::of_steps(alloc, anchors, steps)?;
+    let mut draft = Draft::of_steps(alloc, anchors, steps, runs.len())?;
     draft.remove_spans(store, &runs)?;
     Ok(draft)
 }

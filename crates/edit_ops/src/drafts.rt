@@ -39,26 +39,31 @@ fn copy_of(alloc: Global, text: &Text) -> Result<Text, AllocError>
 }
 
 impl Draft {
-    /// An edit that does nothing yet.
-    pub fn new(alloc: Global, anchors: &[Anchors]) -> Result<Draft, AllocError>
+    /// An edit that does nothing yet, with room for so many steps that are noted.
+    pub fn new(alloc: Global, anchors: &[Anchors], room: usize) -> Result<Draft, AllocError>
         ensures { IfOk result (λ draft. draft ≡ record { steps = []; anchors = anchors.now; actions = [] }) }
     {
-        Draft::of_steps(alloc, anchors, StepList::new(alloc))
+        Draft::of_steps(alloc, anchors, StepList::new(alloc), room)
     }
 
-    /// An edit that makes steps, and of which nothing is noted.
+    /// An edit that makes steps, of which nothing is noted, with room for so many more that are.
     pub fn of_steps(
         alloc: Global,
         anchors: &[Anchors],
         steps: StepList,
+        room: usize,
     ) -> Result<Draft, AllocError>
         ensures { IfOk result (λ draft. draft ≡ record { steps = steps; anchors = anchors.now; actions = [] }) }
     {
+        let mut steps = steps;
+        steps.reserve(room)?;
+        let mut actions = VecDeque::new(alloc);
+        actions.reserve(room)?;
         Ok(Draft {
             alloc,
             steps,
             anchors: Vec::from_slice(alloc, anchors)?,
-            actions: VecDeque::new(alloc),
+            actions,
         })
     }
 

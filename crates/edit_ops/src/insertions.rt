@@ -118,7 +118,7 @@ fn draft_insert<S: TextStore>(
         (drafted recording kind draft (state_of (S.content store.now) anchors.now log)
         ≡ inserted_texts recording kind at pieces.now (state_of (S.content store.now) anchors.now log))) }
 {
-    let mut draft = Draft::new(alloc, anchors)?;
+    let mut draft = Draft::new(alloc, anchors, pieces.len())?;
     draft.insert_pieces(
         at,
         pieces,

@@ -25,4 +25,4 @@ pub use pieces::Piece;
 pub use plans::{Notes, Plan, Recording, commit};
 pub use replacements::plan_replace;
 pub use spans::Span;
-pub use tagging::plan_tag;
+pub use tagging::{plan_clear, plan_tag};

@@ -42,13 +42,14 @@ pub fn line_behind<S: TextStore>(store: &S, offset: usize) -> usize
     }
 }
 
-/// The edit that takes the characters from one offset to another out.
+/// The edit that takes the characters from one offset to another out, with room for so many steps.
 fn draft_removal<S: TextStore>(
     alloc: Global,
     store: &S,
     anchors: &[Anchors],
     from: usize,
     to: usize,
+    room: usize,
 ) -> Result<Draft, AllocError>
     requires ordered { from ≤ to }
     requires within { to < length (S.content store.now).cells }
@@ -61,7 +62,7 @@ fn draft_removal<S: TextStore>(
         drafted recording kind draft (state_of (S.content store.now) anchors.now log)
         ≡ removed_span recording kind from to (state_of (S.content store.now) anchors.now log)) }
 {
-    let mut draft = Draft::new(alloc, anchors)?;
+    let mut draft = Draft::new(alloc, anchors, room)?;
     if from == to {
         return Ok(draft);
     }
@@ -105,7 +106,7 @@ fn draft_replace<S: TextStore>(
         drafted recording EditKind.Replace draft (state_of (S.content store.now) anchors.now log)
         ≡ replaced_span recording mark.0 from to pieces.now (state_of (S.content store.now) anchors.now log)) }
 {
-    let mut draft = draft_removal(alloc, store, anchors, from, to)?;
+    let mut draft = draft_removal(alloc, store, anchors, from, to, pieces.len() + 2)?;
     let len = store.len() - (to - from);
     draft.insert_pieces(
         from,

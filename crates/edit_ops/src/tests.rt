@@ -2,8 +2,8 @@ ghost use Rattle.std.specs.Prelude.{◌≡◌, ◌≤◌, true};
 ghost use Rattle.std.specs.List.{All};
 
 use crate::{
-    Anchors, EditFault, Piece, Recording, Span, anchors_stand, commit, plan_delete, plan_insert,
-    plan_replace, plan_tag,
+    Anchors, EditFault, Piece, Recording, Span, anchors_stand, commit, plan_clear, plan_delete,
+    plan_insert, plan_replace, plan_tag,
 };
 use std::alloc::{AllocError, Global};
 use std::process::Abort;
@@ -838,5 +838,48 @@ fn spans_are_tagged(rt: HostRuntime) -> Result<(), Fail> {
         return Err("a group".into());
     };
     assert_eq!(rt; group.len(), 1);
+    Ok(())
+}
+
+fn tag<S: TextStore>(
+    rt: &impl Abort,
+    alloc: Global,
+    store: &mut S,
+    from: usize,
+    to: usize,
+    slot: TagSlot,
+) -> Result<(), Fail> {
+    let mut history = UndoStack::new(alloc);
+    let mut anchors = [NO_ANCHORS];
+    let spans = [Span { from, to }];
+    assert!(rt; from <= to && to <= store.len());
+    assert!(rt; slot.0 < TagSet::SLOTS);
+    let Ok(plan) = plan_tag(alloc, store, &mut history, &anchors, &spans, slot, true) else {
+        return Err("a plan".into());
+    };
+    commit(plan, store, &mut history, &mut anchors);
+    Ok(())
+}
+
+#[test]
+fn slots_are_cleared(rt: HostRuntime) -> Result<(), Fail> {
+    let alloc = rt.alloc();
+    let mut store: PlainStore = store_of(&rt, alloc, "abc")?;
+    let mut history = UndoStack::new(alloc);
+    let mut anchors = [NO_ANCHORS];
+    tag(&rt, alloc, &mut store, 0, 2, TagSlot(5))?;
+    tag(&rt, alloc, &mut store, 1, 4, TagSlot(6))?;
+    tag(&rt, alloc, &mut store, 0, 3, TagSlot(255))?;
+    let slots = [TagSlot(255), TagSlot(5)];
+    let Ok(plan) = plan_clear(alloc, &mut store, &mut history, &anchors, &slots) else {
+        return Err("a plan".into());
+    };
+    commit(plan, &mut store, &mut history, &mut anchors);
+    for offset in 0..4 {
+        assert!(rt; offset < store.len());
+        assert!(rt; !store.has_tag(offset, TagSlot(5)) && !store.has_tag(offset, TagSlot(255)));
+        assert_eq!(rt; store.has_tag(offset, TagSlot(6)), offset > 0);
+    }
+    assert!(rt; history.last_undo().is_none() && !history.modified());
     Ok(())
 }

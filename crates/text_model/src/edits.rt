@@ -54,6 +54,14 @@ impl StepList {
         }
     }
 
+    /// Makes room for so many steps more.
+    pub fn reserve(&mut self, steps: usize) -> Result<(), AllocError>
+        ensures { self.new ≡ self.old }
+    {
+        self.steps.reserve(steps)?;
+        Ok(())
+    }
+
     /// Adds a step behind the others.
     pub fn push(&mut self, step: Step) -> Result<(), AllocError>
         ensures ok { OnOk result (self.new ≡ self.old ++ step ∷ []) }

@@ -1,18 +1,7 @@
-use Rattle.std.proofs.Common.{false, sym, ◌∙◌, subst}
-use Rattle.text_model.specs.Steps.{Fits}
-use Rattle.undo_stack.specs.declared.actions.EditKind.TheVariants.{Insert}
-use Rattle.edit_ops.specs.States.{Draft, log_of}
-use Rattle.edit_ops.proofs.TagLaws.{steps-made}
+use Rattle.std.proofs.Common.{sym, ap, ◌∙◌}
+use Rattle.text_model.specs.Content.{Content}
+use Rattle.edit_ops.specs.States.{log_of, state_of}
 use Rattle.edit_ops.proofs.tagging.plan_tag.Goals as goal
 
-pub prepare-requires : goal.prepare-requires
-prepare-requires g c =
-    subst (λ (d : Draft). Fits d.steps (g.S.TextStore.content c.args.store.now)) (sym c.in_ok-draft.ensures)
-    (c.in_ok-steps.ensures (g.S.TextStore.content c.args.store.now) (sym c.len.ensures)).0
-
-pub returns-clause-outcome : goal.returns-clause-outcome
-returns-clause-outcome g c =
-    let content = g.S.TextStore.content c.args.store.now in
-    c.in_ok-prepare.ensures.outcome
-    ∙ steps-made (record { undo = false; separators = false }) Insert c.in_ok-draft.draft c.in_ok-steps.steps c.args.anchors.now content _ (log_of c.args.history.now) c.in_ok-draft.ensures
-    (c.in_ok-steps.ensures content (sym c.len.ensures)).1
+pub plan_steps-requires : goal.plan_steps-requires
+plan_steps-requires g c = (c.in_ok-steps.ensures (g.S.TextStore.content c.args.store.now) (sym c.len.ensures)).0

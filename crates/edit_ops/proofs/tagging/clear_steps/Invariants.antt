@@ -1,0 +1,7 @@
+use Rattle.std.proofs.Common.{drop}
+use Rattle.text_model.specs.Content.{Content}
+use Rattle.edit_ops.proofs.TagLaws.{Clearing}
+use Rattle.edit_ops.proofs.tagging.clear_steps.Given as goal
+
+abbrev pub invariant-loop-slot : goal.invariant-loop-slot
+invariant-loop-slot l = (content : Content) → Clearing l.slots l.steps (drop l.slot-index l.slots) content
