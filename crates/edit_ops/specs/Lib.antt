@@ -1,4 +1,5 @@
 pub mod Anchors
+pub mod Cursors
 pub mod Deletions
 pub mod Insertions
 pub mod Keeping

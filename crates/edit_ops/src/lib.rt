@@ -3,6 +3,7 @@
 #![tactic(auto)]
 
 mod anchors;
+mod cursors;
 mod deletions;
 mod drafts;
 mod faults;
