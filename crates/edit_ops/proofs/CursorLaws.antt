@@ -1,9 +1,9 @@
 -- A cursor goes through the parts of a text.
-use Rattle.std.proofs.Common.{◌≡◌, ℕ, zero, suc, ◌+◌, ◌-◌, ◌<◌, ◌≤◌, List, [], ◌∷◌, ◌++◌, Option, Some, None, map, length, take, drop, refl, sym, ap, ap₂, ◌∙◌, arith, subst, append_assoc, length-append, length-drop}
+use Rattle.std.proofs.Common.{◌≡◌, ℕ, ◌+◌, ◌-◌, ◌<◌, ◌≤◌, List, [], ◌∷◌, ◌++◌, Option, Some, None, map, length, take, drop, refl, sym, ap, ap₂, ◌∙◌, arith, subst, append_assoc, length-append, length-drop}
 use Rattle.std.specs.Prelude.{slice_range, sum_by}
 use Rattle.std.specs.List.{All}
 use Rattle.std.proofs.lemmas.List.{append-nil, map-append, length-map, length-take-le, drop-drop, drop-append-le, take-append-le, take-append-drop, take_all, take_at, drop_at, nil_from_length}
-use Rattle.std.proofs.lemmas.List.Elements.{All-push, All-append, All-head, All-tail, All-pop, All-same, All-weaker}
+use Rattle.std.proofs.lemmas.List.Elements.{All-push, All-head, All-tail, All-pop, All-same, All-weaker}
 use Rattle.std.proofs.lemmas.List.Sums.{sum_by-append, sum_by-cons}
 use Rattle.std.proofs.Math.Seq.{take-add}
 use Rattle.text_model.specs.declared.cells.Cell.{Cell}
@@ -172,9 +172,6 @@ moves-in before now part rest most is behind some short behind_is front_is fresh
           ∙ cells-in old before.fresh.items before.front.items rest part (part.from + most) (omega arith) (omega (arith, short))
           ∙ ap (λ parts. front_cells old before.fresh.items before.front.items ++ behind_cells old before.fresh.items parts) (sym behind);
     }
-
-pub moves-both : (first before now : Cursor) → Moves first before → Moves before now → Moves first now
-moves-both first before now one two = record { is = two.is; old_len = two.old_len ∙ one.old_len; len = two.len ∙ one.len; cells = λ old. two.cells old ∙ one.cells old }
 
 -- ---- how long the parts are
 

@@ -7,5 +7,6 @@ pub mod LookLaws
 pub mod TagLaws
 pub mod RemovalLaws
 pub mod ReplaceLaws
+pub mod ReplayLaws
 pub mod ReversalLaws
 pub mod RunLaws

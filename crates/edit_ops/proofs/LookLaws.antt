@@ -1,16 +1,15 @@
 -- What a cursor sees around its place: slots, and where lines begin.
-use Rattle.std.proofs.Common.{◌≡◌, ℕ, zero, suc, ◌+◌, ◌-◌, ◌<◌, ◌≤◌, Bool, true, false, cond, List, [], ◌∷◌, ◌++◌, Option, Some, None, map, length, get_or, take, drop, refl, sym, ap, ap₂, ◌∙◌, arith, subst, append_assoc, length-append, length-drop, length-take, ne_eqb}
+use Rattle.std.proofs.Common.{◌≡◌, ℕ, zero, suc, ◌+◌, ◌-◌, ◌<◌, ◌≤◌, Bool, true, false, cond, List, [], ◌∷◌, ◌++◌, Option, Some, None, length, get_or, take, drop, refl, sym, ap, ap₂, ◌∙◌, arith, subst, length-append, length-drop, ne_eqb}
 use Rattle.std.specs.Prelude.{slice_range, min, if◌then◌else◌}
 use Rattle.std.specs.FinSet as set
 use Rattle.std.specs.List.{All}
-use Rattle.std.proofs.lemmas.List.{append-nil, map-append, length-map, length-take-le, take-append-drop, take_all, take_at, drop_at, take_more, get_or_append_left, get_or-append_right, get_or-append-add, get_or-take, get_or-drop, get_or-map, drop_more}
-use Rattle.std.proofs.lemmas.List.Elements.{All-take, All-push, All-pop, All-same}
+use Rattle.std.proofs.lemmas.List.{append-nil, map-append, length-take-le, take-append-drop, take_all, take_at, drop_at, take_more, get_or_append_left, get_or-append-add, get_or-take, get_or-drop, get_or-map}
+use Rattle.std.proofs.lemmas.List.Elements.{All-take, All-pop}
 use Rattle.std.proofs.lemmas.List.Folds.{drop_split}
 use Rattle.std.proofs.Math.Seq.{take-add}
 use Rattle.text_model.specs.declared.cells.Cell.{Cell}
 use Rattle.text_model.specs.Content.{Slots, characters, slot_sets}
 use Rattle.text_model.specs.Lines.{is_newline, lines, line_of, line_start}
-use Rattle.text_model.specs.Steps.{cells_of}
 use Rattle.text_model.proofs.LineLaws.{lines-cons, lines-append, line_start-le}
 use Rattle.text_model.proofs.SpliceLaws.{map-map, map-slice_range}
 use Rattle.edit_ops.specs.declared.cursors.Cursor.{Cursor}
@@ -18,7 +17,7 @@ use Rattle.edit_ops.specs.declared.cursors.Part.{Part}
 use Rattle.edit_ops.specs.Anchors.{next_line}
 use Rattle.edit_ops.specs.Cursors.{cells_between, part_cells, front_cells, behind_cells, cursor_cells, source_len, slots_in, last_line, parts_len, PartFits, IsCursor}
 use Rattle.edit_ops.specs.Insertions.{shared_slots}
-use Rattle.edit_ops.proofs.CursorLaws.{part-length, front-push, behind-push, len-push, front-length, behind-length, place-is, whole-is, same-fit}
+use Rattle.edit_ops.proofs.CursorLaws.{part-length, front-push, behind-push, len-push, front-length, place-is, same-fit}
 use Rattle.edit_ops.proofs.InsertLaws.{length-slot_sets}
 use Rattle.edit_ops.proofs.KeepLaws.{characters-of}
 use Rattle.edit_ops.proofs.RemovalLaws.{length-characters, line-append-same, line_start-past, next_line-is}
@@ -96,15 +95,6 @@ last-more text index d within =
           last-none front (c ∷ []) (ap (λ n. line_start n (c ∷ [])) one)
     ] refl)
 
-pub first-more : (text : List ℕ) (index d : ℕ) → index < length text
-    → line_start 1 (drop index text) ≡ (if is_newline (get_or text index d) then 1 else 1 + line_start 1 (drop (index + 1) text))
-first-more text index d within =
-    ap (line_start 1) (drop_more text index d within)
-    ∙ (elim (is_newline (get_or text index d)) as (λ b. 1 + line_start (if b then 0 else 1) (drop (index + 1) text) ≡ (if b then 1 else 1 + line_start 1 (drop (index + 1) text))) [
-      | true ↦ refl
-      | false ↦ refl
-    ])
-
 slice-length : (from to : ℕ) (xs : List ℕ) → from ≤ to → to ≤ length xs → length (slice_range xs from to) ≡ to - from
 slice-length from to xs ordered within = length-take-le (to - from) (drop from xs) (let h = length-drop from xs in omega (arith, h))
 
@@ -161,9 +151,6 @@ new-text part slots old new is = ap (λ s. characters (cells_between s old new p
 pub old-within : (part : Part) (old new : ℕ) → part.slots ≡ None → PartFits old new part → part.to ≤ old
 old-within part old new is fits = subst (λ slots. part.to ≤ source_len slots old new) is fits.within
 
-pub new-within : (part : Part) (slots : Slots) (old new : ℕ) → part.slots ≡ Some slots → PartFits old new part → part.to ≤ new
-new-within part slots old new is fits = subst (λ s. part.to ≤ source_len s old new) is fits.within
-
 pub old-last-in : (part : Part) (old : List Cell) (new : List ℕ) → part.slots ≡ None → PartFits (length old) (length new) part
     → line_start (line_of (characters old) part.to) (characters old) - part.from ≡ last_line (characters (part_cells old new part))
 old-last-in part old new is fits =
@@ -202,11 +189,6 @@ pub record LineSoFar (old : List Cell) (new : List ℕ) (parts : List Part) (lef
   pub within : left ≤ length parts
   pub place : end ≡ parts_len (take left parts)
   pub same : last_line (characters (front_cells old new parts)) ≡ last_line (characters (front_cells old new (take left parts)))
-
-pub line-first : (old : List Cell) (new : List ℕ) (parts : List Part) (left end : ℕ) → left ≡ length parts → end ≡ parts_len parts → LineSoFar old new parts left end
-line-first old new parts left end left_is end_is =
-    let all : take left parts ≡ parts = take_all left parts (omega (arith, left_is)) in
-    record { within = omega (arith, left_is); place = end_is ∙ ap parts_len (sym all); same = ap (λ ps. last_line (characters (front_cells old new ps))) (sym all) }
 
 -- a part more: where it stands, and what its last line says
 pub record LineStep (old : List Cell) (new : List ℕ) (parts : List Part) (left end : ℕ) (part : Part) : Type 0 where
@@ -255,15 +237,6 @@ pub record NextSoFar (old : List Cell) (new : List ℕ) (parts : List Part) (lef
   pub within : left ≤ length parts
   pub sum : far + parts_len (take left parts) ≡ parts_len parts
   pub same : line_start 1 (characters (behind_cells old new parts)) ≡ far + line_start 1 (characters (behind_cells old new (take left parts)))
-
-pub next-first : (old : List Cell) (new : List ℕ) (parts : List Part) (left : ℕ) → left ≡ length parts → NextSoFar old new parts left 0
-next-first old new parts left left_is =
-    let all : take left parts ≡ parts = take_all left parts (omega (arith, left_is)) in
-    record {
-      within = omega (arith, left_is);
-      sum = let h = ap parts_len all in omega (arith, h);
-      same = ap (λ ps. line_start 1 (characters (behind_cells old new ps))) (sym all) ∙ omega arith;
-    }
 
 pub record NextStep (old : List Cell) (new : List ℕ) (parts : List Part) (left far : ℕ) (part : Part) : Type 0 where
   pub fits : PartFits (length old) (length new) part

@@ -38,7 +38,7 @@ taken-back-text at text found state is =
     ∙ guarded (nat_lt (at + length text) (length (characters state.content.cells)) && bytes_eq (slice_range (characters state.content.cells) at (at + length text)) text)
     (removed at (at + length text) (characters state.content.cells)) found is
 
-redone-text : (limit : ℕ) (action : Action) (found : List ℕ) (state : State) → repeated limit action (characters state.content.cells) ≡ Some found → characters (action_redone action state).content.cells ≡ found
+pub redone-text : (limit : ℕ) (action : Action) (found : List ℕ) (state : State) → repeated limit action (characters state.content.cells) ≡ Some found → characters (action_redone action state).content.cells ≡ found
 redone-text limit action found state is =
     elim action.inserts as (λ b. (if b then put_in limit action.at action.text (characters state.content.cells) else take_out action.at action.text (characters state.content.cells)) ≡ Some found
     → characters (if b then put_back action.at action.text state else taken_back action.at (action.at + length action.text) state).content.cells ≡ found) [

@@ -5,6 +5,7 @@ pub mod Insertions
 pub mod Keeping
 pub mod Plans
 pub mod Removals
+pub mod Replays
 pub mod Reversals
 pub mod States
 pub mod Tagging

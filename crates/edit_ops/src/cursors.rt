@@ -3,7 +3,8 @@
 
 ghost use Rattle.std.specs.Prelude.{◌≡◌, ℕ, ◌+◌, ◌-◌, ◌<◌, ◌≤◌, ◌^◌, ◌++◌, List, length, drop, chars, IfOk, OnOk};
 ghost use Rattle.text_model.specs.declared.cells.Cell.{Cell};
-ghost use Rattle.edit_ops.specs.Cursors.{cursor_cells, part_cells, source_len, slots_in, last_line, PartFits, IsCursor, Moves, Takes, Puts};
+ghost use Rattle.std.specs.List.{All};
+ghost use Rattle.edit_ops.specs.Cursors.{cursor_cells, behind_cells, parts_len, part_cells, source_len, slots_in, last_line, PartFits, IsCursor, Moves, Takes, Puts};
 ghost use Rattle.edit_ops.specs.Insertions.{shared_slots};
 ghost use Rattle.text_model.specs.Content.{characters};
 ghost use Rattle.text_model.specs.Lines.{line_of, line_start};
@@ -32,26 +33,37 @@ pub struct Cursor {
     pub len: usize,
 }
 
+/// An old text of so many characters, with room for so many parts.
+fn whole(alloc: Global, len: usize, room: usize) -> Result<Vec<Part>, AllocError>
+    ensures fit { IfOk result (λ parts. (new : ℕ) → All (PartFits len new) parts.items) }
+    ensures len { IfOk result (λ parts. parts_len parts.items ≡ len) }
+    ensures cells { IfOk result (λ parts. (old : List Cell) (new : List ℕ) → length old ≡ len → behind_cells old new parts.items ≡ old) }
+{
+    let mut parts = Vec::with_capacity(alloc, room)?;
+    if len == 0 {
+        return Ok(parts);
+    }
+    parts.push(Part {
+        from: 0,
+        to: len,
+        slots: None,
+    })?;
+    Ok(parts)
+}
+
 impl Cursor {
     /// The start of an old text, with room for so many parts.
     pub fn new(alloc: Global, len: usize, room: usize) -> Result<Cursor, AllocError>
-        requires { 0 < len }
         ensures cursor { IfOk result (λ cursor. IsCursor cursor) }
         ensures old { IfOk result (λ cursor. cursor.old_len ≡ len) }
         ensures len { IfOk result (λ cursor. cursor.len ≡ len) }
         ensures cells { IfOk result (λ cursor. (old : List Cell) → length old ≡ len → cursor_cells old cursor ≡ old) }
     {
-        let mut behind = Vec::with_capacity(alloc, room)?;
-        behind.push(Part {
-            from: 0,
-            to: len,
-            slots: None,
-        })?;
         Ok(Cursor {
             old_len: len,
             fresh: Vec::new(alloc),
             front: Vec::with_capacity(alloc, room)?,
-            behind,
+            behind: whole(alloc, len, room)?,
             at: 0,
             len,
         })

@@ -67,7 +67,29 @@ impl Draft {
         })
     }
 
-    /// Puts a text of so many characters in before the character at an offset, into a text of so many.
+    /// Puts a text of so many characters in before the character at an offset, into a text of so many; it isn't noted.
+    pub fn put_in(
+        &mut self,
+        at: usize,
+        text: &Text,
+        slots: TagSet,
+        count: usize,
+        len: usize,
+    ) -> Result<(), AllocError>
+        requires stand { All (AnchorsStand len) self.old.anchors }
+        requires fits { len + count < 2 ^ 64 }
+        ensures { OnOk result (self.new ≡ record self.old {
+          steps = self.old.steps ++ Step.Insert at text.now slots ∷ [];
+          anchors = map (anchors_moved at count) self.old.anchors;
+        }) }
+    {
+        self.steps
+            .push(Step::Insert(at, copy_of(self.alloc, text)?, slots))?;
+        move_anchors(&mut self.anchors, at, count, len);
+        Ok(())
+    }
+
+    /// Puts a text in as `put_in` does, which is an action.
     pub fn insert(
         &mut self,
         at: usize,
@@ -85,18 +107,36 @@ impl Draft {
           actions = self.old.actions ++ record { inserts = true; at = at; text = text.now } ∷ [];
         }) }
     {
-        self.steps
-            .push(Step::Insert(at, copy_of(self.alloc, text)?, slots))?;
         self.actions.push_back(Action {
             inserts: true,
             at,
             text: copy_of(self.alloc, text)?,
         })?;
-        move_anchors(&mut self.anchors, at, count, len);
+        self.put_in(at, text, slots, count, len)?;
         Ok(())
     }
 
-    /// Takes a text out, from one offset to another, of a line that begins at `line`; the line after it then begins at `next`.
+    /// Takes out the characters from one offset to another, of a line that begins at `line`; the line after it then begins at
+    /// `next`. It isn't noted.
+    pub fn take_out(
+        &mut self,
+        from: usize,
+        to: usize,
+        line: usize,
+        next: usize,
+    ) -> Result<(), AllocError>
+        requires { from ≤ to }
+        ensures { OnOk result (self.new ≡ record self.old {
+          steps = self.old.steps ++ Step.Remove from to ∷ [];
+          anchors = map (anchors_drawn line next from to) self.old.anchors;
+        }) }
+    {
+        self.steps.push(Step::Remove(from, to))?;
+        draw_anchors(&mut self.anchors, line, next, from, to);
+        Ok(())
+    }
+
+    /// Takes a text out as `take_out` does, which is an action.
     pub fn remove(
         &mut self,
         from: usize,
@@ -112,13 +152,12 @@ impl Draft {
           actions = self.old.actions ++ record { inserts = false; at = from; text = text } ∷ [];
         }) }
     {
-        self.steps.push(Step::Remove(from, to))?;
         self.actions.push_back(Action {
             inserts: false,
             at: from,
             text,
         })?;
-        draw_anchors(&mut self.anchors, line, next, from, to);
+        self.take_out(from, to, line, next)?;
         Ok(())
     }
 

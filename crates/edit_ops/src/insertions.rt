@@ -18,7 +18,7 @@ use text_model::{Limits, TagSet, Text, TextStore};
 use undo_stack::{EditKind, UndoStack};
 
 /// How many characters a text has.
-fn count_of(text: &Text) -> usize
+pub fn count_of(text: &Text) -> usize
     ensures { result ≡ length text.now }
 {
     text.as_str().chars().count()

@@ -1,5 +1,5 @@
 ghost use Rattle.std.specs.Prelude.{◌≡◌, ◌≤◌, true, length, IfOk};
-ghost use Rattle.text_model.specs.Steps.{Fits};
+ghost use Rattle.text_model.specs.Steps.{Fits, after};
 ghost use Rattle.edit_ops.specs.Plans.{log_after, planned, HasRoom};
 ghost use Rattle.edit_ops.specs.States.{log_of, state_of, all_noted, drafted};
 
@@ -7,7 +7,7 @@ use crate::anchors::Anchors;
 use crate::drafts::Draft;
 use std::alloc::AllocError;
 use std::collections::VecDeque;
-use text_model::{Edit, TextStore};
+use text_model::{Edit, StepList, TextStore};
 use undo_stack::{Action, EditKind, UndoStack};
 
 /// Whether actions are kept to be undone, and whether an edit of another kind than the one before begins a group of its own
@@ -71,6 +71,28 @@ fn note(history: &mut UndoStack, notes: Notes)
     }
 }
 
+/// Makes a plan of steps, anchors and notes, with all memory that the steps take. Nothing that can be seen changes.
+pub fn prepare_steps<S: TextStore>(
+    store: &mut S,
+    steps: StepList,
+    anchors: Vec<Anchors>,
+    notes: Notes,
+) -> Result<Plan<S>, AllocError>
+    requires { Fits steps (S.content store.old) }
+    ensures content { S.content store.new ≡ S.content store.old }
+    ensures ready { IfOk result (λ plan. S.ready store.new plan.prepared) }
+    ensures outcome { IfOk result (λ plan. S.outcome store.new plan.prepared ≡ after steps (S.content store.old)) }
+    ensures anchors { IfOk result (λ plan. plan.anchors.items ≡ anchors.items) }
+    ensures notes { IfOk result (λ plan. plan.notes ≡ notes) }
+{
+    let prepared = store.prepare(&Edit { steps })?;
+    Ok(Plan {
+        prepared,
+        anchors,
+        notes,
+    })
+}
+
 /// Makes a plan of a draft, with all memory that it takes. Nothing that can be seen changes.
 pub fn prepare<S: TextStore>(
     store: &mut S,
@@ -98,12 +120,8 @@ pub fn prepare<S: TextStore>(
         actions,
         ..
     } = draft;
-    let prepared = store.prepare(&Edit { steps })?;
-    Ok(Plan {
-        prepared,
-        anchors,
-        notes: Notes::Made(kind, actions, recording),
-    })
+    let notes = Notes::Made(kind, actions, recording);
+    prepare_steps(store, steps, anchors, notes)
 }
 
 /// Carries out a plan, which can't fail. The store, the history and the number of widgets have to be as the call that made

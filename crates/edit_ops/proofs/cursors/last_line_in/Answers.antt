@@ -1,4 +1,4 @@
-use Rattle.std.proofs.Common.{◌≡◌, ◌-◌, ◌≤◌, length, ap, sym, subst, ◌∙◌}
+use Rattle.std.proofs.Common.{◌-◌, ◌≤◌, ap, sym, subst, ◌∙◌}
 use Rattle.edit_ops.specs.Cursors.{last_line}
 use Rattle.edit_ops.proofs.LookLaws.{old-last-in, new-text, last-bound}
 use Rattle.edit_ops.proofs.cursors.last_line_in.Goals as goal

@@ -1,5 +1,4 @@
-use Rattle.std.proofs.Common.{◌≡◌, ◌-◌, ◌≤◌, length, ap, sym, subst, ◌∙◌}
-use Rattle.std.specs.Prelude.{min}
+use Rattle.std.proofs.Common.{◌-◌, ◌≤◌, ap, sym, subst, ◌∙◌}
 use Rattle.text_model.specs.Lines.{line_start}
 use Rattle.edit_ops.proofs.LookLaws.{old-next-in, new-text, first-bound}
 use Rattle.edit_ops.proofs.cursors.next_line_in.Goals as goal

@@ -1,6 +1,4 @@
-use Rattle.std.proofs.Common.{sym, ap, ◌∙◌}
-use Rattle.text_model.specs.Content.{Content}
-use Rattle.edit_ops.specs.States.{log_of, state_of}
+use Rattle.std.proofs.Common.{sym}
 use Rattle.edit_ops.proofs.tagging.plan_tag.Goals as goal
 
 pub plan_steps-requires : goal.plan_steps-requires

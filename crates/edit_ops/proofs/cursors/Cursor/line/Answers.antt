@@ -1,9 +1,8 @@
-use Rattle.std.proofs.Common.{◌≡◌, ◌+◌, ◌-◌, ◌<◌, [], take, ap, sym, subst, ◌∙◌, arith}
+use Rattle.std.proofs.Common.{◌≡◌, ◌+◌, ◌-◌, ◌<◌, take, ap, sym, subst, ◌∙◌, arith}
 use Rattle.text_model.specs.Content.{characters}
 use Rattle.edit_ops.specs.Cursors.{front_cells, last_line}
 use Rattle.edit_ops.proofs.CursorLaws.{same-fit}
-use Rattle.edit_ops.proofs.LookLaws.{LineStep, line-step, place-line}
-use Rattle.edit_ops.proofs.cursors.Cursor.line.Given as given
+use Rattle.edit_ops.proofs.LookLaws.{line-step, place-line}
 use Rattle.edit_ops.proofs.cursors.Cursor.line.Goals as goal
 
 pub returns-then-line-gt0 : goal.returns-then-line-gt0

@@ -1,4 +1,4 @@
-use Rattle.std.proofs.Common.{◌≡◌, ◌+◌, ◌-◌, ◌<◌, [], take, ap, sym, subst, ◌∙◌, arith}
+use Rattle.std.proofs.Common.{◌≡◌, ◌+◌, ◌<◌, take, ap, sym, subst, ◌∙◌, arith}
 use Rattle.text_model.specs.Content.{characters}
 use Rattle.text_model.specs.Lines.{line_start}
 use Rattle.edit_ops.specs.Cursors.{behind_cells}

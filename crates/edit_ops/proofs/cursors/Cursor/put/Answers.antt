@@ -1,6 +1,5 @@
-use Rattle.std.proofs.Common.{◌≡◌, ◌+◌, ◌++◌, ◌∷◌, [], length, Some, refl, sym, ap, ap₂, ◌∙◌, arith}
-use Rattle.edit_ops.specs.declared.cursors.Part.{Part}
-use Rattle.edit_ops.proofs.CursorLaws.{puts-none, puts-some}
+use Rattle.std.proofs.Common.{◌≡◌, ◌+◌, ◌++◌, ◌∷◌, [], length, Some, refl, ap, ap₂, ◌∙◌, arith}
+use Rattle.edit_ops.proofs.CursorLaws.{puts-some}
 use Rattle.edit_ops.proofs.cursors.Cursor.put.Goals as goal
 
 pub returns : goal.returns

@@ -1,4 +1,4 @@
-use Rattle.std.proofs.Common.{◌≡◌, ◌-◌, ◌≤◌}
+use Rattle.std.proofs.Common.{◌≤◌}
 use Rattle.edit_ops.specs.Cursors.{Takes}
 use Rattle.edit_ops.proofs.cursors.Cursor.remove.Given as goal
 

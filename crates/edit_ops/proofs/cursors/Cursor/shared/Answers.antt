@@ -1,6 +1,5 @@
-use Rattle.std.proofs.Common.{◌≡◌, ◌-◌, ◌<◌, length, take, ap₂, sym, ◌∙◌, arith}
+use Rattle.std.proofs.Common.{◌-◌, ◌<◌, length, take, ap₂, sym, ◌∙◌, arith}
 use Rattle.std.specs.FinSet as set
-use Rattle.edit_ops.specs.Cursors.{IsCursor, parts_len}
 use Rattle.edit_ops.proofs.LookLaws.{shared-is, last-read, some-parts}
 use Rattle.edit_ops.proofs.cursors.Cursor.shared.Goals as goal
 

@@ -1,0 +1,48 @@
+-- A group of actions is made once more, or reverted, by a draft with a cursor in what it makes.
+use Rattle.std.specs.Prelude.{◌≡◌, ℕ, ◌+◌, ◌<◌, ◌^◌, Bool, true, false, not, List, map, length, reverse, Option, None, Some, if◌then◌else◌}
+use Rattle.std.specs.List.{All}
+use Rattle.text_model.specs.Content.{Content}
+use Rattle.text_model.specs.Steps.{Fits, after}
+use Rattle.undo_stack.specs.declared.actions.Action.{Action}
+use Rattle.edit_ops.specs.declared.cursors.Cursor.{Cursor}
+use Rattle.edit_ops.specs.Anchors.{AnchorsStand}
+use Rattle.edit_ops.specs.Cursors.{cursor_cells, IsCursor}
+use Rattle.edit_ops.specs.Reversals.{group_redone, redo_end, stood}
+use Rattle.edit_ops.specs.States.{State, Log, Draft, state_of}
+
+-- A draft and a cursor go along: the cursor is in the text that the draft makes of a content.
+pub record Follows (content : Content) (draft : Draft) (cursor : Cursor) : Type 0 where
+  pub is : IsCursor cursor
+  pub old_len : cursor.old_len ≡ length content.cells
+  pub cells : cursor_cells content.cells cursor ≡ (after draft.steps content).cells
+  pub fits : Fits draft.steps content
+  pub stand : All (AnchorsStand cursor.len) draft.anchors
+
+-- what a draft makes, of which nothing is noted
+abbrev pub drawn_up : Draft → Content → Log → State
+drawn_up draft content log = state_of (after draft.steps content) draft.anchors log
+
+-- where so many characters may be put back, or taken out, in a text of so many
+abbrev pub Replays : Bool → ℕ → ℕ → ℕ → Type 0
+Replays true at count len = (at < len) × (len + count < 2 ^ 64)
+Replays false at count len = at + count < len
+
+-- the end of a text that was put in, or the place of one that was taken out
+abbrev pub action_end : Action → ℕ
+action_end action = if action.inserts then action.at + length action.text else action.at
+
+-- the action itself, or the one that reverts it
+abbrev pub replayed : Bool → Action → Action
+replayed false action = action
+replayed true action = record action { inserts = not action.inserts }
+
+-- the actions of a group, or those that revert them, in the order in which they are made
+abbrev pub replays : Bool → List Action → List Action
+replays false group = group
+replays true group = map (replayed true) (reverse group)
+
+-- a group of actions is made, if there is one, and the mark of a number stands where that ends
+abbrev pub replayed_group : ℕ → Option (List Action) → State → State
+replayed_group mark None state = state
+replayed_group mark (Some group) state =
+    let made = group_redone group state in record made { content = stood mark (redo_end group) state.content made.content }

@@ -1,0 +1,306 @@
+ghost use Rattle.std.specs.Prelude.{◌≡◌, ◌+◌, ◌-◌, ◌<◌, ◌≤◌, ◌^◌, not, length, map, option_map, OnOk, IfOk, IfErr, Some, IsSome, IfSome, if◌then◌else◌};
+ghost use Rattle.std.specs.FinMap as finite;
+ghost use Rattle.std.specs.Prelude.{option_and_then};
+ghost use Rattle.std.specs.List.{All};
+ghost use Rattle.edit_ops.specs.Anchors.{AnchorsStand};
+ghost use Rattle.edit_ops.specs.Plans.{planned, HasRoom};
+ghost use Rattle.edit_ops.specs.Replays.{Follows, drawn_up, Replays, replays, replayed_group};
+ghost use Rattle.edit_ops.specs.Reversals.{put_back, taken_back, action_redone, group_redone, redo_end, undone, redone};
+ghost use Rattle.edit_ops.specs.States.{Log, log_of, state_of};
+ghost use Rattle.text_model.specs.Content.{characters};
+ghost use Rattle.text_model.specs.Steps.{Fits, after};
+ghost use Rattle.text_model.specs.declared.places.Place.{Place};
+ghost use Rattle.undo_stack.specs.Fits.{repeated_group, FitsText};
+
+use crate::anchors::Anchors;
+use crate::cursors::Cursor;
+use crate::drafts::Draft;
+use crate::faults::EditFault;
+use crate::insertions::count_of;
+use crate::plans::{Notes, Plan, prepare_steps};
+use std::alloc::{AllocError, Global};
+use text_model::{Limits, MarkNo, Place, Text, TextStore};
+use undo_stack::{Action, Group, UndoStack};
+
+/// Whether an action puts its text in, as it is made once more, or reverted.
+fn puts_in(action: &Action, back: bool) -> bool
+    ensures { result ≡ (if back then not action.now.inserts else action.now.inserts) }
+{
+    if back {
+        !action.inserts
+    } else {
+        action.inserts
+    }
+}
+
+/// Which of so many actions is the one at an index, counted from the last where they are reverted.
+fn nth_of(index: usize, count: usize, back: bool) -> usize
+    requires { index < count }
+    ensures place { result ≡ (if back then count - 1 - index else index) }
+    ensures within { result < count }
+{
+    if back { count - 1 - index } else { index }
+}
+
+/// Where a mark stands once a group is made, if there is one, and the group ended somewhere.
+fn stood(place: Option<Place>, end: Option<usize>) -> Option<Place>
+    ensures { result ≡ option_and_then (λ (place : Place). option_map (λ at. record place { offset = at }) end) place }
+{
+    let place = place?;
+    let offset = end?;
+    Some(Place {
+        offset,
+        gravity: place.gravity,
+    })
+}
+
+impl Draft {
+    /// Puts a text back at an offset, with the slots that the characters on both sides share.
+    fn put_back<S: TextStore>(
+        &mut self,
+        store: &S,
+        cursor: &mut Cursor,
+        at: usize,
+        text: &Text,
+    ) -> Result<(), AllocError>
+        requires follows { Follows (S.content store.now) self.old cursor.old }
+        requires within { at < cursor.old.len }
+        requires fits { cursor.old.len + length text.now < 2 ^ 64 }
+        ensures follows { OnOk result (Follows (S.content store.now) self.new cursor.new) }
+        ensures len { OnOk result (cursor.new.len ≡ cursor.old.len + length text.now) }
+        ensures makes { OnOk result ((log : Log) →
+            drawn_up self.new (S.content store.now) log ≡ put_back at text.now (drawn_up self.old (S.content store.now) log)) }
+    {
+        let count = count_of(text);
+        cursor.seek(at)?;
+        let slots = cursor.shared(store);
+        self.put_in(at, text, slots, count, cursor.len)?;
+        cursor.put(text, count, slots)?;
+        Ok(())
+    }
+
+    /// Takes out again what stands from one offset to another.
+    fn take_back<S: TextStore>(
+        &mut self,
+        store: &S,
+        cursor: &mut Cursor,
+        from: usize,
+        to: usize,
+    ) -> Result<(), AllocError>
+        requires follows { Follows (S.content store.now) self.old cursor.old }
+        requires ordered { from ≤ to }
+        requires within { to < cursor.old.len }
+        ensures follows { OnOk result (Follows (S.content store.now) self.new cursor.new) }
+        ensures len { OnOk result (cursor.new.len ≡ cursor.old.len - (to - from)) }
+        ensures makes { OnOk result ((log : Log) →
+            drawn_up self.new (S.content store.now) log ≡ taken_back from to (drawn_up self.old (S.content store.now) log)) }
+    {
+        cursor.seek(from)?;
+        cursor.remove(to - from)?;
+        let line = cursor.line(store);
+        let next = from + cursor.next(store);
+        self.take_out(from, to, line, next)?;
+        Ok(())
+    }
+
+    /// Puts a text back, or takes it out again. Where that ends: at the end of the text, or at the place.
+    fn replay<S: TextStore>(
+        &mut self,
+        store: &S,
+        cursor: &mut Cursor,
+        inserts: bool,
+        at: usize,
+        text: &Text,
+    ) -> Result<usize, AllocError>
+        requires follows { Follows (S.content store.now) self.old cursor.old }
+        requires fits { Replays inserts at (length text.now) cursor.old.len }
+        ensures follows { OnOk result (Follows (S.content store.now) self.new cursor.new) }
+        ensures end { IfOk result (λ end. end ≡ (if inserts then at + length text.now else at)) }
+        ensures bound { IfOk result (λ end. end ≤ cursor.new.len) }
+        ensures makes { OnOk result ((log : Log) →
+            drawn_up self.new (S.content store.now) log
+            ≡ action_redone (record { inserts = inserts; at = at; text = text.now }) (drawn_up self.old (S.content store.now) log)) }
+    {
+        let end = at + count_of(text);
+        if inserts {
+            self.put_back(store, cursor, at, text)?;
+            Ok(end)
+        } else {
+            self.take_back(store, cursor, at, end)?;
+            Ok(at)
+        }
+    }
+
+    /// Makes the actions of a group once more, or, back, reverts them from the last. Where the last of these ends.
+    fn replay_all<S: TextStore>(
+        &mut self,
+        store: &S,
+        cursor: &mut Cursor,
+        group: &Group<'_>,
+        back: bool,
+        limit: usize,
+    ) -> Result<Option<usize>, AllocError>
+        requires follows { Follows (S.content store.now) self.old cursor.old }
+        requires fits { IsSome (repeated_group limit (replays back group.now) (characters (after self.old.steps (S.content store.now)).cells)) }
+        ensures follows { OnOk result (Follows (S.content store.now) self.new cursor.new) }
+        ensures end { IfOk result (λ end. end ≡ redo_end (replays back group.now)) }
+        ensures bound { IfOk result (λ end. IfSome end (λ at. at ≤ cursor.new.len)) }
+        ensures makes { OnOk result ((log : Log) →
+            drawn_up self.new (S.content store.now) log ≡ group_redone (replays back group.now) (drawn_up self.old (S.content store.now) log)) }
+    {
+        let count = group.len();
+        let mut end = None;
+        for index in 0..count {
+            let action = group.action(nth_of(index, count, back));
+            let inserts = puts_in(action, back);
+            let there = self.replay(store, cursor, inserts, action.at, &action.text)?;
+            end = Some(there);
+        }
+        Ok(end)
+    }
+}
+
+/// The edit that makes a group once more, or, back, reverts it, and puts the mark of a number where that ends.
+fn draft_group<S: TextStore>(
+    alloc: Global,
+    store: &S,
+    anchors: &[Anchors],
+    group: &Group<'_>,
+    back: bool,
+    mark: MarkNo,
+    limit: usize,
+) -> Result<Draft, AllocError>
+    requires stand { All (AnchorsStand (length (S.content store.now).cells)) anchors.now }
+    requires fits { IsSome (repeated_group limit (replays back group.now) (characters (S.content store.now).cells)) }
+    ensures fits { IfOk result (λ draft. Fits draft.steps (S.content store.now)) }
+    ensures makes { IfOk result (λ draft. (log : Log) → drawn_up draft (S.content store.now) log
+        ≡ replayed_group mark.0 (Some (replays back group.now)) (state_of (S.content store.now) anchors.now log)) }
+{
+    let room = group.len().saturating_add(1);
+    let mut draft = Draft::new(alloc, anchors, room)?;
+    let mut cursor = Cursor::new(alloc, store.len(), room.saturating_mul(2))?;
+    let end = draft.replay_all(store, &mut cursor, group, back, limit)?;
+    match stood(store.mark_place(mark), end) {
+        None => {}
+        Some(place) => draft.put_mark(mark, place)?,
+    }
+    Ok(draft)
+}
+
+/// The same, if there is a group; else an edit that does nothing.
+fn draft_reversal<S: TextStore>(
+    alloc: Global,
+    store: &S,
+    anchors: &[Anchors],
+    group: Option<Group<'_>>,
+    back: bool,
+    mark: MarkNo,
+    limit: usize,
+) -> Result<Draft, AllocError>
+    requires stand { All (AnchorsStand (length (S.content store.now).cells)) anchors.now }
+    requires fits { IfSome group (λ group. IsSome (repeated_group limit (replays back group) (characters (S.content store.now).cells))) }
+    ensures fits { IfOk result (λ draft. Fits draft.steps (S.content store.now)) }
+    ensures makes { IfOk result (λ draft. (log : Log) → drawn_up draft (S.content store.now) log
+        ≡ replayed_group mark.0 (option_map (replays back) group.entry) (state_of (S.content store.now) anchors.now log)) }
+{
+    match group {
+        None => Draft::new(alloc, anchors, 0),
+        Some(group) => draft_group(alloc, store, anchors, &group, back, mark, limit),
+    }
+}
+
+/// A plan of that edit.
+fn plan_reversal<S: TextStore>(
+    alloc: Global,
+    limits: &Limits,
+    store: &mut S,
+    anchors: &[Anchors],
+    group: Option<Group<'_>>,
+    back: bool,
+    mark: MarkNo,
+    notes: Notes,
+) -> Result<Plan<S>, EditFault>
+    requires stand { All (AnchorsStand (length (S.content store.old).cells)) anchors.now }
+    requires fits { IfSome group (λ group. IsSome (repeated_group limits.now.chars (replays back group) (characters (S.content store.old).cells))) }
+    ensures content { S.content store.new ≡ S.content store.old }
+    ensures refused { IfErr result (λ fault. fault ≡ EditFault.Memory) }
+    ensures ready { IfOk result (λ plan. S.ready store.new plan.prepared) }
+    ensures notes { IfOk result (λ plan. plan.notes ≡ notes) }
+    ensures outcome { IfOk result (λ plan. (log : Log) → state_of (S.outcome store.new plan.prepared) plan.anchors.items log
+        ≡ replayed_group mark.0 (option_map (replays back) group.entry) (state_of (S.content store.old) anchors.now log)) }
+{
+    let draft = draft_reversal(alloc, store, anchors, group, back, mark, limits.chars())?;
+    let Draft { steps, anchors, .. } = draft;
+    Ok(prepare_steps(store, steps, anchors, notes)?)
+}
+
+/// A plan that reverts the actions of the last group, the last first; nothing, where there is no group. A text that was put in
+/// is taken out, and one that was taken out comes back with the slots that the characters on both sides share. The mark of a
+/// number, if there is one, then stands where the last of that ends. The group counts as undone, and nothing is noted (text(n),
+/// "edit undo"). It isn't refused for its length, since the history fits the text within the limit.
+pub fn plan_undo<S: TextStore>(
+    alloc: Global,
+    limits: &Limits,
+    store: &mut S,
+    history: &UndoStack,
+    anchors: &[Anchors],
+    mark: MarkNo,
+) -> Result<Plan<S>, EditFault>
+    requires stand { All (AnchorsStand (length (S.content store.old).cells)) anchors.now }
+    requires fits { FitsText limits.now.chars (characters (S.content store.old).cells) history.now.history }
+    ensures content { S.content store.new ≡ S.content store.old }
+    ensures refused { IfErr result (λ fault. fault ≡ EditFault.Memory) }
+    ensures ready { IfOk result (λ plan. S.ready store.new plan.prepared) }
+    ensures room { IfOk result (λ plan. HasRoom plan.notes history.now) }
+    ensures widgets { IfOk result (λ plan. length plan.anchors.items ≡ length anchors.now) }
+    ensures outcome { IfOk result (λ plan.
+        planned plan.notes (S.outcome store.new plan.prepared) plan.anchors.items (log_of history.now)
+        ≡ undone mark.0 (state_of (S.content store.old) anchors.now (log_of history.now))) }
+{
+    let plan = plan_reversal(
+        alloc,
+        limits,
+        store,
+        anchors,
+        history.last_undo(),
+        true,
+        mark,
+        Notes::Undone,
+    )?;
+    Ok(plan)
+}
+
+/// A plan that makes the actions of the group that was undone last once more, the first first; nothing, where there is no such
+/// group. Texts come back and are taken out as by `plan_undo`, and the mark of a number stands where the last of that ends. The
+/// group no longer counts as undone (text(n), "edit redo").
+pub fn plan_redo<S: TextStore>(
+    alloc: Global,
+    limits: &Limits,
+    store: &mut S,
+    history: &UndoStack,
+    anchors: &[Anchors],
+    mark: MarkNo,
+) -> Result<Plan<S>, EditFault>
+    requires stand { All (AnchorsStand (length (S.content store.old).cells)) anchors.now }
+    requires fits { FitsText limits.now.chars (characters (S.content store.old).cells) history.now.history }
+    ensures content { S.content store.new ≡ S.content store.old }
+    ensures refused { IfErr result (λ fault. fault ≡ EditFault.Memory) }
+    ensures ready { IfOk result (λ plan. S.ready store.new plan.prepared) }
+    ensures room { IfOk result (λ plan. HasRoom plan.notes history.now) }
+    ensures widgets { IfOk result (λ plan. length plan.anchors.items ≡ length anchors.now) }
+    ensures outcome { IfOk result (λ plan.
+        planned plan.notes (S.outcome store.new plan.prepared) plan.anchors.items (log_of history.now)
+        ≡ redone mark.0 (state_of (S.content store.old) anchors.now (log_of history.now))) }
+{
+    let plan = plan_reversal(
+        alloc,
+        limits,
+        store,
+        anchors,
+        history.last_redo(),
+        false,
+        mark,
+        Notes::Redone,
+    )?;
+    Ok(plan)
+}
