@@ -12,6 +12,8 @@ pub mod laws;
 mod pieces;
 mod plans;
 mod replacements;
+#[cfg(test)]
+mod reversal_tests;
 mod reversals;
 mod runs;
 mod spans;

@@ -1,0 +1,22 @@
+use Rattle.std.proofs.Common.{◌≡◌, ◌+◌, ◌-◌, ◌<◌, ◌≤◌, ◌∷◌, [], inl, inr, true, Ok, Err, length, ap, sym, subst, ◌∙◌, arith}
+use Rattle.std.specs.Prelude.{min}
+use Rattle.std.proofs.lemmas.Bool.{cases_lt}
+use Rattle.undo_stack.specs.declared.actions.EditKind.TheVariants.{Insert}
+use Rattle.edit_ops.specs.declared.faults.EditFault.TheVariants.{TextTooLong}
+use Rattle.edit_ops.specs.declared.spans.Span.{Span}
+use Rattle.edit_ops.specs.declared.plans.Recording.{Recording}
+use Rattle.edit_ops.specs.Insertions.{total}
+use Rattle.edit_ops.specs.Keeping.{IsKept}
+use Rattle.edit_ops.specs.Plans.{planned}
+use Rattle.edit_ops.specs.States.{State, Log, log_of, state_of}
+use Rattle.edit_ops.proofs.reversal_tests.undo.Goals as goal
+
+pub returns : goal.returns
+returns g c =
+    let limit = c.args.limits.now.chars in
+    let recording : Recording = record { undo = true; separators = true } in
+    let content = g.S.TextStore.content c.args.store.now in
+    let state = state_of content c.args.anchors.now (log_of c.args.history.now) in
+    let plan = c.in_ok-plan.plan in
+    subst (IsKept limit recording) (sym (c.commit.ensures ∙ c.in_ok-plan.ensures.outcome))
+    (c.edits_fit.ensures.undone limit 0 recording state c.requires)
