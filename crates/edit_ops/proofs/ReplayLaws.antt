@@ -20,7 +20,7 @@ use Rattle.edit_ops.specs.declared.cursors.Cursor.{Cursor}
 use Rattle.edit_ops.specs.Anchors.{AnchorsStand, anchors_moved, anchors_drawn, anchors_removed, next_line}
 use Rattle.edit_ops.specs.Cursors.{cursor_cells, Moves, Takes, Puts}
 use Rattle.edit_ops.specs.Insertions.{shared_slots}
-use Rattle.edit_ops.specs.Replays.{Follows, drawn_up, Replays, action_end, replayed, replays, replayed_group}
+use Rattle.edit_ops.specs.Replays.{Follows, drawn_up, action_end, replayed, replays, replayed_group}
 use Rattle.edit_ops.specs.Reversals.{put_back, taken_back, action_redone, action_undone, group_redone, group_undone, redo_end, undo_end, stood, log_undone, log_redone, undone_group, redone_group, undone, redone}
 use Rattle.edit_ops.specs.Removals.{with_mark}
 use Rattle.edit_ops.specs.States.{State, Log, Draft, state_of}
@@ -204,6 +204,12 @@ next-replayed back inserts group index count place action counted within place_i
 
 -- ---- one action of several
 
+-- where so many characters may be put back, or taken out, in a text of so many
+pub record Replays (inserts : Bool) (at count len : ℕ) : Type 0 where
+  pub puts : inserts ≡ true → at < len
+  pub room : inserts ≡ true → len + count < 2 ^ 64
+  pub takes : inserts ≡ false → at + count < len
+
 -- where the last of these actions ends, behind others that ended somewhere
 abbrev pub end_behind : Option ℕ → List Action → Option ℕ
 end_behind end [] = end
@@ -231,13 +237,13 @@ can-put limit at text all found bound is =
     let tests = and_parts (nat_lt at (length all)) (nat_le (length all + length text) limit)
     (guarded-holds (nat_lt at (length all) && nat_le (length all + length text) limit) (inserted at text all) found is) in
     let inside = ltb-true at (length all) tests.0 in let short = leb-true (length all + length text) limit tests.1 in
-    (omega (arith, inside), omega (arith, short, bound))
+    record { puts = λ _. inside; room = λ _. omega (arith, short, bound); takes = λ is. absurd (false≢true (sym is)) }
 
 can-take : (at : ℕ) (text all found : List ℕ) → take_out at text all ≡ Some found → Replays false at (length text) (length all)
 can-take at text all found is =
     let tests = and_parts (nat_lt (at + length text) (length all)) (bytes_eq (slice_range all at (at + length text)) text)
     (guarded-holds (nat_lt (at + length text) (length all) && bytes_eq (slice_range all at (at + length text)) text) (removed at (at + length text) all) found is) in
-    ltb-true (at + length text) (length all) tests.0
+    record { puts = λ is. absurd (false≢true is); room = λ is. absurd (false≢true is); takes = λ _. ltb-true (at + length text) (length all) tests.0 }
 
 pub can-replay : (limit : ℕ) (action : Action) (all found : List ℕ) → limit < 2 ^ 64 → repeated limit action all ≡ Some found → Replays action.inserts action.at (length action.text) (length all)
 can-replay limit action all found bound is =

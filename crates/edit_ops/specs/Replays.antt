@@ -22,11 +22,6 @@ pub record Follows (content : Content) (draft : Draft) (cursor : Cursor) : Type 
 abbrev pub drawn_up : Draft → Content → Log → State
 drawn_up draft content log = state_of (after draft.steps content) draft.anchors log
 
--- where so many characters may be put back, or taken out, in a text of so many
-abbrev pub Replays : Bool → ℕ → ℕ → ℕ → Type 0
-Replays true at count len = (at < len) × (len + count < 2 ^ 64)
-Replays false at count len = at + count < len
-
 -- the end of a text that was put in, or the place of one that was taken out
 abbrev pub action_end : Action → ℕ
 action_end action = if action.inserts then action.at + length action.text else action.at

@@ -1,10 +1,10 @@
-ghost use Rattle.std.specs.Prelude.{◌≡◌, ◌+◌, ◌-◌, ◌<◌, ◌≤◌, ◌^◌, not, length, map, option_map, OnOk, IfOk, IfErr, Some, IsSome, IfSome, if◌then◌else◌};
+ghost use Rattle.std.specs.Prelude.{◌≡◌, ◌+◌, ◌-◌, ◌<◌, ◌≤◌, ◌^◌, not, length, map, option_map, OnOk, IfOk, IfErr, Some, IsSome, IfSome, true, false, if◌then◌else◌};
 ghost use Rattle.std.specs.FinMap as finite;
 ghost use Rattle.std.specs.Prelude.{option_and_then};
 ghost use Rattle.std.specs.List.{All};
 ghost use Rattle.edit_ops.specs.Anchors.{AnchorsStand};
 ghost use Rattle.edit_ops.specs.Plans.{planned, HasRoom};
-ghost use Rattle.edit_ops.specs.Replays.{Follows, drawn_up, Replays, replays, replayed_group};
+ghost use Rattle.edit_ops.specs.Replays.{Follows, drawn_up, replays, replayed_group};
 ghost use Rattle.edit_ops.specs.Reversals.{put_back, taken_back, action_redone, group_redone, redo_end, undone, redone};
 ghost use Rattle.edit_ops.specs.States.{Log, log_of, state_of};
 ghost use Rattle.text_model.specs.Content.{characters};
@@ -113,7 +113,9 @@ impl Draft {
         text: &Text,
     ) -> Result<usize, AllocError>
         requires follows { Follows (S.content store.now) self.old cursor.old }
-        requires fits { Replays inserts at (length text.now) cursor.old.len }
+        requires puts { inserts ≡ true → at < cursor.old.len }
+        requires room { inserts ≡ true → cursor.old.len + length text.now < 2 ^ 64 }
+        requires takes { inserts ≡ false → at + length text.now < cursor.old.len }
         ensures follows { OnOk result (Follows (S.content store.now) self.new cursor.new) }
         ensures end { IfOk result (λ end. end ≡ (if inserts then at + length text.now else at)) }
         ensures bound { IfOk result (λ end. end ≤ cursor.new.len) }
@@ -121,12 +123,12 @@ impl Draft {
             drawn_up self.new (S.content store.now) log
             ≡ action_redone (record { inserts = inserts; at = at; text = text.now }) (drawn_up self.old (S.content store.now) log)) }
     {
-        let end = at + count_of(text);
+        let count = count_of(text);
         if inserts {
             self.put_back(store, cursor, at, text)?;
-            Ok(end)
+            Ok(at + count)
         } else {
-            self.take_back(store, cursor, at, end)?;
+            self.take_back(store, cursor, at, at + count)?;
             Ok(at)
         }
     }

@@ -14,5 +14,5 @@ pub returns-in_ok-take_back-clause-makes : goal.returns-in_ok-take_back-clause-m
 returns-in_ok-take_back-clause-makes g c = λ log.
     let state = drawn_up c.args.self.now (g.S.TextStore.content c.args.store.now) log in
     c.in_ok-take_back.ensures.makes log
-    ∙ ap (λ n. taken_back c.args.at (c.args.at + n) state) c.count_of.ensures
+    ∙ ap (λ n. taken_back c.args.at (c.args.at + n) state) c.count_of-count.ensures
     ∙ sym (ap (λ b. if b then put_back c.args.at c.args.text.now state else taken_back c.args.at (c.args.at + length c.args.text.now) state) c.if-inserts.false)
