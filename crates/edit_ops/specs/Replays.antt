@@ -1,5 +1,5 @@
 -- A group of actions is made once more, or reverted, by a draft with a cursor in what it makes.
-use Rattle.std.specs.Prelude.{◌≡◌, ℕ, ◌+◌, ◌<◌, ◌^◌, Bool, true, false, not, List, map, length, reverse, Option, None, Some, if◌then◌else◌}
+use Rattle.std.specs.Prelude.{◌≡◌, ℕ, ◌+◌, Bool, true, false, not, List, map, length, reverse, Option, None, Some, if◌then◌else◌}
 use Rattle.std.specs.List.{All}
 use Rattle.text_model.specs.Content.{Content}
 use Rattle.text_model.specs.Steps.{Fits, after}

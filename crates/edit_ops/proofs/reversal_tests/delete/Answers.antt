@@ -1,15 +1,11 @@
-use Rattle.std.proofs.Common.{◌≡◌, ◌+◌, ◌-◌, ◌<◌, ◌≤◌, ◌∷◌, [], inl, inr, true, Ok, Err, length, ap, sym, subst, ◌∙◌, arith}
-use Rattle.std.specs.Prelude.{min}
+use Rattle.std.proofs.Common.{◌≤◌, ◌∷◌, [], true, ap, sym, subst, ◌∙◌, arith}
 use Rattle.std.specs.List.{All}
 use Rattle.std.proofs.lemmas.List.Elements.{All-cons, All-nil}
-use Rattle.undo_stack.specs.declared.actions.EditKind.TheVariants.{Insert}
-use Rattle.edit_ops.specs.declared.faults.EditFault.TheVariants.{TextTooLong}
 use Rattle.edit_ops.specs.declared.spans.Span.{Span}
 use Rattle.edit_ops.specs.declared.plans.Recording.{Recording}
-use Rattle.edit_ops.specs.Insertions.{total}
 use Rattle.edit_ops.specs.Keeping.{IsKept}
 use Rattle.edit_ops.specs.Plans.{planned}
-use Rattle.edit_ops.specs.States.{State, Log, log_of, state_of}
+use Rattle.edit_ops.specs.States.{log_of, state_of}
 use Rattle.edit_ops.proofs.reversal_tests.delete.Goals as goal
 
 pub returns : goal.returns
