@@ -1,13 +1,23 @@
-//! Stores, tables and marks that the tests begin with.
+ghost use Rattle.std.specs.Prelude.{◌+◌, ◌≤◌, IsTrue};
+ghost use Rattle.text_index.specs.Views.{IsView};
 
 use mark_table::MarkTable;
 use std::alloc::Global;
 use std::process::Abort;
 use std::test::Fail;
 use tag_table::TagTable;
+use text_index::View;
 use text_model::{
     Edit, Gravity, Limits, MarkNo, Place, Step, StepList, TagSet, TagSlot, Text, TextStore,
 };
+
+// Whether a view shows whole lines, and has a place.
+pub fn has_place<S: TextStore>(view: &View<'_, S>, place: usize) -> bool
+    ensures view { IsTrue result → IsView (S.content view.now.store.now) view.now.s view.now.e }
+    ensures within { IsTrue result → view.now.s + place ≤ view.now.e }
+{
+    view.shows_lines() && place <= view.e - view.s
+}
 
 // A store of this text, behind which its last newline stands.
 pub fn store_of<S: TextStore>(rt: &impl Abort, alloc: Global, text: &str) -> Result<S, Fail> {

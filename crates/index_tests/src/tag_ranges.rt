@@ -1,4 +1,4 @@
-use crate::fixtures::{set_tag, store_of};
+use crate::fixtures::{has_place, set_tag, store_of};
 use std::alloc::Global;
 use std::process::Abort;
 use std::test::Fail;
@@ -69,23 +69,20 @@ static ROWS: [Row; 8] = [
 
 // The next range from a place on.
 fn next<S: TextStore>(rt: &impl Abort, view: &View<'_, S>, place: usize) -> Option<TagRange> {
-    assert!(rt; view.shows_lines());
-    assert!(rt; view.s <= view.e && place <= view.e - view.s);
+    assert!(rt; has_place(view, place));
     next_range(view, TagSlot(64), place)
 }
 
 // The last range before a place.
 fn previous<S: TextStore>(rt: &impl Abort, view: &View<'_, S>, place: usize) -> Option<TagRange> {
-    assert!(rt; view.shows_lines());
-    assert!(rt; view.s <= view.e && place <= view.e - view.s);
+    assert!(rt; has_place(view, place));
     previous_range(view, TagSlot(64), place)
 }
 
 fn finds<S: TextStore>(rt: &impl Abort, view: &View<'_, S>, row: &Row) {
-    assert_eq!(rt; next(rt, view, row.place), row.next, "from {}", row.place);
-    assert_eq!(rt;
-        previous(rt, view, row.place),
-        row.previous,
+    assert!(rt; next(rt, view, row.place) == row.next, "from {}", row.place);
+    assert!(rt;
+        previous(rt, view, row.place) == row.previous,
         "before {}",
         row.place
     );
@@ -112,19 +109,19 @@ static IN_TWO_LINES: [TagRange; 2] = [TagRange { start: 0, end: 1 }, TagRange { 
 fn walks_on<S: TextStore>(rt: &impl Abort, view: &View<'_, S>, ranges: &[TagRange]) {
     let mut place = 0;
     for range in ranges {
-        assert_eq!(rt; next(rt, view, place), Some(*range));
+        assert!(rt; next(rt, view, place) == Some(*range));
         place = range.end;
     }
-    assert_eq!(rt; next(rt, view, place), None);
+    assert!(rt; next(rt, view, place) == None);
 }
 
 fn walks_back<S: TextStore>(rt: &impl Abort, view: &View<'_, S>, ranges: &[TagRange]) {
     let mut place = view.e.saturating_sub(view.s);
     for range in ranges.iter().rev() {
-        assert_eq!(rt; previous(rt, view, place), Some(*range));
+        assert!(rt; previous(rt, view, place) == Some(*range));
         place = range.start;
     }
-    assert_eq!(rt; previous(rt, view, place), None);
+    assert!(rt; previous(rt, view, place) == None);
 }
 
 fn walks<S: TextStore>(rt: &impl Abort, store: &S, s: usize, e: usize, ranges: &[TagRange]) {

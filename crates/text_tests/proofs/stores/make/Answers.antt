@@ -1,7 +1,7 @@
 use Rattle.std.proofs.Common.{subst}
 use Rattle.text_model.specs.Steps.{FitsIn}
 use Rattle.text_model.proofs.StepLaws.{Fits-from_FitsIn}
-use Rattle.unit_tests.proofs.stores.make.Goals as goal
+use Rattle.text_tests.proofs.stores.make.Goals as goal
 
 pub prepare-requires : goal.prepare-requires
 prepare-requires g c =

@@ -1,4 +1,4 @@
-use crate::fixtures::store_of;
+use crate::fixtures::{has_place, store_of};
 use std::alloc::Global;
 use std::process::Abort;
 use std::test::Fail;
@@ -32,10 +32,9 @@ fn moves_by_lines<S: TextStore>(
     count: usize,
     wanted: usize,
 ) {
-    assert!(rt; view.shows_lines());
-    assert!(rt; view.s <= view.e && place <= view.e - view.s);
+    assert!(rt; has_place(view, place));
     let found = lines_by(view, place, direction, count);
-    assert_eq!(rt; found, wanted, "{count} lines from {place}");
+    assert!(rt; found == wanted, "{count} lines from {place}");
 }
 
 fn all_move_by_lines<S: TextStore>(rt: &impl Abort, store: &S) {
@@ -56,8 +55,8 @@ fn lines_of_a_plain_store(rt: HostRuntime) -> Result<(), Fail> {
 
 fn has_lines<S: TextStore>(rt: &impl Abort, view: &View<'_, S>, len: usize, lines: usize) {
     assert!(rt; view.shows_lines());
-    assert_eq!(rt; view.len(), len);
-    assert_eq!(rt; view.lines(), lines);
+    assert!(rt; view.len() == len);
+    assert!(rt; view.lines() == lines);
 }
 
 fn moves_forward<S: TextStore>(
@@ -68,7 +67,7 @@ fn moves_forward<S: TextStore>(
     wanted: usize,
 ) {
     assert!(rt; view.shows_lines());
-    assert_eq!(rt; forward(view, place, count), wanted);
+    assert!(rt; forward(view, place, count) == wanted);
 }
 
 #[test]
@@ -87,8 +86,8 @@ fn characters_of_a_plain_store(rt: HostRuntime) -> Result<(), Fail> {
 
 #[test]
 fn characters_back_stop_at_the_first(rt: HostRuntime) {
-    assert_eq!(rt; back(3, 2), 1);
-    assert_eq!(rt; back(3, 9), 0);
+    assert!(rt; back(3, 2) == 1);
+    assert!(rt; back(3, 9) == 0);
 }
 
 #[test]
@@ -108,11 +107,21 @@ pub fn printed<S: TextStore>(
     view: &View<'_, S>,
     place: usize,
 ) -> Result<String, Fail> {
+    assert!(rt; has_place(view, place));
     let mut text = String::new(alloc);
-    assert!(rt; view.shows_lines());
-    assert!(rt; view.s <= view.e && place <= view.e - view.s);
     push_index(&mut text, view, place)?;
     Ok(text)
+}
+
+pub fn is_printed<S: TextStore>(
+    rt: &impl Abort,
+    alloc: Global,
+    view: &View<'_, S>,
+    place: usize,
+    wanted: &str,
+) -> Result<bool, Fail> {
+    let text = printed(rt, alloc, view, place)?;
+    Ok(text.as_str() == wanted)
 }
 
 // Places, and how they are printed in the whole text, and where the second and the third line are seen.
@@ -127,8 +136,7 @@ fn all_are_printed<S: TextStore>(
     rows: &[(usize, &str)],
 ) -> Result<(), Fail> {
     for (place, wanted) in rows {
-        let found = printed(rt, alloc, view, *place)?;
-        assert_eq!(rt; found.as_str(), *wanted);
+        assert!(rt; is_printed(rt, alloc, view, *place, wanted)?, "{wanted}");
     }
     Ok(())
 }
@@ -160,7 +168,8 @@ fn is_appended<S: TextStore>(rt: &impl Abort, alloc: Global, store: &S) -> Resul
     assert!(rt; view.shows_lines());
     let mut text = String::from_str(alloc, "at ")?;
     push_index(&mut text, &view, 0)?;
-    assert_eq!(rt; text.as_str(), "at 1.0");
+    let is_appended = text.as_str() == "at 1.0";
+    assert!(rt; is_appended);
     Ok(())
 }
 
@@ -187,10 +196,9 @@ fn is_in_word<S: TextStore>(
     start: usize,
     end: usize,
 ) {
-    assert!(rt; view.shows_lines());
-    assert!(rt; view.s <= view.e && place <= view.e - view.s);
-    assert_eq!(rt; word_start(view, place), start, "{place}");
-    assert_eq!(rt; word_end(view, place), end, "{place}");
+    assert!(rt; has_place(view, place));
+    assert!(rt; word_start(view, place) == start, "{place}");
+    assert!(rt; word_end(view, place) == end, "{place}");
 }
 
 fn all_are_in_words<S: TextStore>(rt: &impl Abort, store: &S) {

@@ -1,5 +1,5 @@
 use Rattle.std.proofs.Common.{◌≡◌, length}
-use Rattle.unit_tests.proofs.scripts.write_commands.Given as goal
+use Rattle.word_tests.proofs.scripts.write_commands.Given as goal
 
 abbrev pub invariant-loop-words : goal.invariant-loop-words
 invariant-loop-words l = l.splitter.finished ≡ l.initial.splitter.finished

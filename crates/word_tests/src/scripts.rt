@@ -161,10 +161,8 @@ fn meets_broken_bytes(rt: HostRuntime) -> Result<(), Fail> {
     Ok(())
 }
 
-// What is done with a splitter, and what it gives.
+// What a splitter is asked, and what it gives.
 enum Step {
-    Feed(&'static [u8]),
-    Finish,
     // All commands that it can give.
     Gives(&'static str),
     // No command can be given, and no fault.
@@ -175,107 +173,128 @@ enum Step {
     SkipMeets(ScriptFault),
 }
 
-fn gives(alloc: Global, splitter: &mut Splitter, commands: &str) -> Result<bool, Fail> {
+fn gives(alloc: Global, splitter: &mut Splitter, commands: &str) -> Result<bool, Fail>
+    ensures { splitter.new.finished ≡ splitter.old.finished }
+{
     let mut text = String::new(alloc);
     write_commands(splitter, &mut text)?;
     Ok(text.as_str() == commands)
 }
 
-fn waits(splitter: &mut Splitter) -> bool {
+fn waits(splitter: &mut Splitter) -> bool
+    ensures { splitter.new.finished ≡ splitter.old.finished }
+{
     matches!(splitter.next_command(), Ok(None))
 }
 
-fn meets(splitter: &mut Splitter, fault: ScriptFault) -> bool {
+fn meets(splitter: &mut Splitter, fault: ScriptFault) -> bool
+    ensures { splitter.new.finished ≡ splitter.old.finished }
+{
     splitter.next_command().err() == Some(fault)
 }
 
 // Whether a step goes as it says.
-fn goes(alloc: Global, splitter: &mut Splitter, step: &Step) -> Result<bool, Fail> {
-    Ok(match step {
-        Step::Feed(piece) => splitter.feed(piece).is_ok(),
-        Step::Finish => {
-            splitter.finish();
-            true
-        }
-        Step::Gives(commands) => return gives(alloc, splitter, commands),
-        Step::Waits => waits(splitter),
-        Step::Skips(is_there) => splitter.skip_command() == Ok(*is_there),
-        Step::Meets(fault) => meets(splitter, *fault),
-        Step::SkipMeets(fault) => splitter.skip_command() == Err(*fault),
-    })
+fn goes(alloc: Global, splitter: &mut Splitter, step: &Step) -> Result<bool, Fail>
+    ensures { splitter.new.finished ≡ splitter.old.finished }
+{
+    match step {
+        Step::Gives(commands) => gives(alloc, splitter, commands),
+        Step::Waits => Ok(waits(splitter)),
+        Step::Skips(is_there) => Ok(splitter.skip_command() == Ok(*is_there)),
+        Step::Meets(fault) => Ok(meets(splitter, *fault)),
+        Step::SkipMeets(fault) => Ok(splitter.skip_command() == Err(*fault)),
+    }
 }
 
-fn check_steps(rt: &impl Abort, alloc: Global, steps: &[Step]) -> Result<(), Fail> {
-    let mut splitter = Splitter::new(alloc);
+fn check_steps(
+    rt: &impl Abort,
+    alloc: Global,
+    splitter: &mut Splitter,
+    steps: &[Step],
+) -> Result<(), Fail>
+    ensures { splitter.new.finished ≡ splitter.old.finished }
+{
     for (index, step) in steps.iter().enumerate() {
-        let went = goes(alloc, &mut splitter, step)?;
+        let went = goes(alloc, splitter, step)?;
         assert!(rt; went, "step {index}");
     }
     Ok(())
 }
 
+// Pieces of a script with the steps behind each, and the steps behind the end.
+struct Course {
+    pieces: &'static [(&'static [u8], &'static [Step])],
+    last: &'static [Step],
+}
+
+fn check_course(rt: &impl Abort, alloc: Global, course: &Course) -> Result<(), Fail> {
+    let mut splitter = Splitter::new(alloc);
+    for (piece, steps) in course.pieces {
+        splitter.feed(piece)?;
+        check_steps(rt, alloc, &mut splitter, steps)?;
+    }
+    splitter.finish();
+    splitter.finish();
+    check_steps(rt, alloc, &mut splitter, course.last)
+}
+
 // A command, a word, and the first two bytes of a character of three, before its last one.
-static IN_A_CHARACTER: [Step; 9] = [
-    Step::Feed(b"a b\nc \xe6\x97"),
-    Step::Gives("|a|b\n"),
-    Step::Waits,
-    Step::Feed(b"\xa5"),
-    Step::Waits,
-    Step::Finish,
-    Step::Finish,
-    Step::Gives("|c|日\n"),
-    Step::Waits,
-];
+static IN_A_CHARACTER: Course = Course {
+    pieces: &[
+        (b"a b\nc \xe6\x97", &[Step::Gives("|a|b\n"), Step::Waits]),
+        (b"\xa5", &[Step::Waits]),
+    ],
+    last: &[Step::Gives("|c|日\n"), Step::Waits],
+};
 
 #[test]
 fn waits_for_the_end(rt: HostRuntime) -> Result<(), Fail> {
-    check_steps(&rt, rt.alloc(), &IN_A_CHARACTER)
+    check_course(&rt, rt.alloc(), &IN_A_CHARACTER)
 }
 
-static IN_BRACES: [Step; 7] = [
-    Step::Feed(b"a {b"),
-    Step::Waits,
-    Step::Feed(b" c}\nd"),
-    Step::Gives("|a|b c\n"),
-    Step::Finish,
-    Step::Skips(true),
-    Step::Waits,
-];
+static IN_BRACES: Course = Course {
+    pieces: &[
+        (b"a {b", &[Step::Waits]),
+        (b" c}\nd", &[Step::Gives("|a|b c\n")]),
+    ],
+    last: &[Step::Skips(true), Step::Waits],
+};
 
 #[test]
 fn waits_in_braces(rt: HostRuntime) -> Result<(), Fail> {
-    check_steps(&rt, rt.alloc(), &IN_BRACES)
+    check_course(&rt, rt.alloc(), &IN_BRACES)
 }
 
 // What is fed behind a fault is not read.
-static SKIPPED: [Step; 9] = [
-    Step::Feed(b"a;b;c d;["),
-    Step::Skips(true),
-    Step::Skips(true),
-    Step::Gives("|c|d\n"),
-    Step::SkipMeets(ScriptFault::Substitution),
-    Step::Feed(b"\ne\n"),
-    Step::SkipMeets(ScriptFault::Substitution),
-    Step::Finish,
-    Step::Meets(ScriptFault::Substitution),
-];
+static SKIPPED: Course = Course {
+    pieces: &[
+        (
+            b"a;b;c d;[",
+            &[
+                Step::Skips(true),
+                Step::Skips(true),
+                Step::Gives("|c|d\n"),
+                Step::SkipMeets(ScriptFault::Substitution),
+            ],
+        ),
+        (b"\ne\n", &[Step::SkipMeets(ScriptFault::Substitution)]),
+    ],
+    last: &[Step::Meets(ScriptFault::Substitution)],
+};
 
 #[test]
 fn skips_commands(rt: HostRuntime) -> Result<(), Fail> {
-    check_steps(&rt, rt.alloc(), &SKIPPED)
+    check_course(&rt, rt.alloc(), &SKIPPED)
 }
 
-static LAST_SKIPPED: [Step; 5] = [
-    Step::Feed(b"a b"),
-    Step::Skips(false),
-    Step::Finish,
-    Step::Skips(true),
-    Step::Skips(false),
-];
+static LAST_SKIPPED: Course = Course {
+    pieces: &[(b"a b", &[Step::Skips(false)])],
+    last: &[Step::Skips(true), Step::Skips(false)],
+};
 
 #[test]
 fn skips_the_last_command(rt: HostRuntime) -> Result<(), Fail> {
-    check_steps(&rt, rt.alloc(), &LAST_SKIPPED)
+    check_course(&rt, rt.alloc(), &LAST_SKIPPED)
 }
 
 // Scripts whose end wasn't met, and the fault that is met all the same.
@@ -311,12 +330,10 @@ fn meets_faults_before_the_end(rt: HostRuntime) -> Result<(), Fail> {
 }
 
 // A word of so many braces.
-fn feed_braces(
-    alloc: Global,
-    splitter: &mut Splitter,
-    brace: u8,
-    count: usize,
-) -> Result<(), Fail> {
+fn feed_braces(alloc: Global, splitter: &mut Splitter, brace: u8, count: usize) -> Result<(), Fail>
+    requires { splitter.old.finished ≡ false }
+    ensures { splitter.new.finished ≡ false }
+{
     let braces = vec![in alloc; brace; count]?;
     splitter.feed(braces.as_slice())?;
     Ok(())
