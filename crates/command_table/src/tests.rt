@@ -1,3 +1,5 @@
+ghost use Rattle.std.specs.Prelude.{◌+◌, ◌≤◌, length};
+
 use crate::commands::Command;
 use crate::numbers::{ValueFault, boolean, integer};
 use crate::options::Options;
@@ -11,7 +13,7 @@ use std::process::Abort;
 use std::test::Fail;
 
 // Each command with too few words, the least number of them, the greatest, and one more; a `-` where any number may stand.
-const COUNTS: [(&str, &str, &str, &str, Command); 22] = [
+static COUNTS: [(&str, &str, &str, &str, Command); 22] = [
     ("text", "text .t", "text .t", "-", Command::Text),
     (
         ".t insert 1.0",
@@ -163,7 +165,7 @@ const COUNTS: [(&str, &str, &str, &str, Command); 22] = [
 ];
 
 // Commands with the position of the word that is a bad option.
-const BAD_OPTIONS: [(&str, usize); 12] = [
+static BAD_OPTIONS: [(&str, usize); 14] = [
     (".t foo", 1),
     (".t foo bar", 1),
     (".t inser 1.0 a", 1),
@@ -172,6 +174,9 @@ const BAD_OPTIONS: [(&str, usize); 12] = [
     (".t tag foo", 2),
     (".t names", 1),
     (".t text", 1),
+    // empty subcommands
+    (".t ", 1),
+    (".t tag ", 2),
     ("text .t -undo", 2),
     ("text .t -undo 1", 2),
     ("text .t a b c", 2),
@@ -198,77 +203,88 @@ fn shape_of(
     Ok(shape(&words))
 }
 
-// Refuses a command for the number of its words.
-fn refuses(rt: &impl Abort, alloc: Global, command: &str) -> Result<(), Fail> {
-    let fault = shape_of(rt, alloc, command)?.err();
-    assert_eq!(rt; fault, Some(ShapeFault::WrongArguments), "{command}");
+// Refuses a command with this fault.
+fn refuses(rt: &impl Abort, alloc: Global, words: &str, fault: ShapeFault) -> Result<(), Fail> {
+    let found = shape_of(rt, alloc, words)?;
+    assert!(rt; found == Err(fault), "{words}");
+    Ok(())
+}
+
+fn is_read(rt: &impl Abort, alloc: Global, words: &str, command: Command) -> Result<(), Fail> {
+    let found = shape_of(rt, alloc, words)?;
+    let is_command = found.is_ok_and(|shape| shape.command == command);
+    assert!(rt; is_command, "{words}");
+    Ok(())
+}
+
+fn all_are_counted(
+    rt: &impl Abort,
+    alloc: Global,
+    rows: &[(&str, &str, &str, &str, Command)],
+) -> Result<(), Fail> {
+    for (few, least, greatest, more, command) in rows {
+        refuses(rt, alloc, few, ShapeFault::WrongArguments)?;
+        is_read(rt, alloc, least, *command)?;
+        is_read(rt, alloc, greatest, *command)?;
+        if *more != "-" {
+            refuses(rt, alloc, more, ShapeFault::WrongArguments)?;
+        }
+    }
     Ok(())
 }
 
 #[test]
 fn words_are_counted(rt: HostRuntime) -> Result<(), Fail> {
-    let alloc = rt.alloc();
-    for (few, least, greatest, more, command) in COUNTS {
-        refuses(&rt, alloc, few)?;
-        for enough in [least, greatest] {
-            let found = shape_of(&rt, alloc, enough)?.map_or(Command::Text, |shape| shape.command);
-            assert!(rt; found == command, "{enough}");
-        }
-        if more != "-" {
-            refuses(&rt, alloc, more)?;
-        }
+    all_are_counted(&rt, rt.alloc(), &COUNTS)
+}
+
+#[test]
+fn options_come_before_the_number_of_words(rt: HostRuntime) -> Result<(), Fail> {
+    for (words, position) in &BAD_OPTIONS {
+        refuses(&rt, rt.alloc(), words, ShapeFault::BadOption(*position))?;
     }
     Ok(())
 }
 
 #[test]
-fn options_come_before_the_number_of_words(rt: HostRuntime) -> Result<(), Fail> {
-    let alloc = rt.alloc();
-    for (command, position) in BAD_OPTIONS {
-        assert_eq!(rt;
-            shape_of(&rt, alloc, command)?,
-            Err(ShapeFault::BadOption(position)),
-            "{command}"
-        );
-    }
-    assert_eq!(rt;
-        shape_of(&rt, alloc, ".t")?,
-        Err(ShapeFault::WrongArguments)
+fn a_subcommand_has_to_stand_there(rt: HostRuntime) -> Result<(), Fail> {
+    refuses(&rt, rt.alloc(), ".t", ShapeFault::WrongArguments)
+}
+
+// Commands, where their arguments begin and how many there are.
+static PARTS: [(&str, usize, usize); 4] = [
+    ("text .t", 1, 1),
+    (".t get 1.0 1.1", 2, 2),
+    (".t mark names", 3, 0),
+    (".t tag add x 1.0 1.1", 3, 3),
+];
+
+fn has_parts(
+    rt: &impl Abort,
+    alloc: Global,
+    words: &str,
+    arguments: usize,
+    count: usize,
+) -> Result<(), Fail> {
+    let shape = shape_of(rt, alloc, words)?.ok().ok_or("a command")?;
+    assert!(rt;
+        shape.switches == arguments && shape.arguments == arguments,
+        "{words}"
     );
-    assert_eq!(rt;
-        shape_of(&rt, alloc, ".t ")?,
-        Err(ShapeFault::BadOption(1)),
-        "an empty subcommand"
-    );
-    assert_eq!(rt;
-        shape_of(&rt, alloc, ".t tag ")?,
-        Err(ShapeFault::BadOption(2)),
-        "an empty subcommand"
-    );
+    assert!(rt; shape.count == count, "{words}");
     Ok(())
 }
 
 #[test]
 fn parts_have_places(rt: HostRuntime) -> Result<(), Fail> {
-    let alloc = rt.alloc();
-    for (command, arguments, count) in [
-        ("text .t", 1, 1),
-        (".t get 1.0 1.1", 2, 2),
-        (".t mark names", 3, 0),
-        (".t tag add x 1.0 1.1", 3, 3),
-    ] {
-        let Ok(shape) = shape_of(&rt, alloc, command)? else {
-            return Err("a command".into());
-        };
-        assert_eq!(rt; shape.switches, arguments, "{command}");
-        assert_eq!(rt; shape.arguments, arguments, "{command}");
-        assert_eq!(rt; shape.count, count, "{command}");
+    for (words, arguments, count) in &PARTS {
+        has_parts(&rt, rt.alloc(), words, *arguments, *count)?;
     }
     Ok(())
 }
 
 // A command with switches that may be abbreviated, and are ended by `--`, and one to two arguments.
-const ABBREVIATED: Row = Row {
+static ABBREVIATED: Row = Row {
     spelling: Spelling::Alone("seek"),
     command: Command::Get,
     switches: Some(Switches {
@@ -281,7 +297,7 @@ const ABBREVIATED: Row = Row {
 };
 
 // A command with switches of whole words.
-const WHOLE: Row = Row {
+static WHOLE: Row = Row {
     spelling: Spelling::Alone("count"),
     command: Command::Get,
     switches: Some(Switches {
@@ -294,7 +310,7 @@ const WHOLE: Row = Row {
 };
 
 // A command of options with values, one at least.
-const VALUED: Row = Row {
+static VALUED: Row = Row {
     spelling: Spelling::Alone("set"),
     command: Command::Get,
     switches: None,
@@ -308,7 +324,7 @@ const VALUED: Row = Row {
 };
 
 // A command of one option without a value.
-const LONE: Row = Row {
+static LONE: Row = Row {
     spelling: Spelling::Alone("ask"),
     command: Command::Get,
     switches: None,
@@ -322,7 +338,7 @@ const LONE: Row = Row {
 };
 
 // A command of one argument and options with values behind it.
-const BEHIND: Row = Row {
+static BEHIND: Row = Row {
     spelling: Spelling::Alone("make"),
     command: Command::Get,
     switches: None,
@@ -335,124 +351,172 @@ const BEHIND: Row = Row {
     greatest: None,
 };
 
-// Words behind a subcommand that stand from position 2 on, and where the arguments begin and how many there are.
-fn read(alloc: Global, row: Row, words: &str) -> Result<Result<(usize, usize), ShapeFault>, Fail> {
-    let words = words_of(alloc, words)?;
-    Ok(match row.read(2, &words) {
-        Err(fault) => Err(fault),
-        Ok(shape) => Ok((shape.arguments, shape.count)),
-    })
+// Where the arguments begin and how many there are, or the fault.
+type Read = Result<(usize, usize), ShapeFault>;
+
+fn read(row: Row, words: &[String]) -> Read
+    requires { 2 + length words.now ≤ usize.MAX }
+{
+    let shape = row.read(2, words)?;
+    Ok((shape.arguments, shape.count))
 }
 
-#[test]
-fn switches_are_read(rt: HostRuntime) -> Result<(), Fail> {
-    let alloc = rt.alloc();
-    for (words, want) in [
-        ("a", Ok((2, 1))),
-        ("a b", Ok((2, 2))),
-        ("a b c", Err(ShapeFault::WrongArguments)),
-        ("-all a", Ok((3, 1))),
-        ("-a a", Ok((3, 1))),
-        ("-al -f -backw -noc -non a b", Ok((7, 2))),
-        ("-- -all", Ok((3, 1))),
-        ("-a -- -x -y", Ok((4, 2))),
-        ("-a", Err(ShapeFault::WrongArguments)),
-        ("--", Err(ShapeFault::WrongArguments)),
-        ("-no a", Err(ShapeFault::BadOption(2))),
-        ("-a -n a", Err(ShapeFault::BadOption(3))),
-        ("- a", Err(ShapeFault::BadOption(2))),
-        ("-x a", Err(ShapeFault::BadOption(2))),
-        ("-alle a", Err(ShapeFault::BadOption(2))),
-        ("-x", Err(ShapeFault::BadOption(2))),
-        ("a -x", Ok((2, 2))),
-        ("--- a", Err(ShapeFault::BadOption(2))),
-    ] {
-        assert_eq!(rt; read(alloc, ABBREVIATED, words)?, want, "{words}");
-    }
-    for (words, want) in [
-        ("a b", Ok((2, 2))),
-        ("-lines -chars -lines a b", Ok((5, 2))),
-        ("-line a b", Err(ShapeFault::BadOption(2))),
-        ("-- a b", Err(ShapeFault::BadOption(2))),
-        ("-lines a", Err(ShapeFault::WrongArguments)),
-    ] {
-        assert_eq!(rt; read(alloc, WHOLE, words)?, want, "{words}");
+// Words behind a subcommand that stand from position 2 on.
+fn is_behind(
+    rt: &impl Abort,
+    alloc: Global,
+    row: Row,
+    words: &str,
+    wanted: Read,
+) -> Result<(), Fail> {
+    let found = words_of(alloc, words)?;
+    assert!(rt; read(row, &found) == wanted, "{words}");
+    Ok(())
+}
+
+fn all_are_behind(
+    rt: &impl Abort,
+    alloc: Global,
+    row: &Row,
+    rows: &[(&str, Read)],
+) -> Result<(), Fail> {
+    for (words, wanted) in rows {
+        is_behind(rt, alloc, *row, words, *wanted)?;
     }
     Ok(())
 }
 
-#[test]
-fn options_are_found_by_place(rt: HostRuntime) -> Result<(), Fail> {
-    let alloc = rt.alloc();
-    for (words, want) in [
-        ("-undo 1", Ok((2, 0))),
-        ("-undo -undo -state x", Ok((2, 0))),
-        ("foo", Err(ShapeFault::BadOption(2))),
-        ("-und 1", Err(ShapeFault::BadOption(2))),
-        ("-undo", Err(ShapeFault::WrongArguments)),
-        ("-undo 1 -state", Err(ShapeFault::WrongArguments)),
-        ("-undo 1 x", Err(ShapeFault::BadOption(4))),
-        ("-undo 1 x y", Err(ShapeFault::BadOption(4))),
-    ] {
-        assert_eq!(rt; read(alloc, VALUED, words)?, want, "{words}");
-    }
-    for (words, want) in [
-        ("-undo", Ok((2, 0))),
-        ("-foo x", Err(ShapeFault::BadOption(2))),
-        ("-undo x", Err(ShapeFault::WrongArguments)),
-    ] {
-        assert_eq!(rt; read(alloc, LONE, words)?, want, "{words}");
-    }
-    for (words, want) in [
-        (".t", Ok((2, 1))),
-        (".t -undo 1", Ok((2, 1))),
-        (".t -undo", Err(ShapeFault::WrongArguments)),
-        ("-undo 1", Err(ShapeFault::BadOption(3))),
-        (".t -undo 1 -foo", Err(ShapeFault::BadOption(5))),
-    ] {
-        assert_eq!(rt; read(alloc, BEHIND, words)?, want, "{words}");
-    }
-    Ok(())
-}
+static ABBREVIATED_WORDS: [(&str, Read); 18] = [
+    ("a", Ok((2, 1))),
+    ("a b", Ok((2, 2))),
+    ("a b c", Err(ShapeFault::WrongArguments)),
+    ("-all a", Ok((3, 1))),
+    ("-a a", Ok((3, 1))),
+    ("-al -f -backw -noc -non a b", Ok((7, 2))),
+    ("-- -all", Ok((3, 1))),
+    ("-a -- -x -y", Ok((4, 2))),
+    ("-a", Err(ShapeFault::WrongArguments)),
+    ("--", Err(ShapeFault::WrongArguments)),
+    ("-no a", Err(ShapeFault::BadOption(2))),
+    ("-a -n a", Err(ShapeFault::BadOption(3))),
+    ("- a", Err(ShapeFault::BadOption(2))),
+    ("-x a", Err(ShapeFault::BadOption(2))),
+    ("-alle a", Err(ShapeFault::BadOption(2))),
+    ("-x", Err(ShapeFault::BadOption(2))),
+    ("a -x", Ok((2, 2))),
+    ("--- a", Err(ShapeFault::BadOption(2))),
+];
 
 #[test]
-fn booleans_and_integers(rt: HostRuntime) {
-    for word in ["1", "true", "yes", "on"] {
-        assert_eq!(rt; boolean(word), Ok(true), "{word}");
+fn switches_may_be_abbreviated(rt: HostRuntime) -> Result<(), Fail> {
+    all_are_behind(&rt, rt.alloc(), &ABBREVIATED, &ABBREVIATED_WORDS)
+}
+
+static WHOLE_WORDS: [(&str, Read); 5] = [
+    ("a b", Ok((2, 2))),
+    ("-lines -chars -lines a b", Ok((5, 2))),
+    ("-line a b", Err(ShapeFault::BadOption(2))),
+    ("-- a b", Err(ShapeFault::BadOption(2))),
+    ("-lines a", Err(ShapeFault::WrongArguments)),
+];
+
+#[test]
+fn switches_may_be_whole(rt: HostRuntime) -> Result<(), Fail> {
+    all_are_behind(&rt, rt.alloc(), &WHOLE, &WHOLE_WORDS)
+}
+
+static VALUED_WORDS: [(&str, Read); 8] = [
+    ("-undo 1", Ok((2, 0))),
+    ("-undo -undo -state x", Ok((2, 0))),
+    ("foo", Err(ShapeFault::BadOption(2))),
+    ("-und 1", Err(ShapeFault::BadOption(2))),
+    ("-undo", Err(ShapeFault::WrongArguments)),
+    ("-undo 1 -state", Err(ShapeFault::WrongArguments)),
+    ("-undo 1 x", Err(ShapeFault::BadOption(4))),
+    ("-undo 1 x y", Err(ShapeFault::BadOption(4))),
+];
+
+#[test]
+fn options_have_values(rt: HostRuntime) -> Result<(), Fail> {
+    all_are_behind(&rt, rt.alloc(), &VALUED, &VALUED_WORDS)
+}
+
+static LONE_WORDS: [(&str, Read); 3] = [
+    ("-undo", Ok((2, 0))),
+    ("-foo x", Err(ShapeFault::BadOption(2))),
+    ("-undo x", Err(ShapeFault::WrongArguments)),
+];
+
+#[test]
+fn options_stand_alone(rt: HostRuntime) -> Result<(), Fail> {
+    all_are_behind(&rt, rt.alloc(), &LONE, &LONE_WORDS)
+}
+
+static BEHIND_WORDS: [(&str, Read); 5] = [
+    (".t", Ok((2, 1))),
+    (".t -undo 1", Ok((2, 1))),
+    (".t -undo", Err(ShapeFault::WrongArguments)),
+    ("-undo 1", Err(ShapeFault::BadOption(3))),
+    (".t -undo 1 -foo", Err(ShapeFault::BadOption(5))),
+];
+
+#[test]
+fn options_stand_behind_arguments(rt: HostRuntime) -> Result<(), Fail> {
+    all_are_behind(&rt, rt.alloc(), &BEHIND, &BEHIND_WORDS)
+}
+
+fn all_are_booleans(rt: &impl Abort, words: &[&str], wanted: Result<bool, ValueFault>) {
+    for word in words {
+        assert!(rt; boolean(word) == wanted, "{word}");
     }
-    for word in ["0", "false", "no", "off"] {
-        assert_eq!(rt; boolean(word), Ok(false), "{word}");
+}
+
+static NO_BOOLEANS: [&str; 10] = ["", "TRUE", "True", "t", "2", "tru", "o", " 1", "maybe", "é"];
+
+#[test]
+fn words_are_booleans(rt: HostRuntime) {
+    all_are_booleans(&rt, &["1", "true", "yes", "on"], Ok(true));
+    all_are_booleans(&rt, &["0", "false", "no", "off"], Ok(false));
+    all_are_booleans(&rt, &NO_BOOLEANS, Err(ValueFault::ExpectedBoolean));
+}
+
+static INTEGERS: [(&str, i32); 7] = [
+    ("0", 0),
+    ("+5", 5),
+    ("-0", 0),
+    ("-17", -17),
+    ("007", 7),
+    ("999999999", 999_999_999),
+    ("-999999999", -999_999_999),
+];
+
+#[test]
+fn words_are_integers(rt: HostRuntime) {
+    for (word, number) in &INTEGERS {
+        assert!(rt; integer(word) == Ok(*number), "{word}");
     }
-    for word in ["", "TRUE", "True", "t", "2", "tru", "o", " 1", "maybe", "é"] {
-        assert_eq!(rt; boolean(word), Err(ValueFault::ExpectedBoolean), "{word}");
-    }
-    for (word, number) in [
-        ("0", 0),
-        ("+5", 5),
-        ("-0", 0),
-        ("-17", -17),
-        ("007", 7),
-        ("999999999", 999_999_999),
-        ("-999999999", -999_999_999),
-    ] {
-        assert_eq!(rt; integer(word), Ok(number), "{word}");
-    }
-    for word in [
-        "",
-        "+",
-        "-",
-        "1000000000",
-        "0000000001",
-        "--1",
-        "+-1",
-        "1.0",
-        "0x1",
-        " 1",
-        "1 ",
-        "é",
-        "1é",
-        "٣",
-    ] {
-        assert_eq!(rt; integer(word), Err(ValueFault::ExpectedInteger), "{word}");
+}
+
+static NO_INTEGERS: [&str; 14] = [
+    "",
+    "+",
+    "-",
+    "1000000000",
+    "0000000001",
+    "--1",
+    "+-1",
+    "1.0",
+    "0x1",
+    " 1",
+    "1 ",
+    "é",
+    "1é",
+    "٣",
+];
+
+#[test]
+fn words_are_no_integers(rt: HostRuntime) {
+    for word in &NO_INTEGERS {
+        assert!(rt; integer(word) == Err(ValueFault::ExpectedInteger), "{word}");
     }
 }

@@ -4,8 +4,6 @@
 mod faults;
 mod marks;
 mod order;
-#[cfg(test)]
-mod tests;
 mod walk;
 
 pub use faults::NoSuchMark;

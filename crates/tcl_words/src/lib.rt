@@ -6,21 +6,15 @@ mod escapes;
 mod fault;
 pub mod laws;
 mod list_steps;
-#[cfg(test)]
-mod list_tests;
 mod list_writing;
 mod lists;
 mod pieces;
 mod progress;
 mod runs;
 mod scanner;
-#[cfg(test)]
-mod scripts;
 mod splitter;
 mod stage;
 mod steps;
-#[cfg(test)]
-mod tests;
 
 pub use fault::ScriptFault;
 pub use list_writing::push_element;

@@ -8,6 +8,7 @@ pub mod LongestLaws
 pub mod LowLaws
 pub mod LowModifierLaws
 pub mod MeaningLaws
+pub mod MoveLaws
 pub mod NameLaws
 pub mod PlaceLaws
 pub mod PositionLaws

@@ -1,11 +1,11 @@
 -- The tokens at the front of a text.
-use Rattle.std.proofs.Common.{◌≡◌, ℕ, zero, suc, ◌+◌, Bool, true, false, cond, not, ◌&&◌, ◌||◌, ◌==◌, List, [], ◌∷◌, ◌++◌, ◌<◌, Some, None, take, drop, length, refl, sym, ap, ◌∙◌, append_assoc, arith}
+use Rattle.std.proofs.Common.{◌≡◌, ℕ, zero, suc, ◌+◌, Bool, true, false, cond, not, ◌&&◌, ◌||◌, ◌==◌, List, [], ◌∷◌, ◌++◌, ◌<◌, ◌≤◌, length-drop, Some, None, take, drop, length, refl, sym, ap, ◌∙◌, append_assoc, arith}
 use Rattle.std.specs.Prelude.{slice_get}
 use Rattle.std.specs.List.{list_all, prefix_len}
 use Rattle.std.specs.Char.{is_ascii_digit}
 use Rattle.std.proofs.lemmas.Bool.Decides.{nat_tests}
 use Rattle.std.proofs.lemmas.Bool.{false≢true}
-use Rattle.std.proofs.lemmas.List.{append-nil}
+use Rattle.std.proofs.lemmas.List.{append-nil, length-take}
 use Rattle.std.proofs.lemmas.List.Folds.{list_all-append}
 use Rattle.text_index.specs.Characters.{is_blank, is_sign, is_break}
 use Rattle.text_index.specs.Grammar.{Token, tokens_from, tokens_of, run_tokens, parts_of}
@@ -198,6 +198,18 @@ piece-bound p (c ∷ cs) first is here =
 
 pub word-inside : (c : ℕ) → is_blank c ≡ false → is_sign c ≡ false → inside c ≡ true
 word-inside c blank sign = ap not (no-break c blank sign)
+
+-- what stands behind `count` characters of a text without its first ones is shorter
+pub behind-bound : (text left rest : List ℕ) (blanks count first : ℕ) → left ≡ drop blanks text → slice_get left 0 ≡ Some first → rest ≡ drop count left → 0 < count
+    → length rest < length text
+behind-bound text [] rest blanks count first left_is is rest_is some = absurd (let h : None ≡ Some first = is in cc)
+behind-bound text (c ∷ cs) rest blanks count first left_is is rest_is some =
+    omega (arith, ap length rest_is ∙ length-drop count (c ∷ cs), ap length left_is ∙ length-drop blanks text)
+
+-- and no shorter than by these characters
+pub taken-bound : (text left front rest : List ℕ) (blanks count : ℕ) → left ≡ drop blanks text → front ≡ take count left → rest ≡ drop count left → length front + length rest ≤ length text
+taken-bound text left front rest blanks count left_is front_is rest_is =
+    omega (arith, ap length rest_is ∙ length-drop count left, ap length left_is ∙ length-drop blanks text, ap length front_is ∙ length-take count left)
 
 pub not-blank : (text : List ℕ) (first : ℕ) → slice_get (drop (prefix_len is_blank text) text) 0 ≡ Some first → is_blank first ≡ false
 not-blank [] first is = absurd (let h : None ≡ Some first = is in cc)

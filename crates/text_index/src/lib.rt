@@ -10,18 +10,10 @@ mod moves;
 mod names;
 mod numbers;
 mod parsing;
-#[cfg(test)]
-mod parsing_tests;
-#[cfg(test)]
-mod place_tests;
 mod places;
 mod positions;
-#[cfg(test)]
-mod range_tests;
 mod ranges;
 mod steps;
-#[cfg(test)]
-mod tests;
 mod tokens;
 mod values;
 mod views;

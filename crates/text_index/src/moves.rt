@@ -132,7 +132,8 @@ pub fn word_end<S: TextStore>(view: &View<'_, S>, place: usize) -> usize
     ensures value { result ≡ modified is_word (shown (S.content view.now.store.now) view.now.s view.now.e) place modifier.WordEnd }
     ensures bound { view.now.s + result ≤ view.now.e }
 {
-    if view.len() - place <= 1 {
+    let left = view.len() - place;
+    if left <= 1 {
         place
     } else if is_word(view.char_at(place)) {
         run_end(view, place)

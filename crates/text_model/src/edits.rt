@@ -83,27 +83,3 @@ impl StepList {
 pub struct Edit {
     pub steps: StepList,
 }
-
-#[cfg(test)]
-mod tests {
-    use super::*;
-    use std::test::Fail;
-
-    #[test]
-    fn steps_stand_in_order(rt: HostRuntime) -> Result<(), Fail> {
-        let alloc = rt.alloc();
-        let mut steps = StepList::new(alloc);
-        assert!(rt; steps.as_slice().is_empty());
-        for (at, text) in [(7, "a"), (0, "bc")] {
-            let text = Text::new(String::from_str(alloc, text)?);
-            steps.push(Step::Insert(at, text, TagSet::empty().with(TagSlot(9))))?;
-        }
-        let [Step::Insert(7, first, _), Step::Insert(0, second, tags)] = steps.as_slice() else {
-            return Err("two steps".into());
-        };
-        assert_eq!(rt; first.as_str(), "a");
-        assert_eq!(rt; second.as_str(), "bc");
-        assert!(rt; tags.has(TagSlot(9)));
-        Ok(())
-    }
-}

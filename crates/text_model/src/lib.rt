@@ -8,8 +8,6 @@ mod places;
 mod plain_store;
 mod store;
 mod tag_set;
-#[cfg(test)]
-mod tests;
 mod texts;
 
 pub use cells::Cell;

@@ -86,34 +86,3 @@ impl TagSet {
         TagSet { words }
     }
 }
-
-#[cfg(test)]
-mod tests {
-    use super::*;
-
-    #[test]
-    fn slots_of_sets(rt: HostRuntime) {
-        let none = TagSet::empty();
-        let ends = none
-            .with(TagSlot(0))
-            .with(TagSlot(63))
-            .with(TagSlot(64))
-            .with(TagSlot(255));
-        for number in 0..256u16 {
-            let is_end = number == 0 || number == 63 || number == 64 || number == 255;
-            assert_eq!(rt; none.has(TagSlot(number)), false);
-            assert_eq!(rt; ends.has(TagSlot(number)), is_end);
-        }
-        let fewer = ends
-            .without(TagSlot(63))
-            .without(TagSlot(64))
-            .without(TagSlot(1));
-        for (number, is_left) in [(0, true), (63, false), (64, false), (255, true)] {
-            assert_eq!(rt; fewer.has(TagSlot(number)), is_left);
-        }
-        let both = ends.common(&none.with(TagSlot(64)).with(TagSlot(65)));
-        assert!(rt; both.has(TagSlot(64)));
-        assert!(rt; !both.has(TagSlot(65)));
-        assert!(rt; !both.has(TagSlot(0)));
-    }
-}

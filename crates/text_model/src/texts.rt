@@ -30,16 +30,3 @@ impl Text {
         self.text.as_str()
     }
 }
-
-#[cfg(test)]
-mod tests {
-    use super::*;
-    use std::test::Fail;
-
-    #[test]
-    fn a_text_is_kept(rt: HostRuntime) -> Result<(), Fail> {
-        let text = Text::new(String::from_str(rt.alloc(), "añ\n")?);
-        assert_eq!(rt; text.as_str(), "añ\n");
-        Ok(())
-    }
-}

@@ -1,5 +1,6 @@
 pub mod BorderLaws
 pub mod CountLaws
+pub mod CountRows
 pub mod FitsLaws
 pub mod GroupLaws
 pub mod RingLaws

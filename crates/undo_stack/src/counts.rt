@@ -97,30 +97,3 @@ impl ModifiedCount {
         }
     }
 }
-
-#[cfg(test)]
-mod tests {
-    use super::*;
-
-    #[test]
-    fn the_ends_of_the_count_fix_it(rt: HostRuntime) {
-        let mut most = ModifiedCount {
-            count: i64::MAX,
-            fixed: false,
-        };
-        most.repeat(1);
-        assert!(rt; most.fixed && most.count == i64::MAX);
-        let mut least = ModifiedCount {
-            count: i64::MIN,
-            fixed: false,
-        };
-        least.revert(1);
-        assert!(rt; least.fixed && least.count == i64::MIN);
-        let mut below = ModifiedCount {
-            count: -1,
-            fixed: false,
-        };
-        below.make();
-        assert!(rt; below.fixed && below.count == -1);
-    }
-}

@@ -8,8 +8,6 @@ mod groups;
 pub mod laws;
 mod rings;
 mod stack;
-#[cfg(test)]
-mod tests;
 
 pub use actions::{Action, EditKind};
 pub use faults::HistoryFault;

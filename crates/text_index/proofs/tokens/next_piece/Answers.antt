@@ -1,11 +1,13 @@
-use Rattle.std.proofs.Common.{◌∷◌, ◌==◌, take, sym, ap, ◌∙◌, arith}
+use Rattle.std.proofs.Common.{◌<◌, ◌∷◌, ◌==◌, take, length, sym, ap, ◌∙◌, arith}
 use Rattle.std.specs.Prelude.{slice_get}
 use Rattle.std.specs.Char.{is_ascii_digit}
+use Rattle.std.specs.List.{prefix_len}
+use Rattle.text_index.specs.Characters.{is_blank}
 use Rattle.std.proofs.lemmas.List.Sums.{prefix_len-le-length}
 use Rattle.text_index.specs.Grammar.{tokens_of}
 use Rattle.text_index.specs.Grammar.Token.{Sign, Digits, Word}
 use Rattle.text_index.specs.Pieces.{before_rest}
-use Rattle.text_index.proofs.TokenLaws.{tokens-blanks, piece-none, piece-sign, piece-digits, piece-word, not-blank, inside}
+use Rattle.text_index.proofs.TokenLaws.{tokens-blanks, piece-none, piece-sign, piece-digits, piece-word, not-blank, inside, piece-bound, word-inside, behind-bound, taken-bound}
 use Rattle.text_index.proofs.tokens.next_piece.Goals as goal
 
 pub split_at-requires-then-is_ascii_digit : goal.split_at-requires-then-is_ascii_digit
@@ -42,3 +44,39 @@ returns-clause-value c =
     (sym (c.if-is_sign.ensures {u = tt})) (sym (c.if-is_ascii_digit.ensures {u = tt}).value) c.unbroken.ensures
     ∙ ap (λ rest. Word (take c.unbroken.result c.skip_blanks-text.result.now) ∷ tokens_of rest) (sym c.split_at-2.ensures.back)
     ∙ ap (λ front. Word front ∷ tokens_of c.split_at-2.result.1.now) (sym c.split_at-2.ensures.front)
+
+pub returns-then-is_sign-clause-bound : goal.returns-then-is_sign-clause-bound
+returns-then-is_sign-clause-bound c =
+    behind-bound c.args.text.now c.skip_blanks-text.result.now c.split_at.result.1.now (prefix_len is_blank c.args.text.now) 1 c.in_ok-first.field-0.now
+    c.skip_blanks-text.ensures (sym (c.in_ok-first.ensures {u = tt}).value) c.split_at.ensures.back (omega arith)
+
+pub returns-then-is_sign-clause-taken : goal.returns-then-is_sign-clause-taken
+returns-then-is_sign-clause-taken c =
+    let behind : length c.split_at.result.1.now < length c.args.text.now = returns-then-is_sign-clause-bound c in omega (arith, behind)
+
+pub returns-then-is_ascii_digit-clause-bound : goal.returns-then-is_ascii_digit-clause-bound
+returns-then-is_ascii_digit-clause-bound c =
+    let left = c.skip_blanks-text.result.now in
+    let first = sym (c.in_ok-first.ensures {u = tt}).value in
+    behind-bound c.args.text.now left c.split_at-then-is_ascii_digit.result.1.now (prefix_len is_blank c.args.text.now) c.digits.result c.in_ok-first.field-0.now
+    c.skip_blanks-text.ensures first c.split_at-then-is_ascii_digit.ensures.back
+    (omega (arith, c.digits.ensures, piece-bound is_ascii_digit left c.in_ok-first.field-0.now first (sym (c.if-is_ascii_digit.ensures {u = tt}).value)))
+
+pub returns-then-is_ascii_digit-clause-taken : goal.returns-then-is_ascii_digit-clause-taken
+returns-then-is_ascii_digit-clause-taken c =
+    taken-bound c.args.text.now c.skip_blanks-text.result.now c.split_at-then-is_ascii_digit.result.0.now c.split_at-then-is_ascii_digit.result.1.now
+    (prefix_len is_blank c.args.text.now) c.digits.result c.skip_blanks-text.ensures c.split_at-then-is_ascii_digit.ensures.front c.split_at-then-is_ascii_digit.ensures.back
+
+pub returns-clause-bound : goal.returns-clause-bound
+returns-clause-bound c =
+    let left = c.skip_blanks-text.result.now in
+    let first = sym (c.in_ok-first.ensures {u = tt}).value in
+    let blank = not-blank c.args.text.now c.in_ok-first.field-0.now (ap (λ text. slice_get text 0) (sym c.skip_blanks-text.ensures) ∙ first) in
+    behind-bound c.args.text.now left c.split_at-2.result.1.now (prefix_len is_blank c.args.text.now) c.unbroken.result c.in_ok-first.field-0.now
+    c.skip_blanks-text.ensures first c.split_at-2.ensures.back
+    (omega (arith, c.unbroken.ensures, piece-bound inside left c.in_ok-first.field-0.now first (word-inside c.in_ok-first.field-0.now blank (sym (c.if-is_sign.ensures {u = tt})))))
+
+pub returns-clause-taken : goal.returns-clause-taken
+returns-clause-taken c =
+    taken-bound c.args.text.now c.skip_blanks-text.result.now c.split_at-2.result.0.now c.split_at-2.result.1.now
+    (prefix_len is_blank c.args.text.now) c.unbroken.result c.skip_blanks-text.ensures c.split_at-2.ensures.front c.split_at-2.ensures.back

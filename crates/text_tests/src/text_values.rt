@@ -1,0 +1,166 @@
+use std::alloc::Global;
+use std::process::Abort;
+use std::test::Fail;
+use text_model::{Gravity, Limits, Place, Step, StepList, TagSet, TagSlot, Text};
+
+// ---- steps
+
+// Puts in a text with the tag of slot 9.
+fn push_step(alloc: Global, steps: &mut StepList, at: usize, text: &str) -> Result<(), Fail> {
+    let text = Text::new(String::from_str(alloc, text)?);
+    steps.push(Step::Insert(at, text, TagSet::empty().with(TagSlot(9))))?;
+    Ok(())
+}
+
+fn is_step(step: &Step, at: usize, text: &str) -> bool {
+    match step {
+        Step::Insert(place, found, tags) => {
+            *place == at && found.as_str() == text && tags.has(TagSlot(9))
+        }
+        _ => false,
+    }
+}
+
+#[test]
+fn steps_stand_in_order(rt: HostRuntime) -> Result<(), Fail> {
+    let mut steps = StepList::new(rt.alloc());
+    assert!(rt; steps.as_slice().is_empty());
+    push_step(rt.alloc(), &mut steps, 7, "a")?;
+    push_step(rt.alloc(), &mut steps, 0, "bc")?;
+    let stand = match steps.as_slice() {
+        [first, second] => is_step(first, 7, "a") && is_step(second, 0, "bc"),
+        _ => false,
+    };
+    assert!(rt; stand);
+    Ok(())
+}
+
+// ---- limits
+
+fn gives_numbers(limits: &Limits) -> bool {
+    limits.chars() == 100
+        && limits.tags() == 3
+        && limits.marks() == 5
+        && limits.widgets() == 7
+        && limits.reads() == 11
+}
+
+#[test]
+fn readers_give_the_numbers(rt: HostRuntime) {
+    let limits = Limits::new(100, 3, 5, 7, 11);
+    assert!(rt; limits.is_some_and(|limits| gives_numbers(&limits)));
+}
+
+static KNOWN: [(usize, u16, u16, u16, bool); 7] = [
+    (1, 0, 0, 0, true),
+    (0, 0, 0, 0, false),
+    (16_777_216, 192, 4_096, 64, true),
+    (16_777_217, 192, 4_096, 64, false),
+    (16_777_216, 193, 4_096, 64, false),
+    (16_777_216, 192, 4_097, 64, false),
+    (16_777_216, 192, 4_096, 65, false),
+];
+
+#[test]
+fn numbers_have_bounds(rt: HostRuntime) {
+    for (chars, tags, marks, widgets, is_known) in &KNOWN {
+        let limits = Limits::new(*chars, *tags, *marks, *widgets, u32::MAX);
+        assert!(rt;
+            limits.is_some() == *is_known,
+            "{chars} {tags} {marks} {widgets}"
+        );
+    }
+}
+
+// ---- places
+
+fn is_moved(rt: &impl Abort, offset: usize, gravity: Gravity, moved: usize) {
+    let place = Place { offset, gravity };
+    assert!(rt; place.offset < 10);
+    let found = place.moved(2, 3);
+    assert!(rt;
+        found.offset == moved && found.gravity == gravity,
+        "a mark at {offset}"
+    );
+}
+
+#[test]
+fn marks_move(rt: HostRuntime) {
+    is_moved(&rt, 1, Gravity::Right, 1);
+    is_moved(&rt, 2, Gravity::Left, 2);
+    is_moved(&rt, 2, Gravity::Right, 5);
+    is_moved(&rt, 3, Gravity::Left, 6);
+}
+
+fn is_drawn(rt: &impl Abort, offset: usize, drawn: usize) {
+    let gravity = Gravity::Left;
+    let found = Place { offset, gravity }.drawn(2, 5);
+    assert!(rt;
+        found.offset == drawn && found.gravity == gravity,
+        "a mark at {offset}"
+    );
+}
+
+#[test]
+fn marks_are_drawn(rt: HostRuntime) {
+    for (offset, drawn) in [(1, 1), (2, 2), (4, 2), (5, 2), (6, 3)] {
+        is_drawn(&rt, offset, drawn);
+    }
+}
+
+// ---- sets of slots
+
+// Of the slots at both ends of the words of a set.
+fn has_ends(tags: &TagSet, first: bool, middle: bool, last: bool) -> bool {
+    tags.has(TagSlot(0)) == first
+        && tags.has(TagSlot(63)) == middle
+        && tags.has(TagSlot(64)) == middle
+        && tags.has(TagSlot(255)) == last
+}
+
+fn ends() -> TagSet {
+    TagSet::empty()
+        .with(TagSlot(0))
+        .with(TagSlot(63))
+        .with(TagSlot(64))
+        .with(TagSlot(255))
+}
+
+#[test]
+fn slots_are_put_in(rt: HostRuntime) {
+    let none = TagSet::empty();
+    let ends = ends();
+    for number in 0..256u16 {
+        let is_end = number == 0 || number == 63 || number == 64 || number == 255;
+        assert!(rt; !none.has(TagSlot(number)), "{number}");
+        assert!(rt; ends.has(TagSlot(number)) == is_end, "{number}");
+    }
+}
+
+#[test]
+fn slots_are_taken_out(rt: HostRuntime) {
+    let fewer = ends()
+        .without(TagSlot(63))
+        .without(TagSlot(64))
+        .without(TagSlot(1));
+    assert!(rt; has_ends(&fewer, true, false, true));
+}
+
+#[test]
+fn slots_are_common(rt: HostRuntime) {
+    let some = TagSet::empty().with(TagSlot(64)).with(TagSlot(65));
+    let both = ends().common(&some);
+    assert!(rt; both.has(TagSlot(64)));
+    assert!(rt; !both.has(TagSlot(65)));
+    assert!(rt; !both.has(TagSlot(0)));
+}
+
+// ---- texts
+
+#[test]
+fn a_text_is_kept(rt: HostRuntime) -> Result<(), Fail> {
+    let text = Text::new(String::from_str(rt.alloc(), "añ\n")?);
+    let is_kept = text.as_str() == "añ\n";
+    assert!(rt; is_kept);
+    Ok(())
+}
