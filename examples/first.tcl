@@ -13,3 +13,7 @@ text .t
 .t get "end - 1 lines" "2.0 lineend"
 .t index "2.1 wordend + 1 any chars"
 .t compare insert >= "end - 2 lines"
+.t tag add bold 1.0 1.5 "end - 1 lines" 2.8
+.t insert 2.0 "so: " {bold em}
+.t tag ranges bold
+.t get bold.first "bold.first wordend" em.first em.last

@@ -9,7 +9,7 @@ PROGRAM_READS_ALL = True
 
 # One word for each base.
 PLACES = ["1.1", "1.end", "end"]
-NAMED = ["insert", "current", "sel.first", "sel.last"]
+NAMED = ["insert", "current", "sel.first", "sel.last", "x.first", "x.last"]
 
 # One spelling for each modifier, to stand behind a base.
 MODIFIERS = ["+1c", "-1chars", "+1i", "+1l", "-1lines", "\\ +\\ 1\\ any\\ l", "\\ linestart", "\\ linee", "\\ words", "\\ wordend"]
@@ -20,7 +20,13 @@ KEYWORDS = {"linestart": "lines", "lineend": "linee", "wordstart": "words", "wor
 
 # The names that every widget has.
 MARKS = ["insert", "current"]
-TAGGED = ["sel.first", "sel.last"]
+
+# Names for tags: often the same few, and such as look like indices, like lists or like words of commands.
+TAGS = ["x", "y", "z", "sel"]
+ODD_TAGS = [
+    "", " ", "b c", "d{", "}", "#", "#a", "a\\", "\n", "$", "[x]", '"', "é", "😀", "x.first", "x.last", "sel.first", "1.0", "end", "insert",
+    "x+1c", "x ", "X", "sel2", "-1c", "names", ".t", "x.first.last", "a;b",
+]
 
 # Words near the forms of an index that are none.
 NEAR = [

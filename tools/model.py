@@ -522,6 +522,14 @@ def bad_comparison(word):
     return Fault(f'bad comparison operator "{word}"')
 
 
+def no_such_tag(tag):
+    return Fault(f'tag "{tag}" isn\'t defined in text widget')
+
+
+def bad_list(word):
+    return Fault(f'bad list "{word}"')
+
+
 def bad_option(word):
     return Fault(f'bad option "{word}"')
 
@@ -544,6 +552,10 @@ def document_exists():
 
 def too_many_widgets():
     return Fault("too many widgets")
+
+
+def too_many_tags():
+    return Fault("too many tags")
 
 
 def text_too_long():
@@ -764,9 +776,14 @@ def tag_ranges(flags):
     return ranges
 
 
+def key_of(tag, widget):
+    """The key of a tag where the widget acts; `sel` is its own."""
+    return ("sel", widget.name) if tag == "sel" else tag
+
+
 def shown_ranges(tag, shown, widget):
-    """The ranges of a tag in what the widget shows; `sel` is its own."""
-    key = ("sel", widget.name) if tag == "sel" else tag
+    """The ranges of a tag in what the widget shows."""
+    key = key_of(tag, widget)
     return tag_ranges([key in cell.keys for cell in shown.cells])
 
 
@@ -917,11 +934,10 @@ def moved_widget(widget, offset, count):
     )
 
 
-def inserted(document, offset, text):
-    """The document after a text without a tag list went in at an offset."""
+def inserted(document, offset, text, keys):
+    """The document after a text went in at an offset, each character with these keys."""
     if text == "":
         return document
-    keys = shared_keys(document.cells, offset)
     new_cells = tuple(Cell(character, keys) for character in text)
     count = len(text)
     return replace(
@@ -932,9 +948,74 @@ def inserted(document, offset, text):
     )
 
 
+class TaggedText(NamedTuple):
+    """A text to be put in, with the tags of its list; None where it has no list."""
+
+    text: str
+    tags: Optional[tuple]
+
+
+def inserted_texts(document, widget, offset, pieces):
+    """The document after the pieces went in, each right behind the one before it.
+
+    A text with a list has the tags of the list and no others; one without has those that stand on both of its neighbours.
+    """
+    for piece in pieces:
+        if piece.tags is None:
+            keys = shared_keys(document.cells, offset)
+        else:
+            keys = frozenset(key_of(tag, widget) for tag in piece.tags)
+        document = inserted(document, offset, piece.text, keys)
+        offset += len(piece.text)
+    return document
+
+
 def insertion_place(place, shown):
     """Where an insertion at a place goes: at the end, just before the view's last newline."""
     return min(place, len(shown.characters) - 1)
+
+
+# ---------------------------------------------------------------------------------------------------
+# Tags: their names from the lowest priority to the highest, and the cells that have them
+
+
+def new_names(tags, names):
+    """Those of the names that no tag has, each once, in the order in which they are met."""
+    return tuple(dict.fromkeys(name for name in names if name not in tags))
+
+
+def with_names(document, names, limits):
+    """The document with a tag for each of the names: a new one goes above all others.  All or none are made."""
+    created = new_names(document.tags, names)
+    if len(document.tags) - 1 + len(created) > limits.tags:
+        raise too_many_tags()
+    return replace(document, tags=document.tags + created)
+
+
+def moved_name(tags, tag, place):
+    """The tags with one of them taken out and put in at a place among the others."""
+    others = tuple(name for name in tags if name != tag)
+    return others[:place] + (tag,) + others[place:]
+
+
+def place_beside(tags, tag, other, step):
+    """The place among the others right behind a tag, for a step of 1, or right before it, for 0."""
+    return tuple(name for name in tags if name != tag).index(other) + step
+
+
+def retagged(document, spans, change):
+    """The document after the keys of each cell in a span became what `change` makes of them."""
+    cells = tuple(
+        cell._replace(keys=change(cell.keys)) if any(first <= offset < last for first, last in spans) else cell
+        for offset, cell in enumerate(document.cells)
+    )
+    return replace(document, cells=cells)
+
+
+def without_tags(document, tags):
+    """The document without some tags, of which none is `sel`: no cell has them, and their names are gone."""
+    cells = tuple(cell._replace(keys=cell.keys - tags) for cell in document.cells)
+    return replace(document, cells=cells, tags=tuple(name for name in document.tags if name not in tags))
 
 
 # ---------------------------------------------------------------------------------------------------
@@ -984,15 +1065,39 @@ def text_command(world, words):
     return replace(world, documents=world.documents + (document,)), name
 
 
+def list_of(word):
+    """The list that an argument word spells."""
+    elements = split_list(word)
+    if elements is None:
+        raise bad_list(word)
+    return tuple(elements)
+
+
+def texts_of(words):
+    """The pieces of the words `chars ?tagList chars ..?`, of which the last list may be left out."""
+    lists = [list_of(word) for word in words[1::2]]
+    return [TaggedText(text, lists[number] if number < len(lists) else None) for number, text in enumerate(words[0::2])]
+
+
 def insert_command(world, document, widget, arguments):
-    """`W insert I chars`: puts the text in at I.  The answer is empty."""
+    """`W insert I chars ?tagList chars ..?`: puts the texts in at I, and makes the new tags.  The answer is empty."""
     shown = view(document, widget)
     place = argument_place(arguments[0], document, widget)
-    text = arguments[1]
-    if len(document.cells) + len(text) > world.limits.characters:
+    pieces = texts_of(arguments[1:])
+    named = with_names(document, [tag for piece in pieces for tag in piece.tags or ()], world.limits)
+    if len(document.cells) + sum(len(piece.text) for piece in pieces) > world.limits.characters:
         raise text_too_long()
     offset = shown.start + insertion_place(place, shown)
-    return with_document(world, document, inserted(document, offset, text)), ""
+    return with_document(world, document, inserted_texts(named, widget, offset, pieces)), ""
+
+
+def pairs_of(words, document, widget):
+    """The places of pairs of indices; where the last index is left out, the place one character on."""
+    length = len(view(document, widget).cells)
+    places = [argument_place(word, document, widget) for word in words]
+    if len(places) % 2 == 1:
+        places.append(min(places[-1] + 1, length))
+    return list(zip(places[0::2], places[1::2]))
 
 
 def got(first, last, shown):
@@ -1001,12 +1106,107 @@ def got(first, last, shown):
 
 
 def get_command(world, document, widget, arguments):
-    """`W get I ?I?`: the text from the first place to the second, which is one on if left out."""
+    """`W get I ?I ..?`: the text of the range; from three indices on, the list of those that aren't empty."""
     shown = view(document, widget)
-    places = [argument_place(word, document, widget) for word in arguments]
-    first = places[0]
-    last = places[1] if len(places) == 2 else first + 1
-    return world, got(first, last, shown)
+    texts = [got(first, last, shown) for first, last in pairs_of(arguments, document, widget)]
+    if len(arguments) <= 2:
+        return world, texts[0]
+    return world, list_text([text for text in texts if text != ""])
+
+
+def offsets_of(pairs, shown):
+    """The places of pairs as offsets of the document."""
+    return [(shown.start + first, shown.start + last) for first, last in pairs]
+
+
+def tag_add_command(world, document, widget, arguments):
+    """`W tag add T I ?I ..?`: puts the tag on the characters of each range, and makes it where it is new."""
+    spans = offsets_of(pairs_of(arguments[1:], document, widget), view(document, widget))
+    named = with_names(document, [arguments[0]], world.limits)
+    key = key_of(arguments[0], widget)
+    return with_document(world, document, retagged(named, spans, lambda keys: keys | {key})), ""
+
+
+def tag_remove_command(world, document, widget, arguments):
+    """`W tag remove T I ?I ..?`: takes the tag off the characters of each range."""
+    spans = offsets_of(pairs_of(arguments[1:], document, widget), view(document, widget))
+    key = key_of(arguments[0], widget)
+    return with_document(world, document, retagged(document, spans, lambda keys: keys - {key})), ""
+
+
+def tag_delete_command(world, document, widget, arguments):
+    """`W tag delete T ?T ..?`: takes the tags off all characters and drops their names; `sel` stays."""
+    return with_document(world, document, without_tags(document, frozenset(arguments) - {"sel"})), ""
+
+
+def tag_names_command(world, document, widget, arguments):
+    """`W tag names ?I?`: all tags, or those of the character at I, from the lowest to the highest."""
+    if not arguments:
+        return world, list_text(document.tags)
+    place = argument_place(arguments[0], document, widget)
+    cells = view(document, widget).cells
+    keys = cells[place].keys if place < len(cells) else frozenset()
+    return world, list_text([tag for tag in document.tags if key_of(tag, widget) in keys])
+
+
+def ranges_text(ranges, shown):
+    """Ranges as a list: each as where it begins and the place after it."""
+    return list_text([position_text(place, shown) for each in ranges for place in each])
+
+
+def ranges_of(tag, document, widget):
+    """The ranges of a tag in what the widget shows; none of an unknown tag."""
+    return shown_ranges(tag, view(document, widget), widget)
+
+
+def tag_ranges_command(world, document, widget, arguments):
+    """`W tag ranges T`: all ranges of the tag."""
+    return world, ranges_text(ranges_of(arguments[0], document, widget), view(document, widget))
+
+
+def tag_nextrange_command(world, document, widget, arguments):
+    """`W tag nextrange T A ?B?`: the first range that begins at A or behind it and before B, which is the end if left out."""
+    shown = view(document, widget)
+    places = [argument_place(word, document, widget) for word in arguments[1:]]
+    first, last = places if len(places) == 2 else (places[0], len(shown.cells))
+    found = [each for each in ranges_of(arguments[0], document, widget) if first <= each[0] < last]
+    return world, ranges_text(found[:1], shown)
+
+
+def tag_prevrange_command(world, document, widget, arguments):
+    """`W tag prevrange T A ?B?`: the last range that begins before A and not before B, which is the start if left out."""
+    shown = view(document, widget)
+    places = [argument_place(word, document, widget) for word in arguments[1:]]
+    before, first = places if len(places) == 2 else (places[0], 0)
+    found = [each for each in ranges_of(arguments[0], document, widget) if first <= each[0] < before]
+    return world, ranges_text(found[-1:], shown)
+
+
+def known_tags(document, words):
+    """The words, each of which has to be the name of a tag."""
+    for word in words:
+        if word not in document.tags:
+            raise no_such_tag(word)
+    return words
+
+
+def moved_tag(world, document, arguments, step, outermost):
+    """The world in which a tag stands beside another one, or outermost, where there is no other."""
+    tag, *others = known_tags(document, arguments)
+    if others == [tag]:
+        return world, ""
+    place = place_beside(document.tags, tag, others[0], step) if others else outermost
+    return with_document(world, document, replace(document, tags=moved_name(document.tags, tag, place))), ""
+
+
+def tag_raise_command(world, document, widget, arguments):
+    """`W tag raise T ?U?`: puts T just above U, or highest."""
+    return moved_tag(world, document, arguments, 1, len(document.tags) - 1)
+
+
+def tag_lower_command(world, document, widget, arguments):
+    """`W tag lower T ?U?`: puts T just below U, or lowest."""
+    return moved_tag(world, document, arguments, 0, 0)
 
 
 def index_command(world, document, widget, arguments):
@@ -1034,64 +1234,64 @@ def compare_command(world, document, widget, arguments):
 
 
 class Subcommand(NamedTuple):
-    """A widget's subcommand: what it does, and the least and greatest number of its arguments."""
+    """A widget's subcommand: what it does (None: nothing yet), and the least and greatest number of its arguments."""
 
-    body: callable
+    body: Optional[callable]
     least: int
-    greatest: int
+    greatest: Optional[int]
 
 
+# By their words: one, or that of a family and that of its member.  A greatest number of None is no bound.
 SUBCOMMANDS = {
-    "insert": Subcommand(insert_command, 2, 2),
-    "get": Subcommand(get_command, 1, 2),
-    "index": Subcommand(index_command, 1, 1),
-    "compare": Subcommand(compare_command, 3, 3),
+    ("insert",): Subcommand(insert_command, 2, None),
+    ("get",): Subcommand(get_command, 1, None),
+    ("index",): Subcommand(index_command, 1, 1),
+    ("compare",): Subcommand(compare_command, 3, 3),
+    ("tag", "add"): Subcommand(tag_add_command, 2, None),
+    ("tag", "remove"): Subcommand(tag_remove_command, 2, None),
+    ("tag", "delete"): Subcommand(tag_delete_command, 1, None),
+    ("tag", "names"): Subcommand(tag_names_command, 0, 1),
+    ("tag", "ranges"): Subcommand(tag_ranges_command, 1, 1),
+    ("tag", "nextrange"): Subcommand(tag_nextrange_command, 2, 3),
+    ("tag", "prevrange"): Subcommand(tag_prevrange_command, 2, 3),
+    ("tag", "raise"): Subcommand(tag_raise_command, 1, 2),
+    ("tag", "lower"): Subcommand(tag_lower_command, 1, 2),
+    ("delete",): Subcommand(None, 1, None),
+    ("replace",): Subcommand(None, 3, None),
+    ("mark", "gravity"): Subcommand(None, 1, 2),
+    ("mark", "names"): Subcommand(None, 0, 0),
+    ("mark", "next"): Subcommand(None, 1, 1),
+    ("mark", "previous"): Subcommand(None, 1, 1),
+    ("mark", "set"): Subcommand(None, 2, 2),
+    ("mark", "unset"): Subcommand(None, 0, None),
 }
 
-# The subcommands whose words are known and which do nothing yet: the least and the greatest number of their arguments.
-COMING = {
-    ("delete",): (1, None),
-    ("replace",): (3, None),
-    ("mark", "gravity"): (1, 2),
-    ("mark", "names"): (0, 0),
-    ("mark", "next"): (1, 1),
-    ("mark", "previous"): (1, 1),
-    ("mark", "set"): (2, 2),
-    ("mark", "unset"): (0, None),
-    ("tag", "add"): (2, None),
-    ("tag", "remove"): (2, None),
-    ("tag", "delete"): (1, None),
-    ("tag", "names"): (0, 1),
-    ("tag", "ranges"): (1, 1),
-    ("tag", "nextrange"): (2, 3),
-    ("tag", "prevrange"): (2, 3),
-    ("tag", "raise"): (1, 2),
-    ("tag", "lower"): (1, 2),
-}
+# The subcommands whose words are known and which do nothing yet.
+COMING = [names for names, subcommand in SUBCOMMANDS.items() if subcommand.body is None]
 
 
-def refusal(words):
-    """Why a subcommand that isn't there is refused: by its words, or as a bad option."""
-    for names, (least, greatest) in COMING.items():
+def subcommand_of(words):
+    """The words of the subcommand that a widget's command begins with, and what it is."""
+    for names, subcommand in SUBCOMMANDS.items():
         if tuple(words[1 : 1 + len(names)]) == names:
-            count = len(words) - 1 - len(names)
-            fits = least <= count and (greatest is None or count <= greatest)
-            return bad_option(words[1]) if fits else wrong_arguments()
-    if all(names[0] != words[1] for names in COMING):
-        return bad_option(words[1])
-    return wrong_arguments() if len(words) == 2 else bad_option(words[2])
+            return names, subcommand
+    if all(names[0] != words[1] for names in SUBCOMMANDS):
+        raise bad_option(words[1])
+    raise wrong_arguments() if len(words) == 2 else bad_option(words[2])
 
 
 def widget_command(world, document, widget, words):
     """`W subcommand ?argument ..?`."""
     if len(words) == 1:
         raise wrong_arguments()
-    subcommand = SUBCOMMANDS.get(words[1])
-    if subcommand is None:
-        raise refusal(words)
-    arguments = words[2:]
-    if not subcommand.least <= len(arguments) <= subcommand.greatest:
+    names, subcommand = subcommand_of(words)
+    arguments = words[1 + len(names) :]
+    if len(arguments) < subcommand.least:
         raise wrong_arguments()
+    if subcommand.greatest is not None and len(arguments) > subcommand.greatest:
+        raise wrong_arguments()
+    if subcommand.body is None:
+        raise bad_option(words[1])
     return subcommand.body(world, document, widget, arguments)
 
 

@@ -149,9 +149,17 @@ def mark_name(chance):
     return chance.choice(indices.MARKS)
 
 
+def tag_name(chance):
+    """The name of a tag: mostly one of a few, so that it is used again."""
+    kind = chance.random()
+    if kind < 0.8:
+        return chance.choice(indices.TAGS)
+    return chance.choice(indices.ODD_TAGS) if kind < 0.95 else text(chance)
+
+
 def tag_index(chance):
-    """The first or the last character of a tag, which no character has yet."""
-    return chance.choice(indices.TAGGED)
+    """The first or the last character of a tag, which may have no characters or be unknown."""
+    return tag_name(chance) + chance.choice([".first", ".last"])
 
 
 def index_blanks(chance):
@@ -180,6 +188,11 @@ def modifiers(chance):
     return parts + index_blanks(chance)
 
 
+def marked_index(chance):
+    """The first or the last character of a tag, with modifiers now and then."""
+    return tag_index(chance) + (modifiers(chance) if chance.random() < 0.3 else "")
+
+
 def near_index(chance):
     return chance.choice(indices.NEAR)
 
@@ -200,8 +213,8 @@ def index(chance):
 
 def argument_index(chance):
     """A word where an index is wanted: mostly one."""
-    words = [(index, 8), (near_index, 1), (text, 0.3)]
-    return pick(chance, words + [(tag_index, 0.4)] if indices.PROGRAM_READS_ALL else words)
+    words = [(index, 8), (near_index, 0.7), (text, 0.2)]
+    return pick(chance, words + [(marked_index, 1.5)] if indices.PROGRAM_READS_ALL else words)
 
 
 # ---------------------------------------------------------------------------------------------------
@@ -214,7 +227,7 @@ NO_COMMANDS = [
 ]
 NO_SUBCOMMANDS = [
     "foo", "ins", "Insert", "inserts", "ge", "gets", "ind", "indexes", "edit", "peer", "configure", "cget", "search", "count",
-    "dump", "-undo", "$", "]", "#", ".t", "text", "é", "", " ", "get ", "{", "\\", "names", "gravity",
+    "dump", "ta", "tags", "-undo", "$", "]", "#", ".t", "text", "é", "", " ", "get ", "{", "\\", "names", "gravity",
 ]
 NO_COMPARISONS = ["", "=", "<>", "< ", "===", "!", "lt", "é", "1.0", "=<"]
 
@@ -240,12 +253,120 @@ def text_with_options(chance):
     return ["text", name] + [word or "0" for word in chance.choices(options, k=chance.randrange(1, 5))]
 
 
+def tag_words(chance):
+    """The names of some tags, some of them twice now and then."""
+    return [tag_name(chance) for _ in range(chance.choice([0, 1, 1, 1, 2, 3, 5]))]
+
+
+def written_list(chance):
+    """A list as it is written."""
+    return model.list_text(tag_words(chance))
+
+
+def spaced_list(chance):
+    """A list with white space of every kind round its elements."""
+    spaces = ["".join(chance.choices(SPACES, k=chance.randrange(0, 3))) for _ in range(2)]
+    between = chance.choice([" ", "\t", "  ", "\n ", "\v", "\f\r"])
+    return spaces[0] + between.join(model.element_text(tag) for tag in tag_words(chance)) + spaces[1]
+
+
+def quoted_list(chance):
+    """A list whose elements stand in quotes or braces, with escapes."""
+    parts = ['"x y"', "{x y}", "x", "\\x41", "\\u20ac\\n", '"\\""', "{\\}}", "{}", '""', "a{", 'a"b', "\\#", "{a\\\n b}", "a\\\n b", "[x", "$y", ";"]
+    return " ".join(chance.choices(parts, k=chance.randrange(1, 4)))
+
+
+def broken_list(chance):
+    """A text that spells no list."""
+    ends = ["{", '"', "{x}y", '"x"y', "{x}\\", "{x}\\\n", "\\uD800", "{{}", '"\\"', "{\\}"]
+    return model.list_text(tag_words(chance)) + " " + chance.choice(ends)
+
+
+def long_list(chance):
+    """As many tags as there may be, or nearly, or one more."""
+    return model.list_text(["t%d" % number for number in range(chance.choice([100, 189, 190, 191, 192, 192, 193]))])
+
+
+TAG_LISTS = [
+    (written_list, 10),
+    (spaced_list, 2),
+    (quoted_list, 2),
+    (broken_list, 1.5),
+    (text, 0.5),
+    (long_list, 0.5),
+]
+
+
+def tag_list(chance):
+    return pick(chance, TAG_LISTS)
+
+
+def pairs(chance):
+    """`chars ?tagList chars ..?`: one text or more, each with a list but perhaps the last."""
+    words = [text(chance)]
+    for _ in range(chance.choice([0, 0, 0, 1, 1, 1, 2, 3, 4, 5])):
+        words.append(tag_list(chance) if len(words) % 2 == 1 else text(chance))
+    return words
+
+
 def insert_command(chance):
-    return [widget(chance), "insert", argument_index(chance), text(chance)]
+    return [widget(chance), "insert", argument_index(chance)] + pairs(chance)
+
+
+def near_begin(chance):
+    """A place near the text's beginning, so that ranges meet."""
+    return "%d.%d" % (chance.choice([1, 1, 1, 2, 3]), chance.randrange(0, 8))
+
+
+def range_index(chance):
+    """A word for an end of a range: mostly a place near the beginning."""
+    return near_begin(chance) if chance.random() < 0.6 else argument_index(chance)
+
+
+def range_words(chance):
+    """The words of one range or more, the last end of which may be left out."""
+    return [range_index(chance) for _ in range(chance.choice([1, 2, 2, 2, 3, 4, 4, 5, 8]))]
 
 
 def get_command(chance):
-    return [widget(chance), "get"] + [argument_index(chance) for _ in range(chance.choice([1, 2, 2]))]
+    return [widget(chance), "get"] + range_words(chance)
+
+
+def tag_add_command(chance):
+    return [widget(chance), "tag", "add", tag_name(chance)] + range_words(chance)
+
+
+def tag_remove_command(chance):
+    return [widget(chance), "tag", "remove", tag_name(chance)] + range_words(chance)
+
+
+def tag_delete_command(chance):
+    return [widget(chance), "tag", "delete"] + [tag_name(chance) for _ in range(chance.choice([1, 1, 2, 4]))]
+
+
+def tag_names_command(chance):
+    return [widget(chance), "tag", "names"] + [range_index(chance) for _ in range(chance.choice([0, 1, 1]))]
+
+
+def tag_ranges_command(chance):
+    return [widget(chance), "tag", "ranges", tag_name(chance)]
+
+
+def tag_walk_command(chance):
+    """`tag nextrange` or `tag prevrange`."""
+    places = [range_index(chance) for _ in range(chance.choice([1, 2]))]
+    return [widget(chance), "tag", chance.choice(["nextrange", "prevrange"]), tag_name(chance)] + places
+
+
+def tag_order_command(chance):
+    """`tag raise` or `tag lower`."""
+    return [widget(chance), "tag", chance.choice(["raise", "lower"])] + [tag_name(chance) for _ in range(chance.choice([1, 2, 2]))]
+
+
+def tag_alone(chance):
+    """`tag` without a member of it, with any words after it."""
+    members = [[], ["foo"], [""], ["nam"], ["Add"], ["x"], ["configure"], ["bind", "x"], ["addx", "x", "1.0"], ["namess"]]
+    return [widget(chance), "tag"] + chance.choice(members)
 
 
 def index_command(chance):
@@ -264,14 +385,23 @@ def compare_command(chance):
 def wrong_count_command(chance):
     """A command of too few words or too many, whose other words may be wrong too."""
     subcommand, counts = chance.choice([
-        ("insert", [0, 1, 3, 4, 5]),
-        ("get", [0, 3, 4, 9]),
-        ("index", [0, 2, 3]),
-        ("compare", [0, 1, 2, 4]),
-        (None, [0]),
+        (["insert"], [0, 1]),
+        (["get"], [0]),
+        (["index"], [0, 2, 3]),
+        (["compare"], [0, 1, 2, 4]),
+        (["tag", "add"], [0, 1]),
+        (["tag", "remove"], [0, 1]),
+        (["tag", "delete"], [0]),
+        (["tag", "names"], [2, 3]),
+        (["tag", "ranges"], [0, 2]),
+        (["tag", "nextrange"], [0, 1, 4]),
+        (["tag", "prevrange"], [0, 1, 4]),
+        (["tag", "raise"], [0, 3]),
+        (["tag", "lower"], [0, 3]),
+        ([], [0]),
     ])
     arguments = [argument_index(chance) for _ in range(chance.choice(counts))]
-    return [widget(chance)] + ([] if subcommand is None else [subcommand] + arguments)
+    return [widget(chance)] + subcommand + arguments
 
 
 def text_alone(chance):
@@ -286,7 +416,7 @@ def bad_option_command(chance):
 
 def coming_command(chance):
     """A subcommand whose words are known and which isn't there yet, or the front of one, with any words after it."""
-    names = chance.choice(list(model.COMING))
+    names = chance.choice(model.COMING)
     arguments = [argument_index(chance) for _ in range(chance.randrange(0, 4))]
     return [widget(chance), *names[: chance.choice([1, 2, 2])], *arguments]
 
@@ -308,6 +438,14 @@ COMMANDS = [
     (get_command, 7),
     (index_command, 5),
     (compare_command, 2),
+    (tag_add_command, 6),
+    (tag_remove_command, 3),
+    (tag_delete_command, 1),
+    (tag_names_command, 3),
+    (tag_ranges_command, 4),
+    (tag_walk_command, 5),
+    (tag_order_command, 2),
+    (tag_alone, 0.4),
     (text_command, 1),
     (text_with_bad_name, 0.4),
     (text_with_options, 0.5),
@@ -328,7 +466,11 @@ FORM_INDICES = indices.bare_indices()
 # Texts of characters of one byte and of several, short and longer than one read of the program.
 FORM_TEXTS = ["x", "é€😀", "abcdefghij" * 500]
 
-FORM_WORLD = ["text .t", ".t insert 1.0 ab"]
+FORM_WORLD = ["text .t", ".t insert 1.0 abcd", ".t tag add x 1.0 1.1 1.2 1.3", ".t tag add sel 1.1"]
+
+# Names of tags that there are and one more, and lists of them, as a script spells them bare or in braces.
+FORM_TAGS = ["x", "sel", "q"]
+FORM_LISTS = ["{}", "x", "sel", "{q r}", "{{a b} \\x41}"]
 
 
 class Form(NamedTuple):
@@ -344,11 +486,28 @@ class Form(NamedTuple):
 
 FORMS = [
     Form([], ["text"], [[".t", ".window"]]),
-    Form(FORM_WORLD, [".t", "insert"], [FORM_INDICES, FORM_TEXTS]),
+    Form(FORM_WORLD, [".t", "insert"], [FORM_INDICES, FORM_TEXTS, [None, "{q r}"]]),
+    Form(FORM_WORLD, [".t", "insert"], [["1.1"], ["x", "{}"], FORM_LISTS, FORM_TEXTS, [None, *FORM_LISTS]]),
+    Form(FORM_WORLD, [".t", "insert", "1.1", "a", "p", "b", "{}", "c"], [[None, "{p q}"]]),
     Form(FORM_WORLD, [".t", "get"], [FORM_INDICES, [None, *indices.PLACES]]),
+    Form(FORM_WORLD, [".t", "get"], [indices.PLACES, FORM_INDICES]),
+    Form(FORM_WORLD, [".t", "get", "1.0", "1.2"], [FORM_INDICES, [None, *indices.PLACES]]),
+    Form(FORM_WORLD, [".t", "get", "1.0", "1.1"], [["1.0"], ["1.2"], FORM_INDICES, [None, "1.end"]]),
     Form(FORM_WORLD, [".t", "index"], [FORM_INDICES]),
     Form(FORM_WORLD, [".t", "compare"], [FORM_INDICES, ["<"], indices.PLACES]),
     Form(FORM_WORLD, [".t", "compare"], [indices.PLACES, list(model.COMPARISONS), FORM_INDICES]),
+    Form(FORM_WORLD, [".t", "tag"], [["add", "remove"], FORM_TAGS, ["1.0"], [None, "1.2"]]),
+    Form(FORM_WORLD, [".t", "tag"], [["add", "remove"], ["x"], FORM_INDICES, [None, *indices.PLACES]]),
+    Form(FORM_WORLD, [".t", "tag"], [["add", "remove"], ["x"], ["1.0"], FORM_INDICES]),
+    Form(FORM_WORLD, [".t", "tag"], [["add", "remove"], ["q"], ["1.0"], ["1.1"], FORM_INDICES, [None, "end"]]),
+    Form(FORM_WORLD, [".t", "tag"], [["add", "remove"], ["sel"], ["1.0"], ["1.1"], ["1.2"], ["1.3"], FORM_INDICES, [None, "end"]]),
+    Form(FORM_WORLD, [".t", "tag", "delete"], [FORM_TAGS, [None, *FORM_TAGS], [None, "x"]]),
+    Form(FORM_WORLD, [".t", "tag", "names"], [[None, *FORM_INDICES]]),
+    Form(FORM_WORLD, [".t", "tag", "ranges"], [FORM_TAGS]),
+    Form(FORM_WORLD, [".t", "tag"], [["nextrange", "prevrange"], FORM_TAGS, ["1.0"], [None, "end"]]),
+    Form(FORM_WORLD, [".t", "tag"], [["nextrange", "prevrange"], ["x"], FORM_INDICES, [None, *indices.PLACES]]),
+    Form(FORM_WORLD, [".t", "tag"], [["nextrange", "prevrange"], ["x"], indices.PLACES, FORM_INDICES]),
+    Form(FORM_WORLD, [".t", "tag"], [["raise", "lower"], FORM_TAGS, [None, *FORM_TAGS]]),
 ]
 
 # ---------------------------------------------------------------------------------------------------
@@ -516,7 +675,7 @@ FAULTS = [
     (bracket_fault, 1),
     (expansion_fault, 2),
     (brace_fault, 4),
-    (quote_fault, 4),
+    (quote_fault, 6),
     (code_fault, 4),
     (edge_bytes, 6),
     (not_utf8_fault, 4),
@@ -568,9 +727,19 @@ def valid_commands(chance):
     for _ in range(chance.randrange(0, 40)):
         words.append(chance.choice([
             lambda: [".t", "insert", index(chance), text(chance)],
+            lambda: [".t", "insert", index(chance), text(chance), written_list(chance), text(chance)],
             lambda: [".t", "get", index(chance)],
             lambda: [".t", "get", index(chance), index(chance)],
+            lambda: [".t", "get", index(chance), index(chance), index(chance)],
             lambda: [".t", "index", index(chance)],
+            lambda: [".t", "tag", "add", tag_name(chance), near_begin(chance), index(chance)],
+            lambda: [".t", "tag", "remove", tag_name(chance), near_begin(chance)],
+            lambda: [".t", "tag", "nextrange", tag_name(chance), near_begin(chance)],
+            lambda: [".t", "tag", "prevrange", tag_name(chance), index(chance), near_begin(chance)],
+            lambda: [".t", "tag", "delete", tag_name(chance)],
+            lambda: [".t", "tag", "names", near_begin(chance)],
+            lambda: [".t", "tag", "ranges", tag_name(chance)],
+            lambda: [".t", "tag", "raise", "sel"],
         ])())
     return "".join(blanks(chance).join(spelled(chance, word) for word in each) + command_end(chance) for each in words)
 

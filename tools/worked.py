@@ -83,6 +83,244 @@ def places():
     ]
 
 
+def no_tag(name):
+    return f'error: tag "{name}" isn\'t defined in text widget'
+
+
+def no_characters(name):
+    return f'error: text doesn\'t contain any characters tagged with "{name}"'
+
+
+def bad_index(word):
+    return f'error: bad text index "{word}"'
+
+
+def bad_list(word):
+    return f'error: bad list "{word}"'
+
+
+TOO_MANY_TAGS = "error: too many tags"
+TEXT_TOO_LONG = "error: text is too long"
+
+# As many names as there may be tags.
+MOST_NAMES = " ".join(f"t{number}" for number in range(192))
+
+
+def tag_lists():
+    """Insertions with tag lists, and what they leave."""
+    return [
+        Row(
+            "a text has the tags of both neighbours, or those of its list",
+            b"text .t; .t insert 1.0 abc; .t tag add x 1.0 1.2; .t insert 1.1 Y; .t insert 1.3 Z; .t insert 1.1 W {}; "
+            b".t tag ranges x; .t insert 1.0 {} {q r}; .t tag names; .t tag names 1.0",
+            lines(".t", "", "", "", "", "", "1.0 1.1 1.2 1.4", "", "sel x q r", "x"),
+            0,
+        ),
+        Row(
+            "a text at the beginning has no tags, and at the end goes before the last newline",
+            b"text .t; .t insert 1.0 b; .t tag add x 1.0 end; .t insert 1.0 a; .t tag names 1.0; .t insert end c; .t tag names 1.2; "
+            b".t get 1.0 end; .t tag ranges x",
+            lines(".t", "", "", "", "", "", "x", "abc\n", "1.1 2.0"),
+            0,
+        ),
+        Row(
+            "several pairs, each right behind the one before",
+            b"text .t; .t insert 1.0 || x; .t insert 1.1 a {y z} b {} c y d; .t get 1.0 1.end; .t tag ranges x; .t tag ranges y; "
+            b".t tag ranges z; .t tag names 1.1; .t tag names 1.2; .t tag names 1.4; .t tag names",
+            lines(".t", "", "", "|abcd|", "1.0 1.1 1.5 1.6", "1.1 1.2 1.3 1.4", "1.1 1.2", "y z", "", "", "sel x y z"),
+            0,
+        ),
+        Row(
+            "a text without a list has the tags that the pair before it shares with what follows",
+            b"text .t; .t insert 1.0 a x; .t insert 1.0 b x c; .t tag ranges x; .t insert 1.2 d {x y} e; .t tag ranges x; .t tag ranges y",
+            lines(".t", "", "", "1.0 1.3", "", "1.0 1.5", "1.2 1.3"),
+            0,
+        ),
+        Row(
+            "new tags in the order given, each once, for empty texts too",
+            b"text .t; .t insert 1.0 {} {c a c} {} {b a} {} {}; .t tag names; .t get 1.0 end; .t index c.first; .t insert end x {d sel a}; "
+            b".t tag names; .t tag names 1.0; .t tag ranges sel",
+            lines(".t", "", "sel c a b", "\n", no_characters("c"), "", "sel c a b d", "sel a d", "1.0 1.1"),
+            1,
+        ),
+        Row(
+            "lists as they may be spelled",
+            b'text .t; .t insert 1.0 a "{b c} d\\\\\\{ \\"e f\\" \\\\x41 {} #"; .t tag names; .t index "b c.first"; .t index "d\\{.last"; .t index .first',
+            lines(".t", "", "sel {b c} d\\{ {e f} A {} #".replace(" #", " {#}"), "1.0", "1.1", "1.0"),
+            0,
+        ),
+        Row(
+            "an index comes before the lists, and lists come from left to right",
+            b"text .t; .t insert q a \\{ b x; .t insert x.first a x; .t insert 1.0 a x b \\{ c \\\"; .t insert 1.0 a \\\" b \\{; "
+            b".t insert 1.0 a {{b}c}; .t insert 1.0 a {x \\uD800}; .t get 1.0 end; .t tag names",
+            lines(".t", bad_index("q"), bad_index("x.first"), bad_list("{"), bad_list('"'), bad_list("{b}c"),
+                  bad_list("x \\uD800"), "\n", "sel"),
+            1,
+        ),
+        Row(
+            "too many tags comes before a text that is too long, and after a bad list",
+            b"text .t; .t insert 1.0 abcd {p q} e \\{; .t insert 1.0 abcd {p q}; .t insert 1.0 abcd {p p}; .t tag names; "
+            b".t insert 1.0 {} {p sel p}; .t insert 1.0 {} q {} p; .t tag names; .t insert 1.0 abc {sel p}; .t get 1.0 1.end",
+            lines(".t", bad_list("{"), TOO_MANY_TAGS, TEXT_TOO_LONG, "sel", "", TOO_MANY_TAGS, "sel p", "", "abc"),
+            1,
+            Limits(characters=4, tags=1),
+        ),
+        Row(
+            "the new tags of all lists are counted, each once",
+            b"text .t; .t insert 1.0 a {p q} b {q r}; .t tag names; .t insert 1.0 a {p q} b {q p}; .t tag names; .t insert 1.0 c {q r}; "
+            b".t tag add r 1.0 1.0; .t tag delete p; .t tag add r 1.0 1.0; .t tag names",
+            lines(".t", TOO_MANY_TAGS, "sel", "", "sel p q", TOO_MANY_TAGS, TOO_MANY_TAGS, "", "", "sel q r"),
+            1,
+            Limits(tags=2),
+        ),
+        Row(
+            "small limits",
+            b"text .t; .t insert 1.0 abcd; .t insert 1.0 abc; .t tag add a 1.0; .t tag add b 1.0; .t insert 1.0 {} c; .t tag names",
+            lines(".t", TEXT_TOO_LONG, "", "", TOO_MANY_TAGS, TOO_MANY_TAGS, "sel a"),
+            1,
+            Limits(4, 1, 1, 2),
+        ),
+        Row(
+            "as many tags as there may be, and one more",
+            f"text .t; .t insert 1.0 ab {{{MOST_NAMES}}}; .t tag add u 1.0; .t insert 1.0 c u; .t insert 1.0 d {{t0 t191 sel}}; .t tag ranges t0; "
+            f".t tag names; .t tag delete t5; .t tag add u 1.0; .t tag add t5 1.0; .t tag names 1.0; .t tag raise t5; .t tag ranges t191".encode(),
+            lines(".t", "", TOO_MANY_TAGS, TOO_MANY_TAGS, "", "1.0 1.3", "sel " + MOST_NAMES, "", "", TOO_MANY_TAGS, "sel t0 t191 u",
+                  no_tag("t5"), "1.0 1.3"),
+            1,
+        ),
+    ]
+
+
+def tags():
+    """The commands of `tag`, and tags in indices."""
+    return [
+        Row(
+            "a new document has one tag",
+            b"text .t; .t tag names; .t tag names 1.0; .t tag ranges sel; .t tag add sel 1.0; .t tag names 1.0; .t tag ranges sel; "
+            b".t index sel.first; .t tag delete sel; .t tag names; .t tag ranges sel; .t tag remove sel 1.0; .t index sel.last",
+            lines(".t", "sel", "", "", "", "sel", "1.0 2.0", "1.0", "", "sel", "1.0 2.0", "", no_characters("sel")),
+            1,
+        ),
+        Row(
+            "only tag add and lists make tags, and a new tag is the highest",
+            b"text .t; .t tag add b 1.0; .t tag add a 1.0; .t tag names 1.0; .t tag add c 1.0 1.0; .t tag add d end; .t tag names; "
+            b".t tag remove e 1.0; .t tag ranges f; .t tag nextrange g 1.0; .t tag prevrange h end; .t tag raise i; .t tag lower j; "
+            b".t tag raise a k; .t tag delete l; .t tag names",
+            lines(".t", "", "", "b a", "", "", "sel b a c d", "", "", "", "", no_tag("i"), no_tag("j"), no_tag("k"), "", "sel b a c d"),
+            1,
+        ),
+        Row(
+            "raised and lowered",
+            b'text .t; .t tag add a 1.0; .t tag add {b c} 1.0; .t tag add "d\\{" 1.0; .t tag names; .t tag raise a; '
+            b'.t tag lower "d\\{" sel; .t tag names; .t tag delete {b c} sel; .t tag names 1.0',
+            lines(".t", "", "", "", "sel a {b c} d\\{", "", "", "d\\{ sel {b c} a", "", "d\\{ a"),
+            0,
+        ),
+        Row(
+            "beside another tag and beside itself",
+            b"text .t; .t insert 1.0 x {a b c d}; .t tag raise a c; .t tag names; .t tag lower d b; .t tag names 1.0; .t tag raise b b; "
+            b".t tag lower b b; .t tag names; .t tag lower c; .t tag names; .t tag raise sel; .t tag names; .t tag raise sel a; .t tag names; "
+            b".t tag raise c b; .t tag lower a c; .t tag names; .t tag raise q b; .t tag lower b q; .t tag raise q r; .t tag lower q q",
+            lines(".t", "", "", "sel b c a d", "", "d b c a", "", "", "sel d b c a", "", "c sel d b a", "", "c d b a sel", "", "c d b a sel",
+                  "", "", "d b a c sel", no_tag("q"), no_tag("q"), no_tag("q"), no_tag("q")),
+            1,
+        ),
+        Row(
+            "deleted from all characters",
+            b"text .t; .t insert 1.0 ab {x y} cd y; .t tag delete x q x sel; .t tag names; .t tag ranges x; .t index x.first; .t tag names 1.0; "
+            b".t tag ranges y; .t tag delete y x; .t tag names; .t tag names 1.2",
+            lines(".t", "", "", "sel y", "", bad_index("x.first"), "y", "1.0 1.4", "", "sel", ""),
+            1,
+        ),
+        Row(
+            "made, deleted and made again on characters that had it",
+            b"text .t; .t insert 1.0 abcd x; .t tag delete x; .t tag add x 1.0 1.0; .t tag ranges x; .t tag names 1.1; .t tag add x 1.1; "
+            b".t tag ranges x; .t tag delete x; .t insert 1.0 e y; .t tag ranges y; .t tag ranges x; .t tag add x 1.2 end; .t tag ranges x; "
+            b".t tag names 1.2; .t tag names",
+            lines(".t", "", "", "", "", "", "", "1.1 1.2", "", "", "1.0 1.1", "", "", "1.2 2.0", "x", "sel y x"),
+            0,
+        ),
+        Row(
+            "ranges are pairs of indices",
+            b"text .t; .t insert 1.0 abcdefgh; .t tag add x 1.1 1.3 1.5; .t tag ranges x; .t tag add x 1.2 1.6 1.0 1.0 1.8 1.7; .t tag ranges x; "
+            b".t tag remove x 1.0 1.2 1.4; .t tag ranges x; .t tag remove x 1.3 1.2; .t tag ranges x; .t tag add x end; .t tag add x 1.7 end; "
+            b".t tag ranges x; .t tag remove x 1.0 end; .t tag ranges x; .t tag remove y 1.0; .t tag add x 1.0 q; .t tag remove q q; "
+            b".t tag add x q r; .t tag ranges x",
+            lines(".t", "", "", "1.1 1.3 1.5 1.6", "", "1.1 1.6", "", "1.2 1.4 1.5 1.6", "", "1.2 1.4 1.5 1.6", "", "",
+                  "1.2 1.4 1.5 1.6 1.7 2.0", "", "", "", bad_index("q"), bad_index("q"), bad_index("q"), ""),
+            1,
+        ),
+        Row(
+            "ranges over lines, and several texts",
+            b'text .t; .t insert 1.0 "ab\ncd\n\nef"; .t get 1.0 1.1 1.1 1.1 2.0; .t compare 1.end < 2.0; .t tag add x 1.0 1.1 2.0 3.0; '
+            b".t tag nextrange x 1.1; .t tag prevrange x 2.1; .t tag ranges x; .t index x.last; .t get 1.0 2.0 3.0",
+            lines(".t", "", "a c", "1", "", "2.0 3.0", "2.0 3.0", "1.0 1.1 2.0 3.0", "3.0", "{ab\n} {\n}"),
+            0,
+        ),
+        Row(
+            "the next and the previous range",
+            b"text .t; .t insert 1.0 abcdefghij; .t tag add x 1.1 1.3 1.5 1.7 1.9; .t tag nextrange x 1.0; .t tag nextrange x 1.1; "
+            b".t tag nextrange x 1.2; .t tag nextrange x 1.2 1.5; .t tag nextrange x 1.2 1.6; .t tag nextrange x 1.6 1.6; .t tag nextrange x end; "
+            b".t tag nextrange x 1.9 1.8; .t tag prevrange x end; .t tag prevrange x 1.9; .t tag prevrange x 1.6; .t tag prevrange x 1.5; "
+            b".t tag prevrange x 1.6 1.5; .t tag prevrange x 1.6 1.6; .t tag prevrange x 1.9 1.6; .t tag prevrange x 1.1; .t tag prevrange x 1.0; "
+            b".t tag nextrange x q r; .t tag prevrange y 1.0 r; .t tag nextrange y 1.0 end",
+            lines(".t", "", "", "1.1 1.3", "1.1 1.3", "1.5 1.7", "", "1.5 1.7", "", "", "", "1.9 1.10", "1.5 1.7", "1.5 1.7", "1.1 1.3",
+                  "1.5 1.7", "", "", "", "", bad_index("q"), bad_index("r"), ""),
+            1,
+        ),
+        Row(
+            "the tags of a character",
+            b"text .t; .t insert 1.0 ab {p q} c q; .t tag raise p; .t tag names; .t tag names 1.0; .t tag names 1.2; .t tag names 1.3; "
+            b".t tag names end; .t tag names 9.0; .t tag names q; .t tag names q.first; .t tag names p.last",
+            lines(".t", "", "", "sel q p", "q p", "q", "", "", "", bad_index("q"), "q p", "q"),
+            1,
+        ),
+        Row(
+            "tags as bases of indices",
+            b"text .t; .t insert 1.0 ab x c {x y.last.z} d x; .t index x.first; .t index x.last; .t index x.last-1c; .t index y.last.z.first; "
+            b".t index y.last.first; .t tag add y 1.0; .t index y.last; .t index y.last.z.last; .t get x.first y.last.z.first; "
+            b'.t index "x.first lineend"; .t compare x.first < y.last; .t index x.firsts; .t index x; .t tag remove x 1.0 end; .t index x.last; '
+            b".t tag add insert 1.0; .t index insert.first; .t tag add {} 1.1; .t index .last; .t tag add {a b+} 1.2; .t index {a b+.first +1c}",
+            lines(".t", "", "1.0", "1.4", "1.3", "1.2", bad_index("y.last.first"), "", "1.1", "1.3", "ab", "1.4", "1", bad_index("x.firsts"),
+                  bad_index("x"), "", no_characters("x"), "", "1.0", "", "1.2", "", "1.3"),
+            1,
+        ),
+        Row(
+            "indices have their value before the command",
+            b"text .t; .t insert 1.0 abc; .t tag add x x.first; .t tag add x 1.0 1.0; .t tag add x x.first; .t tag add x 1.1; "
+            b".t tag add x 1.0 x.first x.last end; .t tag ranges x; .t tag remove x x.first x.last-1c x.first; .t tag ranges x; "
+            b".t insert x.first Y x; .t tag ranges x",
+            lines(".t", "", bad_index("x.first"), "", no_characters("x"), "", "", "1.0 2.0", "", "1.3 2.0", "", "1.3 2.0"),
+            1,
+        ),
+        Row(
+            "texts of several ranges",
+            b'text .t; .t insert 1.0 "ab {c\nd"; .t get 1.0 1.2 1.3; .t get 1.0 1.0 1.0; .t get 1.0 1.1 1.2; .t get 1.1 1.0 1.1 1.2; '
+            b".t get 1.0 1.0 1.1 1.1; .t get 2.0 end 1.0; .t get end end end; .t get 1.0 1.1 q",
+            lines(".t", "", "ab \\{", "a", "a { }", "b", "", "{d\n} a", "", bad_index("q")),
+            1,
+        ),
+        Row(
+            "each fault of a command in turn, tags among them",
+            commands("foo", "text t", "text .t", "text .t", "text .u", ".t", ".t foo", ".t get", ".t index x.first", ".t tag add x 1.0 1.0",
+                     ".t index x.first", ".t tag raise q", ".t compare 1.0 <> 1.0", '.t insert 1.0 a "{"'),
+            lines('error: invalid command name "foo"', 'error: invalid command name "t"', ".t", 'error: window name ".t" already exists',
+                  "error: a document exists", "error: wrong # args", 'error: bad option "foo"', "error: wrong # args", bad_index("x.first"), "",
+                  no_characters("x"), no_tag("q"), 'error: bad comparison operator "<>"', bad_list("{")),
+            1,
+        ),
+        Row(
+            "what stands where in the commands of tags",
+            b"text .t; .t tag; .t tag foo; .t tag {}; .t tag add x; .t tag remove; .t tag delete; .t tag names 1.0 1.0; .t tag ranges; "
+            b".t tag ranges x y; .t tag nextrange x; .t tag prevrange x 1.0 1.0 1.0; .t tag raise; .t tag lower x y z; .t tag configure x; "
+            b".t insert 1.0; .t get; .t tag names",
+            lines(".t", "error: wrong # args", 'error: bad option "foo"', 'error: bad option ""', *["error: wrong # args"] * 10,
+                  'error: bad option "configure"', *["error: wrong # args"] * 2, "sel"),
+            1,
+        ),
+    ]
+
+
 def whole_runs():
     """Runs of several commands."""
     return [
@@ -213,10 +451,9 @@ def command_faults():
         ),
         Row(
             "wrong number of words",
-            b"text; text .t; .t; .t insert; .t insert zz; .t insert 1.0; .t insert 1.0 a b; "
-            b".t insert zz a b c; .t get; .t get 1.0 1.0 1.0; .t get zz zz zz; .t index; "
-            b".t index 1.0 1.0; .t get 1.0 end",
-            lines("error: wrong # args", ".t", *["error: wrong # args"] * 11, "\n"),
+            b"text; text .t; .t; .t insert; .t insert zz; .t insert 1.0; .t get; .t index; .t index 1.0 1.0; .t index zz zz; "
+            b".t compare 1.0 <; .t get 1.0 end",
+            lines("error: wrong # args", ".t", *["error: wrong # args"] * 9, "\n"),
             1,
         ),
         Row(
@@ -397,7 +634,7 @@ def script_faults():
     ]
 
 
-ROWS = whole_runs() + places() + quoting() + command_faults() + script_faults()
+ROWS = whole_runs() + places() + tag_lists() + tags() + quoting() + command_faults() + script_faults()
 
 
 def long_scripts():
@@ -405,6 +642,8 @@ def long_scripts():
     long_word = b"abcdefghij" * 500
     pieces = b"".join(b".t insert end piece%d;" % number for number in range(40))
     many_words = b".t get " + b"1.0 " * 100
+    many_ranges = b" ".join(b"1.%d 1.%d" % (2 * number, 2 * number + 1) for number in range(60))
+    many_tags = b" ".join(b"{tag %d}" % number for number in range(40))
     return [
         ("one long insertion", b"text .t;.t insert 1.0 " + long_word + b";.t get 1.0 1.end;.t index 1.end"),
         ("a text made of many insertions", b"text .t;" + pieces + b".t get 1.0 end;.t index end"),
@@ -414,6 +653,21 @@ def long_scripts():
         ("long answers", b"text .t;.t insert 1.0 " + long_word + b";" + b".t get 1.0 end;" * 5),
         ("a braced word of many lines", b"text .t;.t insert 1.0 {" + b"a line\n" * 700 + b"};.t get 1.0 end"),
         ("a quoted word of many escapes", b'text .t;.t insert 1.0 "' + b"\\x41\\n" * 700 + b'";.t index end'),
+        (
+            "an insertion with three new tags",
+            b"text .t;.t tag names;.t insert 1.0 a {p q} bc {} d {r sel p};.t tag names;.t tag names 1.0;.t tag names 1.3;.t tag add s 1.0 1.1;"
+            b".t tag names;.t insert end e {t p};.t tag names;.t tag ranges p",
+        ),
+        (
+            "tags deleted and made again",
+            b"text .t;.t insert 1.0 abcd {p q r};.t tag delete q r;.t tag names;.t tag add r 1.0;.t tag add s 1.1 1.2 1.3;.t tag ranges r;"
+            b".t tag ranges s;.t tag remove p 1.1 1.2;.t tag ranges p;.t tag raise p;.t tag lower s p;.t tag names",
+        ),
+        (
+            "long lists of ranges and tags",
+            b"text .t;.t insert 1.0 " + b"ab" * 60 + b";.t tag add x " + many_ranges + b";.t tag ranges x;.t get " + many_ranges
+            + b";.t tag remove x " + many_ranges + b";.t tag ranges x;.t insert 1.0 c {" + many_tags + b"};.t tag names;.t tag names 1.0",
+        ),
         ("a script fault after long words", b"text .t;.t insert 1.0 " + long_word + b";.t get " + long_word + b"["),
     ]
 

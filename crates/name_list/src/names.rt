@@ -1,4 +1,4 @@
-ghost use Rattle.std.specs.Prelude.{◌≡◌, ◌<◌, ◌≤◌, ◌↔◌, ◌∷◌, [], ◌++◌, length, remove, slice_get, chars, string_bytes, None, Some, Contains, IsNone, IfOk, IfSome, OnErr, MatchOption};
+ghost use Rattle.std.specs.Prelude.{◌≡◌, ◌<◌, ◌≤◌, ◌↔◌, ◌∷◌, [], ◌++◌, length, remove, take, slice_get, chars, string_bytes, None, Some, Contains, IsNone, IfOk, IfSome, OnErr, MatchOption};
 ghost use Rattle.name_list.specs.Moves.{move_index};
 ghost use Rattle.name_list.specs.Names.{Names, place_of, names_of, numbers_of, IsFull, IsLeastFree, AreNames};
 
@@ -119,6 +119,16 @@ impl NameList {
         self.free = self.free.min(number as usize);
     }
 
+    /// Takes out the names behind the first so many. Their numbers are free again.
+    pub fn truncate(&mut self, len: usize)
+        ensures { self.new ≡ record self.old { entries = take len self.old.entries } }
+    {
+        while self.len() > len {
+            let last = self.len() - 1;
+            self.remove(last);
+        }
+    }
+
     /// Moves the name at a place to another place; those in between move by one.
     pub fn move_to(&mut self, from: usize, to: usize)
         requires from { from < length self.old.entries }
@@ -175,6 +185,10 @@ mod tests {
         assert_eq!(rt; names.place_with(4), None);
         assert_eq!(rt; create(&rt, alloc, &mut names, "é")?, Some(1));
         check_order(&rt, &names, &[("a", 0), ("b c", 3), ("", 2), ("é", 1)]);
+        names.truncate(5);
+        names.truncate(2);
+        check_order(&rt, &names, &[("a", 0), ("b c", 3)]);
+        assert_eq!(rt; create(&rt, alloc, &mut names, "f")?, Some(1));
         Ok(())
     }
 }

@@ -14,7 +14,18 @@ use Rattle.text_model.specs.Documents.{MarksStand}
 use Rattle.text_model.specs.Steps.{after_step}
 use Rattle.text_model.proofs.DocumentLaws.{IsDocument-new}
 use Rattle.text_model.proofs.StepLaws.{MarksStand-after_step}
-use Rattle.peers.specs.Kept.{IsKept, is_window_name}
+use Rattle.undo_stack.specs.Modified.{unmodified}
+use Rattle.name_list.specs.Names.{AreApart}
+use Rattle.tag_table.specs.Tags.{Tag, Tags, AreTags, first_slot, sel}
+use Rattle.std.proofs.Common.{zero, suc, ◌≢◌, ◌+◌, ◌<◌, ◌≤◌, cond}
+use Rattle.std.specs.Prelude.{slice_get, option_map}
+use Rattle.std.proofs.lemmas.Option.{none-some, same_Some}
+use Rattle.std.proofs.lemmas.Slice.Eq.{bytes_eq-Decides}
+use Rattle.text_model.specs.declared.limits.TheConstants.Limits.{MOST_TAGS}
+use Rattle.std.proofs.Common.{true≢false}
+use Rattle.peers.specs.Keys.{keys_of, key_pairs}
+use Rattle.peers.proofs.BridgeLaws.{keys_of-empty}
+use Rattle.peers.specs.Kept.{IsKept, HasKnownSlots, is_window_name}
 use Rattle.peers.specs.Step.{new_document}
 use Rattle.peers.specs.World.{Document, lone_document, document_of, whole_widget, keyed, mark_of, new_mark, first_content}
 
@@ -34,19 +45,45 @@ stand-first =
     MarksStand-after_step (PutMark (record { 0 = 1 }) new_mark) (after_step (PutMark (record { 0 = 0 }) new_mark) new_content) (omega arith)
     (MarksStand-after_step (PutMark (record { 0 = 0 }) new_mark) new_content (omega arith) stand-new)
 
-pub kept-first : (name : List ℕ) → is_window_name name ≡ true → IsKept name first_content
-kept-first name named = record {
+pub kept-first : (name : List ℕ) (table : Tags) → is_window_name name ≡ true → AreTags table → table.limit ≡ MOST_TAGS → IsKept name table first_content
+kept-first name table named are roomy = record {
   named = named;
   text = IsDocument-new;
   short = omega arith;
   marks = stand-first;
   insert = ap is_some insert-first;
   current = ap is_some current-first;
-  untagged = All-cons (λ (cell : Cell). cell.tags ≡ set.empty) _ [] refl (All-nil (λ (cell : Cell). cell.tags ≡ set.empty));
+  known = All-cons (HasKnownSlots table.tags) _ [] (λ slot there. absurd (true≢false (sym there ∙ set.contains-empty nat_cmp slot))) (All-nil (HasKnownSlots table.tags));
+  tags = are;
+  roomy = roomy;
 }
 
-pub lone-first : (name : List ℕ) → lone_document name first_content ≡ new_document name
+abbrev pub sel_alone : List Tag
+sel_alone = record { name = sel; slot = 0 } ∷ []
+
+pub lone-first : (name : List ℕ) → lone_document name sel_alone unmodified first_content ≡ new_document name
 lone-first name =
     let insert : mark_of first_content.marks 0 ≡ new_mark = ap (λ found. unwrap_or found new_mark) insert-first in
     let current : mark_of first_content.marks 1 ≡ new_mark = ap (λ found. unwrap_or found new_mark) current-first in
-    λ i. document_of (keyed [] first_content.cells) (whole_widget name (insert i) (current i))
+    let keys : keys_of (key_pairs name sel_alone) set.empty ≡ set.empty = keys_of-empty name sel_alone in
+    λ i. document_of (record { character = 10; keys = keys i } ∷ []) (whole_widget name (insert i) (current i)) (sel ∷ []) unmodified
+
+apart_one : {A : Type 0} (x : A) → AreApart (x ∷ [])
+apart_one x zero zero y is also = refl
+apart_one x zero (suc j) y is also = absurd (none-some y also)
+apart_one x (suc i) j y is also = absurd (none-some y is)
+
+others_first : (at slot : ℕ) → slice_get (0 ∷ []) at ≡ Some slot → slot ≢ 0 → (first_slot ≤ slot) × (slot < first_slot + MOST_TAGS)
+others_first zero slot is other = absurd (other (sym (same_Some 0 slot is)))
+others_first (suc at) slot is other = absurd (none-some slot is)
+
+-- the tags of a new document
+pub sound-first : AreTags (record { tags = sel_alone; limit = MOST_TAGS })
+sound-first = record {
+  names_apart = apart_one sel;
+  slots_apart = apart_one 0;
+  selection = ap (λ b. option_map (λ (tag : Tag). tag.slot) (cond b (Some (record { name = sel; slot = 0 })) None)) ((bytes_eq-Decides sel sel).1 refl);
+  others = others_first;
+  room = omega arith;
+  limit = omega arith;
+}

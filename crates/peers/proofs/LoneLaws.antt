@@ -1,6 +1,6 @@
 -- What a lone document shows, and what names mean to its widget.
 use Rattle.std.proofs.Common.{◌≡◌, ◌≢◌, ℕ, zero, suc, ◌+◌, ◌-◌, ◌*◌, ◌<◌, ◌≤◌, Bool, true, false, cond, List, [], ◌∷◌, length, map, refl, sym, ap, ap₂, ◌∙◌, arith}
-use Rattle.std.specs.Prelude.{Option, None, Some, Result, Ok, Err, is_some, option_map, option_and_then, unwrap_or, codes, bytes_eq, slice_range, nat_lt, if◌then◌else◌, ◌==◌}
+use Rattle.std.specs.Prelude.{find, slice_get, ◌||◌, Option, None, Some, Result, Ok, Err, is_some, option_map, option_and_then, unwrap_or, codes, bytes_eq, slice_range, nat_lt, if◌then◌else◌, ◌==◌}
 use Rattle.std.specs.Str.{chars}
 use Rattle.std.specs.FinSet as set
 use Rattle.std.specs.FinMap as finite
@@ -13,8 +13,8 @@ use Rattle.text_model.specs.declared.places.Place.{Place}
 use Rattle.text_model.specs.Content as model
 use Rattle.text_model.specs.Content.{Content, flags}
 use Rattle.mark_table.specs.SharedMarks.{Mark, SharedMarks, first_number}
-use Rattle.tag_table.specs.Tags.{Tag, Tags}
-use Rattle.tag_table.specs.Tags as tags
+use Rattle.name_list.specs.Names.{AreApart}
+use Rattle.tag_table.specs.Tags.{Tag, Tags, names_of, slot_of, is_named}
 use Rattle.text_index.specs.Names.{known_marks, known_tags}
 use Rattle.text_index.specs.Views as view
 use Rattle.text_index.specs.Views.{own_place, shared_place, shown_mark}
@@ -26,13 +26,20 @@ use Rattle.text_index.specs.declared.faults.IndexFault.TheVariants as index
 use Rattle.peers.specs.declared.answers.Fault.{Fault}
 use Rattle.peers.specs.declared.answers.Fault.TheVariants.{Memory}
 use Rattle.peers.specs.Faults.{index_fault, at_position}
-use Rattle.peers.specs.Keys.{Key, key_cmp}
-use Rattle.peers.specs.Kept.{IsKept, AreNew}
-use Rattle.peers.specs.Names.{mark_number, mark_place, tag_number, tag_flags, key_of, meanings, place_of}
+use Rattle.undo_stack.specs.Modified.{Modified}
+use Rattle.peers.specs.Keys.{Key, key_named, key_pairs}
+use Rattle.peers.specs.Kept.{IsKept}
+use Rattle.peers.specs.Names.{mark_number, mark_place, tag_number, tag_flags, meanings, place_of}
 use Rattle.peers.specs.Promise.{Gives}
 use Rattle.peers.specs.View.{shown, shown_flags}
-use Rattle.peers.specs.Words.{literal}
-use Rattle.peers.specs.World.{Document, KeyedCell, Widget, keyed, characters, lone_document, lone_widget, mark_of, new_mark, sel}
+use Rattle.peers.specs.Words.{literal, is_same, is_among}
+use Rattle.peers.proofs.KeyedLaws.{keyed-flags}
+use Rattle.std.proofs.lemmas.Option.{get_or_from_slice_get}
+use Rattle.std.proofs.lemmas.Bool.Decides.{Decides-eqb}
+use Rattle.std.proofs.lemmas.Slice.Eq.{bytes_eq-Decides}
+use Rattle.std.specs.List.{position_from}
+use Rattle.std.proofs.Common.{inl, inr, ◌⊎◌}
+use Rattle.peers.specs.World.{Document, KeyedCell, Widget, keyed, characters, lone_document, lone_widget, mark_of, new_mark}
 use Rattle.peers.proofs.EndLaws.{whole-part}
 
 pub characters-keyed : (pairs : List (ℕ × Key)) (cells : List Cell) → characters (keyed pairs cells) ≡ model.characters cells
@@ -47,25 +54,30 @@ length-characters cells = length-map cells (λ (cell : KeyedCell). cell.characte
 
 -- ---- it shows all of its text
 
-pub shown-lone : (name : List ℕ) (content : Content) → shown (lone_document name content) (lone_widget (lone_document name content)) ≡ model.characters content.cells
-shown-lone name content =
-    whole-part (characters (keyed [] content.cells)) (length (keyed [] content.cells)) (omega (arith, length-characters (keyed [] content.cells)))
-    ∙ characters-keyed [] content.cells
+pub shown-lone : (name : List ℕ) (tags : List Tag) (modified : Modified) (content : Content)
+    → shown (lone_document name tags modified content) (lone_widget (lone_document name tags modified content)) ≡ model.characters content.cells
+shown-lone name tags modified content =
+    let pairs = key_pairs name tags in
+    whole-part (characters (keyed pairs content.cells)) (length (keyed pairs content.cells)) (omega (arith, length-characters (keyed pairs content.cells)))
+    ∙ characters-keyed pairs content.cells
 
 pub shown-whole : (content : Content) (end : ℕ) → end ≡ length content.cells → view.shown content 0 end ≡ model.characters content.cells
 shown-whole content end is =
     whole-part (model.characters content.cells) end (omega (arith, length-map content.cells (λ (cell : Cell). cell.character)))
 
 -- the text of a store is what the widget of its document shows
-pub shown-is : (name : List ℕ) (content : Content) (document : Document) → lone_document name content ≡ document → model.characters content.cells ≡ shown document (lone_widget document)
-shown-is name content document is = sym (shown-lone name content) ∙ ap (λ (d : Document). shown d (lone_widget d)) is
+pub shown-is : (name : List ℕ) (tags : List Tag) (modified : Modified) (content : Content) (document : Document) → lone_document name tags modified content ≡ document
+    → model.characters content.cells ≡ shown document (lone_widget document)
+shown-is name tags modified content document is = sym (shown-lone name tags modified content) ∙ ap (λ (d : Document). shown d (lone_widget d)) is
 
-pub length-lone : (name : List ℕ) (content : Content) (document : Document) → lone_document name content ≡ document → length (shown document (lone_widget document)) ≡ length content.cells
-length-lone name content document is =
-    ap length (sym (shown-is name content document is)) ∙ length-map content.cells (λ (cell : Cell). cell.character)
+pub length-lone : (name : List ℕ) (tags : List Tag) (modified : Modified) (content : Content) (document : Document) → lone_document name tags modified content ≡ document
+    → length (shown document (lone_widget document)) ≡ length content.cells
+length-lone name tags modified content document is =
+    ap length (sym (shown-is name tags modified content document is)) ∙ length-map content.cells (λ (cell : Cell). cell.character)
 
-pub cells-lone : (name : List ℕ) (content : Content) (document : Document) → lone_document name content ≡ document → length document.cells ≡ length content.cells
-cells-lone name content document is = ap (λ (d : Document). length d.cells) (sym is) ∙ length-keyed [] content.cells
+pub cells-lone : (name : List ℕ) (tags : List Tag) (modified : Modified) (content : Content) (document : Document) → lone_document name tags modified content ≡ document
+    → length document.cells ≡ length content.cells
+cells-lone name tags modified content document is = ap (λ (d : Document). length d.cells) (sym is) ∙ length-keyed (key_pairs name tags) content.cells
 
 -- a new text has no characters
 pub no_characters : chars [] ≡ []
@@ -82,20 +94,17 @@ current_bytes : literal "current" ≡ codes "current"
 unfolding chars
 current_bytes = refl
 
-sel_bytes : sel ≡ tags.sel
-unfolding chars
-sel_bytes = refl
-
 own-shown : (end number : ℕ) (found : Option Place) → nat_lt number first_number ≡ true → is_some found ≡ true
     → option_and_then (λ place. if nat_lt number first_number then Some (own_place 0 end place) else shared_place 0 end place) found ≡ Some (own_place 0 end (unwrap_or found new_mark))
 own-shown end number None own there = absurd (false≢true there)
 own-shown end number (Some place) own there = ap (λ b. if b then Some (own_place 0 end place) else shared_place 0 end place) own
 
-marks-same : (name : List ℕ) (content : Content) (end : ℕ) (word : List ℕ) → end ≡ length (keyed [] content.cells) → is_some (finite.get content.marks 0) ≡ true → is_some (finite.get content.marks 1) ≡ true
+marks-same : (name : List ℕ) (tags : List Tag) (modified : Modified) (content : Content) (end : ℕ) (word : List ℕ) → end ≡ length (keyed (key_pairs name tags) content.cells)
+    → is_some (finite.get content.marks 0) ≡ true → is_some (finite.get content.marks 1) ≡ true
     → option_map (shown_mark content 0 end) (known_marks [] 0 word)
-    ≡ option_map (mark_place (lone_document name content) (lone_widget (lone_document name content))) (mark_number (lone_document name content) word)
-marks-same name content end word is insert current =
-    let document : Document = lone_document name content in
+    ≡ option_map (mark_place (lone_document name tags modified content) (lone_widget (lone_document name tags modified content))) (mark_number (lone_document name tags modified content) word)
+marks-same name tags modified content end word is insert current =
+    let document : Document = lone_document name tags modified content in
     let widget : Widget = lone_widget document in
     ap (λ w. option_map (shown_mark content 0 end) (if bytes_eq word w then Some 0 else (if bytes_eq word (codes "current") then Some 1 else None))) (sym insert_bytes)
     ∙ ap (λ w. option_map (shown_mark content 0 end) (if bytes_eq word (literal "insert") then Some 0 else (if bytes_eq word w then Some 1 else None))) (sym current_bytes)
@@ -108,47 +117,97 @@ marks-same name content end word is insert current =
       ]
     ]
 
--- no character has a tag
-flags-lone : (cells : List Cell) (key : Key) → All (λ (cell : Cell). cell.tags ≡ set.empty) cells → flags 0 cells ≡ map (λ (cell : KeyedCell). set.contains cell.keys key) (keyed [] cells)
-flags-lone [] key untagged = refl
-flags-lone (cell ∷ cells) key untagged =
-    let here : cell.tags ≡ set.empty = untagged 0 cell (omega arith) in
-    let none : set.contains cell.tags 0 ≡ set.contains (set.empty {R = key_cmp}) key = ap (λ slots. set.contains slots 0) here ∙ set.contains-empty nat_cmp 0 ∙ sym (set.contains-empty key_cmp key) in
-    ap₂ (λ b bs. b ∷ bs) none (flags-lone cells key (λ k d within. untagged (suc k) d (omega arith)))
+-- an unknown name, and one that stands in a table, at a place
+abbrev IsUnknown : List ℕ → List Tag → ℕ → Type 0
+IsUnknown word tags at = (slot_of word tags ≡ None) × (position_from (is_same word) at (names_of tags) ≡ None) × (is_among word (names_of tags) ≡ false)
 
-tags-same : (name : List ℕ) (content : Content) (end : ℕ) (word : List ℕ) → end ≡ length (keyed [] content.cells) → All (λ (cell : Cell). cell.tags ≡ set.empty) content.cells
-    → option_map (λ slot. view.shown_flags slot content 0 end) (known_tags (record { name = tags.sel; slot = 0 } ∷ []) 0 word)
-    ≡ option_map (tag_flags (lone_document name content) (lone_widget (lone_document name content))) (tag_number (lone_document name content) word)
-tags-same name content end word is untagged =
-    let document : Document = lone_document name content in
+pub record Stands (word : List ℕ) (tags : List Tag) (at : ℕ) : Type 0 where
+  pub tag_slot : ℕ
+  pub place : ℕ
+  pub slot : slot_of word tags ≡ Some tag_slot
+  pub found : position_from (is_same word) at (names_of tags) ≡ Some (at + place)
+  pub named : slice_get (names_of tags) place ≡ Some word
+  pub among : is_among word (names_of tags) ≡ true
+
+pub found_tag : (word : List ℕ) (tags : List Tag) (at : ℕ) → IsUnknown word tags at ⊎ Stands word tags at
+found_tag word [] at = inl (refl, refl, refl)
+found_tag word (tag ∷ tags) at =
+    elim (bytes_eq word tag.name) as (λ b. bytes_eq word tag.name ≡ b → IsUnknown word (tag ∷ tags) at ⊎ Stands word (tag ∷ tags) at) [
+      | true ↦ λ same.
+          let named : word ≡ tag.name = (bytes_eq-Decides word tag.name).0 same in
+          inr (record {
+            tag_slot = tag.slot;
+            place = 0;
+            slot = ap (λ b. option_map (λ (t : Tag). t.slot) (cond b (Some tag) (find (is_named word) tags))) same;
+            found = ap (λ b. cond b (Some at) (position_from (is_same word) (at + 1) (names_of tags))) same ∙ ap Some (let h : at ≡ at + 0 = omega arith in h);
+            named = ap Some (sym named);
+            among = ap (λ b. b || is_among word (names_of tags)) same;
+          })
+      | false ↦ λ other.
+          let slot = ap (λ b. option_map (λ (t : Tag). t.slot) (cond b (Some tag) (find (is_named word) tags))) other in
+          let found = ap (λ b. cond b (Some at) (position_from (is_same word) (at + 1) (names_of tags))) other in
+          let among = ap (λ b. b || is_among word (names_of tags)) other in
+          elim (found_tag word tags (at + 1)) [
+            | inl none ↦ inl (slot ∙ none.0, found ∙ none.1, among ∙ none.2)
+            | inr there ↦ inr (record {
+              tag_slot = there.tag_slot;
+              place = suc there.place;
+              slot = slot ∙ there.slot;
+              found = found ∙ there.found ∙ ap Some (let h : at + 1 + there.place ≡ at + suc there.place = omega arith in h);
+              named = there.named;
+              among = among ∙ there.among;
+            })
+          ]
+    ] refl
+
+-- a slot that isn't that of `sel` is meant as it is
+own_slot : (slot : ℕ) → (if slot == 0 then 0 else slot) ≡ slot
+own_slot slot = elim (slot == 0) as (λ b. (slot == 0) ≡ b → (if b then 0 else slot) ≡ slot) [
+  | true ↦ λ none. sym ((Decides-eqb slot 0).0 none)
+  | false ↦ λ _. refl
+] refl
+
+-- which characters have a tag
+pub flags-lone : (name : List ℕ) (tags : List Tag) (modified : Modified) (content : Content) (word : List ℕ) (slot : ℕ) → AreApart (names_of tags) → slot_of word tags ≡ Some slot
+    → view.shown_flags slot content 0 (length content.cells) ≡ shown_flags (lone_document name tags modified content) (lone_widget (lone_document name tags modified content)) (key_named name word)
+flags-lone name tags modified content word slot apart is =
+    ap₂ (λ fs n. slice_range fs 0 n) (keyed-flags name tags word slot content.cells apart is) (sym (length-keyed (key_pairs name tags) content.cells))
+
+tags-same : (name : List ℕ) (tags : List Tag) (modified : Modified) (content : Content) (end : ℕ) (word : List ℕ) → end ≡ length content.cells → AreApart (names_of tags)
+    → option_map (λ slot. view.shown_flags slot content 0 end) (known_tags tags 0 word)
+    ≡ option_map (tag_flags (lone_document name tags modified content) (lone_widget (lone_document name tags modified content))) (tag_number (lone_document name tags modified content) word)
+tags-same name tags modified content end word is apart =
+    let document : Document = lone_document name tags modified content in
     let widget : Widget = lone_widget document in
-    let key : Key = key_of widget sel in
-    let same : view.shown_flags 0 content 0 end ≡ tag_flags document widget 0 =
-    ap₂ (λ fs n. slice_range fs 0 n) (flags-lone content.cells key untagged) is in
-    ap (λ w. option_map (λ slot. view.shown_flags slot content 0 end) (known_tags (record { name = w; slot = 0 } ∷ []) 0 word)) (sym sel_bytes)
-    ∙ elim (bytes_eq word sel) as (λ b. option_map (λ slot. view.shown_flags slot content 0 end)
-    (option_map (λ slot. if slot == 0 then 0 else slot) (option_map (λ (tag : Tag). tag.slot) (cond b (Some (record { name = sel; slot = 0 })) None)))
-    ≡ option_map (tag_flags document widget) (cond b (Some 0) None)) [
-      | true ↦ ap Some same
-      | false ↦ refl
+    elim (found_tag word tags 0) [
+      | inl none ↦ ap (λ found. option_map (λ slot. view.shown_flags slot content 0 end) (option_map (λ slot. if slot == 0 then 0 else slot) found)) none.0
+          ∙ sym (ap (option_map (tag_flags document widget)) none.1)
+      | inr there ↦
+          ap (λ found. option_map (λ slot. view.shown_flags slot content 0 end) (option_map (λ slot. if slot == 0 then 0 else slot) found)) there.slot
+          ∙ ap (λ slot. Some (view.shown_flags slot content 0 end)) (own_slot there.tag_slot)
+          ∙ ap (λ n. Some (view.shown_flags there.tag_slot content 0 n)) is
+          ∙ ap Some (flags-lone name tags modified content word there.tag_slot apart there.slot)
+          ∙ ap (λ w. Some (shown_flags document widget (key_named name w))) (sym (get_or_from_slice_get (names_of tags) there.place word [] there.named))
+          ∙ sym (ap (option_map (tag_flags document widget)) (there.found ∙ ap Some (let h : 0 + there.place ≡ there.place = omega arith in h)))
     ]
 
-pub meanings-same : (name : List ℕ) (content : Content) (table : Tags) (marks : SharedMarks) (end : ℕ) → IsKept name content → AreNew table marks → end ≡ length content.cells
-    → MeanTheSame (shown_meanings marks.marks table.tags 0 content 0 end) (meanings (lone_document name content) (lone_widget (lone_document name content)))
-meanings-same name content table marks end kept new is =
-    let whole : end ≡ length (keyed [] content.cells) = is ∙ sym (length-keyed [] content.cells) in
+pub meanings-same : (name : List ℕ) (table : Tags) (modified : Modified) (content : Content) (marks : SharedMarks) (end : ℕ) → IsKept name table content → marks.marks ≡ [] → end ≡ length content.cells
+    → MeanTheSame (shown_meanings marks.marks table.tags 0 content 0 end) (meanings (lone_document name table.tags modified content) (lone_widget (lone_document name table.tags modified content)))
+meanings-same name table modified content marks end kept none is =
+    let whole : end ≡ length (keyed (key_pairs name table.tags) content.cells) = is ∙ sym (length-keyed (key_pairs name table.tags) content.cells) in
     record {
-      marks = λ word. ap (λ ms. option_map (shown_mark content 0 end) (known_marks ms 0 word)) new.none_shared ∙ marks-same name content end word whole kept.insert kept.current;
-      tags = λ word. ap (λ ts. option_map (λ slot. view.shown_flags slot content 0 end) (known_tags ts 0 word)) new.sel_alone ∙ tags-same name content end word whole kept.untagged;
+      marks = λ word. ap (λ ms. option_map (shown_mark content 0 end) (known_marks ms 0 word)) none ∙ marks-same name table.tags modified content end word whole kept.insert kept.current;
+      tags = λ word. tags-same name table.tags modified content end word is kept.tags.names_apart;
     }
 
 -- the place of a word is the one of the definition
-pub place-lone : (name : List ℕ) (content : Content) (table : Tags) (marks : SharedMarks) (end : ℕ) (document : Document) (word : List ℕ) → IsKept name content → AreNew table marks
-    → end ≡ length content.cells → lone_document name content ≡ document
+pub place-lone : (name : List ℕ) (table : Tags) (modified : Modified) (content : Content) (marks : SharedMarks) (end : ℕ) (document : Document) (word : List ℕ) → IsKept name table content → marks.marks ≡ []
+    → end ≡ length content.cells → lone_document name table.tags modified content ≡ document
     → word_value is_word (shown_meanings marks.marks table.tags 0 content 0 end) (view.shown content 0 end) word ≡ place_of document (lone_widget document) word
-place-lone name content table marks end document word kept new is view_is =
-    ap (λ text. word_value is_word (shown_meanings marks.marks table.tags 0 content 0 end) text word) (shown-whole content end is ∙ sym (shown-lone name content))
-    ∙ word_value-same is_word _ _ (shown (lone_document name content) (lone_widget (lone_document name content))) word (meanings-same name content table marks end kept new is)
+place-lone name table modified content marks end document word kept none is view_is =
+    ap (λ text. word_value is_word (shown_meanings marks.marks table.tags 0 content 0 end) text word) (shown-whole content end is ∙ sym (shown-lone name table.tags modified content))
+    ∙ word_value-same is_word _ _ (shown (lone_document name table.tags modified content) (lone_widget (lone_document name table.tags modified content))) word
+    (meanings-same name table modified content marks end kept none is)
     ∙ ap (λ (d : Document). place_of d (lone_widget d) word) view_is
 
 -- want of memory is want of memory

@@ -10,13 +10,13 @@ use Rattle.peers.specs.Faults.{with_value}
 use Rattle.peers.specs.Promise.{Change, Gives, Does, change_with}
 
 -- what is refused for memory is refused for memory
-abbrev refusal : (A : Type 0) → Fault → Result A Fault
+abbrev pub refusal : (A : Type 0) → Fault → Result A Fault
 refusal A fault = Err fault
 
 refused-same : (A B : Type 0) (fault : Fault) → refusal A fault ≡ refusal A Memory → refusal B fault ≡ refusal B Memory
 refused-same A B fault is = let same : fault ≡ Memory = cc in ap (refusal B) same
 
-value≢memory : {A : Type 0} (found : Result A Fault) (value : A) → found ≡ Ok value → found ≢ Err Memory
+pub value≢memory : {A : Type 0} (found : Result A Fault) (value : A) → found ≡ Ok value → found ≢ Err Memory
 value≢memory found value is memory = let h : Ok value ≡ Err Memory = sym is ∙ memory in absurd (cc)
 
 -- a value that is found, or its fault, is the one that is defined, since else the command wants memory
@@ -68,3 +68,34 @@ does-through limits old new result (Ok value) defined next found does =
 pub does-nothing : (limits : LimitTable) (document : Document) (result defined : Result Answer Fault) → Gives result defined → IfErr result (λ _. document ≡ document)
     → Does limits document document result (record { reply = defined; document = document })
 does-nothing limits document result defined gives same = record { reply = gives; document = λ _. refl; refused = same; well_formed = λ is. is; widgets = refl }
+
+-- a value that was found goes on, and a fault refuses the command
+pub gives-found : {A B : Type 0} (defined : Result A Fault) (value : A) (next : A → Result B Fault) (result : Result B Fault) → defined ≡ Ok value → Gives result (next value) → Gives result (with_value defined next)
+gives-found defined value next result is gives = λ other. gives other ∙ ap (λ found. with_value found next) (sym is)
+
+pub gives-refused : {A B : Type 0} (defined : Result A Fault) (fault : Fault) (next : A → Result B Fault) → (fault ≢ Memory → defined ≡ Err fault) → Gives (Err fault) (with_value defined next)
+gives-refused {A} {B} defined fault next is = λ other.
+    ap (λ found. with_value found next) (sym (is (λ memory. other (ap (λ f. refusal B f) memory))))
+
+pub does-found : {A : Type 0} (limits : LimitTable) (old new : Document) (result : Result Answer Fault) (defined : Result A Fault) (value : A) (next : A → Change)
+    → defined ≡ Ok value → Does limits old new result (next value) → Does limits old new result (change_with old defined next)
+does-found limits old new result defined value next is does =
+    does-same limits old new result (next value) (change_with old defined next) (λ _. ap (λ found. change_with old found next) (sym is)) does
+
+pub does-refused : {A : Type 0} (limits : LimitTable) (old : Document) (defined : Result A Fault) (fault : Fault) (next : A → Change)
+    → (fault ≢ Memory → defined ≡ Err fault) → Does limits old old (Err fault) (change_with old defined next)
+does-refused limits old defined fault next is = record {
+  reply = λ other. ap (λ found. (change_with old found next).reply) (sym (is (λ memory. other (ap (λ f. refusal Answer f) memory))));
+  document = λ other. ap (λ found. (change_with old found next).document) (sym (is (λ memory. other (ap (λ f. refusal Answer f) memory))));
+  refused = refl;
+  well_formed = λ formed. formed;
+  widgets = refl;
+}
+
+-- the fault that was found is the one that is defined
+pub fault-defined : {A : Type 0} (found defined : Result A Fault) (fault : Fault) → Gives found defined → found ≡ Err fault → fault ≢ Memory → defined ≡ Err fault
+fault-defined {A} found defined fault gives is other =
+    sym (gives (λ memory. other (let h : refusal A fault ≡ refusal A Memory = sym is ∙ memory in let same : fault ≡ Memory = cc in same))) ∙ is
+
+pub value-defined : {A : Type 0} (found defined : Result A Fault) (value : A) → Gives found defined → found ≡ Ok value → defined ≡ Ok value
+value-defined found defined value gives is = sym (gives (value≢memory found value is)) ∙ is

@@ -1,27 +1,57 @@
 -- A lone document is well formed.
 use Rattle.std.proofs.Common.{◌≡◌, ℕ, zero, suc, ◌≤◌, true, false, List, [], ◌∷◌, length, refl, sym, ap, subst, ◌∙◌, arith}
-use Rattle.std.proofs.lemmas.Bool.{false≢true}
+use Rattle.std.proofs.Common.{inl, inr, ap₂, ◌+◌}
+use Rattle.std.proofs.lemmas.Bool.{false_from_ne_true}
 use Rattle.std.proofs.lemmas.List.{length-map}
 use Rattle.std.proofs.lemmas.Slice.Eq.{bytes_eq-Decides}
 use Rattle.std.specs.List.{IsDistinct, AllByRecursion}
-use Rattle.std.specs.Prelude.{◌||◌, Option, None, Some, is_some, unwrap_or}
-use Rattle.std.specs.FinSet as set
+use Rattle.std.specs.Prelude.{◌||◌, ◌&&◌, not, map, slice_get, if◌then◌else◌, Option, None, Some, is_some, unwrap_or}
 use Rattle.std.specs.FinMap as finite
 use Rattle.text_model.specs.declared.cells.Cell.{Cell}
 use Rattle.text_model.specs.declared.places.Place.{Place}
 use Rattle.text_model.specs.Content.{Content}
 use Rattle.text_model.specs.Documents.{IsDocument}
 use Rattle.text_model.specs.LimitTable.{LimitTable}
-use Rattle.peers.specs.Keys.{key_cmp}
+use Rattle.name_list.specs.Names.{AreApart}
+use Rattle.tag_table.specs.Tags.{Tag, Tags, AreTags, names_of}
+use Rattle.undo_stack.specs.Modified.{Modified}
+use Rattle.peers.specs.Keys.{key_named, key_pairs}
 use Rattle.peers.specs.Kept.{IsKept}
-use Rattle.peers.specs.Words.{is_same}
-use Rattle.peers.specs.World.{Document, keyed, lone_document, mark_of, new_mark, sel}
-use Rattle.peers.specs.WellFormed.{HasItsKeys, IsWellFormedDocument}
-use Rattle.peers.proofs.LoneLaws.{characters-keyed, length-keyed}
+use Rattle.peers.specs.Words.{is_same, is_among}
+use Rattle.peers.specs.World.{Document, Widget, keyed, lone_document, lone_widget, mark_of, new_mark, sel}
+use Rattle.peers.specs.WellFormed.{belongs, HasItsKeys, IsWellFormedDocument}
+use Rattle.peers.proofs.BridgeLaws.{AreApart-head, AreApart-tail, keys_of-belongs}
+use Rattle.peers.proofs.LoneLaws.{characters-keyed, length-keyed, found_tag}
 
-no_keys : (document : Document) (cells : List Cell) → AllByRecursion (HasItsKeys document) (keyed [] cells)
-no_keys document [] = tt
-no_keys document (cell ∷ cells) = (λ key is. absurd (false≢true (sym (set.contains-empty key_cmp key) ∙ is)), no_keys document cells)
+-- a key on a cell is that of a tag, or of the widget
+belongs-named : (document : Document) (widget : Widget) (name : List ℕ) (tags : List Tag) → document.widgets ≡ widget ∷ [] → document.tags ≡ names_of tags → is_among name (names_of tags) ≡ true
+    → belongs document (key_named widget.name name) ≡ true
+belongs-named document widget name tags widgets names there =
+    elim (is_same name sel) as (λ b. is_same name sel ≡ b → belongs document (if b then record { selects = true; name = widget.name } else record { selects = false; name = name }) ≡ true) [
+      | true ↦ λ _. ap (λ ws. is_among widget.name (map (λ (w : Widget). w.name) ws)) widgets ∙ ap (λ b. b || false) ((bytes_eq-Decides widget.name widget.name).1 refl)
+      | false ↦ λ other. ap₂ (λ ns b. is_among name ns && not b) names other ∙ ap (λ b. b && true) there
+    ] refl
+
+keys_belong : (document : Document) (widget : Widget) (tags : List Tag) (cells : List Cell) → document.widgets ≡ widget ∷ [] → document.tags ≡ names_of tags
+    → AllByRecursion (HasItsKeys document) (keyed (key_pairs widget.name tags) cells)
+keys_belong document widget tags [] widgets names = tt
+keys_belong document widget tags (cell ∷ cells) widgets names = (
+  λ key there.
+      let found = keys_of-belongs widget.name tags cell.tags key there in
+      ap (belongs document) found.1 ∙ belongs-named document widget found.0 tags widgets names found.2,
+  keys_belong document widget tags cells widgets names,
+)
+
+-- names that stand once each are distinct
+differ : (name : List ℕ) (names : List (List ℕ)) → ((at : ℕ) → slice_get names at ≡ Some name → ⊥) → AllByRecursion (λ other. is_same name other ≡ false) names
+differ name [] none = tt
+differ name (other ∷ names) none =
+    (false_from_ne_true _ (λ same. none 0 (ap Some (sym ((bytes_eq-Decides name other).0 same)))), differ name names (λ at is. none (suc at) is))
+
+distinct_apart : (names : List (List ℕ)) → AreApart names → IsDistinct is_same names
+unfolding IsDistinct
+distinct_apart [] apart = tt
+distinct_apart (name ∷ names) apart = (differ name names (λ at is. AreApart-head name names at apart is), distinct_apart names (AreApart-tail name names apart))
 
 distinct_one : (name : List ℕ) → IsDistinct is_same (name ∷ [])
 unfolding IsDistinct
@@ -31,19 +61,27 @@ distinct_none : IsDistinct is_same []
 unfolding IsDistinct
 distinct_none = tt
 
+sel_among : (table : Tags) → AreTags table → is_among sel (names_of table.tags) ≡ true
+sel_among table are = elim (found_tag sel table.tags 0) [
+  | inl none ↦ absurd (let h : None ≡ Some 0 = sym none.0 ∙ are.selection in cc)
+  | inr there ↦ there.among
+]
+
 -- a mark that is there, or one at the start
 stands : (found : Option Place) (end : ℕ) → ((place : Place) → found ≡ Some place → place.offset ≤ end) → (unwrap_or found new_mark).offset ≤ end
 stands None end within = omega arith
 stands (Some place) end within = within place refl
 
-pub IsWellFormedDocument-lone : (limits : LimitTable) (name : List ℕ) (content : Content) → IsKept name content → length content.cells ≤ limits.chars
-    → IsWellFormedDocument limits (lone_document name content)
-IsWellFormedDocument-lone limits name content kept fits =
-    let long = length-keyed [] content.cells in
+pub IsWellFormedDocument-lone : (limits : LimitTable) (name : List ℕ) (table : Tags) (modified : Modified) (content : Content) → IsKept name table content → length content.cells ≤ limits.chars
+    → length table.tags ≤ limits.tags + 1 → IsWellFormedDocument limits (lone_document name table.tags modified content)
+IsWellFormedDocument-lone limits name table modified content kept fits few =
+    let pairs = key_pairs name table.tags in
+    let document : Document = lone_document name table.tags modified content in
+    let long = length-keyed pairs content.cells in
     record {
-      text = subst IsDocument (sym (characters-keyed [] content.cells)) kept.text;
+      text = subst IsDocument (sym (characters-keyed pairs content.cells)) kept.text;
       fits = omega (arith, long);
-      keys = no_keys (lone_document name content) content.cells;
+      keys = keys_belong document (lone_widget document) table.tags content.cells refl refl;
       shown = omega arith;
       widgets = (
         record {
@@ -60,8 +98,8 @@ IsWellFormedDocument-lone limits name content kept fits =
       marks = tt;
       mark_names = distinct_none;
       mark_count = omega arith;
-      tag_names = distinct_one sel;
-      sel = ap (λ b. b || false) ((bytes_eq-Decides sel sel).1 refl);
-      tag_count = omega arith;
-      history = record { short = rw (characters-keyed [] content.cells, length-map content.cells (λ (cell : Cell). cell.character)) fits; filled = tt; undone_filled = tt; reverts = refl; repeats = refl };
+      tag_names = distinct_apart (names_of table.tags) kept.tags.names_apart;
+      sel = sel_among table kept.tags;
+      tag_count = omega (arith, length-map table.tags (λ (tag : Tag). tag.name), few);
+      history = record { short = rw (characters-keyed pairs content.cells, length-map content.cells (λ (cell : Cell). cell.character)) fits; filled = tt; undone_filled = tt; reverts = refl; repeats = refl };
     }

@@ -3,13 +3,14 @@ use Rattle.std.specs.Prelude.{ℕ, List, take, drop, Result, Ok, Err}
 use Rattle.text_model.specs.LimitTable.{LimitTable}
 use Rattle.command_table.specs.Reading.{reading}
 use Rattle.command_table.specs.declared.commands.Command.{Command}
-use Rattle.command_table.specs.declared.commands.Command.TheVariants.{Insert, Get, Index, Compare}
+use Rattle.command_table.specs.declared.commands.Command.TheVariants.{Insert, Get, Index, Compare, TagAdd, TagRemove, TagDelete, TagNames, TagRanges, TagNextRange, TagPreviousRange, TagRaise, TagLower}
 use Rattle.command_table.specs.declared.shapes.Shape.{Shape}
 use Rattle.command_table.specs.declared.shapes.ShapeFault.{ShapeFault}
 use Rattle.peers.specs.declared.answers.Fault.TheVariants.{BadOption}
 use Rattle.peers.specs.Faults.{shape_fault}
 use Rattle.peers.specs.Indices.{index, compare}
 use Rattle.peers.specs.Promise.{Change, refused, asked}
+use Rattle.peers.specs.Tags.{tag_add, tag_remove, tag_delete, tag_names, tag_ranges_of, tag_nextrange, tag_prevrange, tag_raise, tag_lower}
 use Rattle.peers.specs.Texts.{insert, get}
 use Rattle.peers.specs.World.{Document, Widget}
 
@@ -23,6 +24,15 @@ done Insert limits document widget at arguments = insert limits document widget 
 done Get limits document widget at arguments = asked document (get document widget at arguments)
 done Index limits document widget at arguments = asked document (index document widget at arguments)
 done Compare limits document widget at arguments = asked document (compare document widget at arguments)
+done TagAdd limits document widget at arguments = tag_add limits document widget at arguments
+done TagRemove limits document widget at arguments = tag_remove document widget at arguments
+done TagDelete limits document widget at arguments = tag_delete document arguments
+done TagNames limits document widget at arguments = asked document (tag_names document widget at arguments)
+done TagRanges limits document widget at arguments = asked document (tag_ranges_of document widget arguments)
+done TagNextRange limits document widget at arguments = asked document (tag_nextrange document widget at arguments)
+done TagPreviousRange limits document widget at arguments = asked document (tag_prevrange document widget at arguments)
+done TagRaise limits document widget at arguments = tag_raise document at arguments
+done TagLower limits document widget at arguments = tag_lower document at arguments
 done command limits document widget at arguments = refused document (BadOption 1)
 
 abbrev pub shaped : LimitTable → Document → Widget → List (List ℕ) → Result Shape ShapeFault → Change

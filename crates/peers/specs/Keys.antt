@@ -1,11 +1,13 @@
 -- The keys of a cell: the names of tags, and `sel` of a widget.
-use Rattle.std.specs.Prelude.{ℕ, Bool, true, false, List, [], ◌∷◌, refl}
+use Rattle.std.specs.Prelude.{ℕ, Bool, true, false, List, [], ◌∷◌, map, refl, if◌then◌else◌}
 use Rattle.std.specs.FinSet as set
 use Rattle.std.specs.Coded.{Coded, code_by, coded×, coded_ℕ, coded_bool, coded_list}
 use Rattle.std.specs.declared.cmp.Ordering.{Ordering}
 use Rattle.std.specs.Ordering.{nat_cmp, ordering_then}
 use Rattle.std.specs.Cmp.Lexicographic.{slice_cmp}
 use Rattle.text_model.specs.Content.{Slots}
+use Rattle.tag_table.specs.Tags.{Tag, sel}
+use Rattle.peers.specs.Words.{is_same}
 
 -- the key of a tag, by its name, or of a widget's `sel`, by the widget's name
 pub record Key : Type 0 where
@@ -32,3 +34,19 @@ Keys = set.FinSet key_cmp
 abbrev pub keys_of : List (ℕ × Key) → Slots → Keys
 keys_of [] slots = set.empty
 keys_of (pair ∷ pairs) slots = elim (set.contains slots pair.0) [ true ↦ set.insert (keys_of pairs slots) pair.1 | false ↦ keys_of pairs slots ]
+
+-- the key of a tag by its name; of `sel` each widget has its own, by the widget's name
+abbrev pub key_named : List ℕ → List ℕ → Key
+key_named widget name = if is_same name sel then record { selects = true; name = widget } else record { selects = false; name = name }
+
+-- the slots of a table of tags with their keys, where the slot of `sel` is a widget's own
+abbrev pub key_pairs : List ℕ → List Tag → List (ℕ × Key)
+key_pairs widget tags = map (λ (tag : Tag). (tag.slot, key_named widget tag.name)) tags
+
+-- the keys of a tag list
+abbrev pub keys_named : List ℕ → List (List ℕ) → Keys
+keys_named widget names = set.from_list (map (key_named widget) names)
+
+-- keys with one of them among them, or without it
+abbrev pub set_key : Key → Bool → Keys → Keys
+set_key key on keys = if on then set.insert keys key else set.remove keys key

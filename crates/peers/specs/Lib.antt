@@ -1,12 +1,17 @@
 pub mod Arguments
 pub mod Command
+pub mod Edits
 pub mod Faults
 pub mod Indices
 pub mod Kept
 pub mod Keys
+pub mod Lists
 pub mod Names
 pub mod Promise
+pub mod Ranges
+pub mod Slots
 pub mod Step
+pub mod Tags
 pub mod Texts
 pub mod View
 pub mod WellFormed

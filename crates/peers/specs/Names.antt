@@ -5,9 +5,9 @@ use Rattle.text_index.specs.declared.faults.IndexFault.{IndexFault}
 use Rattle.text_index.specs.Views.{own_place, shared_place}
 use Rattle.text_index.specs.Words.{is_word}
 use Rattle.text_index.specs.Meanings.{Meanings, word_value}
-use Rattle.peers.specs.Keys.{Key}
+use Rattle.peers.specs.Keys.{Key, key_named}
 use Rattle.peers.specs.Words.{is_same, literal}
-use Rattle.peers.specs.World.{Document, Widget, SharedMark, sel}
+use Rattle.peers.specs.World.{Document, Widget, SharedMark}
 use Rattle.peers.specs.View.{view_start, view_end, shown, shown_flags}
 
 -- the marks that a widget can name: its own `insert` and `current`, and the shared ones by creation
@@ -24,10 +24,9 @@ mark_place document widget (suc zero) = Some (own_place (view_start widget) (vie
 mark_place document widget (suc (suc k)) =
     option_and_then (λ (mark : SharedMark). shared_place (view_start widget) (view_end document widget) mark.place) (slice_get document.marks k)
 
--- the key of a tag; of `sel` each widget has its own
+-- the key of a tag to a widget
 abbrev pub key_of : Widget → List ℕ → Key
-key_of widget name =
-    if is_same name sel then record { selects = true; name = widget.name } else record { selects = false; name = name }
+key_of widget name = key_named widget.name name
 
 -- the tags by their priority, and which characters of the view have the tag of a number
 abbrev pub tag_number : Document → List ℕ → Option ℕ

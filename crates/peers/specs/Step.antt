@@ -5,7 +5,8 @@ use Rattle.peers.specs.declared.answers.Answer.{Answer}
 use Rattle.peers.specs.declared.answers.Answer.TheVariants.{Word}
 use Rattle.peers.specs.declared.answers.Fault.{Fault}
 use Rattle.peers.specs.declared.answers.Fault.TheVariants.{WrongArguments, InvalidCommandName, WindowExists, DocumentExists, TooManyWidgets}
-use Rattle.peers.specs.World.{World, Document, Widget, whole_widget, new_mark, document_of}
+use Rattle.undo_stack.specs.Modified.{unmodified}
+use Rattle.peers.specs.World.{World, Document, Widget, whole_widget, new_mark, document_of, sel}
 use Rattle.peers.specs.Words.{is_same, literal}
 use Rattle.peers.specs.Kept.{is_window_name}
 use Rattle.command_table.specs.Reading.{reading}
@@ -26,9 +27,10 @@ refuses world fault = record { reply = Err fault; world = world }
 abbrev pub widget_named : List ℕ → Document → Option Widget
 widget_named name document = find (λ (widget : Widget). is_same widget.name name) document.widgets
 
--- a document of one newline without tags, shown by one widget
+-- a document of one newline without keys, shown by one widget, that knows `sel` alone
 abbrev pub new_document : List ℕ → Document
-new_document name = document_of (record { character = 10; keys = set.empty } ∷ []) (whole_widget name new_mark new_mark)
+new_document name =
+    document_of (record { character = 10; keys = set.empty } ∷ []) (whole_widget name new_mark new_mark) (sel ∷ []) unmodified
 
 -- the world with one document, where there may be a widget
 abbrev pub create_first : World → List ℕ → Outcome

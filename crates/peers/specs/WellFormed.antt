@@ -1,6 +1,6 @@
 -- When a world is well formed: what every command can rely on, and keeps.
 use Rattle.std.specs.Prelude.{◌≡◌, ℕ, ◌+◌, ◌<◌, ◌≤◌, Bool, true, ◌&&◌, not, List, length, map, sum_by, if◌then◌else◌}
-use Rattle.std.specs.List.{AllByRecursion, IsDistinct, list_any}
+use Rattle.std.specs.List.{AllByRecursion, IsDistinct}
 use Rattle.std.specs.Option.{ForSome}
 use Rattle.std.specs.FinSet as set
 use Rattle.text_model.specs.Documents.{IsDocument}
@@ -9,12 +9,9 @@ use Rattle.text_model.specs.LimitTable.{LimitTable, AreLimits}
 use Rattle.peers.specs.Keys.{Key}
 use Rattle.peers.specs.World.{World, Document, Widget, SharedMark, KeyedCell, characters, sel}
 use Rattle.peers.specs.View.{view_start, view_end}
-use Rattle.peers.specs.Words.{is_same}
+use Rattle.peers.specs.Words.{is_same, is_among}
 use Rattle.peers.specs.Kept.{is_window_name}
 use Rattle.undo_stack.specs.Fits.{FitsText}
-
-abbrev pub is_among : List ℕ → List (List ℕ) → Bool
-is_among name names = list_any (is_same name) names
 
 -- a tag of the document, or one of its widgets
 abbrev pub belongs : Document → Key → Bool

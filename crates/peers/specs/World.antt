@@ -1,5 +1,5 @@
 -- All that a session of commands can see later.
-use Rattle.std.specs.Prelude.{ℕ, ℤ, pos, Bool, true, false, List, [], ◌∷◌, Option, None, map, unwrap_or, chars, codes}
+use Rattle.std.specs.Prelude.{ℕ, ℤ, pos, Bool, true, false, List, [], ◌∷◌, Option, None, map, unwrap_or}
 use Rattle.std.specs.FinMap as finite
 use Rattle.text_model.specs.declared.cells.Cell.{Cell}
 use Rattle.text_model.specs.declared.places.Gravity.TheVariants.{Right}
@@ -8,7 +8,9 @@ use Rattle.text_model.specs.Content.{Content, Marks, new_content}
 use Rattle.text_model.specs.LimitTable.{LimitTable}
 use Rattle.undo_stack.specs.History.{History, no_history}
 use Rattle.undo_stack.specs.Modified.{Modified, unmodified}
-use Rattle.peers.specs.Keys.{Key, Keys, keys_of}
+pub use Rattle.tag_table.specs.Tags.{sel}
+use Rattle.tag_table.specs.Tags.{Tag, names_of}
+use Rattle.peers.specs.Keys.{Key, Keys, keys_of, key_pairs}
 
 -- a character with a finite set of keys
 pub record KeyedCell : Type 0 where
@@ -45,10 +47,6 @@ pub record World : Type 0 where
   pub limits : LimitTable
   pub documents : List Document
 
--- a text of the program, as its characters
-abbrev pub sel : List ℕ
-sel = chars (codes "sel")
-
 -- a mark at the start
 abbrev pub new_mark : Place
 new_mark = record { offset = 0; gravity = Right }
@@ -64,15 +62,15 @@ whole_widget name insert current = record {
   current = current;
 }
 
--- a document of these cells, with one widget and nothing else
-abbrev pub document_of : List KeyedCell → Widget → Document
-document_of cells widget = record {
+-- a document of these cells, with one widget, these tags from the lowest, and nothing else; it may be modified
+abbrev pub document_of : List KeyedCell → Widget → List (List ℕ) → Modified → Document
+document_of cells widget tags modified = record {
   cells = cells;
   widgets = widget ∷ [];
   marks = [];
-  tags = sel ∷ [];
+  tags = tags;
   history = no_history;
-  modified = unmodified;
+  modified = modified;
   undo = false;
   most_undo = pos 0;
   separators = true;
@@ -90,10 +88,11 @@ first_content = record new_content { marks = finite.insert (finite.insert finite
 abbrev pub mark_of : Marks → ℕ → Place
 mark_of marks number = unwrap_or (finite.get marks number) new_mark
 
--- the document of a store whose slots stand for no keys, and its widget, whose own marks are the first two
-abbrev pub lone_document : List ℕ → Content → Document
-lone_document name content =
-    document_of (keyed [] content.cells) (whole_widget name (mark_of content.marks 0) (mark_of content.marks 1))
+-- the document of a store and a table of tags, and its widget, whose own marks are the first two
+abbrev pub lone_document : List ℕ → List Tag → Modified → Content → Document
+lone_document name tags modified content =
+    document_of (keyed (key_pairs name tags) content.cells)
+    (whole_widget name (mark_of content.marks 0) (mark_of content.marks 1)) (names_of tags) modified
 
 -- the first widget of a document
 abbrev pub first_widget : List ℕ → List Widget → Widget

@@ -3,7 +3,7 @@ ghost use Rattle.peers.specs.declared.answers.Fault.TheVariants.{Memory};
 ghost use Rattle.peers.specs.Faults.{index_fault, shape_fault};
 
 use command_table::ShapeFault;
-use std::alloc::AllocError;
+use std::alloc::{AllocError, AllocFailed};
 use text_index::IndexFault;
 use text_model::Text;
 use thiserror::Error;
@@ -32,6 +32,9 @@ pub enum Fault {
     /// name in bytes, with which the word begins.
     #[error("text doesn't contain any characters tagged with a tag")]
     NoTaggedCharacters(usize, usize),
+    /// The word names no tag.
+    #[error("tag isn't defined in text widget")]
+    NoSuchTag(usize),
     /// The word is no subcommand or option.
     #[error("bad option")]
     BadOption(usize),
@@ -47,12 +50,18 @@ pub enum Fault {
     /// The word is no comparison.
     #[error("bad comparison operator")]
     BadComparison(usize),
+    /// The word is the text of no list.
+    #[error("bad list")]
+    BadList(usize),
     /// There is a document.
     #[error("a document exists")]
     DocumentExists,
     /// There are as many widgets as there may be.
     #[error("too many widgets")]
     TooManyWidgets,
+    /// There would be more tags than there may be.
+    #[error("too many tags")]
+    TooManyTags,
     /// The text would have more characters than it may.
     #[error("text is too long")]
     TextTooLong,
@@ -88,6 +97,14 @@ impl From<AllocError> for Fault {
     ghost from_gives = { λ _ fault. fault ≡ Memory };
 
     fn from(_refused: AllocError) -> Fault {
+        Fault::Memory
+    }
+}
+
+impl<T: Drop> From<AllocFailed<T>> for Fault {
+    ghost from_gives = { λ _ fault. fault ≡ Memory };
+
+    fn from(_refused: AllocFailed<T>) -> Fault {
         Fault::Memory
     }
 }

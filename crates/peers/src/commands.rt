@@ -18,7 +18,8 @@ impl<S: TextStore> Document<S> {
         at: usize,
         arguments: &[String],
     ) -> Result<Answer, Fault>
-        requires { at + 2 ≤ usize.MAX }
+        requires near { at + 2 ≤ usize.MAX }
+        requires all { at + length arguments.now ≤ usize.MAX }
         ensures { Does limits.now self.old self.new result (done command limits.now self.old (lone_widget self.old) at (texts_of arguments.now)) }
     {
         match command {
@@ -26,6 +27,15 @@ impl<S: TextStore> Document<S> {
             Command::Get => self.get(at, arguments),
             Command::Index => self.index(at, arguments),
             Command::Compare => self.compare(at, arguments),
+            Command::TagAdd => self.tag_add(limits, at, arguments),
+            Command::TagRemove => self.tag_remove(limits, at, arguments),
+            Command::TagDelete => self.delete_tags(limits, arguments),
+            Command::TagNames => self.tag_names(at, arguments),
+            Command::TagRanges => self.tag_ranges(arguments),
+            Command::TagNextRange => self.tag_nextrange(at, arguments),
+            Command::TagPreviousRange => self.tag_prevrange(at, arguments),
+            Command::TagRaise => self.tag_raise(limits, at, arguments),
+            Command::TagLower => self.tag_lower(limits, at, arguments),
             _ => Err(Fault::BadOption(1)),
         }
     }

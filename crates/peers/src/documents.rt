@@ -1,4 +1,5 @@
-ghost use Rattle.std.specs.Prelude.{◌≡◌, ℕ, false, true, suc, Some, is_some, ◌+◌, ◌-◌, ◌<◌, ◌≤◌, min, nat_lt, length, chars, slice_range, IfOk};
+ghost use Rattle.std.specs.Prelude.{◌≡◌, ◌≢◌, ℕ, true, suc, None, Some, is_some, ◌+◌, ◌-◌, ◌<◌, ◌≤◌, min, length, chars, map, slice_range, option_map, nat_lt, nat_le, Ok, Err, IfOk, IfErr, OnOk, OnErr};
+ghost use Rattle.std.specs.List.{All};
 ghost use Rattle.text_model.specs.LimitTable.{LimitTable, AreLimits};
 ghost use Rattle.text_index.specs.Positions.{position_text};
 ghost use Rattle.peers.specs.World.{lone_widget};
@@ -9,19 +10,38 @@ ghost use Rattle.peers.specs.WellFormed.{IsWellFormedDocument};
 ghost use Rattle.peers.specs.Faults.{at_position};
 ghost use Rattle.peers.specs.Promise.{Gives, Does};
 ghost use Rattle.peers.specs.Indices.{place_at};
-ghost use Rattle.peers.specs.Texts.{insert_at};
+ghost use Rattle.peers.specs.Texts.{insert_at, insertion_offset, total};
+ghost use Rattle.peers.specs.Lists.{with_name, with_names, all_names};
+ghost use Rattle.peers.specs.Slots.{IsFront, excess, piece_of, texts_put_in};
+ghost use Rattle.peers.specs.declared.answers.Fault.TheVariants.{Memory, TooManyTags};
+ghost use Rattle.edit_ops.specs.States.{log_of};
+ghost use Rattle.edit_ops.specs.Tagging.{SpanFits, tagged};
+ghost use Rattle.tag_table.specs.Tags.{AreTags, names_of, slot_of};
+ghost use Rattle.text_model.specs.declared.limits.TheConstants.Limits.{MOST_TAGS};
+ghost use Rattle.std.specs.Char.{IsScalar};
+ghost use Rattle.tcl_words.specs.ListText.{list_text};
+ghost use Rattle.tcl_words.specs.Unread.{texts_of};
+ghost use Rattle.text_index.specs.Ranges.{tag_ranges, next_range, previous_range};
+ghost use Rattle.peers.specs.Tags.{flags_of, tags_on, range_words, begun, add_spans, remove_spans, tag_delete, reordered, raised, lowered};
+ghost use Rattle.peers.specs.Words.{is_among};
 
 use crate::answers::{Answer, Fault};
-use crate::edits::{insert_text, new_store};
+use crate::edits::{clear_slots, new_store, put_texts, set_slot};
+use crate::listing::{push_names, push_names_in, push_next, push_previous, push_ranges};
+use crate::lists::Pair;
+use crate::ranges::spans_of;
+use crate::tagging::{delete_names, deleted_slots, make_listed, make_tag, pieces_of};
 use crate::words::is_word;
+use edit_ops::Span;
 use mark_table::MarkTable;
 use std::alloc::{AllocError, Global};
 use std::marker::Model;
-use tag_table::TagTable;
-use text_index::{IndexFault, Names, View, locate, push_index};
+use tag_table::{NoSuchTag, TagTable};
+use text_index::{IndexFault, Names, View, locate, next_range, previous_range, push_index};
 use text_model::{Limits, TagSlot, Text, TextStore};
+use undo_stack::UndoStack;
 
-/// A document: the text in its store, its tags and its shared marks, and the name of its widget.
+/// A document: the text in its store, its tags and its shared marks, its history, and the name of its widget.
 #[derive(Drop)]
 pub struct Document<S: TextStore> {
     alloc: Global,
@@ -29,6 +49,7 @@ pub struct Document<S: TextStore> {
     store: S,
     tags: TagTable,
     marks: MarkTable,
+    history: UndoStack,
 }
 
 impl<S: TextStore> Model for Document<S> {
@@ -44,20 +65,9 @@ impl<S: TextStore> Model for Document<S> {
 
     ghost coded = { Prim.hlevel (codes, place.the_row.coded, set.code {R = key_cmp} key_code) };
 
-    ghost view = { λ d. lone_document (chars (string_bytes d.name)) (S.content d.store) };
+    ghost view = { λ d. lone_document (chars (string_bytes d.name)) d.tags.tags d.history.modified (S.content d.store) };
 
-    ghost invariant = { λ d. IsKept (chars (string_bytes d.name)) (S.content d.store) × AreNew d.tags d.marks };
-}
-
-/// Whether a document of so many characters is too long with a text more.
-fn is_too_long(limits: &Limits, len: usize, text: &str) -> bool
-    requires { len ≤ Limits.MOST_CHARS }
-    ensures value { result ≡ nat_lt limits.now.chars (len + length (chars text.now)) }
-    ensures short { result ≡ false → len + length (chars text.now) ≤ Limits.MOST_CHARS }
-    ensures fits { result ≡ false → len + length (chars text.now) ≤ limits.now.chars }
-{
-    let count = text.chars().count();
-    len + count > limits.chars()
+    ghost invariant = { λ d. IsKept (chars (string_bytes d.name)) d.tags (S.content d.store) × AreNew d.marks d.history };
 }
 
 /// A place, or the fault of the index at a position of a command.
@@ -71,21 +81,43 @@ fn at_position(position: usize, found: Result<usize, IndexFault>) -> Result<usiz
     }
 }
 
+/// The greatest limits that there are. A table of names is made for these, and a command counts by its own.
+fn greatest_limits() -> Limits
+    ensures { result.tags ≡ Limits.MOST_TAGS }
+{
+    match Limits::new(
+        Limits::MOST_CHARS,
+        Limits::MOST_TAGS,
+        Limits::MOST_MARKS,
+        Limits::MOST_WIDGETS,
+        u32::MAX,
+    ) {
+        Some(limits) => limits,
+        None => unreachable!(),
+    }
+}
+
 impl<S: TextStore> Document<S> {
     /// A document of one newline, whose widget has a name.
-    pub fn new(alloc: Global, limits: &Limits, name: &str) -> Result<Document<S>, AllocError>
+    pub fn new(alloc: Global, name: &str) -> Result<Document<S>, AllocError>
         requires { is_window_name (chars name.now) ≡ true }
         ensures value { IfOk result (λ document. document ≡ new_document (chars name.now)) }
         ensures well_formed { IfOk result (λ document.
             (limits : LimitTable) → AreLimits limits → IsWellFormedDocument limits document) }
     {
+        let limits = greatest_limits();
         Ok(Document {
             alloc,
             name: String::from_str(alloc, name)?,
             store: new_store(alloc)?,
-            tags: TagTable::new(alloc, limits)?,
-            marks: MarkTable::new(alloc, limits)?,
+            tags: TagTable::new(alloc, &limits)?,
+            marks: MarkTable::new(alloc, &limits)?,
+            history: UndoStack::new(alloc),
         })
+    }
+
+    pub fn allocator(&self) -> Global {
+        self.alloc
     }
 
     /// Whether its widget has a name.
@@ -112,6 +144,13 @@ impl<S: TextStore> Document<S> {
             e: self.store.len(),
         };
         at_position(position, locate(self.alloc, word, &names, &view))
+    }
+
+    /// How many characters the view has.
+    pub fn shown_len(&self) -> usize
+        ensures { result ≡ length (shown self.now (lone_widget self.now)) }
+    {
+        self.store.len()
     }
 
     /// The characters from one place to another; none where the second isn't behind the first.
@@ -151,21 +190,324 @@ impl<S: TextStore> Document<S> {
 
     /// The offset before which a text goes that is put in at a place: before the last newline where that is the end.
     pub fn insertion_offset(&self, place: usize) -> usize
-        ensures value { result ≡ view_start (lone_widget self.now) + min place (length (shown self.now (lone_widget self.now)) - 1) }
+        ensures value { result ≡ insertion_offset self.now (lone_widget self.now) place }
         ensures within { result < length self.now.cells }
     {
         place.min(self.store.len() - 1)
     }
+}
 
-    /// Puts a text in at an offset, unless the document grows too long.
-    pub fn insert_at(&mut self, limits: &Limits, at: usize, text: &str) -> Result<Answer, Fault>
-        requires { at < length self.old.cells }
-        ensures { Does limits.now self.old self.new result (insert_at limits.now self.old at (chars text.now)) }
+impl<S: TextStore> Document<S> {
+    /// The names of all tags as a list, from the lowest.
+    pub fn all_tags(&self) -> Result<Text, AllocError>
+        ensures { IfOk result (λ list. list ≡ list_text self.now.tags) }
     {
-        if is_too_long(limits, self.store.len(), text) {
-            return Err(Fault::TextTooLong);
+        let mut list = String::new(self.alloc);
+        push_names(&mut list, &self.tags)?;
+        Ok(Text::new(list))
+    }
+
+    /// The names of the tags of the character at a place as a list, from the lowest; none at the end.
+    pub fn tags_on(&self, place: usize) -> Result<Text, AllocError>
+        requires { place ≤ length (shown self.now (lone_widget self.now)) }
+        ensures { IfOk result (λ list. list ≡ list_text (tags_on self.now (lone_widget self.now) place)) }
+    {
+        let mut list = String::new(self.alloc);
+        if place == self.store.len() {
+            return Ok(Text::new(list));
         }
-        insert_text(self.alloc, &mut self.store, at, text)?;
-        Ok(Answer::Empty)
+        push_names_in(&mut list, &self.tags, self.store.tags_at(place))?;
+        Ok(Text::new(list))
+    }
+
+    /// Where the ranges of a tag begin and end, as a list; none of an unknown tag.
+    pub fn ranges_of(&self, name: &str) -> Result<Text, AllocError>
+        ensures { IfOk result (λ list. list ≡ list_text (range_words (shown self.now (lone_widget self.now))
+            (tag_ranges (flags_of self.now (lone_widget self.now) (chars name.now))))) }
+    {
+        let mut list = String::new(self.alloc);
+        let Some(slot) = self.tags.find(name) else {
+            return Ok(Text::new(list));
+        };
+        let view = View {
+            store: &self.store,
+            s: 0,
+            e: self.store.len(),
+        };
+        push_ranges(&mut list, &view, slot)?;
+        Ok(Text::new(list))
+    }
+
+    /// Where the first range of a tag begins and ends that begins at a place or behind it, as a list, if it begins before another.
+    pub fn next_listed(&self, name: &str, from: usize, to: usize) -> Result<Text, AllocError>
+        requires { from ≤ length (shown self.now (lone_widget self.now)) }
+        ensures { IfOk result (λ list. list ≡ list_text (range_words (shown self.now (lone_widget self.now))
+            (begun (λ start. nat_lt start to) (next_range (flags_of self.now (lone_widget self.now) (chars name.now)) from)))) }
+    {
+        let mut list = String::new(self.alloc);
+        let Some(slot) = self.tags.find(name) else {
+            return Ok(Text::new(list));
+        };
+        let view = View {
+            store: &self.store,
+            s: 0,
+            e: self.store.len(),
+        };
+        push_next(&mut list, &view, slot, from, to)?;
+        Ok(Text::new(list))
+    }
+
+    /// Where the last range of a tag begins and ends that begins before a place, as a list, if it doesn't begin before another.
+    pub fn previous_listed(&self, name: &str, from: usize, to: usize) -> Result<Text, AllocError>
+        requires { from ≤ length (shown self.now (lone_widget self.now)) }
+        ensures { IfOk result (λ list. list ≡ list_text (range_words (shown self.now (lone_widget self.now))
+            (begun (λ start. nat_le to start) (previous_range (flags_of self.now (lone_widget self.now) (chars name.now)) from)))) }
+    {
+        let mut list = String::new(self.alloc);
+        let Some(slot) = self.tags.find(name) else {
+            return Ok(Text::new(list));
+        };
+        let view = View {
+            store: &self.store,
+            s: 0,
+            e: self.store.len(),
+        };
+        push_previous(&mut list, &view, slot, from, to)?;
+        Ok(Text::new(list))
+    }
+}
+
+/// The texts of pairs are of Unicode scalar values, as the bytes of each show.
+fn read_texts(pairs: &[Pair])
+    ensures { All (λ pair. All IsScalar pair.text) pairs.now }
+{
+    for pair in pairs {
+        let _text = pair.text.as_str();
+    }
+}
+
+/// Makes the tags of pairs that are new, and puts their texts in. Where that is refused, new tags may stand behind the others.
+fn put_pairs<S: TextStore>(
+    alloc: Global,
+    limits: &Limits,
+    tags: &mut TagTable,
+    store: &mut S,
+    history: &mut UndoStack,
+    at: usize,
+    pairs: Vec<Pair>,
+) -> Result<(), Fault>
+    requires within { at < length (S.content store.old).cells }
+    requires roomy { tags.old.limit ≡ MOST_TAGS }
+    ensures bounds { AreLimits limits.now }
+    ensures front { IsFront tags.old tags.new }
+    ensures sound { OnOk result (AreTags tags.new) }
+    ensures scalars { All (λ pair. All IsScalar pair.text) pairs.items }
+    ensures made { OnOk result (names_of tags.new.tags ≡ with_names (names_of tags.old.tags) (all_names pairs.items)) }
+    ensures ok { OnOk result (
+        (S.content store.new ≡ (texts_put_in at (map (piece_of tags.new.tags) pairs.items) (S.content store.old) (log_of history.old)).content)
+        × (log_of history.new ≡ (texts_put_in at (map (piece_of tags.new.tags) pairs.items) (S.content store.old) (log_of history.old)).log)) }
+    ensures room { OnOk result (excess limits.now (length (with_names (names_of tags.old.tags) (all_names pairs.items)))
+        (length (S.content store.old).cells + total pairs.items) ≡ None) }
+    ensures err { OnErr result ((S.content store.new ≡ S.content store.old) × (log_of history.new ≡ log_of history.old)) }
+    ensures fault { IfErr result (λ fault. fault ≢ Memory → excess limits.now (length (with_names (names_of tags.old.tags) (all_names pairs.items)))
+        (length (S.content store.old).cells + total pairs.items) ≡ Some fault) }
+{
+    // Where one of the limits is read, all are known to be in their bounds.
+    let _chars = limits.chars();
+    read_texts(&pairs);
+    match make_listed(alloc, tags, &pairs) {
+        Err(fault) => return Err(fault),
+        Ok(()) => {}
+    }
+    if tags.len() > limits.tags() as usize + 1 {
+        return Err(Fault::TooManyTags);
+    }
+    let pieces = pieces_of(alloc, tags, pairs)?;
+    put_texts(alloc, limits, store, history, at, &pieces)
+}
+
+/// Makes a tag if it is new, and sets it on spans. Where that is refused, the new tag may stand behind the others.
+fn tag_spans<S: TextStore>(
+    alloc: Global,
+    limits: &Limits,
+    tags: &mut TagTable,
+    store: &mut S,
+    history: &mut UndoStack,
+    name: &str,
+    spans: &[Span],
+) -> Result<(), Fault>
+    requires spans { All (SpanFits (length (S.content store.old).cells)) spans.now }
+    requires roomy { tags.old.limit ≡ MOST_TAGS }
+    ensures front { IsFront tags.old tags.new }
+    ensures sound { OnOk result (AreTags tags.new) }
+    ensures made { OnOk result (names_of tags.new.tags ≡ with_name (names_of tags.old.tags) (chars name.now)) }
+    ensures ok { OnOk result (option_map (λ slot. tagged slot true spans.now (S.content store.old)) (slot_of (chars name.now) tags.new.tags)
+        ≡ Some (S.content store.new)) }
+    ensures room { OnOk result (length (with_name (names_of tags.old.tags) (chars name.now)) ≤ limits.now.tags + 1) }
+    ensures err { OnErr result (S.content store.new ≡ S.content store.old) }
+    ensures log { log_of history.new ≡ log_of history.old }
+    ensures fault { IfErr result (λ fault. fault ≢ Memory →
+        (fault ≡ TooManyTags) × (limits.now.tags + 1 < length (with_name (names_of tags.old.tags) (chars name.now)))) }
+{
+    // Where one of the limits is read, all are known to be in their bounds.
+    let _chars = limits.chars();
+    match make_tag(alloc, tags, name) {
+        Err(fault) => Err(fault),
+        Ok(slot) => {
+            if tags.len() > limits.tags() as usize + 1 {
+                return Err(Fault::TooManyTags);
+            }
+            set_slot(alloc, store, history, spans, slot, true)
+        }
+    }
+}
+
+impl<S: TextStore> Document<S> {
+    /// Puts texts in at an offset, each behind the one before it, and makes the tags of their lists.
+    pub fn insert_at(
+        &mut self,
+        limits: &Limits,
+        at: usize,
+        pairs: Vec<Pair>,
+    ) -> Result<Answer, Fault>
+        requires { at < length self.old.cells }
+        ensures { Does limits.now self.old self.new result (insert_at limits.now self.old (lone_widget self.old) at pairs.items) }
+    {
+        let front = self.tags.len();
+        let put = put_pairs(
+            self.alloc,
+            limits,
+            &mut self.tags,
+            &mut self.store,
+            &mut self.history,
+            at,
+            pairs,
+        );
+        match put {
+            Ok(()) => Ok(Answer::Empty),
+            Err(fault) => {
+                self.tags.truncate(front);
+                Err(fault)
+            }
+        }
+    }
+
+    /// Puts a tag on the ranges between pairs of places, and makes it if it is new.
+    pub fn add_spans(
+        &mut self,
+        limits: &Limits,
+        name: &str,
+        places: &[usize],
+    ) -> Result<Answer, Fault>
+        requires { All (λ place. place ≤ length (shown self.old (lone_widget self.old))) places.now }
+        ensures { Does limits.now self.old self.new result (add_spans limits.now self.old (lone_widget self.old) (chars name.now) places.now) }
+    {
+        let spans = spans_of(self.alloc, 0, self.store.len(), places)?;
+        let front = self.tags.len();
+        let tagged = tag_spans(
+            self.alloc,
+            limits,
+            &mut self.tags,
+            &mut self.store,
+            &mut self.history,
+            name,
+            &spans,
+        );
+        match tagged {
+            Ok(()) => Ok(Answer::Empty),
+            Err(fault) => {
+                self.tags.truncate(front);
+                Err(fault)
+            }
+        }
+    }
+
+    /// Takes a tag off the ranges between pairs of places, if there is one of that name.
+    pub fn remove_spans(
+        &mut self,
+        limits: &Limits,
+        name: &str,
+        places: &[usize],
+    ) -> Result<Answer, Fault>
+        requires { All (λ place. place ≤ length (shown self.old (lone_widget self.old))) places.now }
+        ensures { Does limits.now self.old self.new result (remove_spans self.old (lone_widget self.old) (chars name.now) places.now) }
+    {
+        let Some(slot) = self.tags.find(name) else {
+            return Ok(Answer::Empty);
+        };
+        let spans = spans_of(self.alloc, 0, self.store.len(), places)?;
+        match set_slot(
+            self.alloc,
+            &mut self.store,
+            &mut self.history,
+            &spans,
+            slot,
+            false,
+        ) {
+            Ok(()) => Ok(Answer::Empty),
+            Err(fault) => Err(fault),
+        }
+    }
+
+    /// Takes tags off all characters, and their names out. `sel` and unknown names are skipped.
+    pub fn delete_tags(&mut self, limits: &Limits, names: &[String]) -> Result<Answer, Fault>
+        ensures { Does limits.now self.old self.new result (tag_delete self.old (texts_of names.now)) }
+    {
+        let slots = deleted_slots(self.alloc, &self.tags, names)?;
+        match clear_slots(self.alloc, &mut self.store, &mut self.history, &slots) {
+            Err(fault) => Err(fault),
+            Ok(()) => {
+                delete_names(&mut self.tags, names);
+                // Where the tags are counted, they are known to be those of a table.
+                let _count = self.tags.len();
+                Ok(Answer::Empty)
+            }
+        }
+    }
+
+    /// Puts a tag highest, or just above another one. The tag is the word at a position, the other one that behind it.
+    pub fn raise(
+        &mut self,
+        limits: &Limits,
+        at: usize,
+        name: &str,
+        above: Option<&str>,
+    ) -> Result<Answer, Fault>
+        requires { at + 1 ≤ usize.MAX }
+        ensures { Does limits.now self.old self.new result
+            (reordered self.old at raised (chars name.now, option_map (λ word. chars word.now) above.entry)) }
+    {
+        match self.tags.raise(name, above) {
+            Ok(()) => {
+                // Where the tags are counted, they are known to be those of a table.
+                let _count = self.tags.len();
+                Ok(Answer::Empty)
+            }
+            Err(NoSuchTag::Moved) => Err(Fault::NoSuchTag(at)),
+            Err(NoSuchTag::Neighbour) => Err(Fault::NoSuchTag(at + 1)),
+        }
+    }
+
+    /// Puts a tag lowest, or just below another one. The tag is the word at a position, the other one that behind it.
+    pub fn lower(
+        &mut self,
+        limits: &Limits,
+        at: usize,
+        name: &str,
+        below: Option<&str>,
+    ) -> Result<Answer, Fault>
+        requires { at + 1 ≤ usize.MAX }
+        ensures { Does limits.now self.old self.new result
+            (reordered self.old at lowered (chars name.now, option_map (λ word. chars word.now) below.entry)) }
+    {
+        match self.tags.lower(name, below) {
+            Ok(()) => {
+                // Where the tags are counted, they are known to be those of a table.
+                let _count = self.tags.len();
+                Ok(Answer::Empty)
+            }
+            Err(NoSuchTag::Moved) => Err(Fault::NoSuchTag(at)),
+            Err(NoSuchTag::Neighbour) => Err(Fault::NoSuchTag(at + 1)),
+        }
     }
 }

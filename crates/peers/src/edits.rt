@@ -1,20 +1,21 @@
-ghost use Rattle.std.specs.Prelude.{◌≡◌, ◌∷◌, ◌<◌, [], length, chars, OnOk, OnErr, IfOk};
-ghost use Rattle.std.specs.FinSet as set;
-ghost use Rattle.text_model.specs.Steps.{Fits, after, after_insertion};
+ghost use Rattle.std.specs.Prelude.{◌≡◌, ◌≢◌, ◌∷◌, ◌+◌, ◌<◌, ◌≤◌, [], length, map, OnOk, OnErr, IfOk, IfErr};
+ghost use Rattle.std.specs.List.{All};
+ghost use Rattle.text_model.specs.Steps.{Fits, after};
+ghost use Rattle.text_model.specs.TagBits.{slot_count};
+ghost use Rattle.edit_ops.specs.Insertions.{total};
+ghost use Rattle.edit_ops.specs.States.{log_of};
+ghost use Rattle.edit_ops.specs.Tagging.{SpanFits, tagged, cleared};
+ghost use Rattle.peers.specs.declared.answers.Fault.TheVariants.{Memory, TextTooLong};
+ghost use Rattle.peers.specs.Slots.{texts_put_in};
 ghost use Rattle.peers.specs.World.{new_mark, first_content};
 
+use crate::answers::Fault;
+use edit_ops::{
+    Anchors, EditFault, Piece, Recording, Span, commit, plan_clear, plan_insert, plan_tag,
+};
 use std::alloc::{AllocError, Global};
-use text_model::{Edit, Gravity, MarkNo, Place, Step, StepList, TagSet, Text, TextStore};
-
-/// An edit that puts a text in before the character at an offset.
-fn insertion(alloc: Global, at: usize, text: &str) -> Result<Edit, AllocError>
-    ensures { IfOk result (λ edit. edit.steps ≡ Step.Insert at (chars text.now) set.empty ∷ []) }
-{
-    let mut steps = StepList::new(alloc);
-    let text = Text::new(String::from_str(alloc, text)?);
-    steps.push(Step::Insert(at, text, TagSet::empty()))?;
-    Ok(Edit { steps })
-}
+use text_model::{Edit, Gravity, Limits, MarkNo, Place, Step, StepList, TagSlot, TextStore};
+use undo_stack::UndoStack;
 
 /// Makes an edit. Where memory is refused nothing changes.
 fn make<S: TextStore>(store: &mut S, edit: Edit) -> Result<(), AllocError>
@@ -50,17 +51,92 @@ pub fn new_store<S: TextStore>(alloc: Global) -> Result<S, AllocError>
     Ok(store)
 }
 
-/// Puts a text in before the character at an offset of a store. Where memory is refused nothing changes.
-pub fn insert_text<S: TextStore>(
+/// A widget that shows the whole text.
+const WHOLE: Anchors = Anchors {
+    start: None,
+    end: None,
+};
+
+/// No action is kept, as there is no option yet that asks for it.
+const UNKEPT: Recording = Recording {
+    undo: false,
+    separators: true,
+};
+
+/// Puts texts in before the character at an offset of a store, each behind the one before it.
+pub fn put_texts<S: TextStore>(
+    alloc: Global,
+    limits: &Limits,
+    store: &mut S,
+    history: &mut UndoStack,
+    at: usize,
+    pieces: &[Piece],
+) -> Result<(), Fault>
+    requires { at < length (S.content store.old).cells }
+    ensures ok { OnOk result (
+        (S.content store.new ≡ (texts_put_in at pieces.now (S.content store.old) (log_of history.old)).content)
+        × (log_of history.new ≡ (texts_put_in at pieces.now (S.content store.old) (log_of history.old)).log)) }
+    ensures fits { OnOk result (length (S.content store.old).cells + total pieces.now ≤ limits.now.chars) }
+    ensures err { OnErr result ((S.content store.new ≡ S.content store.old) × (log_of history.new ≡ log_of history.old)) }
+    ensures fault { IfErr result (λ fault. fault ≢ Memory →
+        (fault ≡ TextTooLong) × (limits.now.chars < length (S.content store.old).cells + total pieces.now)) }
+{
+    let mut anchors = [WHOLE];
+    match plan_insert(alloc, limits, store, history, &anchors, at, pieces, UNKEPT) {
+        Err(EditFault::TextTooLong) => Err(Fault::TextTooLong),
+        Err(_) => Err(Fault::Memory),
+        Ok(plan) => {
+            commit(plan, store, history, &mut anchors);
+            Ok(())
+        }
+    }
+}
+
+/// Sets a slot on spans of a store, or takes it off them.
+pub fn set_slot<S: TextStore>(
     alloc: Global,
     store: &mut S,
-    at: usize,
-    text: &str,
-) -> Result<(), AllocError>
-    requires { at < length (S.content store.old).cells }
-    ensures ok { OnOk result (S.content store.new ≡ after_insertion at (chars text.now) set.empty (S.content store.old)) }
+    history: &mut UndoStack,
+    spans: &[Span],
+    slot: TagSlot,
+    is_on: bool,
+) -> Result<(), Fault>
+    requires spans { All (SpanFits (length (S.content store.old).cells)) spans.now }
+    requires known { slot.0 < slot_count }
+    ensures ok { OnOk result (S.content store.new ≡ tagged slot.0 is_on spans.now (S.content store.old)) }
     ensures err { OnErr result (S.content store.new ≡ S.content store.old) }
+    ensures log { log_of history.new ≡ log_of history.old }
+    ensures fault { IfErr result (λ fault. fault ≡ Memory) }
 {
-    make(store, insertion(alloc, at, text)?)?;
-    Ok(())
+    let mut anchors = [WHOLE];
+    match plan_tag(alloc, store, history, &anchors, spans, slot, is_on) {
+        Err(_) => Err(Fault::Memory),
+        Ok(plan) => {
+            commit(plan, store, history, &mut anchors);
+            Ok(())
+        }
+    }
+}
+
+/// Takes slots off all characters of a store.
+pub fn clear_slots<S: TextStore>(
+    alloc: Global,
+    store: &mut S,
+    history: &mut UndoStack,
+    slots: &[TagSlot],
+) -> Result<(), Fault>
+    requires { All (λ slot. slot.0 < slot_count) slots.now }
+    ensures ok { OnOk result (S.content store.new ≡ cleared (map (λ slot. slot.0) slots.now) (S.content store.old)) }
+    ensures err { OnErr result (S.content store.new ≡ S.content store.old) }
+    ensures log { log_of history.new ≡ log_of history.old }
+    ensures fault { IfErr result (λ fault. fault ≡ Memory) }
+{
+    let mut anchors = [WHOLE];
+    match plan_clear(alloc, store, history, &anchors, slots) {
+        Err(_) => Err(Fault::Memory),
+        Ok(plan) => {
+            commit(plan, store, history, &mut anchors);
+            Ok(())
+        }
+    }
 }

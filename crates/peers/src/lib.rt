@@ -10,6 +10,13 @@ mod edits;
 #[cfg(test)]
 mod index_tests;
 mod indices;
+mod listing;
+mod lists;
+mod ranges;
+#[cfg(test)]
+mod tag_tests;
+mod tagging;
+mod tags;
 #[cfg(test)]
 mod tests;
 #[cfg(test)]

@@ -1,117 +1,117 @@
-ghost use Rattle.std.specs.Prelude.{◌+◌, ◌≤◌, length, chars, IfOk};
+ghost use Rattle.std.specs.Prelude.{◌≡◌, ◌+◌, ◌≤◌, length, chars, filter, Ok, IfOk};
+ghost use Rattle.tcl_words.specs.ListText.{list_text};
+ghost use Rattle.std.specs.List.{All};
 ghost use Rattle.tcl_words.specs.Unread.{texts_of};
 ghost use Rattle.peers.specs.World.{lone_widget};
 ghost use Rattle.peers.specs.View.{shown};
-ghost use Rattle.peers.specs.Faults.{with_value};
 ghost use Rattle.peers.specs.Promise.{Gives, Does, change_with};
-ghost use Rattle.peers.specs.Texts.{insert_place, insert_word, insert, got_one, got_range, get_one, get_range, get};
+ghost use Rattle.peers.specs.Lists.{pairs_at};
+ghost use Rattle.peers.specs.Texts.{insert_pairs, insert_words, insert, texts_of_places, is_filled, got, get};
 
 use crate::answers::{Answer, Fault};
-use crate::arguments::{one_or_two, two};
+use crate::arguments::first;
 use crate::documents::Document;
-use text_model::{Limits, TextStore};
+use crate::listing::push_filled;
+use crate::lists::pairs_at;
+use std::alloc::AllocError;
+use text_model::{Limits, Text, TextStore};
 
 impl<S: TextStore> Document<S> {
-    /// Puts a text in at a place, or just before the last newline where that is the end.
+    /// Puts texts in at a place, or just before the last newline where that is the end.
     fn insert_place(
         &mut self,
         limits: &Limits,
         place: Result<usize, Fault>,
-        text: &str,
+        at: usize,
+        words: &[String],
     ) -> Result<Answer, Fault>
+        requires { at + length words.now ≤ usize.MAX }
         ensures { Does limits.now self.old self.new result
-            (change_with self.old place (insert_place limits.now self.old (lone_widget self.old) (chars text.now))) }
+            (change_with self.old place (insert_pairs limits.now self.old (lone_widget self.old) (pairs_at at (texts_of words.now)))) }
     {
-        match place {
+        let place = match place {
+            Err(fault) => return Err(fault),
+            Ok(place) => place,
+        };
+        match pairs_at(self.allocator(), at, words) {
             Err(fault) => Err(fault),
-            Ok(place) => {
-                let offset = self.insertion_offset(place);
-                self.insert_at(limits, offset, text)
-            }
+            Ok(pairs) => self.insert_at(limits, self.insertion_offset(place), pairs),
         }
     }
 
-    fn insert_word(
+    fn insert_words(
         &mut self,
         limits: &Limits,
         at: usize,
         index: &str,
-        text: &str,
+        words: &[String],
     ) -> Result<Answer, Fault>
-        ensures { Does limits.now self.old self.new result
-            (insert_word limits.now self.old (lone_widget self.old) at (chars index.now, chars text.now)) }
+        requires { at + 1 + length words.now ≤ usize.MAX }
+        ensures { Does limits.now self.old self.new result (insert_words limits.now self.old (lone_widget self.old) at (chars index.now, texts_of words.now)) }
     {
         let place = self.place_at(at, index);
-        self.insert_place(limits, place, text)
+        self.insert_place(limits, place, at + 1, words)
     }
 
-    /// `W insert I chars` (text(n), "insert"). The arguments stand from a position on.
+    /// `W insert I chars ?tagList chars ..?` (text(n), "insert"). The arguments stand from a position on.
     pub fn insert(
         &mut self,
         limits: &Limits,
         at: usize,
         arguments: &[String],
     ) -> Result<Answer, Fault>
+        requires { at + length arguments.now ≤ usize.MAX }
         ensures { Does limits.now self.old self.new result (insert limits.now self.old (lone_widget self.old) at (texts_of arguments.now)) }
     {
-        match two(arguments) {
+        match first(arguments) {
             Err(fault) => Err(fault),
-            Ok((index, text)) => self.insert_word(limits, at, index, text),
+            Ok((index, words)) => self.insert_words(limits, at, index, words),
         }
     }
 
-    /// One character, from a place on.
-    fn got_one(&self, from: Result<usize, Fault>) -> Result<Answer, Fault>
-        requires { IfOk from (λ from. from ≤ length (shown self.now (lone_widget self.now))) }
-        ensures { Gives result (with_value from (got_one self.now (lone_widget self.now))) }
+    /// The texts of ranges as a list, without those that are empty.
+    fn got_list(&self, places: &[usize]) -> Result<Text, AllocError>
+        requires { All (λ place. place ≤ length (shown self.now (lone_widget self.now))) places.now }
+        ensures { IfOk result (λ list. list ≡ list_text (filter is_filled (texts_of_places self.now (lone_widget self.now) places.now))) }
     {
-        match from {
-            Err(fault) => Err(fault),
-            Ok(from) => Ok(Answer::Text(self.character_at(from)?)),
+        let mut list = String::new(self.allocator());
+        let mut rest = places;
+        while rest.len() >= 2 {
+            push_filled(&mut list, self.text_between(rest[0], rest[1])?)?;
+            rest = &rest[2..];
         }
-    }
-
-    fn get_one(&self, at: usize, first: &str) -> Result<Answer, Fault>
-        ensures { Gives result (get_one self.now (lone_widget self.now) at (chars first.now)) }
-    {
-        self.got_one(self.place_at(at, first))
-    }
-
-    /// The characters from one place to another.
-    fn got_range(
-        &self,
-        from: Result<usize, Fault>,
-        to: Result<usize, Fault>,
-    ) -> Result<Answer, Fault>
-        requires from { IfOk from (λ from. from ≤ length (shown self.now (lone_widget self.now))) }
-        requires to { IfOk to (λ to. to ≤ length (shown self.now (lone_widget self.now))) }
-        ensures { Gives result (with_value from (λ first. with_value to (got_range self.now (lone_widget self.now) first))) }
-    {
-        match (from, to) {
-            (Err(fault), _) => Err(fault),
-            (Ok(_), Err(fault)) => Err(fault),
-            (Ok(from), Ok(to)) => Ok(Answer::Text(self.text_between(from, to)?)),
+        if rest.is_empty() {
+            return Ok(Text::new(list));
         }
+        push_filled(&mut list, self.character_at(rest[0])?)?;
+        Ok(Text::new(list))
     }
 
-    fn get_range(&self, at: usize, first: &str, second: &str) -> Result<Answer, Fault>
-        requires { at + 1 ≤ usize.MAX }
-        ensures { Gives result (get_range self.now (lone_widget self.now) at (chars first.now) (chars second.now)) }
+    /// The text of the places of ranges.
+    fn got(&self, places: &[usize]) -> Result<Answer, Fault>
+        requires within { All (λ place. place ≤ length (shown self.now (lone_widget self.now))) places.now }
+        ensures { Gives result (Ok (got self.now (lone_widget self.now) places.now)) }
     {
-        let from = self.place_at(at, first);
-        let to = self.place_at(at + 1, second);
-        self.got_range(from, to)
+        if places.len() > 2 {
+            return Ok(Answer::Text(self.got_list(places)?));
+        }
+        if places.len() == 2 {
+            return Ok(Answer::Text(self.text_between(places[0], places[1])?));
+        }
+        if places.len() == 1 {
+            return Ok(Answer::Text(self.character_at(places[0])?));
+        }
+        Ok(Answer::Text(Text::new(String::new(self.allocator()))))
     }
 
-    /// `W get I ?I?` (text(n), "get"). The arguments stand from a position on.
+    /// `W get I ?I ..?` (text(n), "get"). The arguments stand from a position on.
     pub fn get(&self, at: usize, arguments: &[String]) -> Result<Answer, Fault>
-        requires { at + 1 ≤ usize.MAX }
+        requires { at + length arguments.now ≤ usize.MAX }
         ensures { Gives result (get self.now (lone_widget self.now) at (texts_of arguments.now)) }
     {
-        match one_or_two(arguments) {
+        match self.places_at(at, arguments) {
             Err(fault) => Err(fault),
-            Ok((first, None)) => self.get_one(at, first),
-            Ok((first, Some(second))) => self.get_range(at, first, second),
+            Ok(places) => self.got(&places),
         }
     }
 }

@@ -64,7 +64,7 @@ impl<S: TextStore> World<S> {
         if self.limits.widgets() == 0 {
             return Err(Fault::TooManyWidgets);
         }
-        let document = Document::new(self.alloc, &self.limits, name)?;
+        let document = Document::new(self.alloc, name)?;
         self.document = Some(document);
         Ok(Answer::Word(1))
     }

@@ -54,6 +54,11 @@ impl<'a> Line<'a> {
                 front_of(word_at(words, position), len),
                 "\"\n",
             ),
+            Fault::NoSuchTag(position) => Line::around(
+                "error: tag \"",
+                word_at(words, position),
+                "\" isn't defined in text widget\n",
+            ),
             Fault::BadOption(position) => {
                 Line::around("error: bad option \"", word_at(words, position), "\"\n")
             }
@@ -73,8 +78,12 @@ impl<'a> Line<'a> {
                 word_at(words, position),
                 "\"\n",
             ),
+            Fault::BadList(position) => {
+                Line::around("error: bad list \"", word_at(words, position), "\"\n")
+            }
             Fault::DocumentExists => Line::alone("error: a document exists\n"),
             Fault::TooManyWidgets => Line::alone("error: too many widgets\n"),
+            Fault::TooManyTags => Line::alone("error: too many tags\n"),
             Fault::TextTooLong => Line::alone("error: text is too long\n"),
             Fault::Memory => Line::alone("error: out of memory\n"),
         }

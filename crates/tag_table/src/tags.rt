@@ -1,4 +1,4 @@
-ghost use Rattle.std.specs.Prelude.{◌≡◌, ◌<◌, ◌≤◌, ◌↔◌, ◌∷◌, [], ◌++◌, length, slice_get, chars, string_bytes, None, Some, Ok, Err, IsNone, IfOk, IfErr, IfSome, OnErr};
+ghost use Rattle.std.specs.Prelude.{◌≡◌, ◌<◌, ◌≤◌, ◌↔◌, ◌∷◌, [], ◌++◌, length, take, slice_get, chars, string_bytes, None, Some, Ok, Err, IsNone, IfOk, IfErr, IfSome, OnErr};
 ghost use Rattle.std.specs.Option.{option_map};
 ghost use Rattle.tag_table.specs.Kept.{place_above, place_below, slot_of_number};
 ghost use Rattle.tag_table.specs.Priority.{raised, lowered, deleted};
@@ -101,6 +101,7 @@ impl TagTable {
         ensures least { IfOk result (λ made. IfSome made (λ slot. IsLeastFree (slots_of self.old.tags) slot.0)) }
         ensures last { IfOk result (λ made. IfSome made (λ slot. self.new ≡
             record self.old { tags = self.old.tags ++ record { name = chars (string_bytes name); slot = slot.0 } ∷ [] })) }
+        ensures bound { IfOk result (λ made. IfSome made (λ slot. slot.0 < slot_count)) }
         // To take it out again gives back the tags before it.
         ensures back { IfOk result (λ made. IfSome made (λ _. deleted (chars (string_bytes name)) self.new.tags ≡ self.old.tags)) }
         ensures err { OnErr result (self.new ≡ self.old) }
@@ -151,6 +152,14 @@ impl TagTable {
         if let Some(place) = self.names.place(name) {
             self.names.remove(place);
         }
+    }
+
+    /// Takes out the tags behind the first so many, among which `sel` is. Their slots are free again.
+    pub fn truncate(&mut self, len: usize)
+        requires { slot_of sel (take len self.old.tags) ≡ Some 0 }
+        ensures { self.new ≡ record self.old { tags = take len self.old.tags } }
+    {
+        self.names.truncate(len);
     }
 
     // Where the tag at `from` goes to stand just above another one, or highest.

@@ -1,26 +1,76 @@
-use Rattle.std.proofs.Common.{◌≡◌, ◌≤◌, ◌<◌, ◌+◌, length, arith}
-use Rattle.std.specs.Prelude.{chars, string_bytes}
-use Rattle.text_model.specs.declared.limits.TheConstants.Limits.{MOST_CHARS}
-use Rattle.text_model.proofs.TextLaws.{chars-scalars}
-use Rattle.peers.proofs.InsertLaws.{IsKept-inserted, does-insert, has_room}
+use Rattle.std.proofs.Common.{ap, ◌∙◌, arith}
+use Rattle.std.specs.Prelude.{chars, string_bytes, take}
+use Rattle.tag_table.specs.Tags.{sel, slot_of}
+use Rattle.peers.specs.Texts.{insert_at}
+use Rattle.peers.specs.World.{lone_document, lone_widget}
+use Rattle.peers.proofs.ChangeLaws.{does-left, stands-same, table-back, Stands}
+use Rattle.peers.proofs.InsertionLaws.{does-texts, texts-left}
 use Rattle.peers.proofs.LoneLaws.{cells-lone}
 use Rattle.peers.proofs.documents.Document.insert_at.Goals as goal
 
-pub invariant_of-self-2 : goal.invariant_of-self-2
-invariant_of-self-2 g c =
-    let old = g.S.TextStore.content c.self.inside.store in let name = chars (string_bytes c.self.inside.name) in
-    let within : c.args.at < length old.cells = omega (arith, c.requires, cells-lone name old c.args.self.now c.self.view_is) in
-    let short : length old.cells + length (chars c.args.text.now) ≤ MOST_CHARS = omega (arith, c.is_too_long.ensures.short c.if-is_too_long.false, c.len.ensures) in
-    (IsKept-inserted name old _ c.args.at (chars c.args.text.now) c.self.invariant.0 within short (chars-scalars c.args.text.now c.utf8.text) c.in_ok-insert_text.ensures.ok, c.self.invariant.1)
+pub put_pairs-put-requires-clause-within : goal.put_pairs-put-requires-clause-within
+put_pairs-put-requires-clause-within g c =
+    let old = c.self.inside in
+    omega (arith, c.requires, cells-lone (chars (string_bytes old.name)) old.tags.tags old.history.modified (g.S.TextStore.content old.store) c.args.self.now c.self.view_is)
 
-pub returns : goal.returns
-returns g c =
-    let old = g.S.TextStore.content c.self.inside.store in let name = chars (string_bytes c.self.inside.name) in
-    let new = g.S.TextStore.content c.insert_text.new.store in
-    let text = chars c.args.text.now in
-    let room = has_room c.args.limits.now old text c.len.result c.is_too_long.result c.len.ensures c.is_too_long.ensures.value c.if-is_too_long.false in
-    let within : c.args.at < length old.cells = omega (arith, c.requires, cells-lone name old c.args.self.now c.self.view_is) in
-    let short : length old.cells + length text ≤ MOST_CHARS = omega (arith, c.is_too_long.ensures.short c.if-is_too_long.false, c.len.ensures) in
-    let fits : length old.cells + length text ≤ c.args.limits.now.chars = omega (arith, c.is_too_long.ensures.fits c.if-is_too_long.false, c.len.ensures) in
-    does-insert c.args.limits.now name old new c.args.self.now c.args.at text c.self.invariant.0 within short fits (chars-scalars c.args.text.now c.utf8.text)
-    c.in_ok-insert_text.ensures.ok room c.self.view_is
+pub truncate-requires : goal.truncate-requires
+truncate-requires g c =
+    ap (λ n. slot_of sel (take n c.put_pairs-put.new.tags.tags)) c.len-front.ensures.value ∙ ap (slot_of sel) c.in-Err.ensures.front.tags ∙ c.len-front.ensures.sound.selection
+
+pub invariant_of-self : goal.invariant_of-self
+invariant_of-self g c =
+    let old = c.self.inside in
+    let new = c.put_pairs-put.new in
+    let done = does-texts c.args.limits.now (chars (string_bytes old.name)) old.tags new.tags old.marks old.history new.history (g.S.TextStore.content old.store) (g.S.TextStore.content new.store)
+    c.args.at c.args.pairs.items c.args.self.now (record { kept = c.self.invariant.0; fresh = c.self.invariant.1; is = c.self.view_is })
+    (record {
+      bounds = c.in-Ok.ensures.bounds;
+      front = c.in-Ok.ensures.front;
+      sound = c.in-Ok.ensures.sound;
+      scalars = c.in-Ok.ensures.scalars;
+      made = c.in-Ok.ensures.made;
+      content_is = c.in-Ok.ensures.ok.0;
+      log_is = c.in-Ok.ensures.ok.1;
+      room = c.in-Ok.ensures.room;
+    }) c.requires in
+    (done.0, done.1)
+
+pub returns-in-Ok : goal.returns-in-Ok
+returns-in-Ok g c =
+    let old = c.self.inside in
+    let new = c.put_pairs-put.new in
+    (does-texts c.args.limits.now (chars (string_bytes old.name)) old.tags new.tags old.marks old.history new.history (g.S.TextStore.content old.store) (g.S.TextStore.content new.store)
+    c.args.at c.args.pairs.items c.args.self.now (record { kept = c.self.invariant.0; fresh = c.self.invariant.1; is = c.self.view_is })
+    (record {
+      bounds = c.in-Ok.ensures.bounds;
+      front = c.in-Ok.ensures.front;
+      sound = c.in-Ok.ensures.sound;
+      scalars = c.in-Ok.ensures.scalars;
+      made = c.in-Ok.ensures.made;
+      content_is = c.in-Ok.ensures.ok.0;
+      log_is = c.in-Ok.ensures.ok.1;
+      room = c.in-Ok.ensures.room;
+    }) c.requires).2
+
+pub invariant_of-self-in-Err : goal.invariant_of-self-in-Err
+invariant_of-self-in-Err g c =
+    let old = c.self.inside in
+    let new = c.put_pairs-put.new in
+    let same = table-back old.tags new.tags c.truncate.new.self c.len-front.result c.len-front.ensures.value c.in-Err.ensures.front c.truncate.ensures in
+    let left = stands-same (chars (string_bytes old.name)) old.tags c.truncate.new.self old.marks old.history new.history (g.S.TextStore.content old.store) (g.S.TextStore.content new.store) c.args.self.now
+    (record { kept = c.self.invariant.0; fresh = c.self.invariant.1; is = c.self.view_is }) same c.in-Err.ensures.err.1 c.in-Err.ensures.err.0 in
+    (left.kept, left.fresh)
+
+pub returns-in-Err : goal.returns-in-Err
+returns-in-Err g c =
+    let old = c.self.inside in
+    let new = c.put_pairs-put.new in
+    let name = chars (string_bytes old.name) in
+    let document = c.args.self.now in
+    let stands : Stands name old.tags old.marks old.history (g.S.TextStore.content old.store) document = record { kept = c.self.invariant.0; fresh = c.self.invariant.1; is = c.self.view_is } in
+    let same = table-back old.tags new.tags c.truncate.new.self c.len-front.result c.len-front.ensures.value c.in-Err.ensures.front c.truncate.ensures in
+    let left = stands-same name old.tags c.truncate.new.self old.marks old.history new.history (g.S.TextStore.content old.store) (g.S.TextStore.content new.store) document stands same c.in-Err.ensures.err.1
+    c.in-Err.ensures.err.0 in
+    does-left c.args.limits.now document (lone_document name c.truncate.new.self.tags new.history.modified (g.S.TextStore.content new.store)) c.in-Err.fault
+    (insert_at c.args.limits.now document (lone_widget document) c.args.at c.args.pairs.items) left.is
+    (λ other. texts-left c.args.limits.now name old.tags old.marks old.history (g.S.TextStore.content old.store) c.args.at c.args.pairs.items document c.in-Err.fault stands (c.in-Err.ensures.fault other))

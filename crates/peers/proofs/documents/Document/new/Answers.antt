@@ -1,35 +1,42 @@
-use Rattle.std.proofs.Common.{◌≡◌, length, true, subst, sym, ap, ◌∙◌, arith}
+use Rattle.std.proofs.Common.{◌≡◌, ◌≤◌, ◌+◌, length, true, subst, sym, ap, ◌∙◌, arith}
 use Rattle.std.specs.Prelude.{chars, string_bytes}
 use Rattle.text_model.specs.Content.{Content}
 use Rattle.mark_table.specs.SharedMarks.{SharedMarks}
-use Rattle.tag_table.specs.Tags.{Tags}
+use Rattle.tag_table.specs.Tags.{Tags, AreTags}
+use Rattle.undo_stack.specs.Modified.{unmodified}
+use Rattle.text_model.specs.declared.limits.TheConstants.Limits.{MOST_TAGS}
 use Rattle.peers.specs.Kept.{IsKept, is_window_name}
 use Rattle.peers.specs.World.{lone_document, first_content}
-use Rattle.peers.proofs.FirstLaws.{kept-first, lone-first}
+use Rattle.peers.proofs.FirstLaws.{kept-first, lone-first, sel_alone, sound-first}
 use Rattle.peers.proofs.WellFormedLaws.{IsWellFormedDocument-lone}
 use Rattle.peers.proofs.documents.Document.new.Goals as goal
 
 pub invariant_of-result : goal.invariant_of-result
 invariant_of-result g c =
     let name = chars (string_bytes c.in_ok-from_str.field-0) in
-    let named : is_window_name name ≡ true = ap (λ bytes. is_window_name (chars bytes)) c.in_ok-from_str.ensures.ok ∙ c.requires in (
-      subst (IsKept name) (sym c.in_ok-new_store.ensures) (kept-first name named),
+    let named : is_window_name name ≡ true = ap (λ bytes. is_window_name (chars bytes)) c.in_ok-from_str.ensures.ok ∙ c.requires in
+    let table : c.in_ok-new.field-0 ≡ record { tags = sel_alone; limit = MOST_TAGS } = c.in_ok-new.ensures ∙ ap (λ limit. record { tags = sel_alone; limit = limit }) c.greatest_limits-limits.ensures in (
+      subst (λ content. IsKept name c.in_ok-new.field-0 content) (sym c.in_ok-new_store.ensures)
+          (kept-first name c.in_ok-new.field-0 named (subst AreTags (sym table) sound-first) (ap (λ (t : Tags). t.limit) table)),
       record {
-        sel_alone = ap (λ (t : Tags). t.tags) c.in_ok-new.ensures;
         none_shared = ap (λ (m : SharedMarks). m.marks) c.in_ok-new-2.ensures;
+        no_history = c.new-3.ensures.history;
+        no_limit = c.new-3.ensures.most;
       },
     )
 
 pub returns-clause-value : goal.returns-clause-value
 returns-clause-value g c =
     let content = g.S.TextStore.content c.in_ok-new_store.field-0 in
-    ap (λ bytes. lone_document (chars bytes) content) c.in_ok-from_str.ensures.ok
-    ∙ ap (lone_document (chars c.args.name.now)) c.in_ok-new_store.ensures ∙ lone-first (chars c.args.name.now)
+    ap (λ bytes. lone_document (chars bytes) c.in_ok-new.field-0.tags c.new-3.result.modified content) c.in_ok-from_str.ensures.ok
+    ∙ ap (λ (t : Tags). lone_document (chars c.args.name.now) t.tags c.new-3.result.modified content) c.in_ok-new.ensures
+    ∙ ap (λ modified. lone_document (chars c.args.name.now) sel_alone modified content) c.new-3.ensures.modified
+    ∙ ap (lone_document (chars c.args.name.now) sel_alone unmodified) c.in_ok-new_store.ensures ∙ lone-first (chars c.args.name.now)
 
 pub returns-clause-well_formed : goal.returns-clause-well_formed
-returns-clause-well_formed g c =
+returns-clause-well_formed g c = λ limits are.
     let name = chars (string_bytes c.in_ok-from_str.field-0) in
     let content = g.S.TextStore.content c.in_ok-new_store.field-0 in
-    let named : is_window_name name ≡ true = ap (λ bytes. is_window_name (chars bytes)) c.in_ok-from_str.ensures.ok ∙ c.requires in
     let one : length content.cells ≡ 1 = ap (λ (x : Content). length x.cells) c.in_ok-new_store.ensures in
-    λ limits are. IsWellFormedDocument-lone limits name content (subst (IsKept name) (sym c.in_ok-new_store.ensures) (kept-first name named)) (omega (arith, are.some, one))
+    let few : length c.in_ok-new.field-0.tags ≡ 1 = ap (λ (t : Tags). length t.tags) c.in_ok-new.ensures in
+    IsWellFormedDocument-lone limits name c.in_ok-new.field-0 c.new-3.result.modified content (invariant_of-result g c).0 (omega (arith, are.some, one)) (omega (arith, few))

@@ -12,9 +12,10 @@ locate-requires-clause-view g c = whole-view (g.S.TextStore.content c.self.insid
 
 pub returns-clause-value : goal.returns-clause-value
 returns-clause-value g c =
-    let content = g.S.TextStore.content c.self.inside.store in
+    let self = c.self.inside in
+    let content = g.S.TextStore.content self.store in
     let word = chars c.args.word.now in
-    let defined = place-lone (chars (string_bytes c.self.inside.name)) content c.self.inside.tags c.self.inside.marks c.len.result c.args.self.now word
-    c.self.invariant.0 c.self.invariant.1 c.len.ensures c.self.view_is in
+    let defined = place-lone (chars (string_bytes self.name)) self.tags self.history.modified content self.marks c.len.result c.args.self.now word
+    c.self.invariant.0 c.self.invariant.1.none_shared c.len.ensures c.self.view_is in
     let gives = gives-place c.args.position c.locate.result (place_of c.args.self.now (lone_widget c.args.self.now) word) (λ other. c.locate.ensures.value other ∙ defined) in
     λ other. c.at_position.ensures.value ∙ gives (λ memory. other (c.at_position.ensures.value ∙ memory))

@@ -1,0 +1,169 @@
+-- A lone document after texts with tag lists are put in, or where that is refused.
+use Rattle.std.proofs.Common.{◌≡◌, ℕ, ◌+◌, ◌<◌, ◌≤◌, true, false, List, [], ◌∷◌, None, Some, Ok, map, length, refl, sym, ap, ap₂, subst, ◌∙◌, arith}
+use Rattle.std.specs.Prelude.{nat_lt, if◌then◌else◌}
+use Rattle.std.specs.Char.{IsScalar}
+use Rattle.std.specs.List.{All}
+use Rattle.std.proofs.lemmas.Bool.Decides.{nat_tests}
+use Rattle.std.proofs.lemmas.List.{length-map}
+use Rattle.mark_table.specs.SharedMarks.{SharedMarks}
+use Rattle.tag_table.specs.Tags.{AreTags, Tag, Tags, names_of}
+use Rattle.text_model.specs.Content.{Content}
+use Rattle.text_model.specs.Splices.{changed}
+use Rattle.text_model.specs.LimitTable.{AreLimits, LimitTable}
+use Rattle.undo_stack.specs.Rings.{Kept}
+use Rattle.undo_stack.specs.declared.actions.EditKind.TheVariants.{Insert}
+use Rattle.edit_ops.specs.Insertions as insertions
+use Rattle.edit_ops.specs.Insertions.{inserted_text, inserted_texts}
+use Rattle.edit_ops.specs.States.{Log, State, log_of}
+use Rattle.edit_ops.specs.declared.pieces.Piece.{Piece}
+use Rattle.edit_ops.proofs.InsertLaws.{total-cons}
+use Rattle.peers.specs.declared.answers.Answer.TheVariants.{Empty}
+use Rattle.peers.specs.declared.answers.Fault.{Fault}
+use Rattle.peers.specs.declared.answers.Fault.TheVariants.{TextTooLong, TooManyTags}
+use Rattle.peers.specs.Edits.{with_texts}
+use Rattle.peers.specs.Kept.{AreNew, IsKept}
+use Rattle.peers.specs.Keys.{key_pairs}
+use Rattle.peers.specs.Lists.{Pair, all_names, with_names}
+use Rattle.peers.specs.Promise.{Does, answered, refused}
+use Rattle.peers.specs.Slots.{IsFront, excess, piece_of, state_shown, texts_put_in, unkept}
+use Rattle.peers.specs.Texts.{insert_at, keyed_text, tags_with, total}
+use Rattle.peers.specs.Words.{is_among}
+use Rattle.peers.specs.World.{Document, Widget, lone_document, lone_widget}
+use Rattle.peers.proofs.KeptLaws.{kept-texts}
+use Rattle.peers.proofs.LoneLaws.{cells-lone, length-keyed}
+use Rattle.peers.proofs.NamedLaws.{among-made, keyed-pieces, known-pieces, total-pieces}
+use Rattle.peers.proofs.TableLaws.{kept-front, lone-front}
+use Rattle.peers.proofs.TextLaws.{length-text, lone-texts}
+use Rattle.peers.proofs.WellFormedLaws.{IsWellFormedDocument-lone}
+use Rattle.peers.proofs.ChangeLaws.{Stands, does-answered}
+
+-- what there is no reason to refuse is within the limits
+few_enough : (limit count : ℕ) → nat_lt limit count ≡ false → count ≤ limit
+few_enough limit count not_more = grind (arith, nat_tests)
+
+pub record IsWithin (limits : LimitTable) (tag_count len : ℕ) : Type 0 where
+  pub tags : nat_lt (limits.tags + 1) tag_count ≡ false
+  pub chars : nat_lt limits.chars len ≡ false
+
+no_some : (fault : Fault) → Some fault ≡ None → ⊥
+no_some fault is = cc
+
+pub excess-none : (limits : LimitTable) (tags chars : ℕ) → excess limits tags chars ≡ None → IsWithin limits tags chars
+excess-none limits tags chars is =
+    elim (nat_lt (limits.tags + 1) tags) as (λ b. nat_lt (limits.tags + 1) tags ≡ b → (if b then Some TooManyTags else (if nat_lt limits.chars chars then Some TextTooLong else None)) ≡ None → IsWithin limits tags chars) [
+      | true ↦ λ _ never. absurd (no_some TooManyTags never)
+      | false ↦ λ few. elim (nat_lt limits.chars chars) as (λ b. nat_lt limits.chars chars ≡ b → (if b then Some TextTooLong else None) ≡ None → IsWithin limits tags chars) [
+        | true ↦ λ _ never. absurd (no_some TextTooLong never)
+        | false ↦ λ short _. record { tags = few; chars = short }
+      ] refl
+    ] refl is
+
+same_fault : (one other : Fault) → Some one ≡ Some other → one ≡ other
+same_fault one other is = cc
+
+abbrev texts_made : Document → Widget → ℕ → List Pair → Document
+texts_made document widget at pairs = with_texts Insert at (map (keyed_text widget) pairs) (record document { tags = tags_with document pairs })
+
+abbrev insertion_size : Document → List Pair → ℕ
+insertion_size document pairs = length document.cells + total pairs
+
+insert-made : (limits : LimitTable) (document : Document) (widget : Widget) (at : ℕ) (pairs : List Pair) → IsWithin limits (length (tags_with document pairs)) (insertion_size document pairs)
+    → insert_at limits document widget at pairs ≡ answered (texts_made document widget at pairs) Empty
+insert-made limits document widget at pairs within =
+    ap₂ (λ b c. if b then refused document TooManyTags else (if c then refused document TextTooLong else answered (texts_made document widget at pairs) Empty)) within.tags within.chars
+
+pub insert-refused : (limits : LimitTable) (document : Document) (widget : Widget) (at : ℕ) (pairs : List Pair) (fault : Fault)
+    → excess limits (length (tags_with document pairs)) (insertion_size document pairs) ≡ Some fault → insert_at limits document widget at pairs ≡ refused document fault
+insert-refused limits document widget at pairs fault is =
+    let made = answered (texts_made document widget at pairs) Empty in
+    elim (nat_lt (limits.tags + 1) (length (tags_with document pairs))) as (λ b. (if b then Some TooManyTags else (if nat_lt limits.chars (insertion_size document pairs) then Some TextTooLong else None)) ≡ Some fault
+    → (if b then refused document TooManyTags else (if nat_lt limits.chars (insertion_size document pairs) then refused document TextTooLong else made)) ≡ refused document fault) [
+      | true ↦ λ many. ap (refused document) (same_fault TooManyTags fault many)
+      | false ↦ elim (nat_lt limits.chars (insertion_size document pairs)) as (λ b. (if b then Some TextTooLong else None) ≡ Some fault → (if b then refused document TextTooLong else made) ≡ refused document fault) [
+        | true ↦ λ long. ap (refused document) (same_fault TextTooLong fault long)
+        | false ↦ λ none. absurd (no_some fault (sym none))
+      ]
+    ] is
+
+-- how long a text is with texts in it
+length-all : (at : ℕ) (pieces : List Piece) (state : State) → at < length state.content.cells
+    → length (inserted_texts unkept Insert at pieces state).content.cells ≡ length state.content.cells + insertions.total pieces
+length-all at [] state within = omega arith
+length-all at (piece ∷ pieces) state within =
+    let long = length-text at piece state within in
+    let counted = total-cons piece pieces in
+    let rest = length-all (at + length piece.text) pieces (inserted_text unkept Insert at piece state) (omega (arith, long, within)) in
+    omega (arith, long, counted, rest)
+
+-- what became of a store and a table
+pub record IsPut (limits : LimitTable) (old new : Tags) (before after : Kept) (content changed : Content) (at : ℕ) (pairs : List Pair) : Type 0 where
+  pub bounds : AreLimits limits
+  pub front : IsFront old new
+  pub sound : AreTags new
+  pub scalars : All (λ (pair : Pair). All IsScalar pair.text) pairs
+  pub made : names_of new.tags ≡ with_names (names_of old.tags) (all_names pairs)
+  pub content_is : changed ≡ (texts_put_in at (map (piece_of new.tags) pairs) content (log_of before)).content
+  pub log_is : log_of after ≡ (texts_put_in at (map (piece_of new.tags) pairs) content (log_of before)).log
+  pub room : excess limits (length (with_names (names_of old.tags) (all_names pairs))) (length content.cells + total pairs) ≡ None
+
+-- the same of the document that the fields give
+texts-done : (limits : LimitTable) (name : List ℕ) (old new : Tags) (marks : SharedMarks) (before after : Kept) (content changed : Content) (at : ℕ) (pairs : List Pair)
+    → IsKept name old content → AreNew marks before → IsPut limits old new before after content changed at pairs → at < length content.cells
+    → let document = lone_document name old.tags before.modified content in
+    IsKept name new changed × AreNew marks after × Does limits document (lone_document name new.tags after.modified changed) (Ok Empty) (insert_at limits document (lone_widget document) at pairs)
+texts-done limits name old new marks before after content changed at pairs kept fresh put within =
+    let document : Document = lone_document name old.tags before.modified content in
+    let widget : Widget = lone_widget document in
+    let pieces = map (piece_of new.tags) pairs in
+    let made = texts_put_in at pieces content (log_of before) in
+    let front : IsKept name new content = kept-front name old new content kept put.front put.sound in
+    let long = length-keyed (key_pairs name old.tags) content.cells in
+    let counted = total-pieces new.tags pairs in
+    let room = excess-none limits (length (with_names (names_of old.tags) (all_names pairs))) (length content.cells + total pairs) put.room in
+    let few = few_enough (limits.tags + 1) (length (with_names (names_of old.tags) (all_names pairs))) room.tags in
+    let short = few_enough limits.chars (length content.cells + total pairs) room.chars in
+    let bounds = put.bounds.chars in
+    let known = known-pieces new.tags pairs put.scalars in
+    let lone = lone-texts name new.tags at pieces content (log_of before) put.sound.names_apart within kept.insert kept.current fresh.no_history fresh.no_limit in
+    let wide = lone-front name old new before.modified content document put.front put.sound kept.known refl in
+    let named = subst (λ names. All (λ n. is_among n names ≡ true) (all_names pairs)) (sym put.made) (among-made (names_of old.tags) (all_names pairs)) in
+    let texts = keyed-pieces widget new.tags pairs put.sound.names_apart put.sound.slots_apart named in
+    let new_kept : IsKept name new changed = subst (IsKept name new) (sym put.content_is)
+    (kept-texts name new at pieces content (log_of before) front within (omega (arith, short, counted, bounds)) known) in
+    let new_fresh : AreNew marks after = record {
+      none_shared = fresh.none_shared;
+      no_history = ap (λ (l : Log). l.history) put.log_is ∙ lone.1;
+      no_limit = ap (λ (l : Log). l.most) put.log_is ∙ lone.2;
+    } in
+    let is : lone_document name new.tags after.modified changed ≡ texts_made document widget at pairs =
+    ap₂ (λ (l : Log) c. lone_document name new.tags l.modified c) put.log_is put.content_is ∙ lone.0
+    ∙ ap₂ (λ ts d. with_texts Insert at ts d) texts (wide ∙ ap (λ names. record document { tags = names }) put.made) in
+    let within_both : IsWithin limits (length (tags_with document pairs)) (insertion_size document pairs) =
+    record { tags = room.tags; chars = ap (λ n. nat_lt limits.chars (n + total pairs)) long ∙ room.chars } in
+    let cells : length changed.cells ≡ length content.cells + insertions.total pieces =
+    ap (λ (c : Content). length c.cells) put.content_is ∙ length-all at pieces (state_shown content (log_of before)) within in
+    let tags : length new.tags ≡ length (with_names (names_of old.tags) (all_names pairs)) =
+    sym (length-map new.tags (λ (tag : Tag). tag.name)) ∙ ap length put.made in (
+      new_kept,
+      new_fresh,
+      does-answered limits document (lone_document name new.tags after.modified changed) (texts_made document widget at pairs)
+          (insert_at limits document widget at pairs) is (insert-made limits document widget at pairs within_both)
+          (λ _. IsWellFormedDocument-lone limits name new after.modified changed new_kept (omega (arith, cells, counted, short)) (omega (arith, tags, few))) refl,
+    )
+
+pub does-texts : (limits : LimitTable) (name : List ℕ) (old new : Tags) (marks : SharedMarks) (before after : Kept) (content changed : Content) (at : ℕ) (pairs : List Pair) (document : Document)
+    → Stands name old marks before content document → IsPut limits old new before after content changed at pairs → at < length document.cells
+    → IsKept name new changed × AreNew marks after × Does limits document (lone_document name new.tags after.modified changed) (Ok Empty) (insert_at limits document (lone_widget document) at pairs)
+does-texts limits name old new marks before after content changed at pairs document stands put within =
+    let inside : at < length content.cells = omega (arith, within, cells-lone name old.tags before.modified content document stands.is) in
+    let done = texts-done limits name old new marks before after content changed at pairs stands.kept stands.fresh put inside in
+    (done.0, done.1, subst (λ (d : Document). Does limits d (lone_document name new.tags after.modified changed) (Ok Empty) (insert_at limits d (lone_widget d) at pairs)) stands.is done.2)
+
+pub texts-left : (limits : LimitTable) (name : List ℕ) (old : Tags) (marks : SharedMarks) (before : Kept) (content : Content) (at : ℕ) (pairs : List Pair) (document : Document) (fault : Fault)
+    → Stands name old marks before content document → excess limits (length (with_names (names_of old.tags) (all_names pairs))) (length content.cells + total pairs) ≡ Some fault
+    → insert_at limits document (lone_widget document) at pairs ≡ refused document fault
+texts-left limits name old marks before content at pairs document fault stands is =
+    let lone : Document = lone_document name old.tags before.modified content in
+    let long = length-keyed (key_pairs name old.tags) content.cells in
+    subst (λ (d : Document). insert_at limits d (lone_widget d) at pairs ≡ refused d fault) stands.is
+    (insert-refused limits lone (lone_widget lone) at pairs fault (ap (λ n. excess limits (length (with_names (names_of old.tags) (all_names pairs))) (n + total pairs)) long ∙ is))

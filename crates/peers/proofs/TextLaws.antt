@@ -1,0 +1,147 @@
+-- A lone document after texts are put in.
+use Rattle.std.proofs.Common.{◌≡◌, ℕ, ◌+◌, ◌<◌, true, false, List, [], ◌∷◌, Option, None, Some, map, length, refl, sym, ap, ◌∙◌, arith, eqb-true}
+use Rattle.std.specs.Prelude.{is_some, option_map, unwrap_or, ◌==◌, if◌then◌else◌}
+use Rattle.std.specs.FinMap as finite
+use Rattle.std.proofs.lemmas.Bool.{false≢true}
+use Rattle.std.proofs.lemmas.List.{length-map}
+use Rattle.name_list.specs.Names.{AreApart}
+use Rattle.tag_table.specs.Tags.{Tag, names_of}
+use Rattle.text_model.specs.declared.cells.Cell.{Cell}
+use Rattle.text_model.specs.declared.places.Place.{Place}
+use Rattle.text_model.specs.Content.{Content, Marks, Slots, map_marks}
+use Rattle.text_model.specs.Splices.{inserted, moved}
+use Rattle.text_model.specs.Steps.{after_insertion, cells_of}
+use Rattle.text_model.proofs.PlaceLaws.{get-map_marks}
+use Rattle.text_model.proofs.SpliceLaws.{length-cells_inserted}
+use Rattle.undo_stack.specs.History.{no_history}
+use Rattle.undo_stack.specs.Modified.{Modified, counted_new}
+use Rattle.undo_stack.specs.declared.actions.EditKind.TheVariants.{Insert}
+use Rattle.edit_ops.specs.Anchors.{anchors_moved}
+use Rattle.edit_ops.specs.Insertions.{inserted_text, inserted_texts, shared_slots, slots_or}
+use Rattle.edit_ops.specs.States.{Log, State, log_noted}
+use Rattle.edit_ops.specs.declared.pieces.Piece.{Piece}
+use Rattle.peers.specs.Edits.{KeyedText, keys_between, keys_or, with_action, with_cells, with_text, with_texts}
+use Rattle.peers.specs.Keys.{Keys, keys_of, key_pairs}
+use Rattle.peers.specs.Slots.{state_shown, texts_put_in, unkept}
+use Rattle.peers.specs.World.{Document, KeyedCell, document_of, keyed, lone_document, mark_of, new_mark, whole_widget}
+use Rattle.peers.proofs.KeyedLaws.{keyed-inserted, keyed-shared}
+
+-- a mark that is there moves, and stays there
+pub mark_of-moved : (f : Place → Place) (marks : Marks) (number : ℕ) → is_some (finite.get marks number) ≡ true → mark_of (map_marks f marks) number ≡ f (mark_of marks number)
+mark_of-moved f marks number there =
+    ap (λ found. unwrap_or found new_mark) (get-map_marks f marks number)
+    ∙ elim (finite.get marks number) as (λ o. is_some o ≡ true → unwrap_or (option_map f o) new_mark ≡ f (unwrap_or o new_mark)) [
+      | None ↦ λ none. absurd (false≢true none)
+      | Some place ↦ λ _. refl
+    ] there
+
+pub mark-there : (f : Place → Place) (marks : Marks) (number : ℕ) → is_some (finite.get marks number) ≡ true → is_some (finite.get (map_marks f marks) number) ≡ true
+mark-there f marks number there =
+    ap is_some (get-map_marks f marks number)
+    ∙ elim (finite.get marks number) as (λ o. is_some o ≡ true → is_some (option_map f o) ≡ true) [
+      | None ↦ λ none. none
+      | Some place ↦ λ _. refl
+    ] there
+
+-- a piece with the keys of its slots
+abbrev pub keyed_text : List ℕ → List Tag → Piece → KeyedText
+keyed_text widget tags piece = record { text = piece.text; keys = option_map (keys_of (key_pairs widget tags)) piece.slots }
+
+abbrev pub lone_state : List ℕ → List Tag → State → Document
+lone_state widget tags state = lone_document widget tags state.log.modified state.content
+
+-- the widget's own marks are there, and no history is
+pub record IsLone (state : State) : Type 0 where
+  pub insert : is_some (finite.get state.content.marks 0) ≡ true
+  pub current : is_some (finite.get state.content.marks 1) ≡ true
+  pub history : state.log.history ≡ no_history
+  pub most : state.log.most ≡ 0
+
+keys_put : (widget : List ℕ) (tags : List Tag) (at : ℕ) (slots : Option Slots) (cells : List Cell) → AreApart (names_of tags) → at < length cells
+    → keys_of (key_pairs widget tags) (slots_or slots (shared_slots at cells)) ≡ keys_or (option_map (keys_of (key_pairs widget tags)) slots) (keys_between (keyed (key_pairs widget tags) cells) at)
+keys_put widget tags at None cells apart within = keyed-shared widget tags at cells apart within
+keys_put widget tags at (Some slots) cells apart within = refl
+
+-- cells of a text
+abbrev cells_with : List ℕ → Keys → List KeyedCell
+cells_with text keys = map (λ character. record { character = character; keys = keys }) text
+
+lone-put : (widget : List ℕ) (tags : List Tag) (at : ℕ) (piece : Piece) (modified : Modified) (content : Content) → AreApart (names_of tags) → at < length content.cells
+    → is_some (finite.get content.marks 0) ≡ true → is_some (finite.get content.marks 1) ≡ true
+    → lone_document widget tags (counted_new modified) (after_insertion at piece.text (slots_or piece.slots (shared_slots at content.cells)) content)
+    ≡ with_action Insert (record { inserts = true; at = at; text = piece.text })
+    (with_cells at (cells_with piece.text (keys_or (keyed_text widget tags piece).keys (keys_between (keyed (key_pairs widget tags) content.cells) at))) (lone_document widget tags modified content))
+lone-put widget tags at piece modified content apart within insert current =
+    let pairs = key_pairs widget tags in
+    let slots = slots_or piece.slots (shared_slots at content.cells) in
+    let keys = keys_or (keyed_text widget tags piece).keys (keys_between (keyed pairs content.cells) at) in
+    let new = cells_with piece.text keys in
+    let count : length piece.text ≡ length new = sym (length-map piece.text (λ character. record { character = character; keys = keys })) in
+    let cells : keyed pairs (inserted at (cells_of piece.text slots) content.cells) ≡ inserted at new (keyed pairs content.cells) =
+    keyed-inserted pairs at piece.text slots content.cells ∙ ap (λ k. inserted at (cells_with piece.text k) (keyed pairs content.cells)) (keys_put widget tags at piece.slots content.cells apart within) in
+    let first : mark_of (map_marks (moved at (length piece.text)) content.marks) 0 ≡ moved at (length new) (mark_of content.marks 0) =
+    mark_of-moved (moved at (length piece.text)) content.marks 0 insert ∙ ap (λ n. moved at n (mark_of content.marks 0)) count in
+    let second : mark_of (map_marks (moved at (length piece.text)) content.marks) 1 ≡ moved at (length new) (mark_of content.marks 1) =
+    mark_of-moved (moved at (length piece.text)) content.marks 1 current ∙ ap (λ n. moved at n (mark_of content.marks 1)) count in
+    λ i. document_of (cells i) (whole_widget widget (first i) (second i)) (names_of tags) (counted_new modified)
+
+abbrev put_in : ℕ → Piece → State → State
+put_in at piece state = record {
+  content = after_insertion at piece.text (slots_or piece.slots (shared_slots at state.content.cells)) state.content;
+  anchors = map (anchors_moved at (length piece.text)) state.anchors;
+  log = log_noted unkept Insert (record { inserts = true; at = at; text = piece.text }) state.log;
+}
+
+-- one text
+pub lone-text : (widget : List ℕ) (tags : List Tag) (at : ℕ) (piece : Piece) (state : State) → AreApart (names_of tags) → at < length state.content.cells → IsLone state
+    → lone_state widget tags (inserted_text unkept Insert at piece state) ≡ with_text Insert at (keyed_text widget tags piece) (lone_state widget tags state)
+lone-text widget tags at piece state apart within lone =
+    let document = lone_state widget tags state in
+    let text = keyed_text widget tags piece in
+    let put = with_action Insert (record { inserts = true; at = at; text = piece.text }) (with_cells at (cells_with piece.text (keys_or text.keys (keys_between document.cells at))) document) in
+    elim (length piece.text == 0) as (λ b. lone_state widget tags (if b then state else put_in at piece state) ≡ (if b then document else put)) [
+      | true ↦ refl
+      | false ↦ lone-put widget tags at piece state.log.modified state.content apart within lone.insert lone.current
+    ]
+
+IsLone-text : (at : ℕ) (piece : Piece) (state : State) → IsLone state → IsLone (inserted_text unkept Insert at piece state)
+IsLone-text at piece state lone =
+    elim (length piece.text == 0) as (λ b. IsLone (if b then state else put_in at piece state)) [
+      | true ↦ lone
+      | false ↦ record {
+        insert = mark-there (moved at (length piece.text)) state.content.marks 0 lone.insert;
+        current = mark-there (moved at (length piece.text)) state.content.marks 1 lone.current;
+        history = lone.history;
+        most = lone.most;
+      }
+    ]
+
+-- how long a text is with one more in it
+pub length-text : (at : ℕ) (piece : Piece) (state : State) → at < length state.content.cells
+    → length (inserted_text unkept Insert at piece state).content.cells ≡ length state.content.cells + length piece.text
+length-text at piece state within =
+    elim (length piece.text == 0) as (λ b. (length piece.text == 0) ≡ b → length (if b then state else put_in at piece state).content.cells ≡ length state.content.cells + length piece.text) [
+      | true ↦ λ none. let gone = eqb-true (length piece.text) 0 none in omega (arith, gone)
+      | false ↦ λ _. length-cells_inserted at piece.text (slots_or piece.slots (shared_slots at state.content.cells)) state.content.cells (omega (arith, within))
+    ] refl
+
+lone-all : (widget : List ℕ) (tags : List Tag) (at : ℕ) (pieces : List Piece) (state : State) → AreApart (names_of tags) → at < length state.content.cells → IsLone state
+    → (lone_state widget tags (inserted_texts unkept Insert at pieces state) ≡ with_texts Insert at (map (keyed_text widget tags) pieces) (lone_state widget tags state))
+    × IsLone (inserted_texts unkept Insert at pieces state)
+lone-all widget tags at [] state apart within lone = (refl, lone)
+lone-all widget tags at (piece ∷ pieces) state apart within lone =
+    let next = inserted_text unkept Insert at piece state in
+    let long = length-text at piece state within in
+    let rest = lone-all widget tags (at + length piece.text) pieces next apart (omega (arith, long, within)) (IsLone-text at piece state lone) in
+    (rest.0 ∙ ap (with_texts Insert (at + length piece.text) (map (keyed_text widget tags) pieces)) (lone-text widget tags at piece state apart within lone), rest.1)
+
+-- the document after texts is the one that the definition gives, and no history is kept
+pub lone-texts : (widget : List ℕ) (tags : List Tag) (at : ℕ) (pieces : List Piece) (content : Content) (log : Log) → AreApart (names_of tags) → at < length content.cells
+    → is_some (finite.get content.marks 0) ≡ true → is_some (finite.get content.marks 1) ≡ true → log.history ≡ no_history → log.most ≡ 0
+    → let made = texts_put_in at pieces content log in
+    (lone_document widget tags made.log.modified made.content
+    ≡ with_texts Insert at (map (λ (piece : Piece). record { text = piece.text; keys = option_map (keys_of (key_pairs widget tags)) piece.slots }) pieces) (lone_document widget tags log.modified content))
+    × (made.log.history ≡ no_history) × (made.log.most ≡ 0)
+lone-texts widget tags at pieces content log apart within insert current history most =
+    let all = lone-all widget tags at pieces (state_shown content log) apart within (record { insert = insert; current = current; history = history; most = most }) in
+    (all.0, all.1.history, all.1.most)

@@ -1,0 +1,75 @@
+-- What an edit makes of a document: of its cells, of the places in it, and of what is kept of edits.
+use Rattle.std.specs.Prelude.{ℕ, zero, suc, ◌+◌, ◌==◌, Bool, true, List, [], ◌∷◌, length, map, slice_get, Option, None, Some, option_map, if◌then◌else◌}
+use Rattle.std.specs.FinSet as set
+use Rattle.text_model.specs.Splices.{inserted, changed, moved}
+use Rattle.undo_stack.specs.History.{noted, limit_of}
+use Rattle.undo_stack.specs.Modified.{counted_new}
+use Rattle.undo_stack.specs.declared.actions.Action.{Action}
+use Rattle.undo_stack.specs.declared.actions.EditKind.{EditKind}
+use Rattle.edit_ops.specs.Anchors.{anchor_moved}
+use Rattle.edit_ops.specs.declared.spans.Span.{Span}
+use Rattle.peers.specs.Keys.{Key, Keys, set_key}
+use Rattle.peers.specs.World.{Document, Widget, SharedMark, KeyedCell}
+
+-- a text to be put in, with the keys of each of its characters where it has a tag list
+pub record KeyedText : Type 0 where
+  pub text : List ℕ
+  pub keys : Option Keys
+
+-- The keys that text without a tag list gets: those that both its neighbours have, and none at the start.
+abbrev pub common_keys : Option KeyedCell → Option KeyedCell → Keys
+common_keys (Some left) (Some right) = set.intersection left.keys right.keys
+common_keys (Some left) None = set.empty
+common_keys None right = set.empty
+
+abbrev pub keys_between : List KeyedCell → ℕ → Keys
+keys_between cells zero = set.empty
+keys_between cells (suc before) = common_keys (slice_get cells before) (slice_get cells (suc before))
+
+abbrev pub keys_or : Option Keys → Keys → Keys
+keys_or (Some keys) common = keys
+keys_or None common = common
+
+-- a widget after so many cells are put in at an offset: its anchors and its own marks move along
+abbrev pub widget_moved : ℕ → ℕ → Widget → Widget
+widget_moved at count widget = record widget {
+  start = option_map (anchor_moved at count) widget.start;
+  end = option_map (anchor_moved at count) widget.end;
+  insert = moved at count widget.insert;
+  current = moved at count widget.current;
+}
+
+-- cells are put in before the cell at an offset, and the places in the document move along
+abbrev pub with_cells : ℕ → List KeyedCell → Document → Document
+with_cells at cells document = record document {
+  cells = inserted at cells document.cells;
+  widgets = map (widget_moved at (length cells)) document.widgets;
+  marks = map (λ (mark : SharedMark). record mark { place = moved at (length cells) mark.place }) document.marks;
+}
+
+-- an action of an edit of a kind is noted: it counts in any case, and is kept where `-undo` is true
+abbrev pub with_action : EditKind → Action → Document → Document
+with_action kind action document = record document {
+  history = if document.undo then noted kind action document.separators (limit_of document.most_undo) document.history else document.history;
+  modified = counted_new document.modified;
+}
+
+-- a text is put in before the cell at an offset, which is one action; no text is none
+abbrev pub with_text : EditKind → ℕ → KeyedText → Document → Document
+with_text kind at text document =
+    if length text.text == 0 then document
+    else with_action kind (record { inserts = true; at = at; text = text.text })
+    (with_cells at (map (λ character. record { character = character; keys = keys_or text.keys (keys_between document.cells at) }) text.text) document)
+
+-- texts are put in, each right behind the one before it
+abbrev pub with_texts : EditKind → ℕ → List KeyedText → Document → Document
+with_texts kind at [] document = document
+with_texts kind at (text ∷ texts) document = with_texts kind (at + length text.text) texts (with_text kind at text document)
+
+-- a key is put on the cells of spans, or taken off them
+abbrev pub with_key : Key → Bool → KeyedCell → KeyedCell
+with_key key on cell = record cell { keys = set_key key on cell.keys }
+
+abbrev pub with_tag : Key → Bool → List Span → List KeyedCell → List KeyedCell
+with_tag key on [] cells = cells
+with_tag key on (span ∷ spans) cells = with_tag key on spans (changed (with_key key on) span.from span.to cells)

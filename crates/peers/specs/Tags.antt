@@ -1,0 +1,184 @@
+-- Commands on tags.
+use Rattle.std.specs.Prelude.{ℕ, suc, ◌+◌, nat_lt, nat_le, Bool, true, false, not, ◌||◌, List, [], ◌∷◌, ◌++◌, length, map, filter, Option, None, Some, Result, Ok, Err, unwrap_or, if◌then◌else◌}
+use Rattle.std.specs.FinSet as set
+use Rattle.name_list.specs.Moves.{without, put_behind, put_before}
+use Rattle.text_model.specs.Changes.{flag_at}
+use Rattle.text_model.specs.LimitTable.{LimitTable}
+use Rattle.edit_ops.specs.declared.spans.Span.{Span}
+use Rattle.tcl_words.specs.ListText.{list_text}
+use Rattle.text_index.specs.Positions.{position_text}
+use Rattle.text_index.specs.Ranges.{tag_ranges, next_range, previous_range}
+use Rattle.text_index.specs.declared.ranges.TagRange.{TagRange}
+use Rattle.peers.specs.declared.answers.Answer.{Answer}
+use Rattle.peers.specs.declared.answers.Answer.TheVariants.{Empty, Text}
+use Rattle.peers.specs.declared.answers.Fault.{Fault}
+use Rattle.peers.specs.declared.answers.Fault.TheVariants.{NoSuchTag, TooManyTags}
+use Rattle.peers.specs.Arguments.{first_of, none_or_one_of, one_of, one_or_two_of, two_or_three_of}
+use Rattle.peers.specs.Edits.{with_tag}
+use Rattle.peers.specs.Faults.{with_value}
+use Rattle.peers.specs.Indices.{place_at}
+use Rattle.peers.specs.Keys.{Key}
+use Rattle.peers.specs.Lists.{with_name}
+use Rattle.peers.specs.Names.{key_of}
+use Rattle.peers.specs.Promise.{Change, refused, answered, change_with}
+use Rattle.peers.specs.Ranges.{places_at, spans_shown}
+use Rattle.peers.specs.View.{shown, shown_flags}
+use Rattle.peers.specs.Words.{is_same, is_among}
+use Rattle.peers.specs.World.{Document, Widget, KeyedCell, sel}
+
+-- ---- on characters
+
+-- a tag, which is made if it is new, is put on spans, unless there are too many tags
+abbrev pub add_spans : LimitTable → Document → Widget → List ℕ → List ℕ → Change
+add_spans limits document widget name places =
+    if nat_lt (limits.tags + 1) (length (with_name document.tags name)) then refused document TooManyTags
+    else answered (record document {
+      tags = with_name document.tags name;
+      cells = with_tag (key_of widget name) true (spans_shown document widget places) document.cells;
+    }) Empty
+
+abbrev pub add_words : LimitTable → Document → Widget → ℕ → List ℕ × List (List ℕ) → Change
+add_words limits document widget at (name, words) =
+    change_with document (places_at document widget (at + 1) words) (add_spans limits document widget name)
+
+-- `W tag add T I ?I ..?`
+abbrev pub tag_add : LimitTable → Document → Widget → ℕ → List (List ℕ) → Change
+tag_add limits document widget at words = change_with document (first_of words) (add_words limits document widget at)
+
+-- a tag is taken off spans, if there is one of that name
+abbrev pub remove_spans : Document → Widget → List ℕ → List ℕ → Change
+remove_spans document widget name places =
+    answered (if is_among name document.tags then record document {
+      cells = with_tag (key_of widget name) false (spans_shown document widget places) document.cells;
+    } else document) Empty
+
+abbrev pub remove_words : Document → Widget → ℕ → List ℕ × List (List ℕ) → Change
+remove_words document widget at (name, words) =
+    change_with document (places_at document widget (at + 1) words) (remove_spans document widget name)
+
+-- `W tag remove T I ?I ..?`
+abbrev pub tag_remove : Document → Widget → ℕ → List (List ℕ) → Change
+tag_remove document widget at words = change_with document (first_of words) (remove_words document widget at)
+
+-- a name stays that isn't among those to be deleted, and `sel` in any case
+abbrev pub stays : List (List ℕ) → List ℕ → Bool
+stays names name = is_same name sel || not (is_among name names)
+
+abbrev pub key_stays : List (List ℕ) → Key → Bool
+key_stays names key = key.selects || not (is_among key.name names)
+
+abbrev pub without_tags : List (List ℕ) → KeyedCell → KeyedCell
+without_tags names cell = record cell { keys = set.retain cell.keys (key_stays names) }
+
+-- `W tag delete T ?T ..?`
+abbrev pub tag_delete : Document → List (List ℕ) → Change
+tag_delete document names =
+    answered (record document { tags = filter (stays names) document.tags; cells = map (without_tags names) document.cells }) Empty
+
+-- ---- names and ranges
+
+abbrev pub listed : List (List ℕ) → Result Answer Fault
+listed elements = Ok (Text (list_text elements))
+
+-- the tags of the character at a place, from the lowest; none at the end of the view
+abbrev pub tags_on : Document → Widget → ℕ → List (List ℕ)
+tags_on document widget place = filter (λ name. flag_at (shown_flags document widget (key_of widget name)) place) document.tags
+
+abbrev pub names_on : Document → Widget → ℕ → Result Answer Fault
+names_on document widget place = listed (tags_on document widget place)
+
+abbrev pub names_at_word : Document → Widget → ℕ → Option (List ℕ) → Result Answer Fault
+names_at_word document widget at None = listed document.tags
+names_at_word document widget at (Some word) = with_value (place_at document widget at word) (names_on document widget)
+
+-- `W tag names ?I?`
+abbrev pub tag_names : Document → Widget → ℕ → List (List ℕ) → Result Answer Fault
+tag_names document widget at words = with_value (none_or_one_of words) (names_at_word document widget at)
+
+-- which characters of the view have a tag; none have an unknown one
+abbrev pub flags_of : Document → Widget → List ℕ → List Bool
+flags_of document widget name = if is_among name document.tags then shown_flags document widget (key_of widget name) else []
+
+-- where ranges begin and end, as `line.char`
+abbrev pub range_words : List ℕ → List TagRange → List (List ℕ)
+range_words text [] = []
+range_words text (range ∷ ranges) = position_text text range.start ∷ position_text text range.end ∷ range_words text ranges
+
+abbrev pub listed_ranges : Document → Widget → List TagRange → Result Answer Fault
+listed_ranges document widget ranges = listed (range_words (shown document widget) ranges)
+
+abbrev pub ranges_of : Document → Widget → List ℕ → Result Answer Fault
+ranges_of document widget name = listed_ranges document widget (tag_ranges (flags_of document widget name))
+
+-- `W tag ranges T`
+abbrev pub tag_ranges_of : Document → Widget → List (List ℕ) → Result Answer Fault
+tag_ranges_of document widget words = with_value (one_of words) (ranges_of document widget)
+
+-- a range, if there is one and it begins as wanted
+abbrev pub begun : (ℕ → Bool) → Option TagRange → List TagRange
+begun wanted None = []
+begun wanted (Some range) = if wanted range.start then range ∷ [] else []
+
+-- the place of a last index, if it is there
+abbrev pub place_or : Document → Widget → ℕ → ℕ → Option (List ℕ) → Result ℕ Fault
+place_or document widget place at None = Ok place
+place_or document widget place at (Some word) = place_at document widget at word
+
+-- the first range from one place on, if it begins before another
+abbrev pub next_between : Document → Widget → List ℕ → ℕ → ℕ → Result Answer Fault
+next_between document widget name from to =
+    listed_ranges document widget (begun (λ start. nat_lt start to) (next_range (flags_of document widget name) from))
+
+abbrev pub next_words : Document → Widget → ℕ → List ℕ × List ℕ × Option (List ℕ) → Result Answer Fault
+next_words document widget at (name, first, last) =
+    with_value (place_at document widget (at + 1) first) (λ from.
+    with_value (place_or document widget (length (shown document widget)) (at + 2) last) (next_between document widget name from))
+
+-- `W tag nextrange T A ?B?`
+abbrev pub tag_nextrange : Document → Widget → ℕ → List (List ℕ) → Result Answer Fault
+tag_nextrange document widget at words = with_value (two_or_three_of words) (next_words document widget at)
+
+-- the last range that begins before one place, if it doesn't begin before another
+abbrev pub previous_between : Document → Widget → List ℕ → ℕ → ℕ → Result Answer Fault
+previous_between document widget name from to =
+    listed_ranges document widget (begun (λ start. nat_le to start) (previous_range (flags_of document widget name) from))
+
+abbrev pub previous_words : Document → Widget → ℕ → List ℕ × List ℕ × Option (List ℕ) → Result Answer Fault
+previous_words document widget at (name, first, last) =
+    with_value (place_at document widget (at + 1) first) (λ from.
+    with_value (place_or document widget 0 (at + 2) last) (previous_between document widget name from))
+
+-- `W tag prevrange T A ?B?`
+abbrev pub tag_prevrange : Document → Widget → ℕ → List (List ℕ) → Result Answer Fault
+tag_prevrange document widget at words = with_value (two_or_three_of words) (previous_words document widget at)
+
+-- ---- priority
+
+-- the tags with one highest, or just above another
+abbrev pub raised : List (List ℕ) → List ℕ → Option (List ℕ) → List (List ℕ)
+raised tags name None = without (is_same name) tags ++ name ∷ []
+raised tags name (Some other) = if is_same name other then tags else put_behind (is_same other) name (without (is_same name) tags)
+
+-- the tags with one lowest, or just below another
+abbrev pub lowered : List (List ℕ) → List ℕ → Option (List ℕ) → List (List ℕ)
+lowered tags name None = name ∷ without (is_same name) tags
+lowered tags name (Some other) = if is_same name other then tags else put_before (is_same other) name (without (is_same name) tags)
+
+-- a tag, and another where there is one, have to be known
+abbrev pub known_or : Document → ℕ → List ℕ → Change → Change
+known_or document position name change = if is_among name document.tags then change else refused document (NoSuchTag position)
+
+abbrev pub reordered : Document → ℕ → (List (List ℕ) → List ℕ → Option (List ℕ) → List (List ℕ)) → List ℕ × Option (List ℕ) → Change
+reordered document at order (name, None) =
+    known_or document at name (answered (record document { tags = order document.tags name None }) Empty)
+reordered document at order (name, Some other) =
+    known_or document at name (known_or document (at + 1) other
+    (answered (record document { tags = order document.tags name (Some other) }) Empty))
+
+-- `W tag raise T ?U?`
+abbrev pub tag_raise : Document → ℕ → List (List ℕ) → Change
+tag_raise document at words = change_with document (one_or_two_of words) (reordered document at raised)
+
+-- `W tag lower T ?U?`
+abbrev pub tag_lower : Document → ℕ → List (List ℕ) → Change
+tag_lower document at words = change_with document (one_or_two_of words) (reordered document at lowered)
