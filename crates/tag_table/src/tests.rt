@@ -67,6 +67,15 @@ fn least_slots_are_given(rt: HostRuntime) -> Result<(), Fail> {
     Ok(())
 }
 
+#[test]
+fn the_front_stays(rt: HostRuntime) -> Result<(), Fail> {
+    let limits = Limits::new(1, 192, 0, 0, 0).ok_or("small numbers")?;
+    let mut tags = TagTable::new(rt.alloc(), &limits)?;
+    tags.truncate(1);
+    check_order(&rt, &tags, &["sel"]);
+    Ok(())
+}
+
 // A tag and its neighbour in `sel a b c`, and the order once it is put just above that, and just below.
 const MOVES: [(&str, &str, &[&str], &[&str]); 7] = [
     ("a", "sel", &["sel", "a", "b", "c"], &["a", "sel", "b", "c"]),

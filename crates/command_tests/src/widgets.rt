@@ -1,9 +1,7 @@
-use crate::answers::{Answer, Fault};
-use crate::world::World;
-use std::alloc::{AllocError, Global};
-use std::process::Abort;
+use crate::checks::{check_all, check_commands};
+use peers::Fault;
 use std::test::Fail;
-use text_model::{Limits, PlainStore};
+use text_model::Limits;
 
 // Commands and what each gives in turn: the answer as a text, or the fault.
 static COMMANDS: [(&[&str], Result<&str, Fault>); 26] = [
@@ -61,80 +59,25 @@ static NO_WIDGETS: [(&[&str], Result<&str, Fault>); 4] = [
 ];
 
 // Faults with their texts.
-const FAULTS: [(Fault, &str); 11] = [
+const FAULTS: [(Fault, &str); 14] = [
     (Fault::BadIndex(2), "bad text index"),
     (
         Fault::NoTaggedCharacters(2, 3),
         "text doesn't contain any characters tagged with a tag",
     ),
+    (Fault::NoSuchTag(3), "tag isn't defined in text widget"),
     (Fault::BadComparison(3), "bad comparison operator"),
+    (Fault::BadList(4), "bad list"),
     (Fault::BadOption(1), "bad option"),
     (Fault::WrongArguments, "wrong # args"),
     (Fault::InvalidCommandName(0), "invalid command name"),
     (Fault::WindowExists(1), "window name already exists"),
     (Fault::DocumentExists, "a document exists"),
     (Fault::TooManyWidgets, "too many widgets"),
+    (Fault::TooManyTags, "too many tags"),
     (Fault::TextTooLong, "text is too long"),
     (Fault::Memory, "out of memory"),
 ];
-
-// The words of a command.
-fn words_of(alloc: Global, texts: &[&str]) -> Result<Vec<String>, AllocError> {
-    let mut words = Vec::new(alloc);
-    for text in texts {
-        words.push(String::from_str(alloc, *text)?)?;
-    }
-    Ok(words)
-}
-
-// The text that an answer to a command stands for.
-fn shown<'a>(answer: &'a Answer, words: &'a [String]) -> &'a str {
-    match answer {
-        Answer::Empty => "",
-        Answer::Word(at) => words.get(*at).map(String::as_str).unwrap_or("no word"),
-        Answer::Flag(true) => "1",
-        Answer::Flag(false) => "0",
-        Answer::Text(text) => text.as_str(),
-    }
-}
-
-// Carries out a command, and compares what it gives.
-fn check(
-    rt: &impl Abort,
-    world: &mut World<PlainStore>,
-    words: &[String],
-    wanted: Result<&str, Fault>,
-) {
-    assert!(rt; !words.is_empty());
-    match world.call(words) {
-        Ok(answer) => assert_eq!(rt; Ok(shown(&answer, words)), wanted, "{words:?}"),
-        Err(fault) => assert_eq!(rt; Err(fault), wanted, "{words:?}"),
-    }
-}
-
-// Carries out commands in turn under some limits, and compares what each gives.
-pub fn check_all(
-    rt: &impl Abort,
-    alloc: Global,
-    limits: Limits,
-    commands: &[(&[&str], Result<&str, Fault>)],
-) -> Result<(), Fail> {
-    let mut world = World::new(alloc, limits);
-    for (texts, wanted) in commands {
-        check(rt, &mut world, &words_of(alloc, texts)?, *wanted);
-    }
-    Ok(())
-}
-
-// The same under the limits of the program.
-pub fn check_commands(
-    rt: &impl Abort,
-    alloc: Global,
-    commands: &[(&[&str], Result<&str, Fault>)],
-) -> Result<(), Fail> {
-    let limits = Limits::new(16_777_216, 192, 4_096, 64, 1_073_741_824).ok_or("limits")?;
-    check_all(rt, alloc, limits, commands)
-}
 
 #[test]
 fn finds_widgets_and_subcommands(rt: HostRuntime) -> Result<(), Fail> {

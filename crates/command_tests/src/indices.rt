@@ -1,5 +1,5 @@
-use crate::answers::Fault;
-use crate::tests::check_commands;
+use crate::checks::check_commands;
+use peers::Fault;
 use std::test::Fail;
 
 // Places as `line.char`.

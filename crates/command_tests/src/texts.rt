@@ -1,14 +1,15 @@
-use crate::answers::Fault;
-use crate::tests::check_commands;
+use crate::checks::check_commands;
+use peers::Fault;
 use std::test::Fail;
 
 // Texts that are put in and given, in turn.
-static COMMANDS: [(&[&str], Result<&str, Fault>); 43] = [
+static COMMANDS: [(&[&str], Result<&str, Fault>); 48] = [
     (&["text", ".é"], Ok(".é")),
     (&[".é", "insert", "q"], Err(Fault::WrongArguments)),
-    (&[".é", "insert", "q", "a", "b"], Err(Fault::WrongArguments)),
+    (&[".é", "insert", "q", "a", "b"], Err(Fault::BadIndex(2))),
     (&[".é", "get"], Err(Fault::WrongArguments)),
-    (&[".é", "get", "q", "r", "s"], Err(Fault::WrongArguments)),
+    (&[".é", "get", "q", "r", "s"], Err(Fault::BadIndex(2))),
+    (&[".é", "get", "1.0", "1.0", "s"], Err(Fault::BadIndex(4))),
     (&[".é", "insert", "q", "a"], Err(Fault::BadIndex(2))),
     (&[".é", "insert", "", ""], Err(Fault::BadIndex(2))),
     (&[".é", "get", "q"], Err(Fault::BadIndex(2))),
@@ -38,6 +39,14 @@ static COMMANDS: [(&[&str], Result<&str, Fault>); 43] = [
     (&[".é", "get", "2.0", "1.0"], Ok("")),
     (&[".é", "get", "2.end", "9.9"], Ok("\n")),
     (&[".é", "get", "2.0 - 1 lines", "end - 1c"], Ok("ab\ncd")),
+    // Several ranges are a list, without those that are empty; a last index stands for one character.
+    (&[".é", "get", "1.0", "1.2", "2.1"], Ok("ab d")),
+    (
+        &[".é", "get", "1.1", "2.1", "2.0", "1.0", "1.2", "2.0"],
+        Ok("{b\nc} {\n}"),
+    ),
+    (&[".é", "get", "1.0", "1.0", "end"], Ok("")),
+    (&[".é", "get", "1.0", "1.1", "1.1", "1.1", "1.1"], Ok("a b")),
     // At the end a text goes before the last newline.
     (&[".é", "insert", "end", "é"], Ok("")),
     (&[".é", "insert", "end+1l", "日本\nf"], Ok("")),
