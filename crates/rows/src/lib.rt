@@ -1,7 +1,9 @@
-//! The worked rows: whole scripts with what they print, run on each store by this crate's tests, and the reader that hands
-//! them out in pieces.
+//! The worked rows: whole scripts with what they print, run on each store by this crate's tests, the reader that hands
+//! them out in pieces, and the texts of faults.
 #![tactic(auto)]
 
+#[cfg(test)]
+mod faults;
 mod readers;
 #[cfg(test)]
 mod table;

@@ -1,0 +1,32 @@
+use peers::Fault;
+use std::test::Fail;
+
+// Faults with their texts.
+const FAULTS: [(Fault, &str); 14] = [
+    (Fault::BadIndex(2), "bad text index"),
+    (
+        Fault::NoTaggedCharacters(2, 3),
+        "text doesn't contain any characters tagged with a tag",
+    ),
+    (Fault::NoSuchTag(3), "tag isn't defined in text widget"),
+    (Fault::BadComparison(3), "bad comparison operator"),
+    (Fault::BadList(4), "bad list"),
+    (Fault::BadOption(1), "bad option"),
+    (Fault::WrongArguments, "wrong # args"),
+    (Fault::InvalidCommandName(0), "invalid command name"),
+    (Fault::WindowExists(1), "window name already exists"),
+    (Fault::DocumentExists, "a document exists"),
+    (Fault::TooManyWidgets, "too many widgets"),
+    (Fault::TooManyTags, "too many tags"),
+    (Fault::TextTooLong, "text is too long"),
+    (Fault::Memory, "out of memory"),
+];
+
+#[test]
+fn faults_have_texts(rt: HostRuntime) -> Result<(), Fail> {
+    for (fault, text) in FAULTS {
+        let written = format!(in rt.alloc(); "{fault}")?;
+        assert_eq!(rt; written.as_str(), text);
+    }
+    Ok(())
+}
