@@ -3,10 +3,16 @@
 #![tactic(auto)]
 
 #[cfg(test)]
+mod command_rows;
+#[cfg(test)]
 mod faults;
 mod readers;
 #[cfg(test)]
+mod scripts;
+#[cfg(test)]
 mod table;
+#[cfg(test)]
+mod tag_rows;
 #[cfg(test)]
 mod tests;
 

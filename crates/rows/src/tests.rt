@@ -1,5 +1,8 @@
+use crate::command_rows::{PLACES, TEXTS, WIDGETS};
 use crate::readers::Pieces;
-use crate::table::{AMPLE, ROWS, Row};
+use crate::scripts::SCRIPTS;
+use crate::table::{AMPLE, Row};
+use crate::tag_rows::{LISTS, TAG_COMMANDS, TAGS};
 use script_cli::{Watched, outcome, run};
 use std::alloc::{AllocError, Global};
 use std::process::Abort;
@@ -48,8 +51,12 @@ fn lengths(row: &Row) -> &'static [usize] {
 }
 
 /// Runs each row with reads of several lengths.
-fn check_rows<S: TextStore>(rt: &impl Abort, alloc: Global) -> Result<(), AllocError> {
-    for row in &ROWS {
+fn check_rows<S: TextStore>(
+    rt: &impl Abort,
+    alloc: Global,
+    rows: &[Row],
+) -> Result<(), AllocError> {
+    for row in rows {
         for most in lengths(row) {
             check_row::<S>(rt, alloc, row, *most)?;
         }
@@ -58,6 +65,36 @@ fn check_rows<S: TextStore>(rt: &impl Abort, alloc: Global) -> Result<(), AllocE
 }
 
 #[test]
-fn rows_on_the_plain_store(rt: HostRuntime) -> Result<(), AllocError> {
-    check_rows::<PlainStore>(&rt, rt.alloc())
+fn scripts_on_the_plain_store(rt: HostRuntime) -> Result<(), AllocError> {
+    check_rows::<PlainStore>(&rt, rt.alloc(), &SCRIPTS)
+}
+
+#[test]
+fn widgets_on_the_plain_store(rt: HostRuntime) -> Result<(), AllocError> {
+    check_rows::<PlainStore>(&rt, rt.alloc(), &WIDGETS)
+}
+
+#[test]
+fn texts_on_the_plain_store(rt: HostRuntime) -> Result<(), AllocError> {
+    check_rows::<PlainStore>(&rt, rt.alloc(), &TEXTS)
+}
+
+#[test]
+fn places_on_the_plain_store(rt: HostRuntime) -> Result<(), AllocError> {
+    check_rows::<PlainStore>(&rt, rt.alloc(), &PLACES)
+}
+
+#[test]
+fn tag_lists_on_the_plain_store(rt: HostRuntime) -> Result<(), AllocError> {
+    check_rows::<PlainStore>(&rt, rt.alloc(), &LISTS)
+}
+
+#[test]
+fn tags_on_the_plain_store(rt: HostRuntime) -> Result<(), AllocError> {
+    check_rows::<PlainStore>(&rt, rt.alloc(), &TAGS)
+}
+
+#[test]
+fn tag_commands_on_the_plain_store(rt: HostRuntime) -> Result<(), AllocError> {
+    check_rows::<PlainStore>(&rt, rt.alloc(), &TAG_COMMANDS)
 }
