@@ -3,11 +3,11 @@ ghost use Rattle.script_cli.specs.Carrying.{Carried, Cuts};
 ghost use Rattle.script_cli.specs.Run.{WritesRun, WritesFront};
 ghost use Rattle.script_cli.specs.Sending.{Sends};
 
-use crate::devices::{ByteSink, ByteSource};
 use crate::output::Output;
 use crate::reading::{Brought, feed_read};
 use crate::summary::{RunFault, RunSummary};
 use crate::turns::{Met, take_turn};
+use devices::{ByteSink, ByteSource};
 use peers::World;
 use std::alloc::Global;
 use tcl_words::Splitter;
