@@ -3,4 +3,3 @@ pub mod RunLaws
 pub mod SendingLaws
 pub mod ToldLaws
 pub mod TurnLaws
-pub mod WalkSteps

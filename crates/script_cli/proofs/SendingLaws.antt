@@ -3,7 +3,7 @@ use Rattle.std.proofs.Common.{◌≡◌, ℕ, ◌+◌, ◌-◌, arith, Bool, tru
 use Rattle.std.proofs.lemmas.Grind.{common_steps}
 use Rattle.std.proofs.lemmas.List.{take-append-drop, append-nil, take_all}
 use Rattle.std.proofs.Math.Seq.{take-add}
-use Rattle.script_cli.specs.Devices.{ReadLog, WriteLog, Consumes, HandsOut, Appends, Takes}
+use Rattle.devices.specs.Devices.{ReadLog, WriteLog, Consumes, HandsOut, Appends, Takes}
 use Rattle.script_cli.specs.Sending.{Sends, Gathers}
 
 Appends-nil : (known : Option (List ℕ)) → Appends known known []

@@ -1,5 +1,4 @@
 pub mod Carrying
-pub mod Devices
 pub mod Pieces
 pub mod PlainRun
 pub mod Reading

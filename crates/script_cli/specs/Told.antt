@@ -4,7 +4,7 @@ use Rattle.text_model.specs.LimitTable.{LimitTable}
 use Rattle.tcl_words.specs.ScriptGrammar.{ReadsScript, ReadsFront}
 use Rattle.tcl_words.specs.declared.fault.ScriptFault.{ScriptFault}
 use Rattle.script_cli.specs.declared.summary.RunSummary.{RunSummary}
-use Rattle.script_cli.specs.Devices.{Appends}
+use Rattle.devices.specs.Devices.{Appends}
 use Rattle.script_cli.specs.Run.{no_documents, RunsTo}
 
 -- From old to new the run of a script was written, of which this is the summary.

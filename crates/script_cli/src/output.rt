@@ -1,7 +1,7 @@
 ghost use Rattle.std.specs.Prelude.{◌≡◌, ◌+◌, ◌≤◌, [], ◌++◌, true, false, not, nat_le, length};
 ghost use Rattle.script_cli.specs.Sending.{Sends, Gathers};
 
-use crate::devices::ByteSink;
+use devices::ByteSink;
 use std::marker::Model;
 
 /// Writes all of the bytes, and answers false where the writer fails before their end.

@@ -4,8 +4,8 @@ ghost use Rattle.script_cli.specs.Pieces.{piece, fault_line, error_line, script_
 ghost use Rattle.script_cli.specs.Sending.{Gathers};
 ghost use Rattle.peers.specs.Words.{literal};
 
-use crate::devices::ByteSink;
 use crate::output::Output;
+use devices::ByteSink;
 use peers::{Answer, Fault};
 use std::marker::Model;
 use tcl_words::ScriptFault;

@@ -1,9 +1,9 @@
 ghost use Rattle.std.specs.Prelude.{◌≡◌, ◌+◌, ◌⊎◌, [], true, false, IfOk, IfErr, OnOk, OnErr, IsErrOf, ◌++◌, List, ℕ};
-ghost use Rattle.script_cli.specs.Devices.{HandsOut};
+ghost use Rattle.devices.specs.Devices.{HandsOut};
 ghost use Rattle.script_cli.specs.Reading.{Feeds, unread, is_end};
 
-use crate::devices::ByteSource;
 use crate::summary::RunFault;
+use devices::ByteSource;
 use tcl_words::Splitter;
 
 /// What a read brought.

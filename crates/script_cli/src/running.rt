@@ -1,13 +1,14 @@
 ghost use Rattle.std.specs.Prelude.{◌≡◌, ◌≢◌, ◌+◌, ◌≤◌, ◌^◌, [], None, true, false, IfOk, IfErr, OnOk, OnErr, IsErrOf, is_ok, is_err, length};
 ghost use Rattle.script_cli.specs.Carrying.{Carried, Cuts};
-ghost use Rattle.script_cli.specs.Run.{WritesRun, WritesFront};
+ghost use Rattle.script_cli.specs.Reading.{unread};
+ghost use Rattle.script_cli.specs.Run.{no_documents, WritesRun, WritesFront};
 ghost use Rattle.script_cli.specs.Sending.{Sends};
 
-use crate::devices::{ByteSink, ByteSource};
 use crate::output::Output;
 use crate::reading::{Brought, feed_read};
 use crate::summary::{RunFault, RunSummary};
 use crate::turns::{Met, take_turn};
+use devices::{ByteSink, ByteSource};
 use peers::World;
 use std::alloc::Global;
 use tcl_words::Splitter;
@@ -51,15 +52,59 @@ pub fn run<S: TextStore, R: ByteSource, W: ByteSink>(
         refused: 0,
         script_fault: false,
     };
+    let ended = run_reads(
+        &mut world,
+        &mut splitter,
+        &mut output,
+        &mut summary,
+        source,
+        sink,
+        limits,
+    );
+    match ended {
+        Ok(()) => Ok(summary),
+        Err(fault) => Err(fault),
+    }
+}
+
+/// Reads, and carries out what is read, until the script ends. It is the run, whose state its caller drops.
+fn run_reads<S: TextStore, R: ByteSource, W: ByteSink>(
+    world: &mut World<S>,
+    splitter: &mut Splitter,
+    output: &mut Output,
+    summary: &mut RunSummary,
+    source: &mut R,
+    sink: &mut W,
+    limits: Limits,
+) -> Result<(), RunFault>
+    requires source { R.is_failed source.old ≡ false }
+    requires sink { W.is_failed sink.old ≡ false }
+    requires world { world.old ≡ no_documents limits }
+    requires unread { splitter.old ≡ unread [] false }
+    requires empty { output.old ≡ [] }
+    requires unfaulted { summary.old.script_fault ≡ false }
+    requires commands { summary.old.commands ≡ 0 }
+    requires refused { summary.old.refused ≡ 0 }
+    ensures run { OnOk result
+        (WritesRun limits (R.log source.old) (R.log source.new) (W.log sink.old) (W.log sink.new) summary.new) }
+    ensures front { OnErr result
+        (WritesFront limits (R.log source.old) (R.log source.new) (W.log sink.old) (W.log sink.new)) }
+    ensures flags { OnOk result ((R.is_failed source.new ≡ false) × (W.is_failed sink.new ≡ false)) }
+    ensures read { IsErrOf result RunFault.Read → R.is_failed source.new ≡ true }
+    ensures write { IsErrOf result RunFault.Write → W.is_failed sink.new ≡ true }
+    ensures reads { (R.log source.new).reads ≤ (R.log source.old).reads + limits.reads }
+    ensures endless { IsErrOf result RunFault.Endless → (R.log source.new).reads ≡ (R.log source.old).reads + limits.reads }
+    ensures no_end { IfErr result (λ fault. fault ≢ RunFault.Write → (R.log source.new).ends ≡ (R.log source.old).ends) }
+{
     for _made in 0..limits.reads() {
-        let brought = feed_read(source, &mut splitter)?;
-        carry_out(&mut world, &mut splitter, &mut output, sink, &mut summary)?;
+        let brought = feed_read(source, splitter)?;
+        carry_out(world, splitter, output, sink, summary)?;
         if summary.script_fault {
-            return Ok(summary);
+            return Ok(());
         }
         match brought {
             Brought::Bytes => {}
-            Brought::End => return Ok(summary),
+            Brought::End => return Ok(()),
         }
     }
     Err(RunFault::Endless)

@@ -1,10 +1,9 @@
 ghost use Rattle.std.specs.Prelude.{◌≡◌, false};
 
-use crate::devices::{ByteSink, ByteSource};
 use crate::output::Output;
 use crate::running::run;
 use crate::summary::{RunFault, RunSummary, outcome};
-use crate::watched::Watched;
+use devices::{ByteSink, ByteSource, Watched};
 use std::alloc::Global;
 use std::cell::Cell;
 use std::io;

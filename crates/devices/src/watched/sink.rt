@@ -1,7 +1,7 @@
 ghost use Rattle.std.specs.Prelude.{◌≡◌, ◌<◌, ◌≤◌, true, false, length, take};
-ghost use Rattle.script_cli.specs.Devices.{Takes, bytes_taken};
+ghost use Rattle.devices.specs.Devices.{Takes, bytes_taken};
 
-use crate::devices::ByteSink;
+use crate::traits::ByteSink;
 use crate::watched::Watched;
 use std::io;
 use std::io::Write;

@@ -1,10 +1,10 @@
 -- `step` sets the ghost count.
-use Rattle.script_cli.proofs.WalkSteps.{[], ◌∷◌, refl, proved, ftrue, flft, named, vunit, tables, ‵, ◌⊛◌, ◌$◌, ◌∵◌, !, qed, done, move, keep, split, join, fsplit3, feq_i, suffices, frame, group, enter, of_opd, unit_lit, returns, alloc_all, pass_all, free_all, look_at, sets, MutRef, mut_vals, mut_Tells, plain, nothing, opens, closes, Stays, walk_of, says, stay_ref, Goes-ref, ends_at}
+use Rattle.devices.proofs.WalkSteps.{[], ◌∷◌, refl, proved, ftrue, flft, named, vunit, tables, ‵, ◌⊛◌, ◌$◌, ◌∵◌, !, qed, done, move, keep, split, join, fsplit3, feq_i, suffices, frame, group, enter, of_opd, unit_lit, returns, alloc_all, pass_all, free_all, look_at, sets, MutRef, mut_vals, mut_Tells, plain, nothing, opens, closes, Stays, walk_of, says, stay_ref, Goes-ref, ends_at}
 use Prim.Native.Nat.{◌+◌}
-use Rattle.script_cli.specs.contracts.read_count.ReadCount.step as f
-use Rattle.script_cli.proofs.read_count.ReadCount.step.Statement.{statement}
-use Rattle.script_cli.proofs.read_count.ReadCount.step.Code as code
-use Rattle.script_cli.specs.contracts.read_count.ReadCount.{the_row as R}
+use Rattle.devices.specs.contracts.read_count.ReadCount.step as f
+use Rattle.devices.proofs.read_count.ReadCount.step.Statement.{statement}
+use Rattle.devices.proofs.read_count.ReadCount.step.Code as code
+use Rattle.devices.specs.contracts.read_count.ReadCount.{the_row as R}
 
 abbrev stayed : Stays f.ended.signature.params f.ended.kept
 stayed = (stay_ref (0 ∷ []) tt (plain (λ _. R)), tt)

@@ -1,15 +1,15 @@
 -- `new` begins at 0.
-use Rattle.script_cli.proofs.WalkSteps.{[], ◌∷◌, refl, proved, ftrue, tables, ‵, ◌⊛◌, ◌$◌, ◌∵◌, !, qed, keep, join, suffices, frame, enter, returns, alloc_all, pass_all, free_all, look_at, sets, nothing, Stays, walk_of, ends_at}
+use Rattle.devices.proofs.WalkSteps.{[], ◌∷◌, refl, proved, ftrue, tables, ‵, ◌⊛◌, ◌$◌, ◌∵◌, !, qed, keep, join, suffices, frame, enter, returns, alloc_all, pass_all, free_all, look_at, sets, nothing, Stays, walk_of, ends_at}
 use types.Part.{agg}
 use types.Kit.{use0, by}
 use contract.Monad.{fact_i}
 use denote.Shadow.{makes_shadow}
 use mir.Val.{vstruct, vnil}
-use Rattle.script_cli.proofs.WalkSteps.{no_more}
-use Rattle.script_cli.specs.contracts.read_count.ReadCount.new as f
-use Rattle.script_cli.proofs.read_count.ReadCount.new.Statement.{statement}
-use Rattle.script_cli.proofs.read_count.ReadCount.new.Code as code
-use Rattle.script_cli.specs.contracts.read_count.ReadCount.{the_row as R}
+use Rattle.devices.proofs.WalkSteps.{no_more}
+use Rattle.devices.specs.contracts.read_count.ReadCount.new as f
+use Rattle.devices.proofs.read_count.ReadCount.new.Statement.{statement}
+use Rattle.devices.proofs.read_count.ReadCount.new.Code as code
+use Rattle.devices.specs.contracts.read_count.ReadCount.{the_row as R}
 
 abbrev stayed : Stays f.ended.signature.params f.ended.kept
 stayed = tt

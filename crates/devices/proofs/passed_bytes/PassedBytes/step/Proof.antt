@@ -1,12 +1,12 @@
 -- `step` sets the ghost bytes.
-use Rattle.script_cli.proofs.WalkSteps.{[], ◌∷◌, refl, proved, ftrue, flft, named, vunit, tables, ‵, ◌⊛◌, ◌$◌, ◌∵◌, !, qed, done, move, keep, split, join, fsplit3, feq_i, suffices, frame, group, enter, of_opd, unit_lit, returns, alloc_all, pass_all, free_all, look_at, sets, MutRef, mut_vals, mut_Tells, plain, nothing, opens, closes, Stays, walk_of, says, stay_ref, Goes-ref, stay_dropped, Goes-dropped, ends_at}
+use Rattle.devices.proofs.WalkSteps.{[], ◌∷◌, refl, proved, ftrue, flft, named, vunit, tables, ‵, ◌⊛◌, ◌$◌, ◌∵◌, !, qed, done, move, keep, split, join, fsplit3, feq_i, suffices, frame, group, enter, of_opd, unit_lit, returns, alloc_all, pass_all, free_all, look_at, sets, MutRef, mut_vals, mut_Tells, plain, nothing, opens, closes, Stays, walk_of, says, stay_ref, Goes-ref, stay_dropped, Goes-dropped, ends_at}
 use Rattle.std.specs.Prelude.{◌++◌}
 use denote.Builtin.{u8, SliceRefOf}
 use denote.Slice.{shr_slice_vals, shr_slice_Tells, ShrSlice}
-use Rattle.script_cli.specs.contracts.passed_bytes.PassedBytes.step as f
-use Rattle.script_cli.proofs.passed_bytes.PassedBytes.step.Statement.{statement}
-use Rattle.script_cli.proofs.passed_bytes.PassedBytes.step.Code as code
-use Rattle.script_cli.specs.contracts.passed_bytes.PassedBytes.{the_row as R}
+use Rattle.devices.specs.contracts.passed_bytes.PassedBytes.step as f
+use Rattle.devices.proofs.passed_bytes.PassedBytes.step.Statement.{statement}
+use Rattle.devices.proofs.passed_bytes.PassedBytes.step.Code as code
+use Rattle.devices.specs.contracts.passed_bytes.PassedBytes.{the_row as R}
 
 abbrev stayed : Stays f.ended.signature.params f.ended.kept
 stayed = (stay_ref (0 ∷ []) tt (plain (λ _. R)), (stay_dropped (SliceRefOf (1 ∷ []) tt (plain (λ _. u8)) (λ _. tt)) f.ended.kept.1.0, tt))

@@ -3,7 +3,7 @@ use Rattle.std.specs.Prelude.{Result, Ok, Err, OnErr}
 use Rattle.tcl_words.specs.Unread.{Unread}
 use Rattle.script_cli.specs.Reading.{Feeds, is_end}
 use Rattle.script_cli.proofs.RunLaws.{running_none, running_lost, running_stops, running_cut, running_more, run_to_fault, run_to_end}
-use Rattle.script_cli.proofs.running.run.Goals as goal
+use Rattle.script_cli.proofs.running.run_reads.Goals as goal
 
 on_err : {T E P : Type 0} (result : Result T E) → P → OnErr result P
 on_err (Ok value) holds = tt
@@ -14,15 +14,15 @@ plus_one n made = omega arith
 
 pub loop-made-init : goal.loop-made-init
 loop-made-init g c = record {
-  running = rw (c.new-world.ensures.start, c.new-splitter.ensures)
+  running = rw (c.requires.world, c.requires.unread, c.requires.commands, c.requires.refused)
       (running_none c.args.limits (g.R.ByteSource.log c.args.source.now) (g.W.ByteSink.log c.args.sink.now));
-  fed = rw c.new-splitter.ensures refl;
-  empty = c.new-output.ensures;
-  unfaulted = refl;
+  fed = rw c.requires.unread refl;
+  empty = c.requires.empty;
+  unfaulted = c.requires.unfaulted;
   source_up = c.requires.source;
   sink_up = c.requires.sink;
-  most = rw c.new-splitter.ensures (omega arith);
-  refused = omega arith;
+  most = rw (c.requires.unread, c.requires.commands) (omega arith);
+  refused = rw (c.requires.commands, c.requires.refused) (omega arith);
   counted = omega arith;
 }
 

@@ -1,5 +1,5 @@
 ghost use Rattle.std.specs.Prelude.{◌≡◌, ◌+◌, ◌<◌, ◌≤◌, Bool, true, false, length, take};
-ghost use Rattle.script_cli.specs.Devices.{ReadLog, WriteLog, Reads, Takes};
+ghost use Rattle.devices.specs.Devices.{ReadLog, WriteLog, Reads, Takes};
 
 /// What a script is read from.
 pub trait ByteSource {

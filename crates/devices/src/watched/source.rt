@@ -1,8 +1,8 @@
 ghost use Rattle.std.specs.Prelude.{◌≡◌, ◌+◌, ◌≤◌, true, false, length};
 ghost use Rattle.std.specs.Result.{result_ok};
-ghost use Rattle.script_cli.specs.Devices.{Reads};
+ghost use Rattle.devices.specs.Devices.{Reads};
 
-use crate::devices::ByteSource;
+use crate::traits::ByteSource;
 use crate::watched::Watched;
 use std::io;
 use std::io::Read;

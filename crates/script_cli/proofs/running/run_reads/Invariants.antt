@@ -1,7 +1,7 @@
 use Rattle.std.proofs.Common.{◌≡◌, ◌+◌, ◌*◌, ◌≤◌, [], false, length}
 use Rattle.script_cli.specs.Reading.{unread}
 use Rattle.script_cli.proofs.RunLaws.{Running}
-use Rattle.script_cli.proofs.running.run.Given as goal
+use Rattle.script_cli.proofs.running.run_reads.Given as goal
 
 abbrev pub invariant-loop-made : goal.invariant-loop-made
 invariant-loop-made g l = record {
