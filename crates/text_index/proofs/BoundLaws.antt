@@ -17,19 +17,19 @@ use Rattle.std.specs.FinMap as finite
 use Rattle.text_index.specs.Views.{IsView, shown, own_place, shared_place, shown_mark}
 use Rattle.text_index.proofs.ViewLaws.{length-shown}
 use Rattle.text_index.proofs.FlagLaws.{length-part, flags-within}
-use Rattle.text_index.specs.Grammar.{saturated_base, saturated_modifier, WholeIndex}
-use Rattle.text_index.specs.Steps.{saturated_index}
+use Rattle.index_grammar.specs.Grammar.{saturated_base, saturated_modifier, WholeIndex}
+use Rattle.index_grammar.specs.Steps.{saturated_index}
 use Rattle.text_index.specs.Values.{newline_of, in_line, column_of, on_line, line_value, unless_end, lines_on, lines_back, word_front, word_behind, word_end, modified, modified_by, or_fault, first_tagged, last_tagged, base_value, then_modified, index_value}
 use Rattle.text_index.specs.Meanings.{Meanings, AreWithin, value_of, shown_meanings}
-use Rattle.text_index.specs.declared.faults.IndexFault.{IndexFault}
-use Rattle.text_index.specs.declared.faults.IndexFault.TheVariants.{BadIndex}
-use Rattle.text_index.specs.declared.indices.Base.{Base}
-use Rattle.text_index.specs.declared.indices.Base.TheVariants as base
-use Rattle.text_index.specs.declared.indices.Modifier.{Modifier}
-use Rattle.text_index.specs.declared.indices.Modifier.TheVariants as modifier
-use Rattle.text_index.specs.declared.indices.Unit.{Unit}
-use Rattle.text_index.specs.declared.indices.Unit.TheVariants.{Characters, Lines}
-use Rattle.text_index.proofs.PlaceLaws.{most}
+use Rattle.index_grammar.specs.declared.faults.IndexFault.{IndexFault}
+use Rattle.index_grammar.specs.declared.faults.IndexFault.TheVariants.{BadIndex}
+use Rattle.index_grammar.specs.declared.indices.Base.{Base}
+use Rattle.index_grammar.specs.declared.indices.Base.TheVariants as base
+use Rattle.index_grammar.specs.declared.indices.Modifier.{Modifier}
+use Rattle.index_grammar.specs.declared.indices.Modifier.TheVariants as modifier
+use Rattle.index_grammar.specs.declared.indices.Unit.{Unit}
+use Rattle.index_grammar.specs.declared.indices.Unit.TheVariants.{Characters, Lines}
+use Rattle.index_grammar.proofs.PlaceLaws.{most}
 
 -- ---- places in lines
 
