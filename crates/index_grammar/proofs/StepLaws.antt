@@ -5,67 +5,87 @@ use Rattle.std.proofs.lemmas.List.{append-nil}
 use Rattle.std.proofs.lemmas.Slice.Eq.{bytes_eq-Decides}
 use Rattle.index_grammar.specs.Grammar.{Token, modifiers_of, before, counted, number_of, saturated_modifier, keyword_of, abbreviates}
 use Rattle.index_grammar.specs.Grammar.Token.{Sign, Digits, Word}
+use Rattle.index_grammar.specs.Pieces.{digits_first, unit_first}
 use Rattle.index_grammar.specs.Steps.{saturated, after}
 use Rattle.index_grammar.specs.declared.indices.Modifier.{Modifier}
 use Rattle.index_grammar.specs.declared.indices.Modifier.TheVariants as modifier
-use Rattle.std.proofs.lemmas.Bool.{false≢true}
 
 abbrev pub any_bytes : List ℕ
 any_bytes = 97 ∷ 110 ∷ 121 ∷ []
-
-plain-step : (forward : Bool) (digits word : List ℕ) (tokens : List Token) → bytes_eq word any_bytes ≡ false
-    → modifiers_of (Sign forward ∷ Digits digits ∷ Word word ∷ tokens) ≡ before (counted forward (number_of digits) word) (modifiers_of tokens)
-plain-step forward digits word [] other = refl
-plain-step forward digits word (Sign f ∷ tokens) other = refl
-plain-step forward digits word (Digits d ∷ tokens) other = refl
-plain-step forward digits word (Word next ∷ tokens) other = rw other refl
-
-any-step : (forward : Bool) (digits word next : List ℕ) (tokens : List Token) → bytes_eq word any_bytes ≡ true
-    → modifiers_of (Sign forward ∷ Digits digits ∷ Word word ∷ Word next ∷ tokens) ≡ before (counted forward (number_of digits) next) (modifiers_of tokens)
-any-step forward digits word next tokens same = rw same refl
 
 saturated-before : (first : Option Modifier) (others : Option (List Modifier)) → saturated (before first others) ≡ before (option_map saturated_modifier first) (saturated others)
 saturated-before None others = refl
 saturated-before (Some m) None = refl
 saturated-before (Some m) (Some ms) = refl
 
-pub counted-plain : (forward : Bool) (digits word : List ℕ) (tokens behind : List Token) (found : Option Modifier) → tokens ≡ Digits digits ∷ Word word ∷ behind
-    → bytes_eq word any_bytes ≡ false → found ≡ option_map saturated_modifier (counted forward (number_of digits) word)
-    → saturated (modifiers_of (Sign forward ∷ tokens)) ≡ before found (saturated (modifiers_of behind))
-counted-plain forward digits word tokens behind found are other is =
-    ap (λ ts. saturated (modifiers_of (Sign forward ∷ ts))) are ∙ ap saturated (plain-step forward digits word behind other)
-    ∙ saturated-before (counted forward (number_of digits) word) (modifiers_of behind)
-    ∙ ap (λ m. before m (saturated (modifiers_of behind))) (sym is)
-
-pub counted-any : (forward : Bool) (digits word next : List ℕ) (tokens behind : List Token) (found : Option Modifier) → tokens ≡ Digits digits ∷ Word word ∷ Word next ∷ behind
-    → bytes_eq word any_bytes ≡ true → found ≡ option_map saturated_modifier (counted forward (number_of digits) next)
-    → saturated (modifiers_of (Sign forward ∷ tokens)) ≡ before found (saturated (modifiers_of behind))
-counted-any forward digits word next tokens behind found are same is =
-    ap (λ ts. saturated (modifiers_of (Sign forward ∷ ts))) are ∙ ap saturated (any-step forward digits word next behind same)
-    ∙ saturated-before (counted forward (number_of digits) next) (modifiers_of behind)
-    ∙ ap (λ m. before m (saturated (modifiers_of behind))) (sym is)
-
-no-unit : (forward : Bool) (number : Option ℕ) (others : Option (List Modifier)) → before (counted forward number any_bytes) others ≡ None
-no-unit forward None others = refl
-no-unit forward (Some n) others = refl
+any-unit : (forward : Bool) (number : Option ℕ) (others : Option (List Modifier)) → before (counted forward number any_bytes) others ≡ None
+any-unit forward None others = refl
+any-unit forward (Some n) others = refl
 
 any-alone : (forward : Bool) (digits word : List ℕ) (others : Option (List Modifier)) → bytes_eq word any_bytes ≡ true → before (counted forward (number_of digits) word) others ≡ None
-any-alone forward digits word others same = ap (λ w. before (counted forward (number_of digits) w) others) ((bytes_eq-Decides word any_bytes).0 same) ∙ no-unit forward (number_of digits) others
+any-alone forward digits word others same = ap (λ w. before (counted forward (number_of digits) w) others) ((bytes_eq-Decides word any_bytes).0 same) ∙ any-unit forward (number_of digits) others
 
-pub counted-none : (forward : Bool) (digits word : List ℕ) (tokens : List Token) → tokens ≡ Digits digits ∷ Word word ∷ []
-    → bytes_eq word any_bytes ≡ true → saturated (modifiers_of (Sign forward ∷ tokens)) ≡ None
-counted-none forward digits word tokens are same =
-    ap (λ ts. saturated (modifiers_of (Sign forward ∷ ts))) are ∙ ap saturated (any-alone forward digits word (Some []) same)
+-- a count of a unit before other modifiers, by the unit that is found behind the digits
+abbrev before_unit : Bool → List ℕ → Option (List ℕ × List Token) → Option (List Modifier)
+before_unit forward digits None = None
+before_unit forward digits (Some found) = before (counted forward (number_of digits) found.0) (modifiers_of found.1)
 
-pub counted-sign : (forward is_plus : Bool) (digits word : List ℕ) (tokens behind : List Token) → tokens ≡ Digits digits ∷ Word word ∷ Sign is_plus ∷ behind
-    → bytes_eq word any_bytes ≡ true → saturated (modifiers_of (Sign forward ∷ tokens)) ≡ None
-counted-sign forward is_plus digits word tokens behind are same =
-    ap (λ ts. saturated (modifiers_of (Sign forward ∷ ts))) are ∙ ap saturated (any-alone forward digits word (modifiers_of (Sign is_plus ∷ behind)) same)
+abbrev before_counted : Bool → Option (List ℕ × List Token) → Option (List Modifier)
+before_counted forward None = None
+before_counted forward (Some found) = before_unit forward found.0 (unit_first found.1)
 
-pub counted-digits : (forward : Bool) (digits word others : List ℕ) (tokens behind : List Token) → tokens ≡ Digits digits ∷ Word word ∷ Digits others ∷ behind
-    → bytes_eq word any_bytes ≡ true → saturated (modifiers_of (Sign forward ∷ tokens)) ≡ None
-counted-digits forward digits word others tokens behind are same =
-    ap (λ ts. saturated (modifiers_of (Sign forward ∷ ts))) are ∙ ap saturated (any-alone forward digits word (modifiers_of (Digits others ∷ behind)) same)
+-- a word that no other word follows
+lone-word : (forward : Bool) (digits word : List ℕ) (behind : List Token)
+    → before (counted forward (number_of digits) word) (modifiers_of behind) ≡ before_unit forward digits (if bytes_eq word any_bytes then None else Some (word, behind))
+lone-word forward digits word behind =
+    elim (bytes_eq word any_bytes) as (λ b. bytes_eq word any_bytes ≡ b
+    → before (counted forward (number_of digits) word) (modifiers_of behind) ≡ before_unit forward digits (if b then None else Some (word, behind))) [
+      | true ↦ λ same. any-alone forward digits word (modifiers_of behind) same
+      | false ↦ λ _. refl
+    ] refl
+
+two-words : (forward : Bool) (digits word next : List ℕ) (tokens : List Token)
+    → modifiers_of (Sign forward ∷ Digits digits ∷ Word word ∷ Word next ∷ tokens) ≡ before_unit forward digits (unit_first (Word word ∷ Word next ∷ tokens))
+two-words forward digits word next tokens =
+    elim (bytes_eq word any_bytes) as (λ b. (if b then before (counted forward (number_of digits) next) (modifiers_of tokens) else before (counted forward (number_of digits) word) (modifiers_of (Word next ∷ tokens)))
+    ≡ before_unit forward digits (if b then Some (next, tokens) else Some (word, Word next ∷ tokens))) [
+      | true ↦ refl
+      | false ↦ refl
+    ]
+
+counted-unit : (forward : Bool) (digits : List ℕ) (tokens : List Token) → modifiers_of (Sign forward ∷ Digits digits ∷ tokens) ≡ before_unit forward digits (unit_first tokens)
+counted-unit forward digits [] = refl
+counted-unit forward digits (Sign f ∷ tokens) = refl
+counted-unit forward digits (Digits d ∷ tokens) = refl
+counted-unit forward digits (Word word ∷ []) = lone-word forward digits word []
+counted-unit forward digits (Word word ∷ Sign f ∷ tokens) = lone-word forward digits word (Sign f ∷ tokens)
+counted-unit forward digits (Word word ∷ Digits d ∷ tokens) = lone-word forward digits word (Digits d ∷ tokens)
+counted-unit forward digits (Word word ∷ Word next ∷ tokens) = two-words forward digits word next tokens
+
+counted-as : (forward : Bool) (tokens : List Token) → modifiers_of (Sign forward ∷ tokens) ≡ before_counted forward (digits_first tokens)
+counted-as forward [] = refl
+counted-as forward (Sign f ∷ tokens) = refl
+counted-as forward (Digits d ∷ tokens) = counted-unit forward d tokens
+counted-as forward (Word w ∷ tokens) = refl
+
+-- what follows a sign, by the digits and the unit that are found
+pub no-digits : (forward : Bool) (tokens : List Token) → digits_first tokens ≡ None → saturated (modifiers_of (Sign forward ∷ tokens)) ≡ None
+no-digits forward tokens none = ap saturated (counted-as forward tokens) ∙ ap (λ found. saturated (before_counted forward found)) none
+
+pub no-unit : (forward : Bool) (digits : List ℕ) (tokens behind : List Token) → digits_first tokens ≡ Some (digits, behind) → unit_first behind ≡ None
+    → saturated (modifiers_of (Sign forward ∷ tokens)) ≡ None
+no-unit forward digits tokens behind some none =
+    ap saturated (counted-as forward tokens) ∙ ap (λ found. saturated (before_counted forward found)) some
+    ∙ ap (λ found. saturated (before_unit forward digits found)) none
+
+pub counted-found : (forward : Bool) (digits word : List ℕ) (tokens middle behind : List Token) (found : Option Modifier) → digits_first tokens ≡ Some (digits, middle)
+    → unit_first middle ≡ Some (word, behind) → found ≡ option_map saturated_modifier (counted forward (number_of digits) word)
+    → saturated (modifiers_of (Sign forward ∷ tokens)) ≡ before found (saturated (modifiers_of behind))
+counted-found forward digits word tokens middle behind found some unit is =
+    ap saturated (counted-as forward tokens) ∙ ap (λ first. saturated (before_counted forward first)) some
+    ∙ ap (λ first. saturated (before_unit forward digits first)) unit
+    ∙ saturated-before (counted forward (number_of digits) word) (modifiers_of behind)
+    ∙ ap (λ m. before m (saturated (modifiers_of behind))) (sym is)
 
 pub keyword-step : (word : List ℕ) (tokens : List Token) → saturated (modifiers_of (Word word ∷ tokens)) ≡ before (option_map saturated_modifier (keyword_of word)) (saturated (modifiers_of tokens))
 keyword-step word tokens = saturated-before (keyword_of word) (modifiers_of tokens)
@@ -94,11 +114,3 @@ pub keyword-found : (word : List ℕ) (tokens : List Token) (found : Option Modi
 keyword-found word tokens found is =
     keyword-step word tokens
     ∙ ap (λ m. before m (saturated (modifiers_of tokens))) (keywords (abbreviates word 5 (codes "linestart")) (abbreviates word 5 (codes "lineend")) (abbreviates word 5 (codes "wordstart")) (abbreviates word 5 (codes "wordend")) ∙ sym is)
-
-pub not-same : (b : Bool) → true ≡ not b → b ≡ false
-not-same true is = absurd (false≢true (sym is))
-not-same false is = refl
-
-pub same-not : (b : Bool) → false ≡ not b → b ≡ true
-same-not true is = refl
-same-not false is = absurd (false≢true is)

@@ -1,7 +1,7 @@
 ghost use Rattle.std.specs.Prelude.{◌≡◌, ◌≢◌, ◌≤◌, ◌+◌, ◌∷◌, length, None, Some, IfOk, IfErr, IfSome, IsTrue, option_map};
 ghost use Rattle.index_grammar.specs.Grammar.{abbreviates, unit_of, keyword_of, tokens_of, modifiers_of};
 ghost use Rattle.index_grammar.specs.Grammar as grammar;
-ghost use Rattle.index_grammar.specs.Pieces.{token_of, piece_len};
+ghost use Rattle.index_grammar.specs.Pieces.{token_of, piece_len, digits_first, word_first, unit_first, bytes_first};
 ghost use Rattle.index_grammar.specs.Steps.{saturated, stepped};
 ghost use Rattle.index_grammar.specs.declared.faults.IndexFault.TheVariants.{Memory, BadIndex};
 
@@ -64,24 +64,49 @@ fn read_count(is_plus: bool, digits: &[u8], word: &[u8]) -> Option<Modifier>
     Some(Modifier::Back(unit, count))
 }
 
+/// The digits that a text begins with, and what stands behind them.
+fn next_digits(text: &[u8]) -> Option<(&[u8], &[u8])>
+    ensures value { digits_first (tokens_of text.now) ≡ bytes_first result }
+    ensures bound { IfSome result (λ found. length found.1.now + 1 ≤ length text.now) }
+{
+    match next_piece(text)? {
+        (Piece::Digits(digits), rest) => Some((digits, rest)),
+        _ => None,
+    }
+}
+
+/// The word that a text begins with, and what stands behind it.
+fn next_word(text: &[u8]) -> Option<(&[u8], &[u8])>
+    ensures value { word_first (tokens_of text.now) ≡ bytes_first result }
+    ensures bound { IfSome result (λ found. length found.1.now + 1 ≤ length text.now) }
+{
+    match next_piece(text)? {
+        (Piece::Word(word), rest) => Some((word, rest)),
+        _ => None,
+    }
+}
+
+/// The unit that a text begins with, behind `any` or without, and what stands behind it.
+fn next_unit(text: &[u8]) -> Option<(&[u8], &[u8])>
+    ensures value { unit_first (tokens_of text.now) ≡ bytes_first result }
+    ensures bound { IfSome result (λ found. length found.1.now + 1 ≤ length text.now) }
+{
+    let (word, rest) = next_word(text)?;
+    if word != b"any".as_slice() {
+        return Some((word, rest));
+    }
+    next_word(rest)
+}
+
 /// What follows a sign: a count and a unit, with `any` before the unit or without; and what stands behind that.
 fn read_counted(is_plus: bool, text: &[u8]) -> Option<(Modifier, &[u8])>
     ensures value { saturated (modifiers_of (grammar.Token.Sign is_plus ∷ tokens_of text.now)) ≡ stepped result }
     ensures bound { IfSome result (λ found. length found.1.now + 2 ≤ length text.now) }
 {
-    let (Piece::Digits(digits), text) = next_piece(text)? else {
-        return None;
-    };
-    let (Piece::Word(word), text) = next_piece(text)? else {
-        return None;
-    };
-    if word != b"any".as_slice() {
-        return Some((read_count(is_plus, digits, word)?, text));
-    }
-    let (Piece::Word(word), text) = next_piece(text)? else {
-        return None;
-    };
-    Some((read_count(is_plus, digits, word)?, text))
+    let (digits, rest) = next_digits(text)?;
+    let (word, rest) = next_unit(rest)?;
+    let modifier = read_count(is_plus, digits, word)?;
+    Some((modifier, rest))
 }
 
 /// The first modifier of a text after its first piece, and what stands behind it.
