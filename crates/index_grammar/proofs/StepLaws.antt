@@ -1,6 +1,6 @@
 -- The first modifier of a list of tokens.
 use Rattle.std.proofs.Common.{◌≡◌, ℕ, Bool, true, false, List, [], ◌∷◌, ◌++◌, Option, Some, None, refl, sym, ap, ◌∙◌, append_assoc}
-use Rattle.std.specs.Prelude.{bytes_eq, codes, option_map, not, if◌then◌else◌}
+use Rattle.std.specs.Prelude.{bytes_eq, codes, option_map, if◌then◌else◌}
 use Rattle.std.proofs.lemmas.List.{append-nil}
 use Rattle.std.proofs.lemmas.Slice.Eq.{bytes_eq-Decides}
 use Rattle.index_grammar.specs.Grammar.{Token, modifiers_of, before, counted, number_of, saturated_modifier, keyword_of, abbreviates}

@@ -1,5 +1,5 @@
 -- The place that a word stands for, by what the names in it mean (text(n), "INDICES").
-use Rattle.std.specs.Prelude.{◌≡◌, ◌≤◌, ℕ, Bool, List, length, Option, None, Some, option_map, Result, Ok, Err}
+use Rattle.std.specs.Prelude.{◌≡◌, ◌≤◌, ℕ, Bool, List, length, Option, None, Some, option_map, Result, Err}
 use Rattle.text_model.specs.Content.{Content}
 use Rattle.mark_table.specs.SharedMarks.{Mark}
 use Rattle.tag_table.specs.Tags.{Tag}
