@@ -1,5 +1,5 @@
-//! The tests of shared marks, of indices and of tag ranges: `mark_table` and `text_index`. A crate with tests is proved twice, so
-//! they stand apart.
+//! The tests of shared marks, of indices and of tag ranges: `mark_table`, `index_grammar` and `text_index`. A crate with tests is
+//! proved twice, so they stand apart.
 #![tactic(auto)]
 
 #[cfg(test)]

@@ -15,14 +15,14 @@ use Rattle.text_model.specs.Content.{Content, flags}
 use Rattle.mark_table.specs.SharedMarks.{Mark, SharedMarks, first_number}
 use Rattle.name_list.specs.Names.{AreApart}
 use Rattle.tag_table.specs.Tags.{Tag, Tags, names_of, slot_of, is_named}
-use Rattle.text_index.specs.Names.{known_marks, known_tags}
+use Rattle.index_grammar.specs.Names.{known_marks, known_tags}
 use Rattle.text_index.specs.Views as view
 use Rattle.text_index.specs.Views.{own_place, shared_place, shown_mark}
 use Rattle.text_index.specs.Words.{is_word}
 use Rattle.text_index.specs.Meanings.{Meanings, MeanTheSame, shown_meanings, word_value}
 use Rattle.text_index.proofs.MeaningLaws.{word_value-same}
-use Rattle.text_index.specs.declared.faults.IndexFault.{IndexFault}
-use Rattle.text_index.specs.declared.faults.IndexFault.TheVariants as index
+use Rattle.index_grammar.specs.declared.faults.IndexFault.{IndexFault}
+use Rattle.index_grammar.specs.declared.faults.IndexFault.TheVariants as index
 use Rattle.peers.specs.declared.answers.Fault.{Fault}
 use Rattle.peers.specs.declared.answers.Fault.TheVariants.{Memory}
 use Rattle.peers.specs.Faults.{index_fault, at_position}

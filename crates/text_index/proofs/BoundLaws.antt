@@ -1,13 +1,13 @@
 -- No index stands for a place behind the end, and numbers up to the greatest that a machine has stand for every place.
-use Rattle.std.proofs.Common.{◌≡◌, ◌≢◌, ℕ, zero, suc, ◌+◌, ◌-◌, ◌<◌, ◌≤◌, min, Bool, true, false, not, List, [], ◌∷◌, length, map, take, drop, refl, sym, ap, subst, ◌∙◌, arith, length-drop}
-use Rattle.std.specs.Prelude.{Option, Some, None, Result, Ok, Err, option_map, option_and_then, nat_lt, nat_le, ◌&&◌, ◌==◌, slice_index, if◌then◌else◌}
+use Rattle.std.proofs.Common.{◌≡◌, ◌≢◌, ℕ, zero, suc, ◌+◌, ◌-◌, ◌<◌, ◌≤◌, min, Bool, true, false, not, List, [], ◌∷◌, length, map, take, drop, refl, sym, ap, ◌∙◌, arith, length-drop}
+use Rattle.std.specs.Prelude.{Option, Some, None, Result, Ok, Err, option_and_then, nat_lt, nat_le, ◌&&◌, ◌==◌, slice_index, if◌then◌else◌}
 use Rattle.std.specs.List.{prefix_len, suffix_len}
 use Rattle.std.proofs.lemmas.Bool.{false≢true}
 use Rattle.std.proofs.lemmas.Bool.Decides.{nat_tests, Decides-eqb}
 use Rattle.std.proofs.lemmas.List.{length-take-le}
 use Rattle.std.proofs.lemmas.List.Quantifiers.{position-Some}
 use Rattle.std.proofs.lemmas.List.Sums.{prefix_len-le-length}
-use Rattle.text_model.specs.Lines.{lines, line_of, line_start}
+use Rattle.text_model.specs.Lines.{lines, line_of}
 use Rattle.text_model.proofs.LineLaws.{line_start-le, lines-le-length}
 use Rattle.text_model.specs.Content.{Content, flags}
 use Rattle.text_model.specs.declared.places.Place.{Place}
@@ -17,19 +17,18 @@ use Rattle.std.specs.FinMap as finite
 use Rattle.text_index.specs.Views.{IsView, shown, own_place, shared_place, shown_mark}
 use Rattle.text_index.proofs.ViewLaws.{length-shown}
 use Rattle.text_index.proofs.FlagLaws.{length-part, flags-within}
-use Rattle.text_index.specs.Grammar.{saturated_base, saturated_modifier, WholeIndex}
-use Rattle.text_index.specs.Steps.{saturated_index}
-use Rattle.text_index.specs.Values.{newline_of, in_line, column_of, on_line, line_value, unless_end, lines_on, lines_back, word_front, word_behind, word_end, modified, modified_by, or_fault, first_tagged, last_tagged, base_value, then_modified, index_value}
+use Rattle.index_grammar.specs.Grammar.{saturated_base, saturated_modifier, WholeIndex}
+use Rattle.index_grammar.specs.Steps.{saturated_index}
+use Rattle.text_index.specs.Values.{newline_of, in_line, column_of, on_line, line_value, unless_end, lines_back, word_front, word_behind, word_end, modified, modified_by, or_fault, first_tagged, last_tagged, base_value, then_modified, index_value}
 use Rattle.text_index.specs.Meanings.{Meanings, AreWithin, value_of, shown_meanings}
-use Rattle.text_index.specs.declared.faults.IndexFault.{IndexFault}
-use Rattle.text_index.specs.declared.faults.IndexFault.TheVariants.{BadIndex}
-use Rattle.text_index.specs.declared.indices.Base.{Base}
-use Rattle.text_index.specs.declared.indices.Base.TheVariants as base
-use Rattle.text_index.specs.declared.indices.Modifier.{Modifier}
-use Rattle.text_index.specs.declared.indices.Modifier.TheVariants as modifier
-use Rattle.text_index.specs.declared.indices.Unit.{Unit}
-use Rattle.text_index.specs.declared.indices.Unit.TheVariants.{Characters, Lines}
-use Rattle.text_index.proofs.PlaceLaws.{most}
+use Rattle.index_grammar.specs.declared.faults.IndexFault.{IndexFault}
+use Rattle.index_grammar.specs.declared.faults.IndexFault.TheVariants.{BadIndex}
+use Rattle.index_grammar.specs.declared.indices.Base.{Base}
+use Rattle.index_grammar.specs.declared.indices.Base.TheVariants as base
+use Rattle.index_grammar.specs.declared.indices.Modifier.{Modifier}
+use Rattle.index_grammar.specs.declared.indices.Modifier.TheVariants as modifier
+use Rattle.index_grammar.specs.declared.indices.Unit.TheVariants.{Characters, Lines}
+use Rattle.index_grammar.proofs.PlaceLaws.{most}
 
 -- ---- places in lines
 

@@ -1,18 +1,17 @@
 -- A word's place hangs on what its names mean, not on their numbers.
-use Rattle.std.proofs.Common.{◌≡◌, ℕ, zero, suc, ◌+◌, Bool, true, false, List, [], ◌∷◌, length, take, drop, refl, sym, ap, ◌∙◌}
-use Rattle.std.specs.Prelude.{Option, Some, None, Result, Ok, Err, option_map, option_and_then, bytes_eq, codes, encode_utf8_all, nat_eq, ◌==◌, position, if◌then◌else◌}
+use Rattle.std.proofs.Common.{◌≡◌, ℕ, zero, suc, Bool, true, false, List, length, take, drop, refl, sym, ap, ◌∙◌}
+use Rattle.std.specs.Prelude.{Option, Some, None, Result, option_map, option_and_then, bytes_eq, codes, encode_utf8_all, nat_eq, ◌==◌, position, if◌then◌else◌}
 use Rattle.std.specs.List.{ends_with}
 use Rattle.std.specs.Option.{option_or}
-use Rattle.text_index.specs.Characters.{closes}
-use Rattle.text_index.specs.Grammar.{place_of, around_dot, in_line, number_of, place_base, token, of_length, longest, closed_front, longest_front, marked, tagged, first_tagged, last_tagged, without_last, base_of, index_of, modifiers_of, tokens_of, WholeIndex}
+use Rattle.index_grammar.specs.Characters.{closes}
+use Rattle.index_grammar.specs.Grammar.{place_of, around_dot, in_line, number_of, place_base, token, of_length, longest, closed_front, longest_front, marked, tagged, first_tagged, last_tagged, without_last, base_of, modifiers_of, tokens_of, WholeIndex}
 use Rattle.text_index.specs.Values.{base_value, or_fault, then_modified}
 use Rattle.text_index.specs.Values as values
 use Rattle.text_index.specs.Meanings.{Meanings, MeanTheSame, value_of, word_value}
-use Rattle.text_index.specs.declared.faults.IndexFault.{IndexFault}
-use Rattle.text_index.specs.declared.faults.IndexFault.TheVariants.{BadIndex, NoTaggedCharacters}
-use Rattle.text_index.specs.declared.indices.Base.{Base}
-use Rattle.text_index.specs.declared.indices.Base.TheVariants as base
-use Rattle.text_index.specs.declared.indices.Modifier.{Modifier}
+use Rattle.index_grammar.specs.declared.faults.IndexFault.{IndexFault}
+use Rattle.index_grammar.specs.declared.faults.IndexFault.TheVariants.{BadIndex, NoTaggedCharacters}
+use Rattle.index_grammar.specs.declared.indices.Base.{Base}
+use Rattle.index_grammar.specs.declared.indices.Base.TheVariants as base
 
 abbrev Value : Type 0
 Value = Result ℕ IndexFault

@@ -1,13 +1,6 @@
-pub mod Characters
-pub mod Fronts
-pub mod Grammar
 pub mod Meanings
-pub mod Names
-pub mod Pieces
 pub mod Positions
 pub mod Ranges
-pub mod Reading
-pub mod Steps
 pub mod Values
 pub mod Views
 pub mod Words

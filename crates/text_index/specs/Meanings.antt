@@ -1,14 +1,14 @@
 -- The place that a word stands for, by what the names in it mean (text(n), "INDICES").
-use Rattle.std.specs.Prelude.{◌≡◌, ◌≤◌, ℕ, Bool, List, length, Option, None, Some, option_map, Result, Ok, Err}
+use Rattle.std.specs.Prelude.{◌≡◌, ◌≤◌, ℕ, Bool, List, length, Option, None, Some, option_map, Result, Err}
 use Rattle.text_model.specs.Content.{Content}
 use Rattle.mark_table.specs.SharedMarks.{Mark}
 use Rattle.tag_table.specs.Tags.{Tag}
-use Rattle.text_index.specs.Names.{known_marks, known_tags}
+use Rattle.index_grammar.specs.Names.{known_marks, known_tags}
 use Rattle.text_index.specs.Views.{shown_mark, shown_flags}
-use Rattle.text_index.specs.Grammar.{index_of, WholeIndex}
+use Rattle.index_grammar.specs.Grammar.{index_of, WholeIndex}
 use Rattle.text_index.specs.Values.{index_value}
-use Rattle.text_index.specs.declared.faults.IndexFault.{IndexFault}
-use Rattle.text_index.specs.declared.faults.IndexFault.TheVariants.{BadIndex}
+use Rattle.index_grammar.specs.declared.faults.IndexFault.{IndexFault}
+use Rattle.index_grammar.specs.declared.faults.IndexFault.TheVariants.{BadIndex}
 
 -- numbers for the names of marks and of tags; where a view shows each mark, if it does, and which of its characters have each tag
 pub record Meanings : Type 0 where

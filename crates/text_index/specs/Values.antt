@@ -1,18 +1,17 @@
 -- The place that an index stands for (text(n), "INDICES"), counted from the start of the view's text. Lines of the text count
 -- from 0 here, and those of an index from 1.
-use Rattle.std.specs.Prelude.{ℕ, ⊤, ◌<◌, zero, suc, ◌+◌, ◌-◌, ◌==◌, min, nat_lt, Bool, not, List, [], ◌∷◌, length, take, drop, slice_index, position, Option, None, Some, Result, Ok, Err, if◌then◌else◌}
+use Rattle.std.specs.Prelude.{ℕ, zero, suc, ◌+◌, ◌-◌, ◌==◌, min, nat_lt, Bool, not, List, [], ◌∷◌, length, take, drop, slice_index, position, Option, None, Some, Result, Ok, Err, if◌then◌else◌}
 use Rattle.std.specs.List.{prefix_len, suffix_len}
-use Rattle.text_model.specs.TagBits.{slot_count}
 use Rattle.text_model.specs.Lines.{lines, line_of, line_start}
-use Rattle.text_index.specs.declared.faults.IndexFault.{IndexFault}
-use Rattle.text_index.specs.declared.faults.IndexFault.TheVariants.{BadIndex, NoTaggedCharacters}
-use Rattle.text_index.specs.declared.indices.Base.{Base}
-use Rattle.text_index.specs.declared.indices.Base.TheVariants as base
-use Rattle.text_index.specs.declared.indices.Direction.{Direction}
-use Rattle.text_index.specs.declared.indices.Direction.TheVariants as direction
-use Rattle.text_index.specs.declared.indices.Modifier.{Modifier}
-use Rattle.text_index.specs.declared.indices.Modifier.TheVariants as modifier
-use Rattle.text_index.specs.declared.indices.Unit.TheVariants.{Characters, Lines}
+use Rattle.index_grammar.specs.declared.faults.IndexFault.{IndexFault}
+use Rattle.index_grammar.specs.declared.faults.IndexFault.TheVariants.{BadIndex, NoTaggedCharacters}
+use Rattle.index_grammar.specs.declared.indices.Base.{Base}
+use Rattle.index_grammar.specs.declared.indices.Base.TheVariants as base
+use Rattle.index_grammar.specs.declared.indices.Direction.{Direction}
+use Rattle.index_grammar.specs.declared.indices.Direction.TheVariants as direction
+use Rattle.index_grammar.specs.declared.indices.Modifier.{Modifier}
+use Rattle.index_grammar.specs.declared.indices.Modifier.TheVariants as modifier
+use Rattle.index_grammar.specs.declared.indices.Unit.TheVariants.{Characters, Lines}
 
 -- ---- places in lines
 
@@ -112,12 +111,3 @@ then_modified is_word text modifiers (Ok place) = Ok (modified_by is_word text m
 
 abbrev pub index_value : (ℕ → Bool) → (ℕ → Option ℕ) → (ℕ → List Bool) → List ℕ → Base → List Modifier → Result ℕ IndexFault
 index_value is_word marks flags text base modifiers = then_modified is_word text modifiers (base_value marks flags text base)
-
--- the slot of a base is one that a store knows
-abbrev pub HasSlot : Base → Type 0
-HasSlot (base.At line character) = ⊤
-HasSlot (base.LineEnd line) = ⊤
-HasSlot base.End = ⊤
-HasSlot (base.Mark number) = ⊤
-HasSlot (base.First slot len) = slot.0 < slot_count
-HasSlot (base.Last slot len) = slot.0 < slot_count

@@ -3,13 +3,11 @@ ghost use Rattle.text_model.specs.declared.limits.TheConstants.Limits.{MOST_WIDG
 ghost use Rattle.text_index.specs.Views.{shown, IsView};
 ghost use Rattle.text_index.specs.Words.{is_word};
 ghost use Rattle.text_index.specs.Meanings.{shown_meanings, word_value};
-ghost use Rattle.text_index.specs.declared.faults.IndexFault.TheVariants.{Memory};
+ghost use Rattle.index_grammar.specs.declared.faults.IndexFault.TheVariants.{Memory};
 
-use crate::faults::IndexFault;
-use crate::names::Names;
-use crate::parsing::parse;
 use crate::values::resolve;
 use crate::views::View;
+use index_grammar::{IndexFault, Names, parse};
 use std::alloc::Global;
 use text_model::TextStore;
 

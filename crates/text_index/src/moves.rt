@@ -4,11 +4,11 @@ ghost use Rattle.text_model.specs.Lines.{lines, line_of};
 ghost use Rattle.text_index.specs.Views.{shown, IsView};
 ghost use Rattle.text_index.specs.Values.{in_line, newline_of, column_of, lines_on, lines_back, lines_by, modified};
 ghost use Rattle.text_index.specs.Words.{is_word};
-ghost use Rattle.text_index.specs.declared.indices.Modifier.TheVariants as modifier;
+ghost use Rattle.index_grammar.specs.declared.indices.Modifier.TheVariants as modifier;
 
-use crate::indices::Direction;
 use crate::views::View;
 use crate::words::is_word;
+use index_grammar::Direction;
 use text_model::TextStore;
 
 /// The place so many characters on, or the end.

@@ -1,15 +1,15 @@
 ghost use Rattle.std.specs.Prelude.{◌≡◌, ◌≤◌, ◌<◌, ◌+◌, IfOk, IfSome};
 ghost use Rattle.text_index.specs.Views.{shown, shown_flags, shown_mark, IsView};
-ghost use Rattle.text_index.specs.Values.{HasSlot, line_value, base_value, modified, modified_by, index_value};
+ghost use Rattle.text_index.specs.Values.{line_value, base_value, modified, modified_by, index_value};
+ghost use Rattle.index_grammar.specs.Reading.{HasSlot};
 ghost use Rattle.text_index.specs.Words.{is_word};
 
-use crate::faults::IndexFault;
-use crate::indices::{Base, Direction, Index, Modifier, Unit};
 use crate::moves::{
     back, forward, in_line, line_end, line_start, lines_by, newline_of, word_end, word_start,
 };
 use crate::ranges::{first_tagged, last_tagged};
 use crate::views::View;
+use index_grammar::{Base, Direction, Index, IndexFault, Modifier, Unit};
 use text_model::{Limits, MarkNo, TextStore};
 
 /// Where the view shows a mark: the widgets' own within its characters, and the shared ones only where they stand in it.

@@ -2,7 +2,7 @@ use Rattle.std.proofs.Common.{◌≡◌, ◌<◌, ◌≤◌, ◌+◌, Some, Err,
 use Rattle.std.specs.Prelude.{chars, length, IfOk}
 use Rattle.std.proofs.lemmas.List.{length-map}
 use Rattle.text_model.specs.declared.cells.Cell.{Cell}
-use Rattle.text_index.specs.Grammar.{index_of}
+use Rattle.index_grammar.specs.Grammar.{index_of}
 use Rattle.text_index.specs.Views.{shown}
 use Rattle.text_index.specs.Words.{is_word}
 use Rattle.text_index.specs.Meanings.{shown_meanings}

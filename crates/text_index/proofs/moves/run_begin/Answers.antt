@@ -1,4 +1,4 @@
-use Rattle.std.proofs.Common.{◌≡◌, ◌<◌, ◌≤◌, length, take, sym, ap, ◌∙◌, arith}
+use Rattle.std.proofs.Common.{◌≤◌, length, take, ap, ◌∙◌, arith}
 use Rattle.std.specs.List.{suffix_len}
 use Rattle.text_index.specs.Views.{shown}
 use Rattle.text_index.specs.Words.{is_word}

@@ -1,0 +1,13 @@
+pub mod CharLaws
+pub mod FindLaws
+pub mod FrontLaws
+pub mod GrammarRows
+pub mod LongestLaws
+pub mod LowLaws
+pub mod LowModifierLaws
+pub mod NameLaws
+pub mod PlaceLaws
+pub mod StepLaws
+pub mod TagLaws
+pub mod TokenLaws
+pub mod WholeLaws

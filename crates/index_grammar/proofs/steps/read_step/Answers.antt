@@ -1,0 +1,12 @@
+use Rattle.std.proofs.Common.{◌∷◌, Some, sym, ap, ◌∙◌}
+use Rattle.index_grammar.specs.Grammar.{tokens_of, modifiers_of}
+use Rattle.index_grammar.specs.Pieces.{token_of}
+use Rattle.index_grammar.specs.Steps.{saturated}
+use Rattle.index_grammar.proofs.StepLaws.{keyword-found}
+use Rattle.index_grammar.proofs.steps.read_step.Goals as goal
+
+pub returns-in_ok-read_keyword-in-Word-clause-value : goal.returns-in_ok-read_keyword-in-Word-clause-value
+returns-in_ok-read_keyword-in-Word-clause-value c =
+    ap (λ p. saturated (modifiers_of (token_of p ∷ tokens_of c.args.text.now))) c.in-Word.is
+    ∙ keyword-found c.in-Word.word.now (tokens_of c.args.text.now) (Some c.in_ok-read_keyword-in-Word.field-0)
+    (sym (c.in_ok-read_keyword-in-Word.was {u = tt}) ∙ c.read_keyword.ensures.value)

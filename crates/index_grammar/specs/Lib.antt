@@ -1,0 +1,7 @@
+pub mod Characters
+pub mod Fronts
+pub mod Grammar
+pub mod Names
+pub mod Pieces
+pub mod Reading
+pub mod Steps

@@ -1,9 +1,0 @@
-use Rattle.text_index.specs.Fronts.{named}
-use Rattle.text_index.proofs.FindLaws.{IsLookedAt}
-use Rattle.text_index.proofs.fronts.find_longest.Given as goal
-
-abbrev pub invariant-loop-base : goal.invariant-loop-base
-invariant-loop-base l = IsLookedAt (named l.form l.names) l.word l.end
-
-abbrev pub decreases-loop-base : goal.decreases-loop-base
-decreases-loop-base l = l.end

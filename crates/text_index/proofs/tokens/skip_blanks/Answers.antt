@@ -1,7 +1,0 @@
-use Rattle.std.proofs.Common.{arith}
-use Rattle.std.proofs.lemmas.List.Sums.{prefix_len-le-length}
-use Rattle.text_index.specs.Characters.{is_blank}
-use Rattle.text_index.proofs.tokens.skip_blanks.Goals as goal
-
-pub split_at-requires : goal.split_at-requires
-split_at-requires c = omega (arith, c.blanks.ensures, prefix_len-le-length is_blank c.args.text.now)
