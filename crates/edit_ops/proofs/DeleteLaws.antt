@@ -19,13 +19,14 @@ use Rattle.undo_stack.specs.declared.actions.EditKind.TheVariants.{Delete}
 use Rattle.edit_ops.specs.declared.anchors.Anchors.{Anchors}
 use Rattle.edit_ops.specs.declared.plans.Recording.{Recording}
 use Rattle.edit_ops.specs.declared.spans.Span.{Span}
-use Rattle.edit_ops.specs.Anchors.{anchors_drawn, next_line}
+use Rattle.text_cursor.specs.Around.{next_line}
+use Rattle.edit_ops.specs.Anchors.{anchors_drawn}
 use Rattle.edit_ops.specs.Deletions.{in_spans, delete_set, runs_below, AreApart, removed_spans, deleted}
 use Rattle.edit_ops.specs.Removals.{removed_span}
 use Rattle.edit_ops.specs.States.{State, Draft, Log, log_noted, all_noted, drafted, state_of}
 use Rattle.edit_ops.proofs.InsertLaws.{noted-append}
 use Rattle.edit_ops.proofs.RunLaws.{runs-are, apart-wider}
-use Rattle.edit_ops.proofs.RemovalLaws.{length-characters, line-front, next-within, next-behind, no-next, next_line-is, next_line-removed}
+use Rattle.text_cursor.proofs.AroundLaws.{length-characters, line-front, next-within, next-behind, no-next, next_line-is, next_line-removed}
 
 take-shorter : (n border : ℕ) (xs : List ℕ) → n ≤ border → take n (take border xs) ≡ take n xs
 take-shorter zero border xs within = refl

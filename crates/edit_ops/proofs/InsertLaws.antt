@@ -20,16 +20,15 @@ use Rattle.edit_ops.specs.declared.anchors.Anchors.{Anchors}
 use Rattle.edit_ops.specs.declared.pieces.Piece.{Piece}
 use Rattle.edit_ops.specs.declared.plans.Recording.{Recording}
 use Rattle.edit_ops.specs.Anchors.{AnchorsStand, anchor_moved, anchors_moved}
-use Rattle.edit_ops.specs.Insertions.{shared_slots, slots_or, inserted_text, inserted_texts, total, IsBetween}
+use Rattle.text_cursor.specs.Around.{shared_slots}
+use Rattle.text_cursor.proofs.AroundLaws.{length-slot_sets}
+use Rattle.edit_ops.specs.Insertions.{slots_or, inserted_text, inserted_texts, total, IsBetween}
 use Rattle.edit_ops.specs.States.{State, Log, Draft, log_noted, all_noted, drafted, state_of}
 
 pub noted-append : (recording : Recording) (kind : EditKind) (actions others : List Action) (log : Log)
     → all_noted recording kind (actions ++ others) log ≡ all_noted recording kind others (all_noted recording kind actions log)
 noted-append recording kind [] others log = refl
 noted-append recording kind (action ∷ actions) others log = noted-append recording kind actions others (log_noted recording kind action log)
-
-pub length-slot_sets : (cells : List Cell) → length (slot_sets cells) ≡ length cells
-length-slot_sets cells = length-map cells (λ (cell : Cell). cell.tags)
 
 -- the slots of text that is put in, and of the cells behind it
 slots-within : (at : ℕ) (text : List ℕ) (slots : Slots) (cells : List Cell) (i : ℕ) → at ≤ length cells → i < length text

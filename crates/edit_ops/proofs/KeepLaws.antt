@@ -5,7 +5,6 @@ use Rattle.std.specs.FinMap as finite
 use Rattle.std.specs.List.{All}
 use Rattle.std.proofs.lemmas.Bool.{true≢false, eqb-false, le-leb, lt-ltb, cases_eq, or_cases, and_parts, eqb-true, both_ways, not-true}
 use Rattle.std.proofs.lemmas.Slice.Eq.{bytes_eq-Decides}
-use Rattle.std.proofs.lemmas.List.{map-id}
 use Rattle.std.proofs.lemmas.List.Elements.{All-tail}
 use Rattle.text_model.specs.declared.cells.Cell.{Cell}
 use Rattle.text_model.specs.declared.edits.Step.TheVariants.{ClearTags}
@@ -14,7 +13,7 @@ use Rattle.text_model.specs.Content.{Content, Slots, characters}
 use Rattle.text_model.specs.Splices.{inserted, removed, changed}
 use Rattle.text_model.specs.Lines.{is_newline}
 use Rattle.text_model.specs.Steps.{cells_of, after_step, after_insertion, after_removal, with_slot, without_slots}
-use Rattle.text_model.proofs.SpliceLaws.{length-cells_inserted, length-removed, length-changed, map-inserted, map-removed, map-map, map-changed, changed-same}
+use Rattle.text_model.proofs.SpliceLaws.{length-cells_inserted, length-removed, length-changed, map-inserted, map-removed, map-changed, changed-same}
 use Rattle.undo_stack.specs.declared.actions.Action.{Action}
 use Rattle.undo_stack.specs.declared.actions.EditKind.{EditKind}
 use Rattle.undo_stack.specs.declared.actions.EditKind.TheVariants.{Replace, Delete}
@@ -26,13 +25,14 @@ use Rattle.edit_ops.specs.declared.plans.Recording.{Recording}
 use Rattle.edit_ops.specs.declared.spans.Span.{Span}
 use Rattle.edit_ops.specs.Anchors.{anchors_moved, anchors_removed}
 use Rattle.edit_ops.specs.Deletions.{in_spans, run_start, delete_set, onto_runs, runs_below, AreApart, removed_spans, deleted}
-use Rattle.edit_ops.specs.Insertions.{shared_slots, slots_or, inserted_text, inserted_texts, total}
+use Rattle.text_cursor.specs.Around.{shared_slots}
+use Rattle.edit_ops.specs.Insertions.{slots_or, inserted_text, inserted_texts, total}
 use Rattle.edit_ops.specs.Keeping.{IsKept}
 use Rattle.edit_ops.specs.Removals.{removed_span, clipped, with_mark, replaced}
 use Rattle.edit_ops.specs.States.{State, Log, log_noted, state_of}
 use Rattle.edit_ops.specs.Tagging.{SpanFits, tagged}
 use Rattle.edit_ops.proofs.InsertLaws.{total-cons}
-use Rattle.edit_ops.proofs.RemovalLaws.{length-characters}
+use Rattle.text_cursor.proofs.AroundLaws.{characters-of, length-characters}
 use Rattle.edit_ops.proofs.RunLaws.{apart-wider, in-within}
 
 -- a history without groups fits
@@ -69,9 +69,6 @@ note-kept limit recording kind action state content new kept made content_is log
     (record { fits = parts.0; groups = parts.1; undone = parts.2 }))
 
 -- ---- texts that are put in
-
-pub characters-of : (text : List ℕ) (slots : Slots) → characters (cells_of text slots) ≡ text
-characters-of text slots = map-map (λ (cell : Cell). cell.character) (λ character. record { character = character; tags = slots }) text ∙ map-id text
 
 put-made : (limit at : ℕ) (text : List ℕ) (slots : Slots) (content : Content) → at < length content.cells → length content.cells + length text ≤ limit
     → repeated limit (record { inserts = true; at = at; text = text }) (characters content.cells) ≡ Some (characters (after_insertion at text slots content).cells)

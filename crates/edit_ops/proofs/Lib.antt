@@ -1,9 +1,7 @@
 pub mod AnchorLaws
-pub mod CursorLaws
 pub mod DeleteLaws
 pub mod InsertLaws
 pub mod KeepLaws
-pub mod LookLaws
 pub mod TagLaws
 pub mod RemovalLaws
 pub mod ReplaceLaws

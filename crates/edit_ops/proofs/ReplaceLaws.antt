@@ -16,10 +16,12 @@ use Rattle.text_model.proofs.StepLaws.{Fits-append, after-append}
 use Rattle.undo_stack.specs.declared.actions.EditKind.TheVariants.{Replace}
 use Rattle.edit_ops.specs.declared.pieces.Piece.{Piece}
 use Rattle.edit_ops.specs.declared.plans.Recording.{Recording}
-use Rattle.edit_ops.specs.Insertions.{slots_around, inserted_texts, total, IsBetween}
+use Rattle.text_cursor.specs.Around.{slots_around}
+use Rattle.edit_ops.specs.Insertions.{inserted_texts, total, IsBetween}
 use Rattle.edit_ops.specs.Removals.{clipped, with_mark, removed_span, replaced_span}
 use Rattle.edit_ops.specs.States.{State, Draft, drafted}
-use Rattle.edit_ops.proofs.InsertLaws.{length-slot_sets, behind-is}
+use Rattle.text_cursor.proofs.AroundLaws.{length-slot_sets}
+use Rattle.edit_ops.proofs.InsertLaws.{behind-is}
 
 around-removed : (from to : ℕ) (cells : List Cell) → from ≤ to → to < length cells
     → slots_around from from (removed from to cells) ≡ slots_around from to cells

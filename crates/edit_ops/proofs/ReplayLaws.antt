@@ -16,10 +16,10 @@ use Rattle.text_model.proofs.StepLaws.{Fits-append, after-append}
 use Rattle.text_model.specs.declared.places.MarkNo.{MarkNo}
 use Rattle.text_model.specs.declared.places.Place.{Place}
 use Rattle.edit_ops.specs.declared.anchors.Anchors.{Anchors}
-use Rattle.edit_ops.specs.declared.cursors.Cursor.{Cursor}
-use Rattle.edit_ops.specs.Anchors.{AnchorsStand, anchors_moved, anchors_drawn, anchors_removed, next_line}
-use Rattle.edit_ops.specs.Cursors.{cursor_cells, Moves, Takes, Puts}
-use Rattle.edit_ops.specs.Insertions.{shared_slots}
+use Rattle.text_cursor.specs.declared.cursors.Cursor.{Cursor}
+use Rattle.edit_ops.specs.Anchors.{AnchorsStand, anchors_moved, anchors_drawn, anchors_removed}
+use Rattle.text_cursor.specs.Cursors.{cursor_cells, Moves, Takes, Puts}
+use Rattle.text_cursor.specs.Around.{shared_slots, next_line}
 use Rattle.edit_ops.specs.Replays.{Follows, drawn_up, action_end, replayed, replays, replayed_group}
 use Rattle.edit_ops.specs.Reversals.{put_back, taken_back, action_redone, action_undone, group_redone, group_undone, redo_end, undo_end, stood, log_undone, log_redone, undone_group, redone_group, undone, redone}
 use Rattle.edit_ops.specs.Removals.{with_mark}
@@ -32,9 +32,10 @@ use Rattle.undo_stack.proofs.FitsLaws.{undo-goes, redo-goes}
 use Rattle.edit_ops.specs.declared.plans.Notes.{Notes}
 use Rattle.edit_ops.specs.declared.plans.Notes.TheVariants.{Undone, Redone}
 use Rattle.edit_ops.specs.Plans.{group_moved, planned}
-use Rattle.edit_ops.proofs.CursorLaws.{whole-is}
+use Rattle.text_cursor.proofs.CursorLaws.{whole-is}
 use Rattle.edit_ops.proofs.InsertLaws.{stand-moved}
-use Rattle.edit_ops.proofs.RemovalLaws.{length-characters, line-front, line-before, next_line-is, stand-drawn}
+use Rattle.text_cursor.proofs.AroundLaws.{length-characters, line-front, line-before, next_line-is}
+use Rattle.edit_ops.proofs.RemovalLaws.{stand-drawn}
 use Rattle.edit_ops.proofs.ReversalLaws.{redone-text}
 
 -- how long the text is

@@ -13,12 +13,12 @@ use Rattle.undo_stack.specs.Fits.{FitsText, put_in, take_out, repeated, reverted
 use Rattle.undo_stack.specs.History.{next_undo, next_redo, after_undo, after_redo}
 use Rattle.undo_stack.proofs.FitsLaws.{undo-goes, undo-fits, redo-goes, redo-fits}
 use Rattle.edit_ops.specs.declared.plans.Recording.{Recording}
-use Rattle.edit_ops.specs.Insertions.{shared_slots}
+use Rattle.text_cursor.specs.Around.{shared_slots}
 use Rattle.edit_ops.specs.Keeping.{IsKept}
 use Rattle.edit_ops.specs.Removals.{with_mark}
 use Rattle.edit_ops.specs.Reversals.{put_back, taken_back, action_redone, action_undone, group_redone, group_undone, undone_group, redone_group, undone, redone}
 use Rattle.edit_ops.specs.States.{State}
-use Rattle.edit_ops.proofs.KeepLaws.{characters-of}
+use Rattle.text_cursor.proofs.AroundLaws.{characters-of}
 
 -- what is there behind a test
 guarded : {A : Type 0} (test : Bool) (x y : A) → (if test then Some x else None) ≡ Some y → x ≡ y

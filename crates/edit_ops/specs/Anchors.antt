@@ -2,6 +2,7 @@
 use Rattle.std.specs.Prelude.{ℕ, ◌+◌, ◌-◌, ◌≤◌, ◌&&◌, ◌==◌, not, nat_lt, nat_le, List, IfSome, option_map, unwrap_or, if◌then◌else◌}
 use Rattle.text_model.specs.Lines.{line_of, line_start}
 use Rattle.text_model.specs.Splices.{removed}
+use Rattle.text_cursor.specs.Around.{next_line}
 use Rattle.edit_ops.specs.declared.anchors.Anchors.{Anchors}
 
 -- no anchor stands behind the end of a text of so many characters
@@ -18,10 +19,6 @@ anchors_moved at count anchors = record {
   start = option_map (anchor_moved at count) anchors.start;
   end = option_map (anchor_moved at count) anchors.end;
 }
-
--- where the line after that of an offset begins; the length where there is none
-abbrev pub next_line : List ℕ → ℕ → ℕ
-next_line text offset = line_start (line_of text offset + 1) text
 
 -- Characters from one offset to another are taken out of a line that begins at `line`, and afterwards the next line begins
 -- at `next`. An anchor above them moves along, and a start among them goes to where the line begins.

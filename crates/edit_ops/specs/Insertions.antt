@@ -1,23 +1,15 @@
 -- What it does to put texts in.
-use Rattle.std.specs.Prelude.{◌≡◌, ◌<◌, ℕ, ◌+◌, ◌-◌, ◌==◌, true, List, [], ◌∷◌, length, map, get_or, sum_by, Option, None, Some, if◌then◌else◌}
+use Rattle.std.specs.Prelude.{◌≡◌, ◌<◌, ℕ, ◌+◌, ◌==◌, true, List, [], ◌∷◌, length, map, get_or, sum_by, Option, None, Some, if◌then◌else◌}
 use Rattle.std.specs.FinSet as set
 use Rattle.text_model.specs.declared.cells.Cell.{Cell}
 use Rattle.text_model.specs.Content.{Slots, slot_sets}
 use Rattle.text_model.specs.Steps.{after_insertion}
+pub use Rattle.text_cursor.specs.Around.{shared_slots}
 use Rattle.undo_stack.specs.declared.actions.EditKind.{EditKind}
 use Rattle.edit_ops.specs.declared.pieces.Piece.{Piece}
 use Rattle.edit_ops.specs.declared.plans.Recording.{Recording}
 use Rattle.edit_ops.specs.Anchors.{anchors_moved}
 use Rattle.edit_ops.specs.States.{State, log_noted}
-
--- the slots that the cell before a place and the cell at another one share; none at the start
-abbrev pub slots_around : ℕ → ℕ → List Cell → Slots
-slots_around from to cells =
-    if from == 0 then set.empty else set.intersection (get_or (slot_sets cells) (from - 1) set.empty) (get_or (slot_sets cells) to set.empty)
-
--- the slots that the cells on both sides of a place have; none at the start
-abbrev pub shared_slots : ℕ → List Cell → Slots
-shared_slots at cells = slots_around at at cells
 
 -- the slots of a list, or without a list those that both sides share
 abbrev pub slots_or : Option Slots → Slots → Slots

@@ -1,5 +1,4 @@
 pub mod Anchors
-pub mod Cursors
 pub mod Deletions
 pub mod Insertions
 pub mod Keeping

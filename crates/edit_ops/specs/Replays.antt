@@ -4,9 +4,9 @@ use Rattle.std.specs.List.{All}
 use Rattle.text_model.specs.Content.{Content}
 use Rattle.text_model.specs.Steps.{Fits, after}
 use Rattle.undo_stack.specs.declared.actions.Action.{Action}
-use Rattle.edit_ops.specs.declared.cursors.Cursor.{Cursor}
+use Rattle.text_cursor.specs.declared.cursors.Cursor.{Cursor}
 use Rattle.edit_ops.specs.Anchors.{AnchorsStand}
-use Rattle.edit_ops.specs.Cursors.{cursor_cells, IsCursor}
+use Rattle.text_cursor.specs.Cursors.{cursor_cells, IsCursor}
 use Rattle.edit_ops.specs.Reversals.{group_redone, redo_end, stood}
 use Rattle.edit_ops.specs.States.{State, Log, Draft, state_of}
 

@@ -8,7 +8,7 @@ use Rattle.undo_stack.specs.History.{next_undo, next_redo, after_undo, after_red
 use Rattle.undo_stack.specs.Modified.{counted_up, counted_down, times}
 use Rattle.undo_stack.specs.declared.actions.Action.{Action}
 use Rattle.edit_ops.specs.Anchors.{anchors_moved, anchors_removed}
-use Rattle.edit_ops.specs.Insertions.{shared_slots}
+use Rattle.text_cursor.specs.Around.{shared_slots}
 use Rattle.edit_ops.specs.Removals.{with_mark}
 use Rattle.edit_ops.specs.States.{State, Log}
 

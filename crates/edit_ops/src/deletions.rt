@@ -12,10 +12,10 @@ use crate::anchors::Anchors;
 use crate::drafts::Draft;
 use crate::faults::EditFault;
 use crate::plans::{Plan, Recording, prepare};
-use crate::replacements::{line_at, line_behind};
 use crate::runs::{spare_last, union};
 use crate::spans::Span;
 use std::alloc::{AllocError, Global};
+use text_cursor::{line_at, line_behind};
 use text_model::{Step, StepList, Text, TextStore};
 use undo_stack::{EditKind, UndoStack};
 

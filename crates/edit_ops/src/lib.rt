@@ -3,7 +3,6 @@
 #![tactic(auto)]
 
 mod anchors;
-mod cursors;
 mod deletions;
 mod drafts;
 mod faults;
@@ -12,14 +11,10 @@ pub mod laws;
 mod pieces;
 mod plans;
 mod replacements;
-#[cfg(test)]
-mod reversal_tests;
 mod reversals;
 mod runs;
 mod spans;
 mod tagging;
-#[cfg(test)]
-mod tests;
 
 pub use anchors::{Anchors, anchors_stand};
 pub use deletions::plan_delete;

@@ -1,7 +1,7 @@
 ghost use Rattle.std.specs.Prelude.{◌≡◌, ◌+◌, ◌-◌, ◌<◌, ◌≤◌, ◌^◌, ◌↔◌, min, length, map, option_and_then, OnOk, IfOk, Err};
 ghost use Rattle.std.specs.FinMap as finite;
 ghost use Rattle.std.specs.List.{All};
-ghost use Rattle.edit_ops.specs.Anchors.{AnchorsStand, next_line};
+ghost use Rattle.edit_ops.specs.Anchors.{AnchorsStand};
 ghost use Rattle.edit_ops.specs.Insertions.{total};
 ghost use Rattle.edit_ops.specs.Removals.{clipped, removed_span, replaced_span, replaced};
 ghost use Rattle.edit_ops.specs.Plans.{planned, HasRoom};
@@ -18,29 +18,9 @@ use crate::insertions::{is_too_long, shared_around, total_of};
 use crate::pieces::Piece;
 use crate::plans::{Plan, Recording, prepare};
 use std::alloc::{AllocError, Global};
+use text_cursor::{line_at, line_behind};
 use text_model::{Limits, MarkNo, Place, Text, TextStore};
 use undo_stack::{EditKind, UndoStack};
-
-/// Where the line of an offset begins.
-pub fn line_at<S: TextStore>(store: &S, offset: usize) -> usize
-    requires { offset ≤ length (S.content store.now).cells }
-    ensures { result ≡ line_start (line_of (characters (S.content store.now).cells) offset) (characters (S.content store.now).cells) }
-{
-    store.line_start(store.line_of(offset))
-}
-
-/// Where the line after that of an offset begins; the length where there is none.
-pub fn line_behind<S: TextStore>(store: &S, offset: usize) -> usize
-    requires { offset ≤ length (S.content store.now).cells }
-    ensures { result ≡ next_line (characters (S.content store.now).cells) offset }
-{
-    let line = store.line_of(offset);
-    if line < store.lines() {
-        store.line_start(line + 1)
-    } else {
-        store.len()
-    }
-}
 
 /// The edit that takes the characters from one offset to another out, with room for so many steps.
 fn draft_removal<S: TextStore>(

@@ -5,7 +5,7 @@ ghost use Rattle.std.specs.List.{All};
 ghost use Rattle.edit_ops.specs.Anchors.{AnchorsStand};
 ghost use Rattle.edit_ops.specs.Plans.{planned, HasRoom};
 ghost use Rattle.edit_ops.specs.Replays.{Follows, drawn_up, replays, replayed_group};
-ghost use Rattle.edit_ops.specs.Reversals.{put_back, taken_back, action_redone, group_redone, redo_end, undone, redone};
+ghost use Rattle.edit_ops.specs.Reversals.{put_back, taken_back, action_redone, group_redone, redo_end, stood, undone, redone};
 ghost use Rattle.edit_ops.specs.States.{Log, log_of, state_of};
 ghost use Rattle.text_model.specs.Content.{characters};
 ghost use Rattle.text_model.specs.Steps.{Fits, after};
@@ -13,12 +13,12 @@ ghost use Rattle.text_model.specs.declared.places.Place.{Place};
 ghost use Rattle.undo_stack.specs.Fits.{repeated_group, FitsText};
 
 use crate::anchors::Anchors;
-use crate::cursors::Cursor;
 use crate::drafts::Draft;
 use crate::faults::EditFault;
 use crate::insertions::count_of;
 use crate::plans::{Notes, Plan, prepare_steps};
 use std::alloc::{AllocError, Global};
+use text_cursor::Cursor;
 use text_model::{Limits, MarkNo, Place, Text, TextStore};
 use undo_stack::{Action, Group, UndoStack};
 
@@ -95,6 +95,8 @@ impl Draft {
         ensures makes { OnOk result ((log : Log) →
             drawn_up self.new (S.content store.now) log ≡ taken_back from to (drawn_up self.old (S.content store.now) log)) }
     {
+        // Read, so that the prover sees its range.
+        let _len = cursor.len;
         cursor.seek(from)?;
         cursor.remove(to - from)?;
         let line = cursor.line(store);
@@ -123,6 +125,8 @@ impl Draft {
             drawn_up self.new (S.content store.now) log
             ≡ action_redone (record { inserts = inserts; at = at; text = text.now }) (drawn_up self.old (S.content store.now) log)) }
     {
+        // Read, so that the prover sees its range.
+        let _len = cursor.len;
         let count = count_of(text);
         if inserts {
             self.put_back(store, cursor, at, text)?;
@@ -162,6 +166,28 @@ impl Draft {
     }
 }
 
+impl Draft {
+    /// Puts the mark of a number, if there is one, where a group ended, if it ended somewhere.
+    fn put_end<S: TextStore>(
+        &mut self,
+        store: &S,
+        mark: MarkNo,
+        end: Option<usize>,
+    ) -> Result<(), AllocError>
+        requires fits { Fits self.old.steps (S.content store.now) }
+        requires bound { IfSome end (λ at. at ≤ length (after self.old.steps (S.content store.now)).cells) }
+        ensures fits { OnOk result (Fits self.new.steps (S.content store.now)) }
+        ensures makes { OnOk result ((log : Log) → let made = drawn_up self.old (S.content store.now) log in
+            drawn_up self.new (S.content store.now) log ≡ record made { content = stood mark.0 end (S.content store.now) made.content }) }
+    {
+        match stood(store.mark_place(mark), end) {
+            None => {}
+            Some(place) => self.put_mark(mark, place)?,
+        }
+        Ok(())
+    }
+}
+
 /// The edit that makes a group once more, or, back, reverts it, and puts the mark of a number where that ends.
 fn draft_group<S: TextStore>(
     alloc: Global,
@@ -182,10 +208,7 @@ fn draft_group<S: TextStore>(
     let mut draft = Draft::new(alloc, anchors, room)?;
     let mut cursor = Cursor::new(alloc, store.len(), room.saturating_mul(2))?;
     let end = draft.replay_all(store, &mut cursor, group, back, limit)?;
-    match stood(store.mark_place(mark), end) {
-        None => {}
-        Some(place) => draft.put_mark(mark, place)?,
-    }
+    draft.put_end(store, mark, end)?;
     Ok(draft)
 }
 

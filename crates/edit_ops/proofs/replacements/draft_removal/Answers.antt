@@ -1,6 +1,7 @@
 use Rattle.std.proofs.Common.{◌-◌, length, ap, ◌∙◌, arith}
 use Rattle.text_model.specs.Content.{characters}
-use Rattle.edit_ops.proofs.RemovalLaws.{next_line-drawn, stand-out, taken-out, length-characters}
+use Rattle.text_cursor.proofs.AroundLaws.{length-characters, next_line-drawn}
+use Rattle.edit_ops.proofs.RemovalLaws.{stand-out, taken-out}
 use Rattle.edit_ops.proofs.replacements.draft_removal.Goals as goal
 
 pub overflow_sub-next-2 : goal.overflow_sub-next-2

@@ -8,7 +8,7 @@ use Rattle.text_model.proofs.LineLaws.{line_start-le}
 use Rattle.edit_ops.specs.Deletions.{removed_spans}
 use Rattle.edit_ops.specs.States.{drafted}
 use Rattle.edit_ops.proofs.DeleteLaws.{removing-first, removing-more, span-stands}
-use Rattle.edit_ops.proofs.RemovalLaws.{length-characters}
+use Rattle.text_cursor.proofs.AroundLaws.{length-characters}
 use Rattle.edit_ops.proofs.drafts.Draft.remove_spans.Goals as goal
 
 pub loop-span-init : goal.loop-span-init

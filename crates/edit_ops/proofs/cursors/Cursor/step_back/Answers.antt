@@ -1,6 +1,0 @@
-use Rattle.std.proofs.Common.{refl}
-use Rattle.edit_ops.proofs.CursorLaws.{moves-back}
-use Rattle.edit_ops.proofs.cursors.Cursor.step_back.Goals as goal
-
-pub returns-clause-moves : goal.returns-clause-moves
-returns-clause-moves c = moves-back c.args.self.now _ c.in-Some.part c.requires.cursor c.in-Some.ensures.items c.in_ok-push.ensures.items refl refl refl refl

@@ -1,6 +1,0 @@
-use Rattle.std.proofs.Common.{◌≡◌, ◌+◌, drop}
-use Rattle.text_model.specs.Lines.{line_start}
-use Rattle.edit_ops.proofs.cursors.first_newline.Given as goal
-
-abbrev pub invariant-loop-index : goal.invariant-loop-index
-invariant-loop-index l = line_start 1 l.characters ≡ l.index + line_start 1 (drop l.index l.characters)

@@ -1,6 +1,0 @@
-use Rattle.std.proofs.Common.{◌≡◌, take}
-use Rattle.edit_ops.specs.Cursors.{last_line}
-use Rattle.edit_ops.proofs.cursors.last_newline.Given as goal
-
-abbrev pub invariant-loop-index : goal.invariant-loop-index
-invariant-loop-index l = l.line ≡ last_line (take l.index l.characters)

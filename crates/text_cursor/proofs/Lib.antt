@@ -1,0 +1,3 @@
+pub mod AroundLaws
+pub mod CursorLaws
+pub mod LookLaws

@@ -1,0 +1,6 @@
+use Rattle.std.proofs.Common.{◌≡◌, take}
+use Rattle.text_cursor.specs.Cursors.{last_line}
+use Rattle.text_cursor.proofs.cursors.last_newline.Given as goal
+
+abbrev pub invariant-loop-index : goal.invariant-loop-index
+invariant-loop-index l = l.line ≡ last_line (take l.index l.characters)

@@ -1,0 +1,83 @@
+-- A text on the way from an old one: parts of that and texts that were put in, around a place.
+use Rattle.std.specs.Prelude.{◌≡◌, ℕ, ◌+◌, ◌-◌, ◌<◌, ◌≤◌, List, [], ◌∷◌, ◌++◌, length, slice_range, sum_by, get_or, Option, None, Some}
+use Rattle.std.specs.List.{All}
+use Rattle.text_model.specs.declared.cells.Cell.{Cell}
+use Rattle.std.specs.FinSet as set
+use Rattle.text_model.specs.Content.{Slots, slot_sets}
+use Rattle.text_model.specs.Lines.{lines, line_start}
+use Rattle.text_model.specs.Splices.{inserted, removed}
+use Rattle.text_model.specs.Steps.{cells_of}
+use Rattle.text_cursor.specs.declared.cursors.Cursor.{Cursor}
+use Rattle.text_cursor.specs.declared.cursors.Part.{Part}
+
+-- the cells of the old text from one offset to another, or those that new characters make with some slots
+abbrev pub cells_between : Option Slots → List Cell → List ℕ → ℕ → ℕ → List Cell
+cells_between None old new from to = slice_range old from to
+cells_between (Some slots) old new from to = cells_of (slice_range new from to) slots
+
+abbrev pub part_cells : List Cell → List ℕ → Part → List Cell
+part_cells old new part = cells_between part.slots old new part.from part.to
+
+-- the cells of the parts before a place, the nearest part last
+abbrev pub front_cells : List Cell → List ℕ → List Part → List Cell
+front_cells old new [] = []
+front_cells old new (part ∷ parts) = part_cells old new part ++ front_cells old new parts
+
+-- and of the parts behind it, the nearest part last
+abbrev pub behind_cells : List Cell → List ℕ → List Part → List Cell
+behind_cells old new [] = []
+behind_cells old new (part ∷ parts) = behind_cells old new parts ++ part_cells old new part
+
+abbrev pub cursor_cells : List Cell → Cursor → List Cell
+cursor_cells old cursor = front_cells old cursor.fresh.items cursor.front.items ++ behind_cells old cursor.fresh.items cursor.behind.items
+
+abbrev pub parts_len : List Part → ℕ
+parts_len parts = sum_by (λ (part : Part). part.to - part.from) parts
+
+abbrev pub source_len : Option Slots → ℕ → ℕ → ℕ
+source_len None old new = old
+source_len (Some slots) old new = new
+
+-- a part isn't empty, and lies in what it is of
+pub record PartFits (old new : ℕ) (part : Part) : Type 0 where
+  pub some : part.from < part.to
+  pub within : part.to ≤ source_len part.slots old new
+
+-- the parts fit, and the place and the length are those of the parts
+pub record IsCursor (cursor : Cursor) : Type 0 where
+  pub front : All (PartFits cursor.old_len (length cursor.fresh.items)) cursor.front.items
+  pub behind : All (PartFits cursor.old_len (length cursor.fresh.items)) cursor.behind.items
+  pub place : parts_len cursor.front.items ≡ cursor.at
+  pub whole : cursor.at + parts_len cursor.behind.items ≡ cursor.len
+
+-- a cursor goes elsewhere in the same text
+pub record Moves (before now : Cursor) : Type 0 where
+  pub is : IsCursor now
+  pub old_len : now.old_len ≡ before.old_len
+  pub len : now.len ≡ before.len
+  pub cells : (old : List Cell) → cursor_cells old now ≡ cursor_cells old before
+
+-- as many cells as the text is shorter are taken out behind the place
+pub record Takes (before now : Cursor) : Type 0 where
+  pub is : IsCursor now
+  pub old_len : now.old_len ≡ before.old_len
+  pub at : now.at ≡ before.at
+  pub fewer : now.len ≤ before.len
+  pub cells : (old : List Cell) → length old ≡ before.old_len
+      → cursor_cells old now ≡ removed before.at (before.at + (before.len - now.len)) (cursor_cells old before)
+
+-- a text is put in before the place
+pub record Puts (text : List ℕ) (slots : Slots) (before now : Cursor) : Type 0 where
+  pub is : IsCursor now
+  pub old_len : now.old_len ≡ before.old_len
+  pub len : now.len ≡ before.len + length text
+  pub cells : (old : List Cell) → length old ≡ before.old_len → cursor_cells old now ≡ inserted before.at (cells_of text slots) (cursor_cells old before)
+
+-- the slots of a cell of the old text, or those of what was put in
+abbrev pub slots_in : Option Slots → List Cell → ℕ → Slots
+slots_in None old offset = get_or (slot_sets old) offset set.empty
+slots_in (Some slots) old offset = slots
+
+-- where the last line of a text begins, that behind its last newline
+abbrev pub last_line : List ℕ → ℕ
+last_line text = line_start (lines text) text
