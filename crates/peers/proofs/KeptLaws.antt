@@ -26,7 +26,8 @@ use Rattle.undo_stack.specs.declared.actions.EditKind.TheVariants as kind
 use Rattle.edit_ops.specs.declared.pieces.Piece.{Piece}
 use Rattle.edit_ops.specs.declared.spans.Span.{Span}
 use Rattle.edit_ops.specs.Anchors.{anchors_moved}
-use Rattle.edit_ops.specs.Insertions.{inserted_text, inserted_texts, shared_slots, slots_or, total}
+use Rattle.edit_ops.specs.Insertions.{inserted_text, inserted_texts, slots_or, total}
+use Rattle.text_cursor.specs.Around.{shared_slots}
 use Rattle.edit_ops.specs.States.{Log, State, log_noted}
 use Rattle.edit_ops.specs.Tagging.{SpanFits, tagged}
 use Rattle.edit_ops.proofs.InsertLaws.{total-cons}

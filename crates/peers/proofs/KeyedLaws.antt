@@ -14,7 +14,7 @@ use Rattle.text_model.specs.Splices.{inserted, changed}
 use Rattle.text_model.specs.Steps.{cells_of, with_slot}
 use Rattle.text_model.proofs.SpliceLaws.{map-inserted, map-changed, map-alike, map-map}
 use Rattle.edit_ops.specs.declared.spans.Span.{Span}
-use Rattle.edit_ops.specs.Insertions.{shared_slots}
+use Rattle.text_cursor.specs.Around.{shared_slots}
 use Rattle.edit_ops.specs.Tagging.{tagged}
 use Rattle.peers.specs.Edits.{with_key, with_tag, keys_between, common_keys}
 use Rattle.peers.specs.Kept.{HasKnownSlots}

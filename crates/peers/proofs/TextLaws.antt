@@ -17,7 +17,8 @@ use Rattle.undo_stack.specs.History.{no_history}
 use Rattle.undo_stack.specs.Modified.{Modified, counted_new}
 use Rattle.undo_stack.specs.declared.actions.EditKind.TheVariants.{Insert}
 use Rattle.edit_ops.specs.Anchors.{anchors_moved}
-use Rattle.edit_ops.specs.Insertions.{inserted_text, inserted_texts, shared_slots, slots_or}
+use Rattle.edit_ops.specs.Insertions.{inserted_text, inserted_texts, slots_or}
+use Rattle.text_cursor.specs.Around.{shared_slots}
 use Rattle.edit_ops.specs.States.{Log, State, log_noted}
 use Rattle.edit_ops.specs.declared.pieces.Piece.{Piece}
 use Rattle.peers.specs.Edits.{KeyedText, keys_between, keys_or, with_action, with_cells, with_text, with_texts}
