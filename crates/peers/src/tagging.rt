@@ -122,9 +122,10 @@ fn piece_of(tags: &TagTable, pair: Pair) -> Piece
 pub fn pieces_of(alloc: Global, tags: &TagTable, pairs: Vec<Pair>) -> Result<Vec<Piece>, AllocError>
     ensures { IfOk result (λ pieces. pieces.items ≡ map (piece_of tags.now.tags) pairs.items) }
 {
-    // `collect` would ask for less where its first request is refused.
     let mut pieces = Vec::with_capacity(alloc, pairs.len())?;
-    pieces.extend(pairs.into_iter().map(|pair| piece_of(tags, pair)))?;
+    for pair in pairs {
+        pieces.push(piece_of(tags, pair))?;
+    }
     Ok(pieces)
 }
 
