@@ -18,6 +18,7 @@ pub mod NamedLaws
 pub mod OrderLaws
 pub mod PairLaws
 pub mod PlaceLaws
+pub mod PlacedLaws
 pub mod PromiseLaws
 pub mod QueryLaws
 pub mod ReorderLaws

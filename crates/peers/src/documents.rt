@@ -59,15 +59,15 @@ impl<S: TextStore> Model for Document<S> {
     ghost use Rattle.text_model.specs.contracts.places.Place as place;
     ghost use Rattle.peers.specs.Keys.{key_cmp, key_code};
     ghost use Rattle.peers.specs.World.{Document as DocumentState, lone_document};
-    ghost use Rattle.peers.specs.Kept.{IsKept, AreNew};
+    ghost use Rattle.peers.specs.Kept.{IsKept, AreMarked, AreNew};
 
     ghost Value = { DocumentState };
 
     ghost coded = { Prim.hlevel (codes, place.the_row.coded, set.code {R = key_cmp} key_code) };
 
-    ghost view = { λ d. lone_document (chars (string_bytes d.name)) d.tags.tags d.history.modified (S.content d.store) };
+    ghost view = { λ d. lone_document (chars (string_bytes d.name)) d.tags.tags d.marks.marks d.history.modified (S.content d.store) };
 
-    ghost invariant = { λ d. IsKept (chars (string_bytes d.name)) d.tags (S.content d.store) × AreNew d.marks d.history };
+    ghost invariant = { λ d. IsKept (chars (string_bytes d.name)) d.tags (S.content d.store) × AreMarked d.marks (S.content d.store).marks × AreNew d.history };
 }
 
 /// A place, or the fault of the index at a position of a command.
@@ -83,7 +83,8 @@ fn at_position(position: usize, found: Result<usize, IndexFault>) -> Result<usiz
 
 /// The greatest limits that there are. A table of names is made for these, and a command counts by its own.
 fn greatest_limits() -> Limits
-    ensures { result.tags ≡ Limits.MOST_TAGS }
+    ensures tags { result.tags ≡ Limits.MOST_TAGS }
+    ensures marks { result.marks ≡ Limits.MOST_MARKS }
 {
     match Limits::new(
         Limits::MOST_CHARS,
