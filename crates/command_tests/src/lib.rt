@@ -6,6 +6,8 @@ mod checks;
 #[cfg(test)]
 mod indices;
 #[cfg(test)]
+mod marks;
+#[cfg(test)]
 mod tags;
 #[cfg(test)]
 mod texts;

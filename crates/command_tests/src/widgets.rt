@@ -30,7 +30,7 @@ static COMMANDS: [(&[&str], Result<&str, Fault>); 26] = [
     // What the table of commands knows and isn't there yet.
     (&[".é", "mark"], Err(Fault::WrongArguments)),
     (&[".é", "mark", "foo"], Err(Fault::BadOption(2))),
-    (&[".é", "mark", "names"], Err(Fault::BadOption(1))),
+    (&[".é", "replace", "1.0", "1.0", "a"], Err(Fault::BadOption(1))),
     (&[".é", "delete", "1.0"], Err(Fault::BadOption(1))),
     (&[".é", "delete"], Err(Fault::WrongArguments)),
     (&["é", "index", "end"], Err(Fault::InvalidCommandName(0))),
@@ -59,14 +59,16 @@ static NO_WIDGETS: [(&[&str], Result<&str, Fault>); 4] = [
 ];
 
 // Faults with their texts.
-const FAULTS: [(Fault, &str); 14] = [
+const FAULTS: [(Fault, &str); 17] = [
     (Fault::BadIndex(2), "bad text index"),
     (
         Fault::NoTaggedCharacters(2, 3),
         "text doesn't contain any characters tagged with a tag",
     ),
+    (Fault::NoSuchMark(3), "there is no such mark"),
     (Fault::NoSuchTag(3), "tag isn't defined in text widget"),
     (Fault::BadComparison(3), "bad comparison operator"),
+    (Fault::BadGravity(4), "bad mark gravity"),
     (Fault::BadList(4), "bad list"),
     (Fault::BadOption(1), "bad option"),
     (Fault::WrongArguments, "wrong # args"),
@@ -75,6 +77,7 @@ const FAULTS: [(Fault, &str); 14] = [
     (Fault::DocumentExists, "a document exists"),
     (Fault::TooManyWidgets, "too many widgets"),
     (Fault::TooManyTags, "too many tags"),
+    (Fault::TooManyMarks, "too many marks"),
     (Fault::TextTooLong, "text is too long"),
     (Fault::Memory, "out of memory"),
 ];
