@@ -7,7 +7,7 @@ use Rattle.std.proofs.lemmas.Bool.{false≢true}
 use Rattle.std.proofs.lemmas.List.{length-map}
 use Rattle.std.proofs.lemmas.Option.{none-some, same_Some}
 use Rattle.std.proofs.lemmas.Slice.Eq.{bytes_eq-Decides}
-use Rattle.mark_table.specs.SharedMarks.{Mark, SharedMarks, gravity_of, is_named, names_of, number_of, numbers_of}
+use Rattle.mark_table.specs.SharedMarks.{Mark, SharedMarks, is_named, names_of, number_of, numbers_of}
 use Rattle.text_model.specs.declared.places.Gravity.{Gravity}
 use Rattle.text_model.specs.declared.places.Place.{Place}
 use Rattle.text_model.specs.Content.{Marks, map_marks}
@@ -101,12 +101,30 @@ are-moved f table places same marked = record {
   each = marked-moved f places table.marks same marked.each;
 }
 
+-- ---- marks of another store
+
+-- a store has the marks of these numbers where another one has them
+abbrev pub AreAlike : Marks → Marks → List Mark → Type 0
+AreAlike one other marks = (at : ℕ) (mark : Mark) → slice_get marks at ≡ Some mark → finite.get one mark.number ≡ finite.get other mark.number
+
+pub placed-alike : (one other : Marks) (marks : List Mark) → AreAlike one other marks → placed one marks ≡ placed other marks
+placed-alike one other [] alike = refl
+placed-alike one other (mark ∷ marks) alike =
+    ap₂ (λ found others. record { name = mark.name; place = unwrap_or found new_mark } ∷ others) (alike 0 mark refl) (placed-alike one other marks (λ at. alike (suc at)))
+
+pub marked-alike : (one other : Marks) (marks : List Mark) → AreAlike one other marks → AllByRecursion (IsMarked other) marks → AllByRecursion (IsMarked one) marks
+marked-alike one other [] alike each = tt
+marked-alike one other (mark ∷ marks) alike each = (
+  record { stands = ap (option_map (λ (place : Place). place.gravity)) (alike 0 mark refl) ∙ each.0.stands; shared = each.0.shared },
+  marked-alike one other marks (λ at. alike (suc at)) each.1,
+)
+
 -- ---- a mark by its name
 
 -- an unknown name, and one that stands in a table, at a place
 abbrev pub IsUnknownMark : Marks → List ℕ → List Mark → ℕ → Type 0
 IsUnknownMark places word marks at =
-    (number_of word marks ≡ None) × (position_from (λ (mark : SharedMark). is_same word mark.name) at (placed places marks) ≡ None) × (gravity_of word marks ≡ None)
+    (number_of word marks ≡ None) × (position_from (λ (mark : SharedMark). is_same word mark.name) at (placed places marks) ≡ None) × (find (λ (mark : SharedMark). is_same word mark.name) (placed places marks) ≡ None)
 
 pub record StandsMark (places : Marks) (word : List ℕ) (marks : List Mark) (at : ℕ) : Type 0 where
   pub mark : Mark
@@ -114,7 +132,8 @@ pub record StandsMark (places : Marks) (word : List ℕ) (marks : List Mark) (at
   pub named : word ≡ mark.name
   pub marked : IsMarked places mark
   pub number : number_of word marks ≡ Some mark.number
-  pub gravity : gravity_of word marks ≡ Some mark.gravity
+  pub sought : find (λ (mark : SharedMark). is_same word mark.name) (placed places marks) ≡ Some (record { name = mark.name; place = mark_of places mark.number })
+  pub listed : slice_get marks place ≡ Some mark
   pub numbered : slice_get (numbers_of marks) place ≡ Some mark.number
   pub found : position_from (λ (mark : SharedMark). is_same word mark.name) at (placed places marks) ≡ Some (at + place)
   pub stands : slice_get (placed places marks) place ≡ Some (record { name = mark.name; place = mark_of places mark.number })
@@ -129,24 +148,26 @@ found_mark places word (mark ∷ marks) at each =
         named = (bytes_eq-Decides word mark.name).0 same;
         marked = each.0;
         number = ap (λ b. option_map (λ (m : Mark). m.number) (cond b (Some mark) (find (is_named word) marks))) same;
-        gravity = ap (λ b. option_map (λ (m : Mark). m.gravity) (cond b (Some mark) (find (is_named word) marks))) same;
+        sought = ap (λ b. cond b (Some (record { name = mark.name; place = mark_of places mark.number })) (find (λ (m : SharedMark). is_same word m.name) (placed places marks))) same;
+        listed = refl;
         numbered = refl;
         found = ap (λ b. cond b (Some at) (position_from (λ (m : SharedMark). is_same word m.name) (at + 1) (placed places marks))) same ∙ ap Some (let h : at ≡ at + 0 = omega arith in h);
         stands = refl;
       })
       | false ↦ λ other.
           let number = ap (λ b. option_map (λ (m : Mark). m.number) (cond b (Some mark) (find (is_named word) marks))) other in
-          let gravity = ap (λ b. option_map (λ (m : Mark). m.gravity) (cond b (Some mark) (find (is_named word) marks))) other in
+          let sought = ap (λ b. cond b (Some (record { name = mark.name; place = mark_of places mark.number })) (find (λ (m : SharedMark). is_same word m.name) (placed places marks))) other in
           let found = ap (λ b. cond b (Some at) (position_from (λ (m : SharedMark). is_same word m.name) (at + 1) (placed places marks))) other in
           elim (found_mark places word marks (at + 1) each.1) [
-            | inl none ↦ inl (number ∙ none.0, found ∙ none.1, gravity ∙ none.2)
+            | inl none ↦ inl (number ∙ none.0, found ∙ none.1, sought ∙ none.2)
             | inr there ↦ inr (record {
               mark = there.mark;
               place = suc there.place;
               named = there.named;
               marked = there.marked;
               number = number ∙ there.number;
-              gravity = gravity ∙ there.gravity;
+              sought = sought ∙ there.sought;
+              listed = there.listed;
               numbered = there.numbered;
               found = found ∙ there.found ∙ ap Some (let h : at + 1 + there.place ≡ at + suc there.place = omega arith in h);
               stands = there.stands;

@@ -557,7 +557,7 @@ impl<S: TextStore> Document<S> {
         ensures within { result ≤ length self.now.cells }
     {
         if is_word(name, "insert") || is_word(name, "current") {
-            place.min(self.store.len() - 1)
+            self.insertion_offset(place)
         } else {
             place
         }
@@ -595,28 +595,30 @@ impl<S: TextStore> Document<S> {
         Ok(Text::new(String::from_str(self.alloc, name)?))
     }
 
+    /// The widget as it asks for marks: it shows the whole text.
+    fn mark_view(&self) -> MarkView
+        ensures { result ≡ record { widget = record { 0 = 0 }; start = 0; end = length self.now.cells } }
+    {
+        let widget = TagSlot(0);
+        MarkView {
+            widget,
+            start: 0,
+            end: self.store.len(),
+        }
+    }
+
     /// The mark behind another one in the order of marks, or the first at or behind a place.
     pub fn next_mark(&self, origin: Origin) -> Option<WidgetMark>
         ensures { result ≡ next_mark origin (usable_marks self.now (lone_widget self.now)) }
     {
-        let view = MarkView {
-            widget: TagSlot(0),
-            start: 0,
-            end: self.store.len(),
-        };
-        self.marks.next(&self.store, view, origin)
+        self.marks.next(&self.store, self.mark_view(), origin)
     }
 
     /// The mark before another one in the order of marks, or the last before a place.
     pub fn previous_mark(&self, origin: Origin) -> Option<WidgetMark>
         ensures { result ≡ previous_mark origin (usable_marks self.now (lone_widget self.now)) }
     {
-        let view = MarkView {
-            widget: TagSlot(0),
-            start: 0,
-            end: self.store.len(),
-        };
-        self.marks.previous(&self.store, view, origin)
+        self.marks.previous(&self.store, self.mark_view(), origin)
     }
 }
 

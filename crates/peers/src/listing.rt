@@ -146,6 +146,16 @@ pub fn push_names(list: &mut String, tags: &TagTable) -> Result<(), AllocError>
     Ok(())
 }
 
+/// Appends the names of shared marks by their creation.
+fn push_shared_names(list: &mut String, marks: &MarkTable) -> Result<(), AllocError>
+    ensures { OnOk result (Goes (string_bytes list.old) (string_bytes list.new) (mark_names_of marks.now.marks)) }
+{
+    for place in 0..marks.len() {
+        push_element(list, marks.name(place))?;
+    }
+    Ok(())
+}
+
 /// Appends the names of all marks: of a widget's own two, and of the shared ones by their creation.
 pub fn push_mark_names(list: &mut String, marks: &MarkTable) -> Result<(), AllocError>
     ensures { OnOk result (Goes (string_bytes list.old) (string_bytes list.new)
@@ -153,9 +163,7 @@ pub fn push_mark_names(list: &mut String, marks: &MarkTable) -> Result<(), Alloc
 {
     push_element(list, "insert")?;
     push_element(list, "current")?;
-    for place in 0..marks.len() {
-        push_element(list, marks.name(place))?;
-    }
+    push_shared_names(list, marks)?;
     Ok(())
 }
 

@@ -1,7 +1,7 @@
 ghost use Rattle.std.specs.Prelude.{◌≡◌, ◌≢◌, ◌≤◌, ◌<◌, ◌++◌, ◌∷◌, [], None, Some, length, map, chars, IfOk, IfErr, IfSome, OnOk, OnErr};
 ghost use Rattle.std.specs.Option.{option_map};
 ghost use Rattle.std.specs.FinMap as finite;
-ghost use Rattle.mark_table.specs.SharedMarks.{number_of, numbers_of, turned, IsFull, IsLeastFree};
+ghost use Rattle.mark_table.specs.SharedMarks.{number_of, turned, AreMarks, IsFull};
 ghost use Rattle.tcl_words.specs.Unread.{texts_of};
 ghost use Rattle.peers.specs.declared.answers.Fault.TheVariants.{Memory, TooManyMarks};
 ghost use Rattle.peers.specs.Marks.{gravity_of, gravity_word};
@@ -50,10 +50,13 @@ pub fn turn_mark<S: TextStore>(
     requires within { place.offset ≤ length (S.content store.old).cells }
     ensures table { OnOk result (marks.new ≡ record marks.old { marks = turned (chars name.now) place.gravity marks.old.marks }) }
     ensures ok { OnOk result (S.content store.new ≡ record (S.content store.old) { marks = finite.insert (S.content store.old).marks number.0 place }) }
+    ensures sound { OnOk result (AreMarks marks.new) }
     ensures err { OnErr result ((S.content store.new ≡ S.content store.old) × (marks.new ≡ marks.old)) }
 {
     put_mark(alloc, store, number, place)?;
     let _known = marks.set_gravity(name, place.gravity);
+    // Where the marks are counted, they are known to be those of a table.
+    let _count = marks.len();
     Ok(())
 }
 
@@ -112,6 +115,8 @@ pub fn numbers_named(
 pub fn unset_names(marks: &mut MarkTable, names: &[String])
     ensures { marks.new ≡ record marks.old { marks = marks_left (texts_of names.now) marks.old.marks } }
 {
+    // Where the marks are counted, they are known to be those of a table.
+    let _count = marks.len();
     for name in names {
         marks.unset(name.as_str());
     }

@@ -26,7 +26,7 @@ pub const AMPLE: Numbers = Numbers {
     reads: 1_073_741_824,
 };
 
-pub static ROWS: [Row; 66] = [
+pub static ROWS: [Row; 76] = [
     Row {
         name: "the empty script",
         script: b"",
@@ -541,6 +541,82 @@ pub static ROWS: [Row; 66] = [
         script: b"text .t; .t tag; .t tag foo; .t tag {}; .t tag add x; .t tag remove; .t tag delete; .t tag names 1.0 1.0; .t tag ranges; .t tag ranges x y; .t tag nextrange x; .t tag prevrange x 1.0 1.0 1.0; .t tag raise; .t tag lower x y z; .t tag configure x; .t insert 1.0; .t get; .t tag names",
         numbers: AMPLE,
         output: ".t\nerror: wrong # args\nerror: bad option \"foo\"\nerror: bad option \"\"\nerror: wrong # args\nerror: wrong # args\nerror: wrong # args\nerror: wrong # args\nerror: wrong # args\nerror: wrong # args\nerror: wrong # args\nerror: wrong # args\nerror: wrong # args\nerror: wrong # args\nerror: bad option \"configure\"\nerror: wrong # args\nerror: wrong # args\nsel\n",
+        status: 1,
+    },
+    Row {
+        name: "gravity",
+        script: b"text .t; .t insert 1.0 ab; .t mark set l 1.1; .t mark gravity l left; .t mark set r 1.1; .t insert 1.1 X; .t index l; .t index r; .t get 1.0 end-1c; .t mark gravity r",
+        numbers: AMPLE,
+        output: ".t\n\n\n\n\n\n1.1\n1.2\naXb\nright\n",
+        status: 0,
+    },
+    Row {
+        name: "the order of marks",
+        script: b"text .t; .t insert 1.0 ab; .t mark set m 1.0; .t mark set n 1.0; .t mark set z end; .t mark next 1.0; .t mark next m; .t mark next n; .t mark next insert; .t mark next current; .t mark next z; .t mark previous z; .t mark unset insert; .t mark names",
+        numbers: AMPLE,
+        output: ".t\n\n\n\n\nm\nn\ninsert\ncurrent\nz\n\ncurrent\n\ninsert current m n z\n",
+        status: 0,
+    },
+    Row {
+        name: "words, long counts and names of marks",
+        script: b"text .t; .t insert 1.0 \"foo_bar \xc3\xa92!\"; .t index \"1.0 + 99999999999999999999999999 chars\"; .t index \"1.2 wordend\"; .t index \"1.8 wordend\"; .t index \"1.10 wordstart\"; .t mark set a 1.0; .t mark set a+1c 1.5; .t index a+1c; .t index \"a +1c\"; .t insert 1.0 {x",
+        numbers: AMPLE,
+        output: ".t\n\n2.0\n1.7\n1.10\n1.10\n\n\n1.5\n1.1\nerror: missing close-brace\n",
+        status: 2,
+    },
+    Row {
+        name: "a mark set again keeps its gravity and its place among the names",
+        script: b"text .t; .t insert 1.0 abc; .t mark set m 1.1; .t mark set n 1.2; .t mark gravity m left; .t mark set m 1.2; .t mark gravity m; .t mark names; .t insert 1.2 X; .t index m; .t index n; .t mark unset m; .t mark set m 1.0; .t mark gravity m; .t mark names",
+        numbers: AMPLE,
+        output: ".t\n\n\n\n\n\nleft\ninsert current m n\n\n1.2\n1.3\n\n\nright\ninsert current n m\n",
+        status: 0,
+    },
+    Row {
+        name: "at the end, the widget's own marks and a shared one",
+        script: b"text .t; .t mark set insert end; .t index insert; .t insert 1.0 \"ab\nc\"; .t mark set insert end; .t index insert; .t mark set current 2.0+9c; .t index current; .t mark set m end; .t index m; .t insert m d; .t index m; .t index insert; .t get 1.0 end; .t mark gravity insert left; .t insert insert e; .t index insert",
+        numbers: AMPLE,
+        output: ".t\n\n1.0\n\n\n2.1\n\n2.1\n\n3.0\n\n3.0\n2.2\nab\ncd\n\n\n\n2.2\n",
+        status: 0,
+    },
+    Row {
+        name: "unset: the widget's own, unknown names and names given twice are skipped",
+        script: b"text .t; .t mark set m 1.0; .t mark set n 1.0; .t mark set o 1.0; .t mark unset; .t mark unset q insert n current n; .t mark names; .t index n; .t mark gravity n; .t mark unset o m; .t mark names; .t index insert",
+        numbers: AMPLE,
+        output: ".t\n\n\n\n\n\ninsert current m o\nerror: bad text index \"n\"\nerror: there is no mark named \"n\"\n\ninsert current\n1.0\n",
+        status: 1,
+    },
+    Row {
+        name: "names of every kind",
+        script: b"text .t; .t insert 1.0 abcdefgh; .t tag add x 1.6; .t mark set {} 1.1; .t mark set \"two words\" 1.2; .t mark set 1.0 1.3; .t mark set end 1.4; .t mark set x.first 1.5; .t mark set \"insert \" 1.7; .t mark names; .t index {}; .t index \" +1c\"; .t index \"two words -1c\"; .t index 1.0; .t index end; .t index x.first; .t index x.last; .t index \"insert \"; .t index insert; .t mark next 1.0; .t mark next end; .t mark previous {}; .t mark next {insert }",
+        numbers: AMPLE,
+        output: ".t\n\n\n\n\n\n\n\n\ninsert current {} {two words} 1.0 end x.first {insert }\n1.1\n1.2\n1.1\n1.0\n2.0\n1.5\n1.7\n1.7\n1.8\nend\nx.first\n\ninsert\n",
+        status: 0,
+    },
+    Row {
+        name: "from a place, and from a mark's name with a modifier",
+        script: b"text .t; .t insert 1.0 abcd; .t mark set m 1.1; .t mark set n 1.3; .t mark next 1.1; .t mark next 1.2; .t mark next m+0c; .t mark next m; .t mark previous 1.1; .t mark previous 1.2; .t mark previous n; .t mark previous n+1c; .t mark next end; .t mark set insert 1.1; .t mark next 1.1; .t mark next insert; .t mark previous m; .t mark previous end",
+        numbers: AMPLE,
+        output: ".t\n\n\n\nm\nn\nm\nn\n\nm\nm\nn\n\n\ninsert\nm\ninsert\ncurrent\n",
+        status: 0,
+    },
+    Row {
+        name: "faults of marks, the mark before its gravity",
+        script: b"text .t; .t mark gravity q; .t mark gravity q left; .t mark gravity q up; .t mark gravity insert up; .t mark gravity insert {}; .t mark set m q; .t mark next q; .t mark previous q+1c; .t mark names; .t mark set m; .t mark next; .t mark names x; .t mark; .t mark foo",
+        numbers: AMPLE,
+        output: ".t\nerror: there is no mark named \"q\"\nerror: there is no mark named \"q\"\nerror: there is no mark named \"q\"\nerror: bad mark gravity \"up\"\nerror: bad mark gravity \"\"\nerror: bad text index \"q\"\nerror: bad text index \"q\"\nerror: bad text index \"q+1c\"\ninsert current\nerror: wrong # args\nerror: wrong # args\nerror: wrong # args\nerror: wrong # args\nerror: bad option \"foo\"\n",
+        status: 1,
+    },
+    Row {
+        name: "too many marks",
+        script: b"text .t; .t mark set m 1.0; .t mark set n q; .t mark set n 1.0; .t mark set m end; .t mark set insert 1.0; .t mark names; .t mark unset m; .t mark set n 1.0; .t mark set m 1.0; .t mark names",
+        numbers: Numbers {
+            chars: 16_777_216,
+            tags: 192,
+            marks: 1,
+            widgets: 64,
+            reads: 1_073_741_824,
+        },
+        output: ".t\n\nerror: bad text index \"q\"\nerror: too many marks\n\n\ninsert current m\n\n\nerror: too many marks\ninsert current n\n",
         status: 1,
     },
 ];
