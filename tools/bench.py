@@ -73,6 +73,35 @@ def long_words(size):
     return ["text .t"] + [".t insert end " + "a" * size] * 20
 
 
+MARKS = 4_000
+
+
+def with_marks(commands):
+    """These commands behind those that make a text of `size` characters with 4,000 marks spread over it."""
+    return lambda size: (
+        ["text .t", ".t insert end " + "a" * size]
+        + [f".t mark set m{number} 1.{number * size // MARKS}" for number in range(MARKS)]
+        + commands(size)
+    )
+
+
+def mark_walks(size):
+    """From marks and from places all over the text, forwards and backwards."""
+    return [
+        f".t mark {way} {word}" for place in spread_places(size // 4) for way in ("next", "previous") for word in (f"m{place % MARKS}", f"1.{place}")
+    ]
+
+
+def mark_places(size):
+    """The places of marks all over the text."""
+    return [f".t index m{place % MARKS}" for place in spread_places(size)]
+
+
+def inserts_before_marks(size):
+    """A text of one character, put in before all marks again and again."""
+    return [".t insert 1.0 x"] * (size // 10)
+
+
 PROSE = "the quick brown fox jumps over the lazy dog, and "
 
 
@@ -92,6 +121,10 @@ KINDS = [
     Kind("index by position", index_queries),
     Kind("index by line number", line_queries),
     Kind("get one character", character_queries),
+    Kind("4,000 marks", with_marks(lambda size: [])),
+    Kind("4,000 marks: next, previous", with_marks(mark_walks)),
+    Kind("4,000 marks: index", with_marks(mark_places)),
+    Kind("4,000 marks: insert before", with_marks(inserts_before_marks)),
     Kind("a refused command", refused_commands),
     Kind("20 words of that length", long_words),
     Kind("20 bare words, 20 x", spelled_words("", "", PROSE.replace(" ", "_"))),
@@ -161,14 +194,14 @@ HEADER = [
     "Time of the program on generated scripts: the least of several whole runs, its start included.",
     "`growth` is the time over that of the size before: 2 where both the size and the time double.",
     "",
-    f"{'script':<26}{'size':>8}{'commands':>10}{'seconds':>10}{'us/command':>12}{'growth':>8}",
+    f"{'script':<28}{'size':>8}{'commands':>10}{'seconds':>10}{'us/command':>12}{'growth':>8}",
 ]
 
 
 def table_row(name, size, timing, before):
     """One row of the table."""
     return (
-        f"{name:<26}{size:>8}{timing.commands:>10}{timing.seconds:>10.4f}{per_command(timing):>12}"
+        f"{name:<28}{size:>8}{timing.commands:>10}{timing.seconds:>10.4f}{per_command(timing):>12}"
         f"{growth(before, timing):>8}"
     )
 

@@ -1,5 +1,5 @@
 #!/usr/bin/env python3
-"""Fills the program's text to its limit of characters, and goes one past it.
+"""Fills the program's text to its limit of characters, and the table of marks to its own, and goes one past each.
 
     python3 tools/brim.py --program PATH
 
@@ -30,6 +30,9 @@ def brim_scripts():
     yield past, b".t\n\nerror: text is too long\na\n", 1
     over = command("text .t") + command(".t insert end", "a" * (room + 1)) + command(".t get 1.0 end")
     yield over, b".t\nerror: text is too long\n\n\n", 1
+    most = PROGRAM_LIMITS.marks
+    marks = command("text .t") + b"".join(command(f".t mark set m{number} 1.0") for number in range(most + 1))
+    yield marks + command(f".t mark next m{most - 2}"), b".t\n" + b"\n" * most + b"error: too many marks\nm%d\n" % (most - 1), 1
 
 
 def main():

@@ -9,7 +9,7 @@ PROGRAM_READS_ALL = True
 
 # One word for each base.
 PLACES = ["1.1", "1.end", "end"]
-NAMED = ["insert", "current", "sel.first", "sel.last", "x.first", "x.last"]
+NAMED = ["insert", "current", "m", "sel.first", "sel.last", "x.first", "x.last"]
 
 # One spelling for each modifier, to stand behind a base.
 MODIFIERS = ["+1c", "-1chars", "+1i", "+1l", "-1lines", "\\ +\\ 1\\ any\\ l", "\\ linestart", "\\ linee", "\\ words", "\\ wordend"]
@@ -20,6 +20,13 @@ KEYWORDS = {"linestart": "lines", "lineend": "linee", "wordstart": "words", "wor
 
 # The names that every widget has.
 MARKS = ["insert", "current"]
+
+# Names for shared marks: often the same few, and such as look like indices, like names of tags or like words of commands.
+SHARED_MARKS = ["m", "n", "o"]
+ODD_MARKS = [
+    "", " ", "b c", "d{", "}", "#", "\\", "\n", "$", '"', "é", "😀", "1.0", "end", "x.first", "sel.last", "insert ", "insert+1c", "m+1c", "m ",
+    "current.first", "-1c", "left", ".t", "x", "M", "1.0+1c", "end-1c",
+]
 
 # Names for tags: often the same few, and such as look like indices, like lists or like words of commands.
 TAGS = ["x", "y", "z", "sel"]

@@ -522,6 +522,14 @@ def bad_comparison(word):
     return Fault(f'bad comparison operator "{word}"')
 
 
+def no_such_mark(name):
+    return Fault(f'there is no mark named "{name}"')
+
+
+def bad_gravity(word):
+    return Fault(f'bad mark gravity "{word}"')
+
+
 def no_such_tag(tag):
     return Fault(f'tag "{tag}" isn\'t defined in text widget')
 
@@ -556,6 +564,10 @@ def too_many_widgets():
 
 def too_many_tags():
     return Fault("too many tags")
+
+
+def too_many_marks():
+    return Fault("too many marks")
 
 
 def text_too_long():
@@ -883,10 +895,14 @@ def position_text(place, shown):
     return f"{len(before) + 1}.{place - line_begin}"
 
 
+def mark_names(document):
+    """The names of all marks: the widget's own two, then the shared ones by their creation."""
+    return OWN_MARKS + tuple(name for name, _ in document.marks)
+
+
 def argument_place(word, document, widget):
     """The place that an argument word stands for, or the fault that it isn't an index or has no place."""
-    marks = OWN_MARKS + tuple(name for name, _ in document.marks)
-    index = reads_index(word, marks, document.tags)
+    index = reads_index(word, mark_names(document), document.tags)
     place = None if index is None else index_value(index, view(document, widget), document, widget)
     if place is None:
         raise bad_index(word)
@@ -1016,6 +1032,50 @@ def without_tags(document, tags):
     """The document without some tags, of which none is `sel`: no cell has them, and their names are gone."""
     cells = tuple(cell._replace(keys=cell.keys - tags) for cell in document.cells)
     return replace(document, cells=cells, tags=tuple(name for name in document.tags if name not in tags))
+
+
+# ---------------------------------------------------------------------------------------------------
+# Marks: where they stand, and the order of those that a widget can use
+
+GRAVITIES = ("left", "right")
+
+
+def named_mark(document, widget, name):
+    """The mark of a name, the widget's own or a shared one, or None."""
+    return getattr(widget, name) if name in OWN_MARKS else dict(document.marks).get(name)
+
+
+def with_mark(document, widget, name, mark):
+    """The document with the mark of a name exchanged; a shared mark that is new comes last."""
+    if name in OWN_MARKS:
+        changed = replace(widget, **{name: mark})
+        return replace(document, widgets=tuple(changed if each is widget else each for each in document.widgets))
+    return replace(document, marks=tuple((dict(document.marks) | {name: mark}).items()))
+
+
+def usable_marks(document, widget):
+    """The names of the marks that the widget can use, each with its place, in the order of marks.
+
+    They go by their places, and at one place `insert` and `current` come before the shared ones by their creation.
+    """
+    shown = view(document, widget)
+    places = [(name, mark_place(name, shown, document, widget)) for name in mark_names(document)]
+    return sorted([(name, place) for name, place in places if place is not None], key=lambda each: each[1])
+
+
+def mark_walk(word, document, widget):
+    """The usable marks before a word and those behind it.
+
+    The word is whole the name of a mark, which then stands between the two; or an index, at whose place the second begin.
+    """
+    marks = usable_marks(document, widget)
+    if word in mark_names(document):
+        at = next((number for number, (name, _) in enumerate(marks) if name == word), None)
+        if at is None:
+            raise bad_index(word)
+        return marks[:at], marks[at + 1 :]
+    place = argument_place(word, document, widget)
+    return [each for each in marks if each[1] < place], [each for each in marks if each[1] >= place]
 
 
 # ---------------------------------------------------------------------------------------------------
@@ -1209,6 +1269,56 @@ def tag_lower_command(world, document, widget, arguments):
     return moved_tag(world, document, arguments, 0, 0)
 
 
+def mark_set_command(world, document, widget, arguments):
+    """`W mark set M I`: puts the mark at I, and makes it where it is new; the widget's own stay before the view's end."""
+    name, word = arguments
+    shown = view(document, widget)
+    place = argument_place(word, document, widget)
+    if name in OWN_MARKS:
+        place = max(min(place, len(shown.cells) - 1), 0)
+    old = named_mark(document, widget, name)
+    if old is None and len(document.marks) >= world.limits.marks:
+        raise too_many_marks()
+    mark = (old or Mark(0))._replace(offset=shown.start + place)
+    return with_document(world, document, with_mark(document, widget, name, mark)), ""
+
+
+def mark_unset_command(world, document, widget, arguments):
+    """`W mark unset ?M ..?`: takes the marks out; the widget's own and unknown names are skipped."""
+    marks = tuple((name, mark) for name, mark in document.marks if name not in arguments)
+    return with_document(world, document, replace(document, marks=marks)), ""
+
+
+def mark_gravity_command(world, document, widget, arguments):
+    """`W mark gravity M ?left or right?`: the mark's gravity, or gives it another.  The mark is decided first."""
+    mark = named_mark(document, widget, arguments[0])
+    if mark is None:
+        raise no_such_mark(arguments[0])
+    if len(arguments) == 1:
+        return world, mark.gravity
+    if arguments[1] not in GRAVITIES:
+        raise bad_gravity(arguments[1])
+    changed = with_mark(document, widget, arguments[0], mark._replace(gravity=arguments[1]))
+    return with_document(world, document, changed), ""
+
+
+def mark_names_command(world, document, widget, arguments):
+    """`W mark names`: all marks."""
+    return world, list_text(mark_names(document))
+
+
+def mark_next_command(world, document, widget, arguments):
+    """`W mark next I`: the name of the next mark, or nothing."""
+    _, behind = mark_walk(arguments[0], document, widget)
+    return world, behind[0][0] if behind else ""
+
+
+def mark_previous_command(world, document, widget, arguments):
+    """`W mark previous I`: the name of the mark before, or nothing."""
+    before, _ = mark_walk(arguments[0], document, widget)
+    return world, before[-1][0] if before else ""
+
+
 def index_command(world, document, widget, arguments):
     """`W index I`: the place as `line.char`."""
     return world, position_text(argument_place(arguments[0], document, widget), view(document, widget))
@@ -1258,12 +1368,12 @@ SUBCOMMANDS = {
     ("tag", "lower"): Subcommand(tag_lower_command, 1, 2),
     ("delete",): Subcommand(None, 1, None),
     ("replace",): Subcommand(None, 3, None),
-    ("mark", "gravity"): Subcommand(None, 1, 2),
-    ("mark", "names"): Subcommand(None, 0, 0),
-    ("mark", "next"): Subcommand(None, 1, 1),
-    ("mark", "previous"): Subcommand(None, 1, 1),
-    ("mark", "set"): Subcommand(None, 2, 2),
-    ("mark", "unset"): Subcommand(None, 0, None),
+    ("mark", "gravity"): Subcommand(mark_gravity_command, 1, 2),
+    ("mark", "names"): Subcommand(mark_names_command, 0, 0),
+    ("mark", "next"): Subcommand(mark_next_command, 1, 1),
+    ("mark", "previous"): Subcommand(mark_previous_command, 1, 1),
+    ("mark", "set"): Subcommand(mark_set_command, 2, 2),
+    ("mark", "unset"): Subcommand(mark_unset_command, 0, None),
 }
 
 # The subcommands whose words are known and which do nothing yet.

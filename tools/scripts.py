@@ -146,7 +146,22 @@ PLACES = [(line_character, 6), (line_end, 2), (end, 2)]
 
 
 def mark_name(chance):
+    """The name of a mark: of a widget's own, or mostly one of a few shared ones."""
+    kind = chance.random()
+    if kind < 0.4:
+        return chance.choice(indices.MARKS)
+    if kind < 0.85:
+        return chance.choice(indices.SHARED_MARKS)
+    return chance.choice(indices.ODD_MARKS) if kind < 0.97 else text(chance)
+
+
+def own_mark_name(chance):
     return chance.choice(indices.MARKS)
+
+
+def shared_index(chance):
+    """The place of a mark, which may be unknown, with modifiers now and then."""
+    return mark_name(chance) + (modifiers(chance) if chance.random() < 0.3 else "")
 
 
 def tag_name(chance):
@@ -199,7 +214,7 @@ def near_index(chance):
 
 def whole_index(chance):
     """An index of any form that has a place."""
-    return pick(chance, PLACES + [(mark_name, 2)]) + modifiers(chance)
+    return pick(chance, PLACES + [(own_mark_name, 2)]) + modifiers(chance)
 
 
 def place_index(chance):
@@ -214,7 +229,7 @@ def index(chance):
 def argument_index(chance):
     """A word where an index is wanted: mostly one."""
     words = [(index, 8), (near_index, 0.7), (text, 0.2)]
-    return pick(chance, words + [(marked_index, 1.5)] if indices.PROGRAM_READS_ALL else words)
+    return pick(chance, words + [(marked_index, 1.5), (shared_index, 1)] if indices.PROGRAM_READS_ALL else words)
 
 
 # ---------------------------------------------------------------------------------------------------
@@ -229,6 +244,7 @@ NO_SUBCOMMANDS = [
     "foo", "ins", "Insert", "inserts", "ge", "gets", "ind", "indexes", "edit", "peer", "configure", "cget", "search", "count",
     "dump", "ta", "tags", "-undo", "$", "]", "#", ".t", "text", "é", "", " ", "get ", "{", "\\", "names", "gravity",
 ]
+NO_GRAVITIES = ["", "Left", "lef", "right ", "up", "l", "é", "1.0", "leftright"]
 NO_COMPARISONS = ["", "=", "<>", "< ", "===", "!", "lt", "é", "1.0", "=<"]
 
 
@@ -369,6 +385,36 @@ def tag_alone(chance):
     return [widget(chance), "tag"] + chance.choice(members)
 
 
+def mark_set_command(chance):
+    return [widget(chance), "mark", "set", mark_name(chance), range_index(chance)]
+
+
+def mark_unset_command(chance):
+    return [widget(chance), "mark", "unset"] + [mark_name(chance) for _ in range(chance.choice([0, 1, 1, 2, 4]))]
+
+
+def mark_gravity_command(chance):
+    """`mark gravity`, with a gravity mostly, and now and then with a word that is none."""
+    gravity = chance.choice([[], [], ["left"], ["left"], ["right"], [chance.choice(NO_GRAVITIES)]])
+    return [widget(chance), "mark", "gravity", mark_name(chance)] + gravity
+
+
+def mark_names_command(chance):
+    return [widget(chance), "mark", "names"]
+
+
+def mark_walk_command(chance):
+    """`mark next` or `mark previous`, from a mark or from a place."""
+    word = mark_name(chance) if chance.random() < 0.5 else range_index(chance)
+    return [widget(chance), "mark", chance.choice(["next", "previous"]), word]
+
+
+def mark_alone(chance):
+    """`mark` without a member of it, with any words after it."""
+    members = [[], ["foo"], [""], ["nam"], ["Set"], ["m"], ["set", "m"], ["unse", "m"], ["nexts", "1.0"], ["prev", "1.0"]]
+    return [widget(chance), "mark"] + chance.choice(members)
+
+
 def index_command(chance):
     return [widget(chance), "index", argument_index(chance)]
 
@@ -389,6 +435,11 @@ def wrong_count_command(chance):
         (["get"], [0]),
         (["index"], [0, 2, 3]),
         (["compare"], [0, 1, 2, 4]),
+        (["mark", "set"], [0, 1, 3]),
+        (["mark", "gravity"], [0, 3]),
+        (["mark", "names"], [1, 2]),
+        (["mark", "next"], [0, 2]),
+        (["mark", "previous"], [0, 2]),
         (["tag", "add"], [0, 1]),
         (["tag", "remove"], [0, 1]),
         (["tag", "delete"], [0]),
@@ -446,6 +497,12 @@ COMMANDS = [
     (tag_walk_command, 5),
     (tag_order_command, 2),
     (tag_alone, 0.4),
+    (mark_set_command, 6),
+    (mark_unset_command, 1),
+    (mark_gravity_command, 2),
+    (mark_names_command, 1.5),
+    (mark_walk_command, 4),
+    (mark_alone, 0.4),
     (text_command, 1),
     (text_with_bad_name, 0.4),
     (text_with_options, 0.5),
@@ -466,7 +523,12 @@ FORM_INDICES = indices.bare_indices()
 # Texts of characters of one byte and of several, short and longer than one read of the program.
 FORM_TEXTS = ["x", "é€😀", "abcdefghij" * 500]
 
-FORM_WORLD = ["text .t", ".t insert 1.0 abcd", ".t tag add x 1.0 1.1 1.2 1.3", ".t tag add sel 1.1"]
+FORM_WORLD = [
+    "text .t", ".t insert 1.0 abcd", ".t tag add x 1.0 1.1 1.2 1.3", ".t tag add sel 1.1", ".t mark set m 1.2", ".t mark set n end",
+]
+
+# Names of marks that there are and one more.
+FORM_MARKS = ["m", "n", "insert", "current", "q", "{}"]
 
 # Names of tags that there are and one more, and lists of them, as a script spells them bare or in braces.
 FORM_TAGS = ["x", "sel", "q"]
@@ -508,6 +570,11 @@ FORMS = [
     Form(FORM_WORLD, [".t", "tag"], [["nextrange", "prevrange"], ["x"], FORM_INDICES, [None, *indices.PLACES]]),
     Form(FORM_WORLD, [".t", "tag"], [["nextrange", "prevrange"], ["x"], indices.PLACES, FORM_INDICES]),
     Form(FORM_WORLD, [".t", "tag"], [["raise", "lower"], FORM_TAGS, [None, *FORM_TAGS]]),
+    Form(FORM_WORLD, [".t", "mark", "set"], [FORM_MARKS, FORM_INDICES]),
+    Form(FORM_WORLD, [".t", "mark", "unset"], [[None, *FORM_MARKS], [None, *FORM_MARKS], [None, "m"]]),
+    Form(FORM_WORLD, [".t", "mark", "gravity"], [FORM_MARKS, [None, "left", "right", "up"]]),
+    Form(FORM_WORLD, [".t", "mark", "names"], []),
+    Form(FORM_WORLD, [".t", "mark"], [["next", "previous"], FORM_INDICES + FORM_MARKS]),
 ]
 
 # ---------------------------------------------------------------------------------------------------
@@ -740,6 +807,11 @@ def valid_commands(chance):
             lambda: [".t", "tag", "names", near_begin(chance)],
             lambda: [".t", "tag", "ranges", tag_name(chance)],
             lambda: [".t", "tag", "raise", "sel"],
+            lambda: [".t", "mark", "set", mark_name(chance), index(chance)],
+            lambda: [".t", "mark", "unset", mark_name(chance), mark_name(chance)],
+            lambda: [".t", "mark", "gravity", own_mark_name(chance), chance.choice(["left", "right"])],
+            lambda: [".t", "mark", "names"],
+            lambda: [".t", "mark", chance.choice(["next", "previous"]), index(chance)],
         ])())
     return "".join(blanks(chance).join(spelled(chance, word) for word in each) + command_end(chance) for each in words)
 

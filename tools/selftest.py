@@ -28,6 +28,8 @@ REACHED_FAULTS = [
     b"error: too many tags",
     b'error: window name "',
     b"\" isn't defined in text widget",
+    b'error: there is no mark named "',
+    b'error: bad mark gravity "',
     b"error: a document exists",
     b"error: missing close-brace",
     b'error: missing "',

@@ -95,11 +95,16 @@ def bad_index(word):
     return f'error: bad text index "{word}"'
 
 
+def no_mark(name):
+    return f'error: there is no mark named "{name}"'
+
+
 def bad_list(word):
     return f'error: bad list "{word}"'
 
 
 TOO_MANY_TAGS = "error: too many tags"
+TOO_MANY_MARKS = "error: too many marks"
 TEXT_TOO_LONG = "error: text is too long"
 
 # As many names as there may be tags.
@@ -321,6 +326,92 @@ def tags():
     ]
 
 
+def marks():
+    """Marks: where they stand, how they move, their names and their order."""
+    return [
+        Row(
+            "gravity",
+            b"text .t; .t insert 1.0 ab; .t mark set l 1.1; .t mark gravity l left; .t mark set r 1.1; .t insert 1.1 X; .t index l; "
+            b".t index r; .t get 1.0 end-1c; .t mark gravity r",
+            lines(".t", "", "", "", "", "", "1.1", "1.2", "aXb", "right"),
+            0,
+        ),
+        Row(
+            "the order of marks",
+            b"text .t; .t insert 1.0 ab; .t mark set m 1.0; .t mark set n 1.0; .t mark set z end; .t mark next 1.0; .t mark next m; "
+            b".t mark next n; .t mark next insert; .t mark next current; .t mark next z; .t mark previous z; .t mark unset insert; "
+            b".t mark names",
+            lines(".t", "", "", "", "", "m", "n", "insert", "current", "z", "", "current", "", "insert current m n z"),
+            0,
+        ),
+        Row(
+            "words, long counts and names of marks",
+            'text .t; .t insert 1.0 "foo_bar é2!"; .t index "1.0 + 99999999999999999999999999 chars"; .t index "1.2 wordend"; '
+            '.t index "1.8 wordend"; .t index "1.10 wordstart"; .t mark set a 1.0; .t mark set a+1c 1.5; .t index a+1c; .t index "a +1c"; '
+            ".t insert 1.0 {x".encode("utf-8"),
+            lines(".t", "", "2.0", "1.7", "1.10", "1.10", "", "", "1.5", "1.1", "error: missing close-brace"),
+            2,
+        ),
+        Row(
+            "a mark set again keeps its gravity and its place among the names",
+            b"text .t; .t insert 1.0 abc; .t mark set m 1.1; .t mark set n 1.2; .t mark gravity m left; .t mark set m 1.2; .t mark gravity m; "
+            b".t mark names; .t insert 1.2 X; .t index m; .t index n; .t mark unset m; .t mark set m 1.0; .t mark gravity m; .t mark names",
+            lines(".t", "", "", "", "", "", "left", "insert current m n", "", "1.2", "1.3", "", "", "right", "insert current n m"),
+            0,
+        ),
+        Row(
+            "at the end, the widget's own marks and a shared one",
+            b'text .t; .t mark set insert end; .t index insert; .t insert 1.0 "ab\nc"; .t mark set insert end; .t index insert; '
+            b".t mark set current 2.0+9c; .t index current; .t mark set m end; .t index m; .t insert m d; .t index m; .t index insert; "
+            b".t get 1.0 end; .t mark gravity insert left; .t insert insert e; .t index insert",
+            lines(".t", "", "1.0", "", "", "2.1", "", "2.1", "", "3.0", "", "3.0", "2.2", "ab\ncd\n", "", "", "2.2"),
+            0,
+        ),
+        Row(
+            "unset: the widget's own, unknown names and names given twice are skipped",
+            b"text .t; .t mark set m 1.0; .t mark set n 1.0; .t mark set o 1.0; .t mark unset; .t mark unset q insert n current n; "
+            b".t mark names; .t index n; .t mark gravity n; .t mark unset o m; .t mark names; .t index insert",
+            lines(".t", "", "", "", "", "", "insert current m o", bad_index("n"), no_mark("n"), "", "insert current", "1.0"),
+            1,
+        ),
+        Row(
+            "names of every kind",
+            b'text .t; .t insert 1.0 abcdefgh; .t tag add x 1.6; .t mark set {} 1.1; .t mark set "two words" 1.2; .t mark set 1.0 1.3; '
+            b'.t mark set end 1.4; .t mark set x.first 1.5; .t mark set "insert " 1.7; .t mark names; .t index {}; .t index " +1c"; '
+            b'.t index "two words -1c"; .t index 1.0; .t index end; .t index x.first; .t index x.last; .t index "insert "; .t index insert; '
+            b".t mark next 1.0; .t mark next end; .t mark previous {}; .t mark next {insert }",
+            lines(".t", *8 * ("",), "insert current {} {two words} 1.0 end x.first {insert }", "1.1", "1.2", "1.1", "1.0", "2.0", "1.5", "1.7",
+                  "1.7", "1.8", "end", "x.first", "", "insert"),
+            0,
+        ),
+        Row(
+            "from a place, and from a mark's name with a modifier",
+            b"text .t; .t insert 1.0 abcd; .t mark set m 1.1; .t mark set n 1.3; .t mark next 1.1; .t mark next 1.2; .t mark next m+0c; "
+            b".t mark next m; .t mark previous 1.1; .t mark previous 1.2; .t mark previous n; .t mark previous n+1c; .t mark next end; "
+            b".t mark set insert 1.1; .t mark next 1.1; .t mark next insert; .t mark previous m; .t mark previous end",
+            lines(".t", "", "", "", "m", "n", "m", "n", "", "m", "m", "n", "", "", "insert", "m", "insert", "current"),
+            0,
+        ),
+        Row(
+            "faults of marks, the mark before its gravity",
+            b"text .t; .t mark gravity q; .t mark gravity q left; .t mark gravity q up; .t mark gravity insert up; .t mark gravity insert {}; "
+            b".t mark set m q; .t mark next q; .t mark previous q+1c; .t mark names; .t mark set m; .t mark next; .t mark names x; .t mark; "
+            b".t mark foo",
+            lines(".t", no_mark("q"), no_mark("q"), no_mark("q"), 'error: bad mark gravity "up"', 'error: bad mark gravity ""', bad_index("q"),
+                  bad_index("q"), bad_index("q+1c"), "insert current", *4 * ("error: wrong # args",), 'error: bad option "foo"'),
+            1,
+        ),
+        Row(
+            "too many marks",
+            b"text .t; .t mark set m 1.0; .t mark set n q; .t mark set n 1.0; .t mark set m end; .t mark set insert 1.0; .t mark names; "
+            b".t mark unset m; .t mark set n 1.0; .t mark set m 1.0; .t mark names",
+            lines(".t", "", bad_index("q"), TOO_MANY_MARKS, "", "", "insert current m", "", "", TOO_MANY_MARKS, "insert current n"),
+            1,
+            Limits(marks=1),
+        ),
+    ]
+
+
 def whole_runs():
     """Runs of several commands."""
     return [
@@ -437,9 +528,9 @@ def command_faults():
         ),
         Row(
             "bad option",
-            b"text .t; .t foo; .t ins 1.0 a; .t delete 1.0; .t configure; .t Insert zz; .t mark names",
+            b"text .t; .t foo; .t ins 1.0 a; .t delete 1.0; .t configure; .t Insert zz; .t replace 1.0 1.1 a",
             lines(".t", *(f'error: bad option "{word}"' for word in
-                          ("foo", "ins", "delete", "configure", "Insert", "mark"))),
+                          ("foo", "ins", "delete", "configure", "Insert", "replace"))),
             1,
         ),
         Row(
@@ -634,7 +725,7 @@ def script_faults():
     ]
 
 
-ROWS = whole_runs() + places() + tag_lists() + tags() + quoting() + command_faults() + script_faults()
+ROWS = whole_runs() + places() + tag_lists() + tags() + marks() + quoting() + command_faults() + script_faults()
 
 
 def long_scripts():
@@ -667,6 +758,17 @@ def long_scripts():
             "long lists of ranges and tags",
             b"text .t;.t insert 1.0 " + b"ab" * 60 + b";.t tag add x " + many_ranges + b";.t tag ranges x;.t get " + many_ranges
             + b";.t tag remove x " + many_ranges + b";.t tag ranges x;.t insert 1.0 c {" + many_tags + b"};.t tag names;.t tag names 1.0",
+        ),
+        (
+            "marks that are made, put and taken out",
+            b"text .t;.t insert 1.0 abcd;.t mark set m 1.1;.t mark set {a long name of a mark} 1.2;.t mark gravity m left;.t mark gravity m;"
+            b".t mark set insert 1.2;.t mark names;.t mark set m 1.3;.t mark next m;.t mark previous m;.t index m;.t mark unset m q;.t mark names;"
+            b".t mark set n end;.t mark names;.t insert 1.2 x;.t index insert",
+        ),
+        (
+            "many marks",
+            b"text .t;.t insert 1.0 " + b"ab" * 60 + b";" + b"".join(b".t mark set {mark %d} 1.%d;" % (number, number) for number in range(40))
+            + b".t mark names;.t mark next 1.5;.t mark unset " + b" ".join(b"{mark %d}" % number for number in range(0, 40, 2)) + b";.t mark names",
         ),
         ("a script fault after long words", b"text .t;.t insert 1.0 " + long_word + b";.t get " + long_word + b"["),
     ]

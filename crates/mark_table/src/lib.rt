@@ -8,4 +8,4 @@ mod walk;
 
 pub use faults::NoSuchMark;
 pub use marks::MarkTable;
-pub use order::{MarkView, Origin, WidgetMark};
+pub use order::{MarkView, Origin, Shown, WidgetMark};

@@ -36,9 +36,10 @@ pub struct MarkView {
     pub end: usize,
 }
 
-/// A mark as it is shown: its place, and its rank among the marks at one place.
+/// A mark as it is shown: its place, in characters from the start of the text or of a view, and its rank among the marks at one
+/// place, which is 0 for `insert`, 1 for `current` and 2 or more for the shared ones by their creation.
 #[derive(Clone, Copy)]
-pub(crate) struct Shown {
+pub struct Shown {
     pub place: usize,
     pub rank: usize,
 }

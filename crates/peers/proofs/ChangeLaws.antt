@@ -12,7 +12,7 @@ use Rattle.peers.specs.declared.answers.Answer.{Answer}
 use Rattle.peers.specs.declared.answers.Answer.TheVariants.{Empty}
 use Rattle.peers.specs.declared.answers.Fault.{Fault}
 use Rattle.peers.specs.declared.answers.Fault.TheVariants.{Memory}
-use Rattle.peers.specs.Kept.{AreNew, IsKept}
+use Rattle.peers.specs.Kept.{AreMarked, AreNew, IsKept}
 use Rattle.peers.specs.Promise.{Change, Does, answered, refused}
 use Rattle.peers.specs.Slots.{IsFront}
 use Rattle.peers.specs.WellFormed.{IsWellFormedDocument}
@@ -21,12 +21,12 @@ use Rattle.peers.specs.World.{Document, lone_document}
 -- a document stands in its fields
 pub record Stands (name : List ℕ) (table : Tags) (marks : SharedMarks) (history : Kept) (content : Content) (document : Document) : Type 0 where
   pub kept : IsKept name table content
-  pub fresh : AreNew marks history
-  pub is : lone_document name table.tags history.modified content ≡ document
+  pub marked : AreMarked marks content.marks
+  pub fresh : AreNew history
+  pub is : lone_document name table.tags marks.marks history.modified content ≡ document
 
-pub fresh-same : (marks : SharedMarks) (old new : Kept) → AreNew marks old → log_of new ≡ log_of old → AreNew marks new
-fresh-same marks old new fresh same = record {
-  none_shared = fresh.none_shared;
+pub fresh-same : (old new : Kept) → AreNew old → log_of new ≡ log_of old → AreNew new
+fresh-same old new fresh same = record {
   no_history = ap (λ (l : Log). l.history) same ∙ fresh.no_history;
   no_limit = ap (λ (l : Log). l.most) same ∙ fresh.no_limit;
 }
@@ -38,9 +38,10 @@ pub stands-same : (name : List ℕ) (old new : Tags) (marks : SharedMarks) (befo
     → new ≡ old → log_of after ≡ log_of before → changed ≡ content → Stands name new marks after changed document
 stands-same name old new marks before after content changed document stands tags log same = record {
   kept = subst (λ c. IsKept name new c) (sym same) (subst (λ t. IsKept name t content) (sym tags) stands.kept);
-  fresh = fresh-same marks before after stands.fresh log;
-  is = ap (λ (t : Tags). lone_document name t.tags after.modified changed) tags ∙ ap (λ (l : Log). lone_document name old.tags l.modified changed) log
-      ∙ ap (lone_document name old.tags before.modified) same ∙ stands.is;
+  marked = subst (λ (c : Content). AreMarked marks c.marks) (sym same) stands.marked;
+  fresh = fresh-same before after stands.fresh log;
+  is = ap (λ (t : Tags). lone_document name t.tags marks.marks after.modified changed) tags ∙ ap (λ (l : Log). lone_document name old.tags marks.marks l.modified changed) log
+      ∙ ap (lone_document name old.tags marks.marks before.modified) same ∙ stands.is;
 }
 
 abbrev failed : Fault → Result Answer Fault

@@ -11,6 +11,7 @@ use Rattle.std.proofs.lemmas.Option.{none-some, same_Some, slice_get-map}
 use Rattle.std.proofs.lemmas.Slice.Eq.{bytes_eq-Decides}
 use Rattle.name_list.specs.Names.{AreApart}
 use Rattle.name_list.proofs.ListLaws.{Contains-from_stands, Stands, stands_from_Contains, stands_map, stood_at}
+use Rattle.mark_table.specs.SharedMarks.{Mark}
 use Rattle.tag_table.specs.Tags.{AreTags, Tag, Tags, is_named, names_of, sel, slot_of, slots_of}
 use Rattle.text_model.specs.declared.cells.Cell.{Cell}
 use Rattle.text_model.specs.Content.{Content, Slots}
@@ -168,14 +169,14 @@ module _ (table : Tags) (names : List (List ℕ)) (sound : AreTags table) where
       ∙ sym (map-map (without_tags names) (keyed_cell pairs) cells)
 
   -- the document after tags are deleted is the one that the definition gives
-  pub lone-cleared : (widget : List ℕ) (modified : Modified) (content : Content) (document : Document) → lone_document widget table.tags modified content ≡ document
-      → lone_document widget (tags_left names table.tags) modified (cleared gone content)
+  pub lone-cleared : (widget : List ℕ) (marks : List Mark) (modified : Modified) (content : Content) (document : Document) → lone_document widget table.tags marks modified content ≡ document
+      → lone_document widget (tags_left names table.tags) marks modified (cleared gone content)
       ≡ record document { tags = filter (stays names) document.tags; cells = map (without_tags names) document.cells }
-  lone-cleared widget modified content document is =
-      let old = lone_document widget table.tags modified content in
+  lone-cleared widget marks modified content document is =
+      let old = lone_document widget table.tags marks modified content in
       let cells = keyed-cleared widget content.cells in
       let tags = names_left names table.tags in
-      let made : lone_document widget (tags_left names table.tags) modified (cleared gone content) ≡ record old { tags = filter (stays names) old.tags; cells = map (without_tags names) old.cells } =
+      let made : lone_document widget (tags_left names table.tags) marks modified (cleared gone content) ≡ record old { tags = filter (stays names) old.tags; cells = map (without_tags names) old.cells } =
       λ i. record old { tags = tags i; cells = cells i } in
       made ∙ ap (λ (d : Document). record d { tags = filter (stays names) d.tags; cells = map (without_tags names) d.cells }) is
 

@@ -1,5 +1,5 @@
 -- Tags that are deleted: their slots and their keys go.
-use Rattle.std.proofs.Common.{◌≡◌, ℕ, suc, Bool, true, false, cond, not, ◌&&◌, ◌||◌, List, [], ◌∷◌, ◌++◌, Some, filter, slice_get, refl, sym, ap, ap₂, ◌∙◌, true≢false}
+use Rattle.std.proofs.Common.{map, ◌≡◌, ℕ, suc, Bool, true, false, cond, not, ◌&&◌, ◌||◌, List, [], ◌∷◌, ◌++◌, Some, filter, slice_get, refl, sym, ap, ap₂, ◌∙◌, true≢false}
 use Rattle.std.specs.Prelude.{bytes_eq, if◌then◌else◌}
 use Rattle.std.specs.FinSet as set
 use Rattle.std.specs.Cmp.{both_ways}
@@ -112,41 +112,47 @@ stays-sel names name other is_sel =
           ap (λ b. not (is_among other names || b)) other_name ∙ ap not (or_none (is_among other names))
     ] refl
 
+-- a name isn't among some and one more
+pub not_pushed : (names : List (List ℕ)) (name other : List ℕ) → not (is_among other (names ++ name ∷ [])) ≡ (not (is_among other names) && not (bytes_eq name other))
+not_pushed names name other =
+    ap not (is_among-push other name names) ∙ neither (is_among other names) (bytes_eq other name) ∙ ap (λ b. not (is_among other names) && not b)
+    (both_ways (bytes_eq other name) (bytes_eq name other) (λ same. (bytes_eq-Decides name other).1 (sym ((bytes_eq-Decides other name).0 same)))
+    (λ same. (bytes_eq-Decides other name).1 (sym ((bytes_eq-Decides name other).0 same))))
+
 stays-other : (names : List (List ℕ)) (name other : List ℕ) → bytes_eq name sel ≡ false → stays (names ++ name ∷ []) other ≡ (stays names other && not (bytes_eq name other))
 stays-other names name other no_sel =
-    ap (λ b. bytes_eq other sel || not b) (is_among-push other name names)
-    ∙ elim (bytes_eq other sel) as (λ b. bytes_eq other sel ≡ b → (b || not (is_among other names || bytes_eq other name)) ≡ ((b || not (is_among other names)) && not (bytes_eq name other))) [
+    elim (bytes_eq other sel) as (λ b. bytes_eq other sel ≡ b → (b || not (is_among other (names ++ name ∷ []))) ≡ ((b || not (is_among other names)) && not (bytes_eq name other))) [
       | true ↦ λ is_sel.
           let apart : bytes_eq name other ≡ false = false_from_ne_true (bytes_eq name other) (λ same.
           true≢false (sym ((bytes_eq-Decides name sel).1 ((bytes_eq-Decides name other).0 same ∙ (bytes_eq-Decides other sel).0 is_sel)) ∙ no_sel)) in
           ap not (sym apart)
       | false ↦ λ _.
-          neither (is_among other names) (bytes_eq other name) ∙ ap (λ b. not (is_among other names) && not b)
-          (both_ways (bytes_eq other name) (bytes_eq name other) (λ same. (bytes_eq-Decides name other).1 (sym ((bytes_eq-Decides other name).0 same)))
-          (λ same. (bytes_eq-Decides other name).1 (sym ((bytes_eq-Decides name other).0 same))))
+          not_pushed names name other
     ] refl
 
-filter-alike : {A : Type 0} (p q : A → Bool) → ((x : A) → p x ≡ q x) → (xs : List A) → filter p xs ≡ filter q xs
+pub filter-alike : {A : Type 0} (p q : A → Bool) → ((x : A) → p x ≡ q x) → (xs : List A) → filter p xs ≡ filter q xs
 filter-alike p q same [] = refl
 filter-alike p q same (x ∷ xs) = ap₂ (λ b rest. cond b (x ∷ rest) rest) (same x) (filter-alike p q same xs)
 
-no_more : (p : Tag → Bool) (name : List ℕ) (tags : List Tag) → ((at : ℕ) → slice_get (names_of tags) at ≡ Some name → ⊥) → filter p tags ≡ filter (λ (tag : Tag). p tag && not (bytes_eq name tag.name)) tags
-no_more p name [] none = refl
-no_more p name (tag ∷ tags) none =
-    let other : bytes_eq name tag.name ≡ false = false_from_ne_true (bytes_eq name tag.name) (λ same. none 0 (ap Some (sym ((bytes_eq-Decides name tag.name).0 same)))) in
-    ap₂ (λ b rest. cond b (tag ∷ rest) rest) (and_true (p tag) ∙ ap (λ b. p tag && not b) (sym other)) (no_more p name tags (λ at is. none (suc at) is))
+no_more : {A : Type 0} (name_of : A → List ℕ) (p : A → Bool) (name : List ℕ) (xs : List A) → ((at : ℕ) → slice_get (map name_of xs) at ≡ Some name → ⊥)
+    → filter p xs ≡ filter (λ x. p x && not (bytes_eq name (name_of x))) xs
+no_more name_of p name [] none = refl
+no_more name_of p name (x ∷ xs) none =
+    let other : bytes_eq name (name_of x) ≡ false = false_from_ne_true (bytes_eq name (name_of x)) (λ same. none 0 (ap Some (sym ((bytes_eq-Decides name (name_of x)).0 same)))) in
+    ap₂ (λ b rest. cond b (x ∷ rest) rest) (and_true (p x) ∙ ap (λ b. p x && not b) (sym other)) (no_more name_of p name xs (λ at is. none (suc at) is))
 
-without-filter : (p : Tag → Bool) (name : List ℕ) (tags : List Tag) → AreApart (names_of tags)
-    → without (is_named name) (filter p tags) ≡ filter (λ (tag : Tag). p tag && not (bytes_eq name tag.name)) tags
-without-filter p name [] apart = refl
-without-filter p name (tag ∷ tags) apart =
-    let rest = filter p tags in
-    let left = filter (λ (t : Tag). p t && not (bytes_eq name t.name)) tags in
-    let more = without-filter p name tags (AreApart-tail tag.name (names_of tags) apart) in
-    elim (p tag) as (λ b. without (is_named name) (cond b (tag ∷ rest) rest) ≡ cond (b && not (bytes_eq name tag.name)) (tag ∷ left) left) [
-      | true ↦ elim (bytes_eq name tag.name) as (λ b. bytes_eq name tag.name ≡ b → (if b then rest else tag ∷ without (is_named name) rest) ≡ cond (not b) (tag ∷ left) left) [
-        | true ↦ λ same. no_more p name tags (λ at is. AreApart-head tag.name (names_of tags) at apart (is ∙ ap Some ((bytes_eq-Decides name tag.name).0 same)))
-        | false ↦ λ _. ap (λ ts. tag ∷ ts) more
+-- of elements with distinct names those that pass, without the one of a name
+pub without-filter : {A : Type 0} (name_of : A → List ℕ) (p : A → Bool) (name : List ℕ) (xs : List A) → AreApart (map name_of xs)
+    → without (λ x. bytes_eq name (name_of x)) (filter p xs) ≡ filter (λ x. p x && not (bytes_eq name (name_of x))) xs
+without-filter name_of p name [] apart = refl
+without-filter name_of p name (x ∷ xs) apart =
+    let rest = filter p xs in
+    let left = filter (λ y. p y && not (bytes_eq name (name_of y))) xs in
+    let more = without-filter name_of p name xs (AreApart-tail (name_of x) (map name_of xs) apart) in
+    elim (p x) as (λ b. without (λ y. bytes_eq name (name_of y)) (cond b (x ∷ rest) rest) ≡ cond (b && not (bytes_eq name (name_of x))) (x ∷ left) left) [
+      | true ↦ elim (bytes_eq name (name_of x)) as (λ b. bytes_eq name (name_of x) ≡ b → (if b then rest else x ∷ without (λ y. bytes_eq name (name_of y)) rest) ≡ cond (not b) (x ∷ left) left) [
+        | true ↦ λ same. no_more name_of p name xs (λ at is. AreApart-head (name_of x) (map name_of xs) at apart (is ∙ ap Some ((bytes_eq-Decides name (name_of x)).0 same)))
+        | false ↦ λ _. ap (λ ys. x ∷ ys) more
       ] refl
       | false ↦ more
     ]
@@ -157,7 +163,7 @@ tags_left-more names name tags apart =
     elim (bytes_eq name sel) as (λ b. bytes_eq name sel ≡ b → (if b then tags_left names tags else without (is_named name) (tags_left names tags)) ≡ tags_left (names ++ name ∷ []) tags) [
       | true ↦ λ is_sel. filter-alike _ _ (λ (tag : Tag). sym (stays-sel names name tag.name is_sel)) tags
       | false ↦ λ no_sel.
-          without-filter (λ (tag : Tag). stays names tag.name) name tags apart
+          without-filter (λ (tag : Tag). tag.name) (λ (tag : Tag). stays names tag.name) name tags apart
           ∙ filter-alike _ _ (λ (tag : Tag). sym (stays-other names name tag.name no_sel)) tags
     ] refl
 

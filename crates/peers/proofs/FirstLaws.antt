@@ -9,7 +9,7 @@ use Rattle.std.proofs.lemmas.List.Elements.{All-cons, All-nil}
 use Rattle.text_model.specs.declared.cells.Cell.{Cell}
 use Rattle.text_model.specs.declared.edits.Step.TheVariants.{PutMark}
 use Rattle.text_model.specs.declared.places.Place.{Place}
-use Rattle.text_model.specs.Content.{Content, new_content}
+use Rattle.text_model.specs.Content.{Content, Marks, new_content}
 use Rattle.text_model.specs.Documents.{MarksStand}
 use Rattle.text_model.specs.Steps.{after_step}
 use Rattle.text_model.proofs.DocumentLaws.{IsDocument-new}
@@ -21,11 +21,11 @@ use Rattle.std.proofs.Common.{zero, suc, ◌≢◌, ◌+◌, ◌<◌, ◌≤◌,
 use Rattle.std.specs.Prelude.{slice_get, option_map}
 use Rattle.std.proofs.lemmas.Option.{none-some, same_Some}
 use Rattle.std.proofs.lemmas.Slice.Eq.{bytes_eq-Decides}
-use Rattle.text_model.specs.declared.limits.TheConstants.Limits.{MOST_TAGS}
+use Rattle.text_model.specs.declared.limits.TheConstants.Limits.{MOST_MARKS, MOST_TAGS}
 use Rattle.std.proofs.Common.{true≢false}
 use Rattle.peers.specs.Keys.{keys_of, key_pairs}
 use Rattle.peers.proofs.BridgeLaws.{keys_of-empty}
-use Rattle.peers.specs.Kept.{IsKept, HasKnownSlots, is_window_name}
+use Rattle.peers.specs.Kept.{AreMarked, IsKept, HasKnownSlots, is_window_name}
 use Rattle.peers.specs.Step.{new_document}
 use Rattle.peers.specs.World.{Document, lone_document, document_of, whole_widget, keyed, mark_of, new_mark, first_content}
 
@@ -61,12 +61,12 @@ kept-first name table named are roomy = record {
 abbrev pub sel_alone : List Tag
 sel_alone = record { name = sel; slot = 0 } ∷ []
 
-pub lone-first : (name : List ℕ) → lone_document name sel_alone unmodified first_content ≡ new_document name
+pub lone-first : (name : List ℕ) → lone_document name sel_alone [] unmodified first_content ≡ new_document name
 lone-first name =
     let insert : mark_of first_content.marks 0 ≡ new_mark = ap (λ found. unwrap_or found new_mark) insert-first in
     let current : mark_of first_content.marks 1 ≡ new_mark = ap (λ found. unwrap_or found new_mark) current-first in
     let keys : keys_of (key_pairs name sel_alone) set.empty ≡ set.empty = keys_of-empty name sel_alone in
-    λ i. document_of (record { character = 10; keys = keys i } ∷ []) (whole_widget name (insert i) (current i)) (sel ∷ []) unmodified
+    λ i. document_of (record { character = 10; keys = keys i } ∷ []) (whole_widget name (insert i) (current i)) [] (sel ∷ []) unmodified
 
 apart_one : {A : Type 0} (x : A) → AreApart (x ∷ [])
 apart_one x zero zero y is also = refl
@@ -86,4 +86,18 @@ sound-first = record {
   others = others_first;
   room = omega arith;
   limit = omega arith;
+}
+
+-- no shared marks
+pub marked-first : (places : Marks) → AreMarked (record { marks = []; limit = MOST_MARKS }) places
+marked-first places = record {
+  marks = record {
+    names_apart = λ i j x is. absurd (none-some x is);
+    numbers_apart = λ i j x is. absurd (none-some x is);
+    numbers = λ at number is. absurd (none-some number is);
+    room = omega arith;
+    limit = omega arith;
+  };
+  roomy = refl;
+  each = tt;
 }

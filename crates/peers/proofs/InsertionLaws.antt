@@ -2,7 +2,7 @@
 use Rattle.std.proofs.Common.{◌≡◌, ℕ, ◌+◌, ◌<◌, ◌≤◌, true, false, List, [], ◌∷◌, None, Some, Ok, map, length, refl, sym, ap, ap₂, subst, ◌∙◌, arith}
 use Rattle.std.specs.Prelude.{nat_lt, if◌then◌else◌}
 use Rattle.std.specs.Char.{IsScalar}
-use Rattle.std.specs.List.{All}
+use Rattle.std.specs.List.{All, AllByRecursion}
 use Rattle.std.proofs.lemmas.Bool.Decides.{nat_tests}
 use Rattle.std.proofs.lemmas.List.{length-map}
 use Rattle.mark_table.specs.SharedMarks.{SharedMarks}
@@ -21,7 +21,7 @@ use Rattle.peers.specs.declared.answers.Answer.TheVariants.{Empty}
 use Rattle.peers.specs.declared.answers.Fault.{Fault}
 use Rattle.peers.specs.declared.answers.Fault.TheVariants.{TextTooLong, TooManyTags}
 use Rattle.peers.specs.Edits.{with_texts}
-use Rattle.peers.specs.Kept.{AreNew, IsKept}
+use Rattle.peers.specs.Kept.{AreMarked, AreNew, IsKept, IsMarked}
 use Rattle.peers.specs.Keys.{key_pairs}
 use Rattle.peers.specs.Lists.{Pair, all_names, with_names}
 use Rattle.peers.specs.Promise.{Does, answered, refused}
@@ -31,6 +31,7 @@ use Rattle.peers.specs.Words.{is_among}
 use Rattle.peers.specs.World.{Document, Widget, lone_document, lone_widget}
 use Rattle.peers.proofs.KeptLaws.{kept-texts}
 use Rattle.peers.proofs.LoneLaws.{cells-lone, length-keyed}
+use Rattle.peers.proofs.PlacedLaws.{placed-length}
 use Rattle.peers.proofs.NamedLaws.{among-made, keyed-pieces, known-pieces, total-pieces}
 use Rattle.peers.proofs.TableLaws.{kept-front, lone-front}
 use Rattle.peers.proofs.TextLaws.{length-text, lone-texts}
@@ -108,11 +109,11 @@ pub record IsPut (limits : LimitTable) (old new : Tags) (before after : Kept) (c
 
 -- the same of the document that the fields give
 texts-done : (limits : LimitTable) (name : List ℕ) (old new : Tags) (marks : SharedMarks) (before after : Kept) (content changed : Content) (at : ℕ) (pairs : List Pair)
-    → IsKept name old content → AreNew marks before → IsPut limits old new before after content changed at pairs → at < length content.cells
-    → let document = lone_document name old.tags before.modified content in
-    IsKept name new changed × AreNew marks after × Does limits document (lone_document name new.tags after.modified changed) (Ok Empty) (insert_at limits document (lone_widget document) at pairs)
-texts-done limits name old new marks before after content changed at pairs kept fresh put within =
-    let document : Document = lone_document name old.tags before.modified content in
+    → IsKept name old content → AreMarked marks content.marks → AreNew before → IsPut limits old new before after content changed at pairs → at < length content.cells
+    → let document = lone_document name old.tags marks.marks before.modified content in
+    IsKept name new changed × AreMarked marks changed.marks × AreNew after × Does limits document (lone_document name new.tags marks.marks after.modified changed) (Ok Empty) (insert_at limits document (lone_widget document) at pairs)
+texts-done limits name old new marks before after content changed at pairs kept marked fresh put within =
+    let document : Document = lone_document name old.tags marks.marks before.modified content in
     let widget : Widget = lone_widget document in
     let pieces = map (piece_of new.tags) pairs in
     let made = texts_put_in at pieces content (log_of before) in
@@ -124,19 +125,23 @@ texts-done limits name old new marks before after content changed at pairs kept 
     let short = few_enough limits.chars (length content.cells + total pairs) room.chars in
     let bounds = put.bounds.chars in
     let known = known-pieces new.tags pairs put.scalars in
-    let lone = lone-texts name new.tags at pieces content (log_of before) put.sound.names_apart within kept.insert kept.current fresh.no_history fresh.no_limit in
-    let wide = lone-front name old new before.modified content document put.front put.sound kept.known refl in
+    let lone = lone-texts name new.tags marks.marks at pieces content (log_of before) put.sound.names_apart within kept.insert kept.current marked.each fresh.no_history fresh.no_limit in
+    let wide = lone-front name old new marks.marks before.modified content document put.front put.sound kept.known refl in
     let named = subst (λ names. All (λ n. is_among n names ≡ true) (all_names pairs)) (sym put.made) (among-made (names_of old.tags) (all_names pairs)) in
     let texts = keyed-pieces widget new.tags pairs put.sound.names_apart put.sound.slots_apart named in
     let new_kept : IsKept name new changed = subst (IsKept name new) (sym put.content_is)
     (kept-texts name new at pieces content (log_of before) front within (omega (arith, short, counted, bounds)) known) in
-    let new_fresh : AreNew marks after = record {
-      none_shared = fresh.none_shared;
-      no_history = ap (λ (l : Log). l.history) put.log_is ∙ lone.1;
-      no_limit = ap (λ (l : Log). l.most) put.log_is ∙ lone.2;
+    let new_marked : AreMarked marks changed.marks = record {
+      marks = marked.marks;
+      roomy = marked.roomy;
+      each = subst (λ (c : Content). AllByRecursion (IsMarked c.marks) marks.marks) (sym put.content_is) lone.1;
     } in
-    let is : lone_document name new.tags after.modified changed ≡ texts_made document widget at pairs =
-    ap₂ (λ (l : Log) c. lone_document name new.tags l.modified c) put.log_is put.content_is ∙ lone.0
+    let new_fresh : AreNew after = record {
+      no_history = ap (λ (l : Log). l.history) put.log_is ∙ lone.2;
+      no_limit = ap (λ (l : Log). l.most) put.log_is ∙ lone.3;
+    } in
+    let is : lone_document name new.tags marks.marks after.modified changed ≡ texts_made document widget at pairs =
+    ap₂ (λ (l : Log) c. lone_document name new.tags marks.marks l.modified c) put.log_is put.content_is ∙ lone.0
     ∙ ap₂ (λ ts d. with_texts Insert at ts d) texts (wide ∙ ap (λ names. record document { tags = names }) put.made) in
     let within_both : IsWithin limits (length (tags_with document pairs)) (insertion_size document pairs) =
     record { tags = room.tags; chars = ap (λ n. nat_lt limits.chars (n + total pairs)) long ∙ room.chars } in
@@ -145,25 +150,28 @@ texts-done limits name old new marks before after content changed at pairs kept 
     let tags : length new.tags ≡ length (with_names (names_of old.tags) (all_names pairs)) =
     sym (length-map new.tags (λ (tag : Tag). tag.name)) ∙ ap length put.made in (
       new_kept,
+      new_marked,
       new_fresh,
-      does-answered limits document (lone_document name new.tags after.modified changed) (texts_made document widget at pairs)
+      does-answered limits document (lone_document name new.tags marks.marks after.modified changed) (texts_made document widget at pairs)
           (insert_at limits document widget at pairs) is (insert-made limits document widget at pairs within_both)
-          (λ _. IsWellFormedDocument-lone limits name new after.modified changed new_kept (omega (arith, cells, counted, short)) (omega (arith, tags, few))) refl,
+          (λ formed. (let many = formed.mark_count in
+          IsWellFormedDocument-lone limits name new marks after.modified changed new_kept new_marked (omega (arith, cells, counted, short)) (omega (arith, tags, few))
+          (omega (arith, placed-length content.marks marks.marks, many)))) refl,
     )
 
 pub does-texts : (limits : LimitTable) (name : List ℕ) (old new : Tags) (marks : SharedMarks) (before after : Kept) (content changed : Content) (at : ℕ) (pairs : List Pair) (document : Document)
     → Stands name old marks before content document → IsPut limits old new before after content changed at pairs → at < length document.cells
-    → IsKept name new changed × AreNew marks after × Does limits document (lone_document name new.tags after.modified changed) (Ok Empty) (insert_at limits document (lone_widget document) at pairs)
+    → IsKept name new changed × AreMarked marks changed.marks × AreNew after × Does limits document (lone_document name new.tags marks.marks after.modified changed) (Ok Empty) (insert_at limits document (lone_widget document) at pairs)
 does-texts limits name old new marks before after content changed at pairs document stands put within =
-    let inside : at < length content.cells = omega (arith, within, cells-lone name old.tags before.modified content document stands.is) in
-    let done = texts-done limits name old new marks before after content changed at pairs stands.kept stands.fresh put inside in
-    (done.0, done.1, subst (λ (d : Document). Does limits d (lone_document name new.tags after.modified changed) (Ok Empty) (insert_at limits d (lone_widget d) at pairs)) stands.is done.2)
+    let inside : at < length content.cells = omega (arith, within, cells-lone name old.tags marks.marks before.modified content document stands.is) in
+    let done = texts-done limits name old new marks before after content changed at pairs stands.kept stands.marked stands.fresh put inside in
+    (done.0, done.1, done.2, subst (λ (d : Document). Does limits d (lone_document name new.tags marks.marks after.modified changed) (Ok Empty) (insert_at limits d (lone_widget d) at pairs)) stands.is done.3)
 
 pub texts-left : (limits : LimitTable) (name : List ℕ) (old : Tags) (marks : SharedMarks) (before : Kept) (content : Content) (at : ℕ) (pairs : List Pair) (document : Document) (fault : Fault)
     → Stands name old marks before content document → excess limits (length (with_names (names_of old.tags) (all_names pairs))) (length content.cells + total pairs) ≡ Some fault
     → insert_at limits document (lone_widget document) at pairs ≡ refused document fault
 texts-left limits name old marks before content at pairs document fault stands is =
-    let lone : Document = lone_document name old.tags before.modified content in
+    let lone : Document = lone_document name old.tags marks.marks before.modified content in
     let long = length-keyed (key_pairs name old.tags) content.cells in
     subst (λ (d : Document). insert_at limits d (lone_widget d) at pairs ≡ refused d fault) stands.is
     (insert-refused limits lone (lone_widget lone) at pairs fault (ap (λ n. excess limits (length (with_names (names_of old.tags) (all_names pairs))) (n + total pairs)) long ∙ is))

@@ -34,7 +34,8 @@ use Rattle.edit_ops.proofs.InsertLaws.{total-cons}
 use Rattle.peers.specs.Kept.{HasKnownSlots, IsKept}
 use Rattle.peers.specs.Slots.{slots_named, state_shown, texts_put_in, unkept, with_found}
 use Rattle.peers.proofs.BridgeLaws.{slot_at}
-use Rattle.peers.proofs.TextLaws.{length-text, mark-there}
+use Rattle.peers.proofs.PlacedLaws.{mark-there}
+use Rattle.peers.proofs.TextLaws.{length-text}
 
 -- ---- slots of tags alone
 

@@ -13,11 +13,14 @@ pub mod KeyedLaws
 pub mod ListingLaws
 pub mod LoneLaws
 pub mod MadeLaws
+pub mod MarkLaws
+pub mod MarkQueryLaws
 pub mod NameLaws
 pub mod NamedLaws
 pub mod OrderLaws
 pub mod PairLaws
 pub mod PlaceLaws
+pub mod PlacedLaws
 pub mod PromiseLaws
 pub mod QueryLaws
 pub mod ReorderLaws
@@ -25,6 +28,7 @@ pub mod SlotLaws
 pub mod SpanLaws
 pub mod TableLaws
 pub mod TagLaws
+pub mod TakeLaws
 pub mod TextLaws
 pub mod WellFormedLaws
 pub mod WordLaws

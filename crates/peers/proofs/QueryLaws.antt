@@ -6,6 +6,7 @@ use Rattle.std.proofs.lemmas.List.{length-map, length-take, length-drop}
 use Rattle.std.proofs.lemmas.Option.{none-some, get_or_from_slice_get, slice_get_within}
 use Rattle.std.proofs.lemmas.Str.{chars_from_encodes}
 use Rattle.name_list.specs.Names.{AreApart}
+use Rattle.mark_table.specs.SharedMarks.{Mark}
 use Rattle.tag_table.specs.Tags.{Tag, Tags, names_of, slot_of}
 use Rattle.tcl_words.specs.ListText.{list_text}
 use Rattle.text_model.specs.declared.cells.Cell.{Cell}
@@ -29,18 +30,18 @@ pub written : (bytes : List ℕ) (elements : List (List ℕ)) → IsUtf8 bytes �
 written bytes elements text goes = sym (chars_from_encodes (list_text elements) bytes text (sym (goes [] refl)))
 
 -- the flags of a tag by its slot, and of an unknown one
-pub flags-known : (name : List ℕ) (tags : List Tag) (modified : Modified) (content : Content) (document : Document) (word : List ℕ) (slot end : ℕ) → AreApart (names_of tags)
-    → lone_document name tags modified content ≡ document → slot_of word tags ≡ Some slot → end ≡ length content.cells
+pub flags-known : (name : List ℕ) (tags : List Tag) (marks : List Mark) (modified : Modified) (content : Content) (document : Document) (word : List ℕ) (slot end : ℕ) → AreApart (names_of tags)
+    → lone_document name tags marks modified content ≡ document → slot_of word tags ≡ Some slot → end ≡ length content.cells
     → view.shown_flags slot content 0 end ≡ flags_of document (lone_widget document) word
-flags-known name tags modified content document word slot end apart is found long =
-    ap (view.shown_flags slot content 0) long ∙ flags-lone name tags modified content word slot apart found
-    ∙ ap (λ b. if b then shown_flags (lone_document name tags modified content) (lone_widget (lone_document name tags modified content)) (key_named name word) else []) (sym (among_slot word tags slot found))
+flags-known name tags marks modified content document word slot end apart is found long =
+    ap (view.shown_flags slot content 0) long ∙ flags-lone name tags marks modified content word slot apart found
+    ∙ ap (λ b. if b then shown_flags (lone_document name tags marks modified content) (lone_widget (lone_document name tags marks modified content)) (key_named name word) else []) (sym (among_slot word tags slot found))
     ∙ ap (λ (d : Document). flags_of d (lone_widget d) word) is
 
-pub flags-unknown : (name : List ℕ) (tags : List Tag) (modified : Modified) (content : Content) (document : Document) (word : List ℕ)
-    → lone_document name tags modified content ≡ document → slot_of word tags ≡ None → [] ≡ flags_of document (lone_widget document) word
-flags-unknown name tags modified content document word is none =
-    ap (λ b. if b then shown_flags (lone_document name tags modified content) (lone_widget (lone_document name tags modified content)) (key_named name word) else []) (sym (absent_slot word tags none))
+pub flags-unknown : (name : List ℕ) (tags : List Tag) (marks : List Mark) (modified : Modified) (content : Content) (document : Document) (word : List ℕ)
+    → lone_document name tags marks modified content ≡ document → slot_of word tags ≡ None → [] ≡ flags_of document (lone_widget document) word
+flags-unknown name tags marks modified content document word is none =
+    ap (λ b. if b then shown_flags (lone_document name tags marks modified content) (lone_widget (lone_document name tags marks modified content)) (key_named name word) else []) (sym (absent_slot word tags none))
     ∙ ap (λ (d : Document). flags_of d (lone_widget d) word) is
 
 names-filtered : (tags : List Tag) (wanted : Tag → Bool) (passes : List ℕ → Bool) → ((at : ℕ) (tag : Tag) → slice_get tags at ≡ Some tag → wanted tag ≡ passes tag.name)
@@ -61,16 +62,16 @@ flag_of (cell ∷ cells) slots slot zero is = ap (λ s. set.contains s slot) (ge
 flag_of (cell ∷ cells) slots slot (suc place) is = flag_of cells slots slot place is
 
 -- the tags of a character, by the slots of its cell
-pub tags_on-known : (name : List ℕ) (tags : List Tag) (modified : Modified) (content : Content) (document : Document) (slots : Slots) (place : ℕ) → AreApart (names_of tags)
-    → lone_document name tags modified content ≡ document → slice_get (slot_sets content.cells) place ≡ Some slots
+pub tags_on-known : (name : List ℕ) (tags : List Tag) (marks : List Mark) (modified : Modified) (content : Content) (document : Document) (slots : Slots) (place : ℕ) → AreApart (names_of tags)
+    → lone_document name tags marks modified content ≡ document → slice_get (slot_sets content.cells) place ≡ Some slots
     → names_of (filter (λ (tag : Tag). set.contains slots tag.slot) tags) ≡ tags_on document (lone_widget document) place
-tags_on-known name tags modified content document slots place apart is found =
-    let lone = lone_document name tags modified content in
+tags_on-known name tags marks modified content document slots place apart is found =
+    let lone = lone_document name tags marks modified content in
     names-filtered tags (λ (tag : Tag). set.contains slots tag.slot) (λ word. flag_at (shown_flags lone (lone_widget lone) (key_named name word)) place)
     (λ at tag stands.
     sym (flag_of content.cells slots tag.slot place found)
     ∙ ap (λ fs. flag_at fs place) (sym (whole-part (flags tag.slot content.cells) (length content.cells) (omega (arith, length-map content.cells (λ (cell : Cell). set.contains cell.tags tag.slot)))))
-    ∙ ap (λ fs. flag_at fs place) (flags-lone name tags modified content tag.name tag.slot apart (slot_standing tags at tag apart stands)))
+    ∙ ap (λ fs. flag_at fs place) (flags-lone name tags marks modified content tag.name tag.slot apart (slot_standing tags at tag apart stands)))
     ∙ ap (λ (d : Document). tags_on d (lone_widget d) place) is
 
 -- no tags at the end

@@ -12,7 +12,9 @@ use Rattle.text_model.specs.Content.{Slots}
 use Rattle.text_model.specs.declared.places.TagSlot.{TagSlot}
 use Rattle.tag_table.specs.Tags.{Tag, slot_of}
 use Rattle.tcl_words.specs.Unread.{texts_of}
-use Rattle.peers.specs.Slots.{slot_taken, slots_deleted, slots_named, with_found}
+use Rattle.mark_table.specs.SharedMarks.{Mark, number_of}
+use Rattle.text_model.specs.declared.places.MarkNo.{MarkNo}
+use Rattle.peers.specs.Slots.{numbers_named, slot_taken, slots_deleted, slots_named, with_found}
 use Rattle.peers.proofs.MadeLaws.{take-more}
 
 or_swap : (a b c : Bool) → (a || (b || c)) ≡ (b || (a || c))
@@ -72,3 +74,24 @@ pub slots_deleted-kept : {Z : Type 0} (tags : List Tag) (words : List (String Z)
 slots_deleted-kept {Z} tags words at word bytes slots within is bytes_are old none =
     old ∙ sym (append-nil (slots_deleted tags (texts_of (take at words)))) ∙ ap (λ o. slots_deleted tags (texts_of (take at words)) ++ cons_option o []) none
     ∙ sym (slots_deleted-step tags words at word bytes within is bytes_are)
+
+-- ---- numbers of marks
+
+numbers_named-step : {Z : Type 0} (marks : List Mark) (words : List (String Z)) (at : ℕ) (word : String Z) (bytes : List ℕ) → at < length words → word ≡ get_or words at word → bytes ≡ string_bytes word
+    → numbers_named marks (texts_of (take (at + 1) words)) ≡ numbers_named marks (texts_of (take at words)) ++ cons_option (number_of (chars bytes) marks) []
+numbers_named-step {Z} marks words at word bytes within is bytes_are =
+    ap (numbers_named marks) (texts-more words at word bytes within is bytes_are)
+    ∙ filter_map-append (λ name. number_of name marks) (texts_of (take at words)) (chars bytes ∷ [])
+
+pub numbers_named-pushed : {Z : Type 0} (marks : List Mark) (words : List (String Z)) (at : ℕ) (word : String Z) (bytes : List ℕ) (numbers : List MarkNo) (number : MarkNo) → at < length words
+    → word ≡ get_or words at word → bytes ≡ string_bytes word → map (λ (n : MarkNo). n.0) numbers ≡ numbers_named marks (texts_of (take at words)) → Some number.0 ≡ number_of (chars bytes) marks
+    → map (λ (n : MarkNo). n.0) (numbers ++ number ∷ []) ≡ numbers_named marks (texts_of (take (at + 1) words))
+numbers_named-pushed {Z} marks words at word bytes numbers number within is bytes_are old found =
+    map-append (λ (n : MarkNo). n.0) numbers (number ∷ []) ∙ ap (λ ns. ns ++ number.0 ∷ []) old
+    ∙ ap (λ o. numbers_named marks (texts_of (take at words)) ++ cons_option o []) found ∙ sym (numbers_named-step marks words at word bytes within is bytes_are)
+
+pub numbers_named-kept : {Z : Type 0} (marks : List Mark) (words : List (String Z)) (at : ℕ) (word : String Z) (bytes : List ℕ) (numbers : List ℕ) → at < length words → word ≡ get_or words at word
+    → bytes ≡ string_bytes word → numbers ≡ numbers_named marks (texts_of (take at words)) → None ≡ number_of (chars bytes) marks → numbers ≡ numbers_named marks (texts_of (take (at + 1) words))
+numbers_named-kept {Z} marks words at word bytes numbers within is bytes_are old none =
+    old ∙ sym (append-nil (numbers_named marks (texts_of (take at words)))) ∙ ap (λ o. numbers_named marks (texts_of (take at words)) ++ cons_option o []) none
+    ∙ sym (numbers_named-step marks words at word bytes within is bytes_are)

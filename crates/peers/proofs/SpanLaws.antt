@@ -6,7 +6,7 @@ use Rattle.std.specs.List.{All}
 use Rattle.std.proofs.lemmas.Bool.Decides.{nat_tests}
 use Rattle.std.proofs.lemmas.List.{length-map}
 use Rattle.std.proofs.lemmas.List.Elements.{All-head, All-tail}
-use Rattle.mark_table.specs.SharedMarks.{SharedMarks}
+use Rattle.mark_table.specs.SharedMarks.{Mark, SharedMarks}
 use Rattle.name_list.specs.Names.{AreApart}
 use Rattle.tag_table.specs.Tags.{AreTags, Tag, Tags, names_of, slot_of, slots_of}
 use Rattle.text_model.specs.Content.{Content}
@@ -22,7 +22,7 @@ use Rattle.edit_ops.specs.States.{Log, log_of}
 use Rattle.peers.specs.declared.answers.Answer.TheVariants.{Empty}
 use Rattle.peers.specs.declared.answers.Fault.TheVariants.{TooManyTags}
 use Rattle.peers.specs.Edits.{with_tag}
-use Rattle.peers.specs.Kept.{AreNew, IsKept}
+use Rattle.peers.specs.Kept.{AreMarked, AreNew, IsKept}
 use Rattle.peers.specs.Keys.{Key, key_named, key_pairs}
 use Rattle.peers.specs.Lists.{with_name}
 use Rattle.peers.specs.Promise.{Change, Does, answered, refused}
@@ -32,11 +32,12 @@ use Rattle.peers.specs.Tags.{add_spans, remove_spans}
 use Rattle.peers.specs.View.{shown}
 use Rattle.peers.specs.WellFormed.{IsWellFormedDocument}
 use Rattle.peers.specs.Words.{is_among}
-use Rattle.peers.specs.World.{Document, Widget, document_of, lone_document, lone_widget, mark_of, whole_widget}
+use Rattle.peers.specs.World.{Document, Widget, document_of, lone_document, lone_widget, mark_of, placed, whole_widget}
 use Rattle.peers.proofs.KeptLaws.{kept-tagged, slot_stands}
 use Rattle.peers.proofs.KeyedLaws.{keyed-tagged}
 use Rattle.peers.proofs.LoneLaws.{length-keyed, length-lone}
 use Rattle.peers.proofs.MadeLaws.{absent_slot, among_slot}
+use Rattle.peers.proofs.PlacedLaws.{placed-length}
 use Rattle.peers.proofs.PairLaws.{spans_of-fit}
 use Rattle.peers.proofs.TableLaws.{kept-front, lone-front}
 use Rattle.peers.proofs.WellFormedLaws.{IsWellFormedDocument-lone}
@@ -59,13 +60,13 @@ length-tagged slot on (span ∷ spans) content fit =
 abbrev pub keyed_on : Key → Bool → List Span → Document → Document
 keyed_on key on spans document = record document { cells = with_tag key on spans document.cells }
 
-lone-tagged : (widget : List ℕ) (tags : List Tag) (modified : Modified) (content : Content) (word : List ℕ) (slot : ℕ) (on : Bool) (spans : List Span) → AreApart (names_of tags) → AreApart (slots_of tags)
+lone-tagged : (widget : List ℕ) (tags : List Tag) (marks : List Mark) (modified : Modified) (content : Content) (word : List ℕ) (slot : ℕ) (on : Bool) (spans : List Span) → AreApart (names_of tags) → AreApart (slots_of tags)
     → slot_of word tags ≡ Some slot
-    → lone_document widget tags modified (tagged slot on spans content) ≡ keyed_on (key_named widget word) on spans (lone_document widget tags modified content)
-lone-tagged widget tags modified content word slot on spans apart slots_apart is =
+    → lone_document widget tags marks modified (tagged slot on spans content) ≡ keyed_on (key_named widget word) on spans (lone_document widget tags marks modified content)
+lone-tagged widget tags marks modified content word slot on spans apart slots_apart is =
     let cells = keyed-tagged widget tags word slot on apart slots_apart is spans content in
-    let marks = marks-tagged slot on spans content in
-    λ i. document_of (cells i) (whole_widget widget (mark_of (marks i) 0) (mark_of (marks i) 1)) (names_of tags) modified
+    let places = marks-tagged slot on spans content in
+    λ i. document_of (cells i) (whole_widget widget (mark_of (places i) 0) (mark_of (places i) 1)) (placed (places i) marks) (names_of tags) modified
 
 pub found_by : {A B : Type 0} (f : A → B) (found : Option A) (made : B) → option_map f found ≡ Some made → (x : A) × (found ≡ Some x) × (made ≡ f x)
 found_by f None made is = absurd (none-some made is)
@@ -86,32 +87,37 @@ spans_made document tags key on spans = record document { tags = tags; cells = w
 
 -- the same of the document that the fields give, of whose tags there aren't too many
 spans-done : (limits : LimitTable) (name : List ℕ) (old new : Tags) (marks : SharedMarks) (before after : Kept) (content changed : Content) (word : List ℕ) (on : Bool) (spans : List Span) (change : Change)
-    → IsKept name old content → AreNew marks before → IsTagged old new before after content changed word on spans
-    → let document = lone_document name old.tags before.modified content in
+    → IsKept name old content → AreMarked marks content.marks → AreNew before → IsTagged old new before after content changed word on spans
+    → let document = lone_document name old.tags marks.marks before.modified content in
     (IsWellFormedDocument limits document → length new.tags ≤ limits.tags + 1)
     → change ≡ answered (spans_made document (names_of new.tags) (key_named name word) on spans) Empty
-    → IsKept name new changed × AreNew marks after × Does limits document (lone_document name new.tags after.modified changed) (Ok Empty) change
-spans-done limits name old new marks before after content changed word on spans change kept fresh is few made =
-    let document : Document = lone_document name old.tags before.modified content in
+    → IsKept name new changed × AreMarked marks changed.marks × AreNew after × Does limits document (lone_document name new.tags marks.marks after.modified changed) (Ok Empty) change
+spans-done limits name old new marks before after content changed word on spans change kept marked fresh is few made =
+    let document : Document = lone_document name old.tags marks.marks before.modified content in
     let front : IsKept name new content = kept-front name old new content kept is.front is.sound in
     let new_kept : IsKept name new changed = subst (IsKept name new) (sym is.content_is) (kept-tagged name new is.slot on spans content front (slot_stands word is.slot new.tags is.is) is.fit) in
-    let wide = lone-front name old new before.modified content document is.front is.sound kept.known refl in
-    let new_is : lone_document name new.tags after.modified changed ≡ spans_made document (names_of new.tags) (key_named name word) on spans =
-    ap₂ (λ (l : Log) c. lone_document name new.tags l.modified c) is.log_is is.content_is
-    ∙ lone-tagged name new.tags before.modified content word is.slot on spans is.sound.names_apart is.sound.slots_apart is.is
+    let new_marked : AreMarked marks changed.marks =
+    subst (AreMarked marks) (sym (ap (λ (c : Content). c.marks) is.content_is ∙ marks-tagged is.slot on spans content)) marked in
+    let wide = lone-front name old new marks.marks before.modified content document is.front is.sound kept.known refl in
+    let new_is : lone_document name new.tags marks.marks after.modified changed ≡ spans_made document (names_of new.tags) (key_named name word) on spans =
+    ap₂ (λ (l : Log) c. lone_document name new.tags marks.marks l.modified c) is.log_is is.content_is
+    ∙ lone-tagged name new.tags marks.marks before.modified content word is.slot on spans is.sound.names_apart is.sound.slots_apart is.is
     ∙ ap (keyed_on (key_named name word) on spans) wide in
     let cells : length changed.cells ≡ length content.cells = ap (λ (c : Content). length c.cells) is.content_is ∙ length-tagged is.slot on spans content is.fit in
     let long = length-keyed (key_pairs name old.tags) content.cells in (
       new_kept,
-      fresh-same marks before after fresh is.log_is,
-      does-answered limits document (lone_document name new.tags after.modified changed) (spans_made document (names_of new.tags) (key_named name word) on spans) change new_is made
-          (λ formed. (let fits = formed.fits in IsWellFormedDocument-lone limits name new after.modified changed new_kept (omega (arith, cells, long, fits)) (few formed))) refl,
+      new_marked,
+      fresh-same before after fresh is.log_is,
+      does-answered limits document (lone_document name new.tags marks.marks after.modified changed) (spans_made document (names_of new.tags) (key_named name word) on spans) change new_is made
+          (λ formed. (let fits = formed.fits in let many = formed.mark_count in
+          IsWellFormedDocument-lone limits name new marks after.modified changed new_kept new_marked (omega (arith, cells, long, fits)) (few formed)
+          (omega (arith, placed-length content.marks marks.marks, many)))) refl,
     )
 
-shown_spans : (name : List ℕ) (old : Tags) (before : Kept) (content : Content) (places : List ℕ)
-    → let document = lone_document name old.tags before.modified content in spans_shown document (lone_widget document) places ≡ spans_of 0 (length content.cells) places
-shown_spans name old before content places =
-    ap (λ n. spans_of 0 n places) (length-lone name old.tags before.modified content (lone_document name old.tags before.modified content) refl)
+shown_spans : (name : List ℕ) (old : Tags) (marks : SharedMarks) (before : Kept) (content : Content) (places : List ℕ)
+    → let document = lone_document name old.tags marks.marks before.modified content in spans_shown document (lone_widget document) places ≡ spans_of 0 (length content.cells) places
+shown_spans name old marks before content places =
+    ap (λ n. spans_of 0 n places) (length-lone name old.tags marks.marks before.modified content (lone_document name old.tags marks.marks before.modified content) refl)
 
 -- places that are shown give spans of the document
 pub spans-within : (name : List ℕ) (old : Tags) (marks : SharedMarks) (before : Kept) (content : Content) (document : Document) (len : ℕ) (places : List ℕ) (spans given : List Span)
@@ -120,32 +126,32 @@ pub spans-within : (name : List ℕ) (old : Tags) (marks : SharedMarks) (before 
 spans-within name old marks before content document len places spans given stands within here is same =
     let all : given ≡ spans_of 0 (length content.cells) places = same ∙ is ∙ ap (λ n. spans_of 0 n places) here in
     let fit : All (λ place. place ≤ length content.cells) places =
-    subst (λ n. All (λ place. place ≤ n) places) (length-lone name old.tags before.modified content document stands.is) within in
+    subst (λ n. All (λ place. place ≤ n) places) (length-lone name old.tags marks.marks before.modified content document stands.is) within in
     let start : 0 + length content.cells ≡ length content.cells = omega arith in
     (all, subst (All (SpanFits (length content.cells))) (sym all) (subst (λ n. All (SpanFits n) (spans_of 0 (length content.cells) places)) start (spans_of-fit 0 (length content.cells) places fit)))
 
 pub does-add : (limits : LimitTable) (name : List ℕ) (old new : Tags) (marks : SharedMarks) (before after : Kept) (content changed : Content) (word : List ℕ) (places : List ℕ) (spans : List Span) (document : Document)
     → Stands name old marks before content document → IsTagged old new before after content changed word true spans → spans ≡ spans_of 0 (length content.cells) places
     → names_of new.tags ≡ with_name (names_of old.tags) word → length (with_name (names_of old.tags) word) ≤ limits.tags + 1
-    → IsKept name new changed × AreNew marks after × Does limits document (lone_document name new.tags after.modified changed) (Ok Empty) (add_spans limits document (lone_widget document) word places)
+    → IsKept name new changed × AreMarked marks changed.marks × AreNew after × Does limits document (lone_document name new.tags marks.marks after.modified changed) (Ok Empty) (add_spans limits document (lone_widget document) word places)
 does-add limits name old new marks before after content changed word places spans document stands is same made few =
-    let lone : Document = lone_document name old.tags before.modified content in
+    let lone : Document = lone_document name old.tags marks.marks before.modified content in
     let widget : Widget = lone_widget lone in
     let new_tags = with_name (names_of old.tags) word in
     let tags : length new.tags ≡ length new_tags = sym (length-map new.tags (λ (tag : Tag). tag.name)) ∙ ap length made in
     let room : nat_lt (limits.tags + 1) (length new_tags) ≡ false = grind (arith, nat_tests) in
     let change : add_spans limits lone widget word places ≡ answered (spans_made lone (names_of new.tags) (key_named name word) true spans) Empty =
     ap (λ b. if b then refused lone TooManyTags else answered (spans_made lone new_tags (key_named name word) true (spans_shown lone widget places)) Empty) room
-    ∙ ap₂ (λ ts ss. answered (spans_made lone ts (key_named name word) true ss) Empty) (sym made) (shown_spans name old before content places ∙ sym same) in
-    let done = spans-done limits name old new marks before after content changed word true spans (add_spans limits lone widget word places) stands.kept stands.fresh is
+    ∙ ap₂ (λ ts ss. answered (spans_made lone ts (key_named name word) true ss) Empty) (sym made) (shown_spans name old marks before content places ∙ sym same) in
+    let done = spans-done limits name old new marks before after content changed word true spans (add_spans limits lone widget word places) stands.kept stands.marked stands.fresh is
     (λ _. omega (arith, tags, few)) change in
-    (done.0, done.1, subst (λ (d : Document). Does limits d (lone_document name new.tags after.modified changed) (Ok Empty) (add_spans limits d (lone_widget d) word places)) stands.is done.2)
+    (done.0, done.1, done.2, subst (λ (d : Document). Does limits d (lone_document name new.tags marks.marks after.modified changed) (Ok Empty) (add_spans limits d (lone_widget d) word places)) stands.is done.3)
 
 pub add-left : (limits : LimitTable) (name : List ℕ) (old : Tags) (marks : SharedMarks) (before : Kept) (content : Content) (word : List ℕ) (places : List ℕ) (document : Document)
     → Stands name old marks before content document → limits.tags + 1 < length (with_name (names_of old.tags) word)
     → add_spans limits document (lone_widget document) word places ≡ refused document TooManyTags
 add-left limits name old marks before content word places document stands many =
-    let lone : Document = lone_document name old.tags before.modified content in
+    let lone : Document = lone_document name old.tags marks.marks before.modified content in
     let widget : Widget = lone_widget lone in
     let new_tags = with_name (names_of old.tags) word in
     let full : nat_lt (limits.tags + 1) (length new_tags) ≡ true = grind (arith, nat_tests) in
@@ -154,16 +160,16 @@ add-left limits name old marks before content word places document stands many =
 
 pub does-remove : (limits : LimitTable) (name : List ℕ) (table : Tags) (marks : SharedMarks) (before after : Kept) (content changed : Content) (word : List ℕ) (places : List ℕ) (spans : List Span) (document : Document)
     → Stands name table marks before content document → IsTagged table table before after content changed word false spans → spans ≡ spans_of 0 (length content.cells) places
-    → IsKept name table changed × AreNew marks after × Does limits document (lone_document name table.tags after.modified changed) (Ok Empty) (remove_spans document (lone_widget document) word places)
+    → IsKept name table changed × AreMarked marks changed.marks × AreNew after × Does limits document (lone_document name table.tags marks.marks after.modified changed) (Ok Empty) (remove_spans document (lone_widget document) word places)
 does-remove limits name table marks before after content changed word places spans document stands is same =
-    let lone : Document = lone_document name table.tags before.modified content in
+    let lone : Document = lone_document name table.tags marks.marks before.modified content in
     let widget : Widget = lone_widget lone in
     let change : remove_spans lone widget word places ≡ answered (spans_made lone (names_of table.tags) (key_named name word) false spans) Empty =
     ap (λ b. answered (if b then keyed_on (key_named name word) false (spans_shown lone widget places) lone else lone) Empty) (among_slot word table.tags is.slot is.is)
-    ∙ ap (λ ss. answered (keyed_on (key_named name word) false ss lone) Empty) (shown_spans name table before content places ∙ sym same) in
-    let done = spans-done limits name table table marks before after content changed word false spans (remove_spans lone widget word places) stands.kept stands.fresh is
+    ∙ ap (λ ss. answered (keyed_on (key_named name word) false ss lone) Empty) (shown_spans name table marks before content places ∙ sym same) in
+    let done = spans-done limits name table table marks before after content changed word false spans (remove_spans lone widget word places) stands.kept stands.marked stands.fresh is
     (λ formed. (let few = formed.tag_count in omega (arith, few, length-map table.tags (λ (tag : Tag). tag.name)))) change in
-    (done.0, done.1, subst (λ (d : Document). Does limits d (lone_document name table.tags after.modified changed) (Ok Empty) (remove_spans d (lone_widget d) word places)) stands.is done.2)
+    (done.0, done.1, done.2, subst (λ (d : Document). Does limits d (lone_document name table.tags marks.marks after.modified changed) (Ok Empty) (remove_spans d (lone_widget d) word places)) stands.is done.3)
 
 -- an unknown tag is taken off nothing
 pub does-remove_none : (limits : LimitTable) (name : List ℕ) (table : Tags) (marks : SharedMarks) (before : Kept) (content : Content) (word : List ℕ) (places : List ℕ) (document : Document)

@@ -11,13 +11,13 @@ use Rattle.edit_ops.specs.Tagging.{cell_without, cleared}
 use Rattle.edit_ops.specs.States.{Log, log_of}
 use Rattle.peers.specs.declared.answers.Answer.TheVariants.{Empty}
 use Rattle.peers.specs.declared.answers.Fault.TheVariants.{NoSuchTag}
-use Rattle.peers.specs.Kept.{AreNew, IsKept}
+use Rattle.peers.specs.Kept.{AreMarked, AreNew, IsKept}
 use Rattle.peers.specs.Promise.{Does}
 use Rattle.peers.specs.Slots.{slots_deleted, tags_left}
 use Rattle.peers.specs.Tags.{reordered, stays, tag_delete}
 use Rattle.peers.specs.World.{Document, lone_document}
 use Rattle.peers.proofs.ClearedLaws.{kept-cleared, lone-cleared}
-use Rattle.peers.proofs.LoneLaws.{cells-lone}
+use Rattle.peers.proofs.LoneLaws.{cells-lone, marks-lone}
 use Rattle.peers.proofs.OrderLaws.{IsOrdered, Order}
 use Rattle.peers.proofs.ReorderLaws.{IsUnknown, reordered-made, reordered-unknown, unknown_at}
 use Rattle.tag_table.specs.declared.faults.NoSuchTag as table_fault
@@ -27,17 +27,19 @@ use Rattle.peers.proofs.ChangeLaws.{Stands, fresh-same, stands-same, does-left, 
 
 pub does-ordered : (limits : LimitTable) (name : List ℕ) (old new : Tags) (marks : SharedMarks) (before : Kept) (content : Content) (document : Document) (at : ℕ) (order : Order) (word : List ℕ) (other : Option (List ℕ))
     → Stands name old marks before content document → IsOrdered order word other old.tags new.tags → AreTags new → new.limit ≡ old.limit → length (order (names_of old.tags) word other) ≡ length (names_of old.tags)
-    → IsKept name new content × Does limits document (lone_document name new.tags before.modified content) (Ok Empty) (reordered document at order (word, other))
+    → IsKept name new content × Does limits document (lone_document name new.tags marks.marks before.modified content) (Ok Empty) (reordered document at order (word, other))
 does-ordered limits name old new marks before content document at order word other stands ordered sound limit many =
     let kept : IsKept name new content = kept-reordered name old new content stands.kept sound limit ordered.slots in
-    let is = lone-reordered name old new before.modified content document stands.kept.tags sound ordered.slots stands.is in
+    let is = lone-reordered name old new marks.marks before.modified content document stands.kept.tags sound ordered.slots stands.is in
     let tags : document.tags ≡ names_of old.tags = ap (λ (d : Document). d.tags) (sym stands.is) in
-    let cells = cells-lone name old.tags before.modified content document stands.is in
+    let cells = cells-lone name old.tags marks.marks before.modified content document stands.is in
+    let shared = marks-lone name old.tags marks.marks before.modified content document stands.is in
     let count : length new.tags ≡ length document.tags = sym (length-map new.tags (λ (tag : Tag). tag.name)) ∙ ap length ordered.names ∙ many ∙ ap length (sym tags) in (
       kept,
-      does-answered limits document (lone_document name new.tags before.modified content) (record document { tags = names_of new.tags }) (reordered document at order (word, other)) is
+      does-answered limits document (lone_document name new.tags marks.marks before.modified content) (record document { tags = names_of new.tags }) (reordered document at order (word, other)) is
           (reordered-made document at order word other old.tags new.tags tags ordered)
-          (λ formed. (let fits = formed.fits in let few = formed.tag_count in IsWellFormedDocument-lone limits name new before.modified content kept (omega (arith, cells, fits)) (omega (arith, count, few))))
+          (λ formed. (let fits = formed.fits in let few = formed.tag_count in let many = formed.mark_count in
+          IsWellFormedDocument-lone limits name new marks before.modified content kept stands.marked (omega (arith, cells, fits)) (omega (arith, count, few)) (omega (arith, shared, many))))
           (ap (λ (d : Document). length d.widgets) stands.is),
     )
 
@@ -45,12 +47,12 @@ does-ordered limits name old new marks before content document at order word oth
 pub does-unordered : (limits : LimitTable) (name : List ℕ) (old new : Tags) (marks : SharedMarks) (before : Kept) (content : Content) (document : Document) (at : ℕ) (order : Order) (word : List ℕ) (other : Option (List ℕ))
     (fault : table_fault.NoSuchTag) → Stands name old marks before content document → new ≡ old → IsUnknown word other old.tags fault
     → Stands name new marks before content document
-    × Does limits document (lone_document name new.tags before.modified content) (Err (NoSuchTag (unknown_at at fault))) (reordered document at order (word, other))
+    × Does limits document (lone_document name new.tags marks.marks before.modified content) (Err (NoSuchTag (unknown_at at fault))) (reordered document at order (word, other))
 does-unordered limits name old new marks before content document at order word other fault stands same unknown =
     let left = stands-same name old new marks before before content content document stands same refl refl in
     let tags : document.tags ≡ names_of old.tags = ap (λ (d : Document). d.tags) (sym stands.is) in (
       left,
-      does-left limits document (lone_document name new.tags before.modified content) (NoSuchTag (unknown_at at fault)) (reordered document at order (word, other)) left.is
+      does-left limits document (lone_document name new.tags marks.marks before.modified content) (NoSuchTag (unknown_at at fault)) (reordered document at order (word, other)) left.is
           (λ _. reordered-unknown document at order word other old.tags fault tags unknown),
     )
 
@@ -68,22 +70,26 @@ filter-shorter p (x ∷ xs) =
 pub does-delete : (limits : LimitTable) (name : List ℕ) (old new : Tags) (marks : SharedMarks) (before after : Kept) (content changed : Content) (names : List (List ℕ)) (slots : List ℕ) (document : Document)
     → Stands name old marks before content document → AreTags new → new ≡ record old { tags = tags_left names old.tags } → slots ≡ slots_deleted old.tags names → changed ≡ cleared slots content
     → log_of after ≡ log_of before
-    → IsKept name new changed × AreNew marks after × Does limits document (lone_document name new.tags after.modified changed) (Ok Empty) (tag_delete document names)
+    → IsKept name new changed × AreMarked marks changed.marks × AreNew after × Does limits document (lone_document name new.tags marks.marks after.modified changed) (Ok Empty) (tag_delete document names)
 does-delete limits name old new marks before after content changed names slots document stands sound left gone clear log =
     let content_is : changed ≡ cleared (slots_deleted old.tags names) content = clear ∙ ap (λ ss. cleared ss content) gone in
     let kept : IsKept name new changed = subst (IsKept name new) (sym content_is) (kept-cleared old names stands.kept.tags name content new stands.kept sound left) in
-    let lone = lone-cleared old names stands.kept.tags name before.modified content document stands.is in
-    let is : lone_document name new.tags after.modified changed ≡ (tag_delete document names).document =
-    ap (λ (t : Tags). lone_document name t.tags after.modified changed) left ∙ ap₂ (λ (l : Log) c. lone_document name (tags_left names old.tags) l.modified c) log content_is ∙ lone in
+    let lone = lone-cleared old names stands.kept.tags name marks.marks before.modified content document stands.is in
+    let is : lone_document name new.tags marks.marks after.modified changed ≡ (tag_delete document names).document =
+    ap (λ (t : Tags). lone_document name t.tags marks.marks after.modified changed) left ∙ ap₂ (λ (l : Log) c. lone_document name (tags_left names old.tags) marks.marks l.modified c) log content_is ∙ lone in
     let cells : length changed.cells ≡ length content.cells = ap (λ (c : Content). length c.cells) content_is ∙ length-map content.cells (cell_without (slots_deleted old.tags names)) in
-    let long = cells-lone name old.tags before.modified content document stands.is in
+    let long = cells-lone name old.tags marks.marks before.modified content document stands.is in
+    let shared = marks-lone name old.tags marks.marks before.modified content document stands.is in
+    let marked : AreMarked marks changed.marks = subst (λ (c : Content). AreMarked marks c.marks) (sym content_is) stands.marked in
     let shorter : length new.tags ≤ length old.tags =
     subst (λ (t : Tags). length t.tags ≤ length old.tags) (sym left) (filter-shorter (λ (tag : Tag). stays names tag.name) old.tags) in
     let count : length document.tags ≡ length old.tags = ap (λ (d : Document). length d.tags) (sym stands.is) ∙ length-map old.tags (λ (tag : Tag). tag.name) in (
       kept,
-      fresh-same marks before after stands.fresh log,
-      does-answered limits document (lone_document name new.tags after.modified changed) (tag_delete document names).document (tag_delete document names) is refl
+      marked,
+      fresh-same before after stands.fresh log,
+      does-answered limits document (lone_document name new.tags marks.marks after.modified changed) (tag_delete document names).document (tag_delete document names) is refl
           (λ formed. (let fits = formed.fits in let few = formed.tag_count in
-          IsWellFormedDocument-lone limits name new after.modified changed kept (omega (arith, cells, long, fits)) (omega (arith, shorter, count, few))))
+          let many = formed.mark_count in
+          IsWellFormedDocument-lone limits name new marks after.modified changed kept marked (omega (arith, cells, long, fits)) (omega (arith, shorter, count, few)) (omega (arith, shared, many))))
           (ap (λ (d : Document). length d.widgets) stands.is),
     )

@@ -24,35 +24,23 @@ use Rattle.edit_ops.specs.declared.pieces.Piece.{Piece}
 use Rattle.peers.specs.Edits.{KeyedText, keys_between, keys_or, with_action, with_cells, with_text, with_texts}
 use Rattle.peers.specs.Keys.{Keys, keys_of, key_pairs}
 use Rattle.peers.specs.Slots.{state_shown, texts_put_in, unkept}
-use Rattle.peers.specs.World.{Document, KeyedCell, document_of, keyed, lone_document, mark_of, new_mark, whole_widget}
+use Rattle.peers.specs.Kept.{IsMarked}
+use Rattle.peers.specs.World.{Document, KeyedCell, SharedMark, document_of, keyed, lone_document, mark_of, placed, whole_widget}
+use Rattle.peers.proofs.PlacedLaws.{gravity-moved, mark_of-moved, mark-there, marked-moved, placed-moved}
+use Rattle.mark_table.specs.SharedMarks.{Mark}
+use Rattle.std.specs.List.{AllByRecursion}
 use Rattle.peers.proofs.KeyedLaws.{keyed-inserted, keyed-shared}
-
--- a mark that is there moves, and stays there
-pub mark_of-moved : (f : Place → Place) (marks : Marks) (number : ℕ) → is_some (finite.get marks number) ≡ true → mark_of (map_marks f marks) number ≡ f (mark_of marks number)
-mark_of-moved f marks number there =
-    ap (λ found. unwrap_or found new_mark) (get-map_marks f marks number)
-    ∙ elim (finite.get marks number) as (λ o. is_some o ≡ true → unwrap_or (option_map f o) new_mark ≡ f (unwrap_or o new_mark)) [
-      | None ↦ λ none. absurd (false≢true none)
-      | Some place ↦ λ _. refl
-    ] there
-
-pub mark-there : (f : Place → Place) (marks : Marks) (number : ℕ) → is_some (finite.get marks number) ≡ true → is_some (finite.get (map_marks f marks) number) ≡ true
-mark-there f marks number there =
-    ap is_some (get-map_marks f marks number)
-    ∙ elim (finite.get marks number) as (λ o. is_some o ≡ true → is_some (option_map f o) ≡ true) [
-      | None ↦ λ none. none
-      | Some place ↦ λ _. refl
-    ] there
 
 -- a piece with the keys of its slots
 abbrev pub keyed_text : List ℕ → List Tag → Piece → KeyedText
 keyed_text widget tags piece = record { text = piece.text; keys = option_map (keys_of (key_pairs widget tags)) piece.slots }
 
-abbrev pub lone_state : List ℕ → List Tag → State → Document
-lone_state widget tags state = lone_document widget tags state.log.modified state.content
+abbrev pub lone_state : List ℕ → List Tag → List Mark → State → Document
+lone_state widget tags marks state = lone_document widget tags marks state.log.modified state.content
 
--- the widget's own marks are there, and no history is
-pub record IsLone (state : State) : Type 0 where
+-- the widget's own marks and the shared ones are there, and no history is
+pub record IsLone (marks : List Mark) (state : State) : Type 0 where
+  pub shared : AllByRecursion (IsMarked state.content.marks) marks
   pub insert : is_some (finite.get state.content.marks 0) ≡ true
   pub current : is_some (finite.get state.content.marks 1) ≡ true
   pub history : state.log.history ≡ no_history
@@ -67,12 +55,12 @@ keys_put widget tags at (Some slots) cells apart within = refl
 abbrev cells_with : List ℕ → Keys → List KeyedCell
 cells_with text keys = map (λ character. record { character = character; keys = keys }) text
 
-lone-put : (widget : List ℕ) (tags : List Tag) (at : ℕ) (piece : Piece) (modified : Modified) (content : Content) → AreApart (names_of tags) → at < length content.cells
-    → is_some (finite.get content.marks 0) ≡ true → is_some (finite.get content.marks 1) ≡ true
-    → lone_document widget tags (counted_new modified) (after_insertion at piece.text (slots_or piece.slots (shared_slots at content.cells)) content)
+lone-put : (widget : List ℕ) (tags : List Tag) (marks : List Mark) (at : ℕ) (piece : Piece) (modified : Modified) (content : Content) → AreApart (names_of tags) → at < length content.cells
+    → is_some (finite.get content.marks 0) ≡ true → is_some (finite.get content.marks 1) ≡ true → AllByRecursion (IsMarked content.marks) marks
+    → lone_document widget tags marks (counted_new modified) (after_insertion at piece.text (slots_or piece.slots (shared_slots at content.cells)) content)
     ≡ with_action Insert (record { inserts = true; at = at; text = piece.text })
-    (with_cells at (cells_with piece.text (keys_or (keyed_text widget tags piece).keys (keys_between (keyed (key_pairs widget tags) content.cells) at))) (lone_document widget tags modified content))
-lone-put widget tags at piece modified content apart within insert current =
+    (with_cells at (cells_with piece.text (keys_or (keyed_text widget tags piece).keys (keys_between (keyed (key_pairs widget tags) content.cells) at))) (lone_document widget tags marks modified content))
+lone-put widget tags marks at piece modified content apart within insert current each =
     let pairs = key_pairs widget tags in
     let slots = slots_or piece.slots (shared_slots at content.cells) in
     let keys = keys_or (keyed_text widget tags piece).keys (keys_between (keyed pairs content.cells) at) in
@@ -84,7 +72,10 @@ lone-put widget tags at piece modified content apart within insert current =
     mark_of-moved (moved at (length piece.text)) content.marks 0 insert ∙ ap (λ n. moved at n (mark_of content.marks 0)) count in
     let second : mark_of (map_marks (moved at (length piece.text)) content.marks) 1 ≡ moved at (length new) (mark_of content.marks 1) =
     mark_of-moved (moved at (length piece.text)) content.marks 1 current ∙ ap (λ n. moved at n (mark_of content.marks 1)) count in
-    λ i. document_of (cells i) (whole_widget widget (first i) (second i)) (names_of tags) (counted_new modified)
+    let shared : placed (map_marks (moved at (length piece.text)) content.marks) marks ≡ map (λ (mark : SharedMark). record mark { place = moved at (length new) mark.place }) (placed content.marks marks) =
+    placed-moved (moved at (length piece.text)) content.marks marks each
+    ∙ ap (λ n. map (λ (mark : SharedMark). record mark { place = moved at n mark.place }) (placed content.marks marks)) count in
+    λ i. document_of (cells i) (whole_widget widget (first i) (second i)) (shared i) (names_of tags) (counted_new modified)
 
 abbrev put_in : ℕ → Piece → State → State
 put_in at piece state = record {
@@ -94,22 +85,23 @@ put_in at piece state = record {
 }
 
 -- one text
-pub lone-text : (widget : List ℕ) (tags : List Tag) (at : ℕ) (piece : Piece) (state : State) → AreApart (names_of tags) → at < length state.content.cells → IsLone state
-    → lone_state widget tags (inserted_text unkept Insert at piece state) ≡ with_text Insert at (keyed_text widget tags piece) (lone_state widget tags state)
-lone-text widget tags at piece state apart within lone =
-    let document = lone_state widget tags state in
+pub lone-text : (widget : List ℕ) (tags : List Tag) (marks : List Mark) (at : ℕ) (piece : Piece) (state : State) → AreApart (names_of tags) → at < length state.content.cells → IsLone marks state
+    → lone_state widget tags marks (inserted_text unkept Insert at piece state) ≡ with_text Insert at (keyed_text widget tags piece) (lone_state widget tags marks state)
+lone-text widget tags marks at piece state apart within lone =
+    let document = lone_state widget tags marks state in
     let text = keyed_text widget tags piece in
     let put = with_action Insert (record { inserts = true; at = at; text = piece.text }) (with_cells at (cells_with piece.text (keys_or text.keys (keys_between document.cells at))) document) in
-    elim (length piece.text == 0) as (λ b. lone_state widget tags (if b then state else put_in at piece state) ≡ (if b then document else put)) [
+    elim (length piece.text == 0) as (λ b. lone_state widget tags marks (if b then state else put_in at piece state) ≡ (if b then document else put)) [
       | true ↦ refl
-      | false ↦ lone-put widget tags at piece state.log.modified state.content apart within lone.insert lone.current
+      | false ↦ lone-put widget tags marks at piece state.log.modified state.content apart within lone.insert lone.current lone.shared
     ]
 
-IsLone-text : (at : ℕ) (piece : Piece) (state : State) → IsLone state → IsLone (inserted_text unkept Insert at piece state)
-IsLone-text at piece state lone =
-    elim (length piece.text == 0) as (λ b. IsLone (if b then state else put_in at piece state)) [
+IsLone-text : (marks : List Mark) (at : ℕ) (piece : Piece) (state : State) → IsLone marks state → IsLone marks (inserted_text unkept Insert at piece state)
+IsLone-text marks at piece state lone =
+    elim (length piece.text == 0) as (λ b. IsLone marks (if b then state else put_in at piece state)) [
       | true ↦ lone
       | false ↦ record {
+        shared = marked-moved (moved at (length piece.text)) state.content.marks marks (gravity-moved at (length piece.text)) lone.shared;
         insert = mark-there (moved at (length piece.text)) state.content.marks 0 lone.insert;
         current = mark-there (moved at (length piece.text)) state.content.marks 1 lone.current;
         history = lone.history;
@@ -126,23 +118,23 @@ length-text at piece state within =
       | false ↦ λ _. length-cells_inserted at piece.text (slots_or piece.slots (shared_slots at state.content.cells)) state.content.cells (omega (arith, within))
     ] refl
 
-lone-all : (widget : List ℕ) (tags : List Tag) (at : ℕ) (pieces : List Piece) (state : State) → AreApart (names_of tags) → at < length state.content.cells → IsLone state
-    → (lone_state widget tags (inserted_texts unkept Insert at pieces state) ≡ with_texts Insert at (map (keyed_text widget tags) pieces) (lone_state widget tags state))
-    × IsLone (inserted_texts unkept Insert at pieces state)
-lone-all widget tags at [] state apart within lone = (refl, lone)
-lone-all widget tags at (piece ∷ pieces) state apart within lone =
+lone-all : (widget : List ℕ) (tags : List Tag) (marks : List Mark) (at : ℕ) (pieces : List Piece) (state : State) → AreApart (names_of tags) → at < length state.content.cells → IsLone marks state
+    → (lone_state widget tags marks (inserted_texts unkept Insert at pieces state) ≡ with_texts Insert at (map (keyed_text widget tags) pieces) (lone_state widget tags marks state))
+    × IsLone marks (inserted_texts unkept Insert at pieces state)
+lone-all widget tags marks at [] state apart within lone = (refl, lone)
+lone-all widget tags marks at (piece ∷ pieces) state apart within lone =
     let next = inserted_text unkept Insert at piece state in
     let long = length-text at piece state within in
-    let rest = lone-all widget tags (at + length piece.text) pieces next apart (omega (arith, long, within)) (IsLone-text at piece state lone) in
-    (rest.0 ∙ ap (with_texts Insert (at + length piece.text) (map (keyed_text widget tags) pieces)) (lone-text widget tags at piece state apart within lone), rest.1)
+    let rest = lone-all widget tags marks (at + length piece.text) pieces next apart (omega (arith, long, within)) (IsLone-text marks at piece state lone) in
+    (rest.0 ∙ ap (with_texts Insert (at + length piece.text) (map (keyed_text widget tags) pieces)) (lone-text widget tags marks at piece state apart within lone), rest.1)
 
 -- the document after texts is the one that the definition gives, and no history is kept
-pub lone-texts : (widget : List ℕ) (tags : List Tag) (at : ℕ) (pieces : List Piece) (content : Content) (log : Log) → AreApart (names_of tags) → at < length content.cells
-    → is_some (finite.get content.marks 0) ≡ true → is_some (finite.get content.marks 1) ≡ true → log.history ≡ no_history → log.most ≡ 0
+pub lone-texts : (widget : List ℕ) (tags : List Tag) (marks : List Mark) (at : ℕ) (pieces : List Piece) (content : Content) (log : Log) → AreApart (names_of tags) → at < length content.cells
+    → is_some (finite.get content.marks 0) ≡ true → is_some (finite.get content.marks 1) ≡ true → AllByRecursion (IsMarked content.marks) marks → log.history ≡ no_history → log.most ≡ 0
     → let made = texts_put_in at pieces content log in
-    (lone_document widget tags made.log.modified made.content
-    ≡ with_texts Insert at (map (λ (piece : Piece). record { text = piece.text; keys = option_map (keys_of (key_pairs widget tags)) piece.slots }) pieces) (lone_document widget tags log.modified content))
-    × (made.log.history ≡ no_history) × (made.log.most ≡ 0)
-lone-texts widget tags at pieces content log apart within insert current history most =
-    let all = lone-all widget tags at pieces (state_shown content log) apart within (record { insert = insert; current = current; history = history; most = most }) in
-    (all.0, all.1.history, all.1.most)
+    (lone_document widget tags marks made.log.modified made.content
+    ≡ with_texts Insert at (map (λ (piece : Piece). record { text = piece.text; keys = option_map (keys_of (key_pairs widget tags)) piece.slots }) pieces) (lone_document widget tags marks log.modified content))
+    × AllByRecursion (IsMarked made.content.marks) marks × (made.log.history ≡ no_history) × (made.log.most ≡ 0)
+lone-texts widget tags marks at pieces content log apart within insert current each history most =
+    let all = lone-all widget tags marks at pieces (state_shown content log) apart within (record { shared = each; insert = insert; current = current; history = history; most = most }) in
+    (all.0, all.1.shared, all.1.history, all.1.most)

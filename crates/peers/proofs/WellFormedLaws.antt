@@ -13,14 +13,17 @@ use Rattle.text_model.specs.Content.{Content}
 use Rattle.text_model.specs.Documents.{IsDocument}
 use Rattle.text_model.specs.LimitTable.{LimitTable}
 use Rattle.name_list.specs.Names.{AreApart}
+use Rattle.mark_table.specs.SharedMarks.{SharedMarks}
+use Rattle.mark_table.specs.SharedMarks.{names_of as names_of_marks}
 use Rattle.tag_table.specs.Tags.{Tag, Tags, AreTags, names_of}
 use Rattle.undo_stack.specs.Modified.{Modified}
 use Rattle.peers.specs.Keys.{key_named, key_pairs}
-use Rattle.peers.specs.Kept.{IsKept}
+use Rattle.peers.specs.Kept.{AreMarked, IsKept}
 use Rattle.peers.specs.Words.{is_same, is_among}
-use Rattle.peers.specs.World.{Document, Widget, keyed, lone_document, lone_widget, mark_of, new_mark, sel}
+use Rattle.peers.specs.World.{Document, Widget, keyed, lone_document, lone_widget, sel}
 use Rattle.peers.specs.WellFormed.{belongs, HasItsKeys, IsWellFormedDocument}
 use Rattle.peers.proofs.BridgeLaws.{AreApart-head, AreApart-tail, keys_of-belongs}
+use Rattle.peers.proofs.PlacedLaws.{offset-within, placed-length, placed-names, placed-within, placed-words}
 use Rattle.peers.proofs.LoneLaws.{characters-keyed, length-keyed, found_tag}
 
 -- a key on a cell is that of a tag, or of the widget
@@ -57,26 +60,18 @@ distinct_one : (name : List ℕ) → IsDistinct is_same (name ∷ [])
 unfolding IsDistinct
 distinct_one name = (tt, tt)
 
-distinct_none : IsDistinct is_same []
-unfolding IsDistinct
-distinct_none = tt
-
 sel_among : (table : Tags) → AreTags table → is_among sel (names_of table.tags) ≡ true
 sel_among table are = elim (found_tag sel table.tags 0) [
   | inl none ↦ absurd (let h : None ≡ Some 0 = sym none.0 ∙ are.selection in cc)
   | inr there ↦ there.among
 ]
 
--- a mark that is there, or one at the start
-stands : (found : Option Place) (end : ℕ) → ((place : Place) → found ≡ Some place → place.offset ≤ end) → (unwrap_or found new_mark).offset ≤ end
-stands None end within = omega arith
-stands (Some place) end within = within place refl
-
-pub IsWellFormedDocument-lone : (limits : LimitTable) (name : List ℕ) (table : Tags) (modified : Modified) (content : Content) → IsKept name table content → length content.cells ≤ limits.chars
-    → length table.tags ≤ limits.tags + 1 → IsWellFormedDocument limits (lone_document name table.tags modified content)
-IsWellFormedDocument-lone limits name table modified content kept fits few =
+pub IsWellFormedDocument-lone : (limits : LimitTable) (name : List ℕ) (table : Tags) (marks : SharedMarks) (modified : Modified) (content : Content) → IsKept name table content → AreMarked marks content.marks
+    → length content.cells ≤ limits.chars
+    → length table.tags ≤ limits.tags + 1 → length marks.marks ≤ limits.marks → IsWellFormedDocument limits (lone_document name table.tags marks.marks modified content)
+IsWellFormedDocument-lone limits name table marks modified content kept marked fits few few_marks =
     let pairs = key_pairs name table.tags in
-    let document : Document = lone_document name table.tags modified content in
+    let document : Document = lone_document name table.tags marks.marks modified content in
     let long = length-keyed pairs content.cells in
     record {
       text = subst IsDocument (sym (characters-keyed pairs content.cells)) kept.text;
@@ -89,15 +84,16 @@ IsWellFormedDocument-lone limits name table modified content kept fits few =
           start = λ at none. absurd (cc);
           end = λ at none. absurd (cc);
           ordered = omega arith;
-          insert = omega (arith, long, stands (finite.get content.marks 0) (length content.cells) (kept.marks 0));
-          current = omega (arith, long, stands (finite.get content.marks 1) (length content.cells) (kept.marks 1));
+          insert = omega (arith, long, offset-within (finite.get content.marks 0) (length content.cells) (kept.marks 0));
+          current = omega (arith, long, offset-within (finite.get content.marks 1) (length content.cells) (kept.marks 1));
         },
         tt,
       );
       widget_names = distinct_one name;
-      marks = tt;
-      mark_names = distinct_none;
-      mark_count = omega arith;
+      marks = placed-within content.marks (length document.cells) marks.marks (λ number place there. (let within = kept.marks number place there in omega (arith, long, within)));
+      mark_names = subst (IsDistinct is_same) (sym (placed-names content.marks marks.marks)) (distinct_apart (names_of_marks marks.marks) marked.marks.names_apart);
+      mark_words = placed-words content.marks marks.marks marked.each;
+      mark_count = omega (arith, placed-length content.marks marks.marks, few_marks);
       tag_names = distinct_apart (names_of table.tags) kept.tags.names_apart;
       sel = sel_among table kept.tags;
       tag_count = omega (arith, length-map table.tags (λ (tag : Tag). tag.name), few);

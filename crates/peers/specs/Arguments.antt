@@ -26,6 +26,12 @@ one_or_two_of (first ∷ []) = Ok (first, None)
 one_or_two_of (first ∷ second ∷ []) = Ok (first, Some second)
 one_or_two_of (first ∷ second ∷ more ∷ others) = Err WrongArguments
 
+abbrev pub two_of : List (List ℕ) → Result (List ℕ × List ℕ) Fault
+two_of [] = Err WrongArguments
+two_of (first ∷ []) = Err WrongArguments
+two_of (first ∷ second ∷ []) = Ok (first, second)
+two_of (first ∷ second ∷ more ∷ others) = Err WrongArguments
+
 abbrev pub three_of : List (List ℕ) → Result (List ℕ × List ℕ × List ℕ) Fault
 three_of [] = Err WrongArguments
 three_of (first ∷ []) = Err WrongArguments

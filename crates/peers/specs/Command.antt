@@ -3,12 +3,13 @@ use Rattle.std.specs.Prelude.{ℕ, List, take, drop, Result, Ok, Err}
 use Rattle.text_model.specs.LimitTable.{LimitTable}
 use Rattle.command_table.specs.Reading.{reading}
 use Rattle.command_table.specs.declared.commands.Command.{Command}
-use Rattle.command_table.specs.declared.commands.Command.TheVariants.{Insert, Get, Index, Compare, TagAdd, TagRemove, TagDelete, TagNames, TagRanges, TagNextRange, TagPreviousRange, TagRaise, TagLower}
+use Rattle.command_table.specs.declared.commands.Command.TheVariants.{Insert, Get, Index, Compare, MarkGravity, MarkNames, MarkNext, MarkPrevious, MarkSet, MarkUnset, TagAdd, TagRemove, TagDelete, TagNames, TagRanges, TagNextRange, TagPreviousRange, TagRaise, TagLower}
 use Rattle.command_table.specs.declared.shapes.Shape.{Shape}
 use Rattle.command_table.specs.declared.shapes.ShapeFault.{ShapeFault}
 use Rattle.peers.specs.declared.answers.Fault.TheVariants.{BadOption}
 use Rattle.peers.specs.Faults.{shape_fault}
 use Rattle.peers.specs.Indices.{index, compare}
+use Rattle.peers.specs.Marks.{mark_set, mark_unset, mark_gravity, mark_names_of, mark_next, mark_previous}
 use Rattle.peers.specs.Promise.{Change, refused, asked}
 use Rattle.peers.specs.Tags.{tag_add, tag_remove, tag_delete, tag_names, tag_ranges_of, tag_nextrange, tag_prevrange, tag_raise, tag_lower}
 use Rattle.peers.specs.Texts.{insert, get}
@@ -24,6 +25,12 @@ done Insert limits document widget at arguments = insert limits document widget 
 done Get limits document widget at arguments = asked document (get document widget at arguments)
 done Index limits document widget at arguments = asked document (index document widget at arguments)
 done Compare limits document widget at arguments = asked document (compare document widget at arguments)
+done MarkGravity limits document widget at arguments = mark_gravity document widget at arguments
+done MarkNames limits document widget at arguments = asked document (mark_names_of document)
+done MarkNext limits document widget at arguments = asked document (mark_next document widget at arguments)
+done MarkPrevious limits document widget at arguments = asked document (mark_previous document widget at arguments)
+done MarkSet limits document widget at arguments = mark_set limits document widget at arguments
+done MarkUnset limits document widget at arguments = mark_unset document arguments
 done TagAdd limits document widget at arguments = tag_add limits document widget at arguments
 done TagRemove limits document widget at arguments = tag_remove document widget at arguments
 done TagDelete limits document widget at arguments = tag_delete document arguments

@@ -1,16 +1,18 @@
 -- What holds of a document's name, text, tables and history at any time.
-use Rattle.std.specs.Prelude.{◌≡◌, ℕ, ◌≤◌, ◌==◌, Bool, true, false, List, [], ◌∷◌, length, is_some, Contains}
+use Rattle.std.specs.Prelude.{◌≡◌, ℕ, ◌≤◌, ◌==◌, Bool, true, false, List, [], ◌∷◌, length, is_some, Contains, Some, option_map}
 use Rattle.std.specs.FinMap as finite
 use Rattle.std.specs.FinSet as set
-use Rattle.std.specs.List.{All}
+use Rattle.std.specs.List.{All, AllByRecursion}
 use Rattle.text_model.specs.declared.cells.Cell.{Cell}
-use Rattle.text_model.specs.declared.limits.TheConstants.Limits.{MOST_CHARS, MOST_TAGS}
-use Rattle.text_model.specs.Content.{Content, characters}
+use Rattle.text_model.specs.declared.limits.TheConstants.Limits.{MOST_CHARS, MOST_MARKS, MOST_TAGS}
+use Rattle.text_model.specs.declared.places.Place.{Place}
+use Rattle.text_model.specs.Content.{Content, Marks, characters}
 use Rattle.text_model.specs.Documents.{IsDocument, MarksStand}
-use Rattle.mark_table.specs.SharedMarks.{SharedMarks}
+use Rattle.mark_table.specs.SharedMarks.{AreMarks, Mark, SharedMarks}
 use Rattle.tag_table.specs.Tags.{Tag, Tags, slots_of, AreTags}
 use Rattle.undo_stack.specs.History.{no_history}
 use Rattle.undo_stack.specs.Rings.{Kept}
+use Rattle.peers.specs.Words.{is_own}
 
 -- a dot and at least one more character
 abbrev pub is_window_name : List ℕ → Bool
@@ -35,8 +37,18 @@ pub record IsKept (name : List ℕ) (table : Tags) (content : Content) : Type 0 
   pub tags : AreTags table
   pub roomy : table.limit ≡ MOST_TAGS
 
--- no shared mark, and no history; the text may be modified
-pub record AreNew (marks : SharedMarks) (kept : Kept) : Type 0 where
-  pub none_shared : marks.marks ≡ []
+-- a mark of the table stands in the store, there with the table's gravity, and it isn't called as a widget's own
+pub record IsMarked (places : Marks) (mark : Mark) : Type 0 where
+  pub stands : option_map (λ (place : Place). place.gravity) (finite.get places mark.number) ≡ Some mark.gravity
+  pub shared : is_own mark.name ≡ false
+
+-- the table of shared marks and the marks of the store are the same
+pub record AreMarked (table : SharedMarks) (places : Marks) : Type 0 where
+  pub marks : AreMarks table
+  pub roomy : table.limit ≡ MOST_MARKS
+  pub each : AllByRecursion (IsMarked places) table.marks
+
+-- no history; the text may be modified
+pub record AreNew (kept : Kept) : Type 0 where
   pub no_history : kept.history ≡ no_history
   pub no_limit : kept.most ≡ 0

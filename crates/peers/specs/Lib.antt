@@ -6,6 +6,7 @@ pub mod Indices
 pub mod Kept
 pub mod Keys
 pub mod Lists
+pub mod Marks
 pub mod Names
 pub mod Promise
 pub mod Ranges

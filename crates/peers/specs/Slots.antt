@@ -4,7 +4,10 @@ use Rattle.std.specs.Prelude.{◌++◌, encode_utf8_all}
 use Rattle.tcl_words.specs.ListText.{list_text}
 use Rattle.std.specs.List.{filter_map}
 use Rattle.std.specs.FinSet as set
-use Rattle.text_model.specs.Content.{Slots}
+use Rattle.text_model.specs.Content.{Marks, Slots}
+use Rattle.std.specs.FinMap as finite
+use Rattle.mark_table.specs.SharedMarks.{AreMarks, IsLeastFree, Mark, SharedMarks, number_of, numbers_of}
+use Rattle.text_model.specs.declared.places.Gravity.TheVariants.{Right}
 use Rattle.tag_table.specs.Tags.{Tag, Tags, slot_of}
 use Rattle.text_model.specs.Content.{Content}
 use Rattle.undo_stack.specs.declared.actions.EditKind.TheVariants as kind
@@ -17,6 +20,7 @@ use Rattle.text_model.specs.LimitTable.{LimitTable}
 use Rattle.peers.specs.declared.answers.Fault.{Fault}
 use Rattle.peers.specs.declared.answers.Fault.TheVariants.{TooManyTags, TextTooLong}
 use Rattle.peers.specs.Lists.{Pair}
+use Rattle.peers.specs.Marks.{is_left}
 use Rattle.peers.specs.Tags.{stays}
 
 -- the tags of a table stand at the front of another
@@ -62,6 +66,27 @@ state_shown content log = state_of content (whole ∷ []) log
 
 abbrev pub texts_put_in : ℕ → List Piece → Content → Log → State
 texts_put_in at pieces content log = inserted_texts unkept kind.Insert at pieces (state_shown content log)
+
+-- the marks of a store without those of some numbers
+abbrev pub taken : List ℕ → Marks → Marks
+taken [] marks = marks
+taken (number ∷ numbers) marks = taken numbers (finite.remove marks number)
+
+-- the numbers of the marks of some names
+abbrev pub numbers_named : List Mark → List (List ℕ) → List ℕ
+numbers_named marks names = filter_map (λ name. number_of name marks) names
+
+-- a mark is made, and stands at an offset
+pub record IsMadeMark (name : List ℕ) (offset : ℕ) (old new : SharedMarks) (content changed : Content) : Type 0 where
+  pub number : ℕ
+  pub fresh : IsLeastFree (numbers_of old.marks) number
+  pub sound : AreMarks new
+  pub table : new ≡ record old { marks = old.marks ++ record { name = name; number = number; gravity = Right } ∷ [] }
+  pub store : changed ≡ record content { marks = finite.insert content.marks number (record { offset = offset; gravity = Right }) }
+
+-- a table without the marks of some names
+abbrev pub marks_left : List (List ℕ) → List Mark → List Mark
+marks_left names marks = filter (λ (mark : Mark). is_left names mark.name) marks
 
 -- why there may not be so many tags, `sel` among them, and so many characters
 abbrev pub excess : LimitTable → ℕ → ℕ → Option Fault

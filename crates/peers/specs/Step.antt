@@ -30,7 +30,7 @@ widget_named name document = find (λ (widget : Widget). is_same widget.name nam
 -- a document of one newline without keys, shown by one widget, that knows `sel` alone
 abbrev pub new_document : List ℕ → Document
 new_document name =
-    document_of (record { character = 10; keys = set.empty } ∷ []) (whole_widget name new_mark new_mark) (sel ∷ []) unmodified
+    document_of (record { character = 10; keys = set.empty } ∷ []) (whole_widget name new_mark new_mark) [] (sel ∷ []) unmodified
 
 -- the world with one document, where there may be a widget
 abbrev pub create_first : World → List ℕ → Outcome

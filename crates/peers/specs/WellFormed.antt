@@ -1,5 +1,5 @@
 -- When a world is well formed: what every command can rely on, and keeps.
-use Rattle.std.specs.Prelude.{◌≡◌, ℕ, ◌+◌, ◌<◌, ◌≤◌, Bool, true, ◌&&◌, not, List, length, map, sum_by, if◌then◌else◌}
+use Rattle.std.specs.Prelude.{◌≡◌, ℕ, ◌+◌, ◌<◌, ◌≤◌, Bool, true, false, ◌&&◌, not, List, length, map, sum_by, if◌then◌else◌}
 use Rattle.std.specs.List.{AllByRecursion, IsDistinct}
 use Rattle.std.specs.Option.{ForSome}
 use Rattle.std.specs.FinSet as set
@@ -9,7 +9,7 @@ use Rattle.text_model.specs.LimitTable.{LimitTable, AreLimits}
 use Rattle.peers.specs.Keys.{Key}
 use Rattle.peers.specs.World.{World, Document, Widget, SharedMark, KeyedCell, characters, sel}
 use Rattle.peers.specs.View.{view_start, view_end}
-use Rattle.peers.specs.Words.{is_same, is_among}
+use Rattle.peers.specs.Words.{is_same, is_among, is_own}
 use Rattle.peers.specs.Kept.{is_window_name}
 use Rattle.undo_stack.specs.Fits.{FitsText}
 
@@ -44,6 +44,7 @@ pub record IsWellFormedDocument (limits : LimitTable) (document : Document) : Ty
   pub widget_names : IsDistinct is_same (map (λ (widget : Widget). widget.name) document.widgets)
   pub marks : AllByRecursion (λ (mark : SharedMark). mark.place.offset ≤ length document.cells) document.marks
   pub mark_names : IsDistinct is_same (map (λ (mark : SharedMark). mark.name) document.marks)
+  pub mark_words : AllByRecursion (λ (mark : SharedMark). is_own mark.name ≡ false) document.marks
   pub mark_count : length document.marks ≤ limits.marks
   pub tag_names : IsDistinct is_same document.tags
   pub sel : is_among sel document.tags ≡ true

@@ -10,6 +10,7 @@ use Rattle.undo_stack.specs.History.{History, no_history}
 use Rattle.undo_stack.specs.Modified.{Modified, unmodified}
 pub use Rattle.tag_table.specs.Tags.{sel}
 use Rattle.tag_table.specs.Tags.{Tag, names_of}
+use Rattle.mark_table.specs.SharedMarks.{Mark}
 use Rattle.peers.specs.Keys.{Key, Keys, keys_of, key_pairs}
 
 -- a character with a finite set of keys
@@ -62,12 +63,12 @@ whole_widget name insert current = record {
   current = current;
 }
 
--- a document of these cells, with one widget, these tags from the lowest, and nothing else; it may be modified
-abbrev pub document_of : List KeyedCell → Widget → List (List ℕ) → Modified → Document
-document_of cells widget tags modified = record {
+-- a document of these cells, with one widget, these shared marks, these tags from the lowest, and nothing else; it may be modified
+abbrev pub document_of : List KeyedCell → Widget → List SharedMark → List (List ℕ) → Modified → Document
+document_of cells widget marks tags modified = record {
   cells = cells;
   widgets = widget ∷ [];
-  marks = [];
+  marks = marks;
   tags = tags;
   history = no_history;
   modified = modified;
@@ -88,11 +89,15 @@ first_content = record new_content { marks = finite.insert (finite.insert finite
 abbrev pub mark_of : Marks → ℕ → Place
 mark_of marks number = unwrap_or (finite.get marks number) new_mark
 
--- the document of a store and a table of tags, and its widget, whose own marks are the first two
-abbrev pub lone_document : List ℕ → List Tag → Modified → Content → Document
-lone_document name tags modified content =
+-- the marks of a table, each with where it stands in a store
+abbrev pub placed : Marks → List Mark → List SharedMark
+placed places marks = map (λ (mark : Mark). record { name = mark.name; place = mark_of places mark.number }) marks
+
+-- the document of a store and the tables of its tags and its marks, and its widget, whose own marks are the first two
+abbrev pub lone_document : List ℕ → List Tag → List Mark → Modified → Content → Document
+lone_document name tags marks modified content =
     document_of (keyed (key_pairs name tags) content.cells)
-    (whole_widget name (mark_of content.marks 0) (mark_of content.marks 1)) (names_of tags) modified
+    (whole_widget name (mark_of content.marks 0) (mark_of content.marks 1)) (placed content.marks marks) (names_of tags) modified
 
 -- the first widget of a document
 abbrev pub first_widget : List ℕ → List Widget → Widget

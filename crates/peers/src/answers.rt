@@ -32,6 +32,9 @@ pub enum Fault {
     /// name in bytes, with which the word begins.
     #[error("text doesn't contain any characters tagged with a tag")]
     NoTaggedCharacters(usize, usize),
+    /// The word names no mark.
+    #[error("there is no such mark")]
+    NoSuchMark(usize),
     /// The word names no tag.
     #[error("tag isn't defined in text widget")]
     NoSuchTag(usize),
@@ -50,6 +53,9 @@ pub enum Fault {
     /// The word is no comparison.
     #[error("bad comparison operator")]
     BadComparison(usize),
+    /// The word is no gravity of a mark.
+    #[error("bad mark gravity")]
+    BadGravity(usize),
     /// The word is the text of no list.
     #[error("bad list")]
     BadList(usize),
@@ -62,6 +68,9 @@ pub enum Fault {
     /// There would be more tags than there may be.
     #[error("too many tags")]
     TooManyTags,
+    /// There would be more shared marks than there may be.
+    #[error("too many marks")]
+    TooManyMarks,
     /// The text would have more characters than it may.
     #[error("text is too long")]
     TextTooLong,

@@ -1,6 +1,6 @@
 ghost use Rattle.std.specs.Prelude.{◌≡◌, Some, None, Ok, Err, option_map, chars, length, ◌+◌, IfOk, IfErr};
 ghost use Rattle.tcl_words.specs.Unread.{texts_of};
-ghost use Rattle.peers.specs.Arguments.{first_of, none_or_one_of, one_of, one_or_two_of, two_or_three_of, three_of};
+ghost use Rattle.peers.specs.Arguments.{first_of, none_or_one_of, one_of, one_or_two_of, two_of, two_or_three_of, three_of};
 
 use crate::answers::Fault;
 
@@ -50,6 +50,17 @@ pub fn one_or_two(arguments: &[String]) -> Result<(&str, Option<&str>), Fault>
         2 => Ok((arguments[0].as_str(), Some(arguments[1].as_str()))),
         _ => Err(Fault::WrongArguments),
     }
+}
+
+/// The arguments of a command that takes two.
+pub fn two(arguments: &[String]) -> Result<(&str, &str), Fault>
+    ensures ok { IfOk result (λ words. two_of (texts_of arguments.now) ≡ Ok (chars words.0.now, chars words.1.now)) }
+    ensures err { IfErr result (λ fault. two_of (texts_of arguments.now) ≡ Err fault) }
+{
+    if arguments.len() != 2 {
+        return Err(Fault::WrongArguments);
+    }
+    Ok((arguments[0].as_str(), arguments[1].as_str()))
 }
 
 /// The arguments of a command that takes three.

@@ -24,21 +24,28 @@ ghost use Rattle.tcl_words.specs.Unread.{texts_of};
 ghost use Rattle.text_index.specs.Ranges.{tag_ranges, next_range, previous_range};
 ghost use Rattle.peers.specs.Tags.{flags_of, tags_on, range_words, begun, add_spans, remove_spans, tag_delete, reordered, raised, lowered};
 ghost use Rattle.peers.specs.Words.{is_among};
+ghost use Rattle.std.specs.Prelude.{[], IfSome, slice_index_or};
+ghost use Rattle.mark_table.specs.Order.{next_mark, previous_mark, rank_of};
+ghost use Rattle.peers.specs.declared.answers.Answer.TheVariants.{Empty};
+ghost use Rattle.peers.specs.Promise.{answered};
+ghost use Rattle.peers.specs.Names.{mark_number, mark_place};
+ghost use Rattle.peers.specs.Marks.{gravity_word as spec_gravity_word, mark_names, mark_offset, mark_unset, place_named, set_found, usable_marks, with_current, with_insert, with_mark, with_shared};
 
 use crate::answers::{Answer, Fault};
-use crate::edits::{clear_slots, new_store, put_texts, set_slot};
-use crate::listing::{push_names, push_names_in, push_next, push_previous, push_ranges};
+use crate::edits::{clear_slots, new_store, put_mark, put_texts, set_slot, take_marks};
+use crate::listing::{push_mark_names, push_names, push_names_in, push_next, push_previous, push_ranges};
 use crate::lists::Pair;
+use crate::marking::{gravity_word, make_mark, numbers_named, turn_mark, unset_names};
 use crate::ranges::spans_of;
 use crate::tagging::{delete_names, deleted_slots, make_listed, make_tag, pieces_of};
 use crate::words::is_word;
 use edit_ops::Span;
-use mark_table::MarkTable;
+use mark_table::{MarkTable, MarkView, Origin, WidgetMark};
 use std::alloc::{AllocError, Global};
 use std::marker::Model;
 use tag_table::{NoSuchTag, TagTable};
 use text_index::{IndexFault, Names, View, locate, next_range, previous_range, push_index};
-use text_model::{Limits, TagSlot, Text, TextStore};
+use text_model::{Gravity, Limits, MarkNo, Place, TagSlot, Text, TextStore};
 use undo_stack::UndoStack;
 
 /// A document: the text in its store, its tags and its shared marks, its history, and the name of its widget.
@@ -59,15 +66,15 @@ impl<S: TextStore> Model for Document<S> {
     ghost use Rattle.text_model.specs.contracts.places.Place as place;
     ghost use Rattle.peers.specs.Keys.{key_cmp, key_code};
     ghost use Rattle.peers.specs.World.{Document as DocumentState, lone_document};
-    ghost use Rattle.peers.specs.Kept.{IsKept, AreNew};
+    ghost use Rattle.peers.specs.Kept.{IsKept, AreMarked, AreNew};
 
     ghost Value = { DocumentState };
 
     ghost coded = { Prim.hlevel (codes, place.the_row.coded, set.code {R = key_cmp} key_code) };
 
-    ghost view = { λ d. lone_document (chars (string_bytes d.name)) d.tags.tags d.history.modified (S.content d.store) };
+    ghost view = { λ d. lone_document (chars (string_bytes d.name)) d.tags.tags d.marks.marks d.history.modified (S.content d.store) };
 
-    ghost invariant = { λ d. IsKept (chars (string_bytes d.name)) d.tags (S.content d.store) × AreNew d.marks d.history };
+    ghost invariant = { λ d. IsKept (chars (string_bytes d.name)) d.tags (S.content d.store) × AreMarked d.marks (S.content d.store).marks × AreNew d.history };
 }
 
 /// A place, or the fault of the index at a position of a command.
@@ -83,7 +90,8 @@ fn at_position(position: usize, found: Result<usize, IndexFault>) -> Result<usiz
 
 /// The greatest limits that there are. A table of names is made for these, and a command counts by its own.
 fn greatest_limits() -> Limits
-    ensures { result.tags ≡ Limits.MOST_TAGS }
+    ensures tags { result.tags ≡ Limits.MOST_TAGS }
+    ensures marks { result.marks ≡ Limits.MOST_MARKS }
 {
     match Limits::new(
         Limits::MOST_CHARS,
@@ -508,6 +516,205 @@ impl<S: TextStore> Document<S> {
             }
             Err(NoSuchTag::Moved) => Err(Fault::NoSuchTag(at)),
             Err(NoSuchTag::Neighbour) => Err(Fault::NoSuchTag(at + 1)),
+        }
+    }
+}
+
+impl<S: TextStore> Document<S> {
+    /// The mark of a name, which the widget can use.
+    pub fn find_mark(&self, name: &str) -> Option<WidgetMark>
+        ensures value { option_map rank_of result ≡ mark_number self.now (chars name.now) }
+        ensures shown { IfSome result (λ mark. is_some (mark_place self.now (lone_widget self.now) (rank_of mark)) ≡ true) }
+    {
+        if is_word(name, "insert") {
+            return Some(WidgetMark::Insert);
+        }
+        if is_word(name, "current") {
+            return Some(WidgetMark::Current);
+        }
+        let number = self.marks.find(name)?;
+        Some(WidgetMark::Shared(self.marks.place(number)?))
+    }
+
+    /// Where the mark of a name stands in the document, if there is one.
+    pub fn place_named(&self, name: &str) -> Option<Place>
+        ensures value { result ≡ place_named self.now (lone_widget self.now) (chars name.now) }
+        ensures within { IfSome result (λ place. place.offset ≤ length self.now.cells) }
+    {
+        if is_word(name, "insert") {
+            return self.store.mark_place(MarkNo(0));
+        }
+        if is_word(name, "current") {
+            return self.store.mark_place(MarkNo(1));
+        }
+        self.store.mark_place(self.marks.find(name)?)
+    }
+
+    /// The offset for a mark of a name at a place: of the widget's own, the end is the last character.
+    pub fn mark_offset(&self, name: &str, place: usize) -> usize
+        requires { place ≤ length (shown self.now (lone_widget self.now)) }
+        ensures value { result ≡ mark_offset self.now (lone_widget self.now) (chars name.now) place }
+        ensures within { result ≤ length self.now.cells }
+    {
+        if is_word(name, "insert") || is_word(name, "current") {
+            self.insertion_offset(place)
+        } else {
+            place
+        }
+    }
+
+    /// The word for a gravity.
+    pub fn gravity_text(&self, gravity: Gravity) -> Result<Text, AllocError>
+        ensures { IfOk result (λ text. text ≡ spec_gravity_word gravity) }
+    {
+        Ok(Text::new(String::from_str(
+            self.alloc,
+            gravity_word(gravity),
+        )?))
+    }
+
+    /// The names of all marks as a list: the widget's own two, and the shared ones by their creation.
+    pub fn all_marks(&self) -> Result<Text, AllocError>
+        ensures { IfOk result (λ list. list ≡ list_text (mark_names self.now)) }
+    {
+        let mut list = String::new(self.alloc);
+        push_mark_names(&mut list, &self.marks)?;
+        Ok(Text::new(list))
+    }
+
+    /// The name of a mark.
+    pub fn mark_name(&self, mark: WidgetMark) -> Result<Text, AllocError>
+        ensures { IfOk result (λ text. text ≡ slice_index_or (mark_names self.now) (rank_of mark) []) }
+    {
+        let name = match mark {
+            WidgetMark::Insert => "insert",
+            WidgetMark::Current => "current",
+            WidgetMark::Shared(place) if place < self.marks.len() => self.marks.name(place),
+            WidgetMark::Shared(_) => "",
+        };
+        Ok(Text::new(String::from_str(self.alloc, name)?))
+    }
+
+    /// The widget as it asks for marks: it shows the whole text.
+    fn mark_view(&self) -> MarkView
+        ensures { result ≡ record { widget = record { 0 = 0 }; start = 0; end = length self.now.cells } }
+    {
+        let widget = TagSlot(0);
+        MarkView {
+            widget,
+            start: 0,
+            end: self.store.len(),
+        }
+    }
+
+    /// The mark behind another one in the order of marks, or the first at or behind a place.
+    pub fn next_mark(&self, origin: Origin) -> Option<WidgetMark>
+        ensures { result ≡ next_mark origin (usable_marks self.now (lone_widget self.now)) }
+    {
+        self.marks.next(&self.store, self.mark_view(), origin)
+    }
+
+    /// The mark before another one in the order of marks, or the last before a place.
+    pub fn previous_mark(&self, origin: Origin) -> Option<WidgetMark>
+        ensures { result ≡ previous_mark origin (usable_marks self.now (lone_widget self.now)) }
+    {
+        self.marks.previous(&self.store, self.mark_view(), origin)
+    }
+}
+
+impl<S: TextStore> Document<S> {
+    /// Puts the widget's `insert` at a place.
+    fn put_insert(&mut self, limits: &Limits, place: Place) -> Result<Answer, Fault>
+        requires { place.offset ≤ length self.old.cells }
+        ensures { Does limits.now self.old self.new result (answered (with_insert self.old (lone_widget self.old) place) Empty) }
+    {
+        match put_mark(self.alloc, &mut self.store, MarkNo(0), place) {
+            Err(_) => Err(Fault::Memory),
+            Ok(()) => Ok(Answer::Empty),
+        }
+    }
+
+    /// Puts the widget's `current` at a place.
+    fn put_current(&mut self, limits: &Limits, place: Place) -> Result<Answer, Fault>
+        requires { place.offset ≤ length self.old.cells }
+        ensures { Does limits.now self.old self.new result (answered (with_current self.old (lone_widget self.old) place) Empty) }
+    {
+        match put_mark(self.alloc, &mut self.store, MarkNo(1), place) {
+            Err(_) => Err(Fault::Memory),
+            Ok(()) => Ok(Answer::Empty),
+        }
+    }
+
+    /// Puts the shared mark of a name at a place, if there is one.
+    fn put_shared(&mut self, limits: &Limits, name: &str, place: Place) -> Result<Answer, Fault>
+        requires { place.offset ≤ length self.old.cells }
+        ensures { Does limits.now self.old self.new result (answered (with_shared self.old (chars name.now) place) Empty) }
+    {
+        let Some(number) = self.marks.find(name) else {
+            return Ok(Answer::Empty);
+        };
+        match turn_mark(
+            self.alloc,
+            &mut self.marks,
+            &mut self.store,
+            name,
+            number,
+            place,
+        ) {
+            Err(_) => Err(Fault::Memory),
+            Ok(()) => Ok(Answer::Empty),
+        }
+    }
+
+    /// Puts the mark of a name at a place, if there is one.
+    pub fn put_mark(&mut self, limits: &Limits, name: &str, place: Place) -> Result<Answer, Fault>
+        requires { place.offset ≤ length self.old.cells }
+        ensures { Does limits.now self.old self.new result (answered (with_mark self.old (lone_widget self.old) (chars name.now) place) Empty) }
+    {
+        if is_word(name, "insert") {
+            self.put_insert(limits, place)
+        } else if is_word(name, "current") {
+            self.put_current(limits, place)
+        } else {
+            self.put_shared(limits, name, place)
+        }
+    }
+
+    /// Makes a shared mark at an offset, with right gravity, unless there are too many.
+    pub fn make_mark(
+        &mut self,
+        limits: &Limits,
+        name: &str,
+        offset: usize,
+    ) -> Result<Answer, Fault>
+        requires within { offset ≤ length self.old.cells }
+        requires new { place_named self.old (lone_widget self.old) (chars name.now) ≡ None }
+        ensures { Does limits.now self.old self.new result (set_found limits.now self.old (lone_widget self.old) (chars name.now) offset None) }
+    {
+        // Where one of the limits is read, all are known to be in their bounds.
+        let _chars = limits.chars();
+        if self.marks.len() >= limits.marks() as usize {
+            return Err(Fault::TooManyMarks);
+        }
+        match make_mark(self.alloc, &mut self.marks, &mut self.store, name, offset) {
+            Err(fault) => Err(fault),
+            Ok(()) => Ok(Answer::Empty),
+        }
+    }
+
+    /// Takes the shared marks of these names out. The widget's own and unknown names are skipped.
+    pub fn unset_marks(&mut self, limits: &Limits, names: &[String]) -> Result<Answer, Fault>
+        ensures { Does limits.now self.old self.new result (mark_unset self.old (texts_of names.now)) }
+    {
+        let numbers = numbers_named(self.alloc, &self.marks, names)?;
+        match take_marks(self.alloc, &mut self.store, &numbers) {
+            Err(_) => Err(Fault::Memory),
+            Ok(()) => {
+                unset_names(&mut self.marks, names);
+                // Where the marks are counted, they are known to be those of a table.
+                let _count = self.marks.len();
+                Ok(Answer::Empty)
+            }
         }
     }
 }

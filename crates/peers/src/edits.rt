@@ -1,12 +1,13 @@
 ghost use Rattle.std.specs.Prelude.{◌≡◌, ◌≢◌, ◌∷◌, ◌+◌, ◌<◌, ◌≤◌, [], length, map, OnOk, OnErr, IfOk, IfErr};
 ghost use Rattle.std.specs.List.{All};
+ghost use Rattle.std.specs.FinMap as finite;
 ghost use Rattle.text_model.specs.Steps.{Fits, after};
 ghost use Rattle.text_model.specs.TagBits.{slot_count};
 ghost use Rattle.edit_ops.specs.Insertions.{total};
 ghost use Rattle.edit_ops.specs.States.{log_of};
 ghost use Rattle.edit_ops.specs.Tagging.{SpanFits, tagged, cleared};
 ghost use Rattle.peers.specs.declared.answers.Fault.TheVariants.{Memory, TextTooLong};
-ghost use Rattle.peers.specs.Slots.{texts_put_in};
+ghost use Rattle.peers.specs.Slots.{taken, texts_put_in};
 ghost use Rattle.peers.specs.World.{new_mark, first_content};
 
 use crate::answers::Fault;
@@ -40,6 +41,38 @@ fn first_marks(alloc: Global) -> Result<Edit, AllocError>
     steps.push(Step::PutMark(MarkNo(0), start))?;
     steps.push(Step::PutMark(MarkNo(1), start))?;
     Ok(Edit { steps })
+}
+
+/// Puts a mark at a place.
+pub fn put_mark<S: TextStore>(
+    alloc: Global,
+    store: &mut S,
+    number: MarkNo,
+    place: Place,
+) -> Result<(), AllocError>
+    requires { place.offset ≤ length (S.content store.old).cells }
+    ensures ok { OnOk result (S.content store.new ≡ record (S.content store.old) { marks = finite.insert (S.content store.old).marks number.0 place }) }
+    ensures err { OnErr result (S.content store.new ≡ S.content store.old) }
+{
+    let mut steps = StepList::new(alloc);
+    steps.push(Step::PutMark(number, place))?;
+    make(store, Edit { steps })
+}
+
+/// Takes marks out.
+pub fn take_marks<S: TextStore>(
+    alloc: Global,
+    store: &mut S,
+    numbers: &[MarkNo],
+) -> Result<(), AllocError>
+    ensures ok { OnOk result (S.content store.new ≡ record (S.content store.old) { marks = taken (map (λ number. number.0) numbers.now) (S.content store.old).marks }) }
+    ensures err { OnErr result (S.content store.new ≡ S.content store.old) }
+{
+    let mut steps = StepList::new(alloc);
+    for number in numbers {
+        steps.push(Step::TakeMark(*number))?;
+    }
+    make(store, Edit { steps })
 }
 
 /// A store of one newline, with a widget's own two marks.

@@ -10,6 +10,8 @@ mod edits;
 mod indices;
 mod listing;
 mod lists;
+mod marking;
+mod marks;
 mod ranges;
 mod tagging;
 mod tags;

@@ -1,6 +1,8 @@
 ghost use Rattle.std.specs.Prelude.{◌≡◌, ◌≢◌, ℕ, List, ◌+◌, ◌<◌, ◌≤◌, ◌++◌, ◌∷◌, [], chars, filter, nat_lt, nat_le, string_bytes, encode_utf8_all, OnOk, if◌then◌else◌};
 ghost use Rattle.std.specs.FinSet as set;
 ghost use Rattle.tag_table.specs.Tags.{names_of};
+ghost use Rattle.mark_table.specs.SharedMarks.{names_of as mark_names_of};
+ghost use Rattle.peers.specs.Words.{literal};
 ghost use Rattle.tcl_words.specs.ListText.{list_text};
 ghost use Rattle.text_model.specs.TagBits.{slot_count};
 ghost use Rattle.text_index.specs.Positions.{position_text};
@@ -11,6 +13,7 @@ ghost use Rattle.peers.specs.Slots.{Goes};
 ghost use Rattle.peers.specs.Texts.{is_filled};
 
 use std::alloc::AllocError;
+use mark_table::MarkTable;
 use tag_table::TagTable;
 use tcl_words::push_element;
 use text_index::{TagRange, View, next_range, previous_range, push_index};
@@ -140,6 +143,27 @@ pub fn push_names(list: &mut String, tags: &TagTable) -> Result<(), AllocError>
     for place in 0..tags.len() {
         push_element(list, tags.name(place))?;
     }
+    Ok(())
+}
+
+/// Appends the names of shared marks by their creation.
+fn push_shared_names(list: &mut String, marks: &MarkTable) -> Result<(), AllocError>
+    ensures { OnOk result (Goes (string_bytes list.old) (string_bytes list.new) (mark_names_of marks.now.marks)) }
+{
+    for place in 0..marks.len() {
+        push_element(list, marks.name(place))?;
+    }
+    Ok(())
+}
+
+/// Appends the names of all marks: of a widget's own two, and of the shared ones by their creation.
+pub fn push_mark_names(list: &mut String, marks: &MarkTable) -> Result<(), AllocError>
+    ensures { OnOk result (Goes (string_bytes list.old) (string_bytes list.new)
+        (literal "insert" ∷ literal "current" ∷ mark_names_of marks.now.marks)) }
+{
+    push_element(list, "insert")?;
+    push_element(list, "current")?;
+    push_shared_names(list, marks)?;
     Ok(())
 }
 

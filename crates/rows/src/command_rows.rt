@@ -29,7 +29,7 @@ text .e
 # What the table of commands knows and isn't there yet.
 .\xc3\xa9 mark
 .\xc3\xa9 mark foo
-.\xc3\xa9 mark names
+.\xc3\xa9 replace 1.0 1.0 a
 .\xc3\xa9 delete 1.0
 .\xc3\xa9 delete
 \xc3\xa9 index end",
@@ -56,7 +56,7 @@ error: bad option \"text\"
 error: bad option \"inserts\"
 error: wrong # args
 error: bad option \"foo\"
-error: bad option \"mark\"
+error: bad option \"replace\"
 error: bad option \"delete\"
 error: wrong # args
 error: invalid command name \"é\"

@@ -2,14 +2,16 @@ use peers::Fault;
 use std::test::Fail;
 
 // Faults with their texts.
-const FAULTS: [(Fault, &str); 14] = [
+const FAULTS: [(Fault, &str); 17] = [
     (Fault::BadIndex(2), "bad text index"),
     (
         Fault::NoTaggedCharacters(2, 3),
         "text doesn't contain any characters tagged with a tag",
     ),
+    (Fault::NoSuchMark(3), "there is no such mark"),
     (Fault::NoSuchTag(3), "tag isn't defined in text widget"),
     (Fault::BadComparison(3), "bad comparison operator"),
+    (Fault::BadGravity(4), "bad mark gravity"),
     (Fault::BadList(4), "bad list"),
     (Fault::BadOption(1), "bad option"),
     (Fault::WrongArguments, "wrong # args"),
@@ -18,6 +20,7 @@ const FAULTS: [(Fault, &str); 14] = [
     (Fault::DocumentExists, "a document exists"),
     (Fault::TooManyWidgets, "too many widgets"),
     (Fault::TooManyTags, "too many tags"),
+    (Fault::TooManyMarks, "too many marks"),
     (Fault::TextTooLong, "text is too long"),
     (Fault::Memory, "out of memory"),
 ];

@@ -6,6 +6,8 @@
 mod command_rows;
 #[cfg(test)]
 mod faults;
+#[cfg(test)]
+mod mark_rows;
 mod readers;
 #[cfg(test)]
 mod scripts;

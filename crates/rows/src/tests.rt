@@ -1,4 +1,5 @@
 use crate::command_rows::{PLACES, TEXTS, WIDGETS};
+use crate::mark_rows::{GRAVITIES, MARK_ORDERS, MARKS};
 use crate::readers::Pieces;
 use crate::scripts::SCRIPTS;
 use crate::table::{AMPLE, Row};
@@ -97,4 +98,19 @@ fn tags_on_the_plain_store(rt: HostRuntime) -> Result<(), AllocError> {
 #[test]
 fn tag_commands_on_the_plain_store(rt: HostRuntime) -> Result<(), AllocError> {
     check_rows::<PlainStore>(&rt, rt.alloc(), &TAG_COMMANDS)
+}
+
+#[test]
+fn marks_on_the_plain_store(rt: HostRuntime) -> Result<(), AllocError> {
+    check_rows::<PlainStore>(&rt, rt.alloc(), &MARKS)
+}
+
+#[test]
+fn gravities_on_the_plain_store(rt: HostRuntime) -> Result<(), AllocError> {
+    check_rows::<PlainStore>(&rt, rt.alloc(), &GRAVITIES)
+}
+
+#[test]
+fn mark_orders_on_the_plain_store(rt: HostRuntime) -> Result<(), AllocError> {
+    check_rows::<PlainStore>(&rt, rt.alloc(), &MARK_ORDERS)
 }

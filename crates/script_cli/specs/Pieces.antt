@@ -3,7 +3,7 @@ use Rattle.std.specs.Prelude.{ℕ, Bool, true, false, ◌&&◌, ◌||◌, nat_le
 use Rattle.peers.specs.declared.answers.Answer.{Answer}
 use Rattle.peers.specs.declared.answers.Answer.TheVariants.{Empty, Word, Flag, Text}
 use Rattle.peers.specs.declared.answers.Fault.{Fault}
-use Rattle.peers.specs.declared.answers.Fault.TheVariants.{BadIndex, NoTaggedCharacters, NoSuchTag, BadOption, WrongArguments, InvalidCommandName, WindowExists, BadComparison, BadList, DocumentExists, TooManyWidgets, TooManyTags, TextTooLong, Memory}
+use Rattle.peers.specs.declared.answers.Fault.TheVariants.{BadIndex, NoTaggedCharacters, NoSuchMark, NoSuchTag, BadOption, WrongArguments, InvalidCommandName, WindowExists, BadComparison, BadGravity, BadList, DocumentExists, TooManyWidgets, TooManyTags, TooManyMarks, TextTooLong, Memory}
 use Rattle.tcl_words.specs.declared.fault.ScriptFault.{ScriptFault}
 use Rattle.tcl_words.specs.declared.fault.ScriptFault.TheVariants as script
 use Prim.Native.String.{String}
@@ -48,16 +48,19 @@ abbrev pub fault_line : List (List ℕ) → Fault → Line
 fault_line words (BadIndex position) = around "error: bad text index \"" (word_at words position) "\"\n"
 fault_line words (NoTaggedCharacters position len) =
     around "error: text doesn't contain any characters tagged with \"" (front_of len (word_at words position)) "\"\n"
+fault_line words (NoSuchMark position) = around "error: there is no mark named \"" (word_at words position) "\"\n"
 fault_line words (NoSuchTag position) = around "error: tag \"" (word_at words position) "\" isn't defined in text widget\n"
 fault_line words (BadOption position) = around "error: bad option \"" (word_at words position) "\"\n"
 fault_line words WrongArguments = alone "error: wrong # args\n"
 fault_line words (InvalidCommandName position) = around "error: invalid command name \"" (word_at words position) "\"\n"
 fault_line words (WindowExists position) = around "error: window name \"" (word_at words position) "\" already exists\n"
 fault_line words (BadComparison position) = around "error: bad comparison operator \"" (word_at words position) "\"\n"
+fault_line words (BadGravity position) = around "error: bad mark gravity \"" (word_at words position) "\"\n"
 fault_line words (BadList position) = around "error: bad list \"" (word_at words position) "\"\n"
 fault_line words DocumentExists = alone "error: a document exists\n"
 fault_line words TooManyWidgets = alone "error: too many widgets\n"
 fault_line words TooManyTags = alone "error: too many tags\n"
+fault_line words TooManyMarks = alone "error: too many marks\n"
 fault_line words TextTooLong = alone "error: text is too long\n"
 fault_line words Memory = alone "error: out of memory\n"
 

@@ -54,6 +54,11 @@ impl<'a> Line<'a> {
                 front_of(word_at(words, position), len),
                 "\"\n",
             ),
+            Fault::NoSuchMark(position) => Line::around(
+                "error: there is no mark named \"",
+                word_at(words, position),
+                "\"\n",
+            ),
             Fault::NoSuchTag(position) => Line::around(
                 "error: tag \"",
                 word_at(words, position),
@@ -78,12 +83,16 @@ impl<'a> Line<'a> {
                 word_at(words, position),
                 "\"\n",
             ),
+            Fault::BadGravity(position) => {
+                Line::around("error: bad mark gravity \"", word_at(words, position), "\"\n")
+            }
             Fault::BadList(position) => {
                 Line::around("error: bad list \"", word_at(words, position), "\"\n")
             }
             Fault::DocumentExists => Line::alone("error: a document exists\n"),
             Fault::TooManyWidgets => Line::alone("error: too many widgets\n"),
             Fault::TooManyTags => Line::alone("error: too many tags\n"),
+            Fault::TooManyMarks => Line::alone("error: too many marks\n"),
             Fault::TextTooLong => Line::alone("error: text is too long\n"),
             Fault::Memory => Line::alone("error: out of memory\n"),
         }

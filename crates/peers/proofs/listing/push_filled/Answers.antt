@@ -1,4 +1,4 @@
-use Rattle.std.proofs.Common.{◌≡◌, sym, subst, false, eqb-true, length, ◌∷◌, []}
+use Rattle.std.proofs.Common.{sym, subst, eqb-true, length, ◌∷◌, []}
 use Rattle.std.specs.Prelude.{string_bytes, if◌then◌else◌}
 use Rattle.peers.specs.Slots.{Goes}
 use Rattle.peers.proofs.ListingLaws.{goes_nowhere}

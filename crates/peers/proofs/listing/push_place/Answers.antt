@@ -1,4 +1,4 @@
-use Rattle.std.proofs.Common.{◌≡◌, ◌++◌, ◌∷◌, [], ap, subst, ◌∙◌}
+use Rattle.std.proofs.Common.{◌++◌, ◌∷◌, [], ap, subst, ◌∙◌}
 use Rattle.std.specs.Prelude.{chars, string_bytes, OnOk}
 use Rattle.text_index.specs.Positions.{position_text}
 use Rattle.text_index.specs.Views.{shown}

@@ -1,6 +1,5 @@
-use Rattle.std.proofs.Common.{arith, ap, ◌∙◌, sym}
+use Rattle.std.proofs.Common.{arith}
 use Rattle.std.specs.Prelude.{string_bytes}
-use Rattle.text_index.specs.Ranges.{and_later}
 use Rattle.text_index.specs.Views.{shown, shown_flags}
 use Rattle.peers.proofs.ListingLaws.{listed-none, listed-more}
 use Rattle.peers.proofs.listing.push_ranges.Goals as goal

@@ -1,8 +1,8 @@
-use Rattle.std.proofs.Common.{arith, ◌≡◌, ◌≤◌, ◌+◌, ◌-◌, length, drop, take, ap₂, sym, ◌∙◌, length-drop}
-use Rattle.std.specs.Prelude.{Some, None}
+use Rattle.std.proofs.Common.{arith, ap₂, sym, ◌∙◌, length-drop}
+use Rattle.std.specs.Prelude.{Some}
 use Rattle.std.proofs.lemmas.List.{take_rest}
 use Rattle.peers.specs.Lists.{pair_at}
-use Rattle.peers.proofs.PairLaws.{word_read, pairs_at-more, pairs_at-fault, pairs_at-last, pairs_at-last_fault, pairs_at-end}
+use Rattle.peers.proofs.PairLaws.{word_read, pairs_at-more}
 use Rattle.peers.proofs.lists.pairs_at.Goals as goal
 
 pub loop-rest-preserved : goal.loop-rest-preserved

@@ -1,8 +1,6 @@
-use Rattle.std.proofs.Common.{arith, ℕ, ◌≡◌, ◌≤◌, sym, ap, ◌∙◌, subst, ◌+◌, ◌-◌, drop, length}
-use Rattle.std.specs.List.{All}
+use Rattle.std.proofs.Common.{arith, ℕ, ◌≤◌, ◌-◌, drop, length}
 use Rattle.std.proofs.lemmas.List.Elements.{All-take, All-drop}
-use Rattle.edit_ops.specs.Tagging.{SpanFits}
-use Rattle.peers.proofs.PairLaws.{spans_of-more, spans_of-fit}
+use Rattle.peers.proofs.PairLaws.{spans_of-more}
 use Rattle.peers.proofs.ranges.spans_of.Goals as goal
 
 pub loop-rest-preserved : goal.loop-rest-preserved

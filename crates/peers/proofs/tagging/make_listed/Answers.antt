@@ -1,4 +1,4 @@
-use Rattle.std.proofs.Common.{◌≡◌, ap, sym, ◌∙◌, arith, ◌<◌, ◌+◌, length}
+use Rattle.std.proofs.Common.{ap, ◌∙◌, arith, ◌+◌, length}
 use Rattle.tag_table.specs.Tags.{names_of}
 use Rattle.peers.specs.Lists.{with_names, listed_names}
 use Rattle.peers.proofs.MadeLaws.{listed-step, too_many_listed, front_on}

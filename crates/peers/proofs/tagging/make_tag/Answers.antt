@@ -1,5 +1,5 @@
 use Rattle.std.proofs.Common.{◌≡◌, ap, sym, ◌∙◌, subst, refl}
-use Rattle.std.specs.Prelude.{chars, string_bytes, ◌++◌, ◌∷◌, [], None, Some, IsNone}
+use Rattle.std.specs.Prelude.{chars, string_bytes, ◌++◌, ◌∷◌, [], None, IsNone}
 use Rattle.std.specs.Option.{option_map}
 use Rattle.tag_table.specs.Tags.{Tags, names_of, slot_of, IsFull}
 use Rattle.text_model.specs.declared.places.TagSlot.{TagSlot}

@@ -1,7 +1,7 @@
-use Rattle.std.proofs.Common.{◌≡◌, ap, sym, ◌∙◌, arith, subst, ◌<◌, ◌+◌, length}
+use Rattle.std.proofs.Common.{ap, ◌∙◌, arith, ◌+◌, length}
 use Rattle.tag_table.specs.Tags.{names_of}
 use Rattle.std.specs.Prelude.{chars}
-use Rattle.peers.specs.Lists.{with_name, with_names}
+use Rattle.peers.specs.Lists.{with_name}
 use Rattle.peers.proofs.MadeLaws.{with_names-step, too_many, front_on}
 use Rattle.peers.proofs.tagging.make_tags.Goals as goal
 

@@ -1,4 +1,4 @@
-use Rattle.std.proofs.Common.{◌≡◌, ap, sym, ◌∙◌}
+use Rattle.std.proofs.Common.{ap, ◌∙◌}
 use Rattle.std.specs.Prelude.{chars}
 use Rattle.tag_table.specs.Tags.{slot_of}
 use Rattle.peers.specs.Slots.{with_found}

@@ -10,14 +10,14 @@ invariant_of-self-in-Ok g c =
     let old = c.self.inside in
     let new = c.clear_slots.new in
     let done = does-delete c.args.limits.now (chars (string_bytes old.name)) old.tags c.delete_names.new.tags old.marks old.history new.history (g.S.TextStore.content old.store) (g.S.TextStore.content new.store)
-    (texts_of c.args.names.now) (map (λ (slot : TagSlot). slot.0) c.deref.result.now) c.args.self.now (record { kept = c.self.invariant.0; fresh = c.self.invariant.1; is = c.self.view_is })
+    (texts_of c.args.names.now) (map (λ (slot : TagSlot). slot.0) c.deref.result.now) c.args.self.now (record { kept = c.self.invariant.0; marked = c.self.invariant.1; fresh = c.self.invariant.2; is = c.self.view_is })
     c.len-count.ensures.sound c.delete_names.ensures (ap (map (λ (slot : TagSlot). slot.0)) c.deref.ensures.value ∙ c.in_ok-slots.ensures.value) c.in-Ok.ensures.ok c.in-Ok.ensures.log in
-    (done.0, done.1)
+    (done.0, done.1, done.2)
 
 pub returns : goal.returns
 returns g c =
     let old = c.self.inside in
     let new = c.clear_slots.new in
     (does-delete c.args.limits.now (chars (string_bytes old.name)) old.tags c.delete_names.new.tags old.marks old.history new.history (g.S.TextStore.content old.store) (g.S.TextStore.content new.store)
-    (texts_of c.args.names.now) (map (λ (slot : TagSlot). slot.0) c.deref.result.now) c.args.self.now (record { kept = c.self.invariant.0; fresh = c.self.invariant.1; is = c.self.view_is })
-    c.len-count.ensures.sound c.delete_names.ensures (ap (map (λ (slot : TagSlot). slot.0)) c.deref.ensures.value ∙ c.in_ok-slots.ensures.value) c.in-Ok.ensures.ok c.in-Ok.ensures.log).2
+    (texts_of c.args.names.now) (map (λ (slot : TagSlot). slot.0) c.deref.result.now) c.args.self.now (record { kept = c.self.invariant.0; marked = c.self.invariant.1; fresh = c.self.invariant.2; is = c.self.view_is })
+    c.len-count.ensures.sound c.delete_names.ensures (ap (map (λ (slot : TagSlot). slot.0)) c.deref.ensures.value ∙ c.in_ok-slots.ensures.value) c.in-Ok.ensures.ok c.in-Ok.ensures.log).3

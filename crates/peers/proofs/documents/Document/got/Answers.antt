@@ -1,4 +1,4 @@
-use Rattle.std.proofs.Common.{◌≡◌, length, ap, sym, ◌∙◌, arith}
+use Rattle.std.proofs.Common.{length, ap, sym, ◌∙◌, arith}
 use Rattle.std.specs.Prelude.{Ok, chars}
 use Rattle.peers.specs.declared.answers.Answer.TheVariants.{Text}
 use Rattle.peers.specs.World.{lone_widget}

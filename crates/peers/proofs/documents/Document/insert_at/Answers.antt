@@ -11,7 +11,7 @@ use Rattle.peers.proofs.documents.Document.insert_at.Goals as goal
 pub put_pairs-put-requires-clause-within : goal.put_pairs-put-requires-clause-within
 put_pairs-put-requires-clause-within g c =
     let old = c.self.inside in
-    omega (arith, c.requires, cells-lone (chars (string_bytes old.name)) old.tags.tags old.history.modified (g.S.TextStore.content old.store) c.args.self.now c.self.view_is)
+    omega (arith, c.requires, cells-lone (chars (string_bytes old.name)) old.tags.tags old.marks.marks old.history.modified (g.S.TextStore.content old.store) c.args.self.now c.self.view_is)
 
 pub truncate-requires : goal.truncate-requires
 truncate-requires g c =
@@ -22,7 +22,7 @@ invariant_of-self g c =
     let old = c.self.inside in
     let new = c.put_pairs-put.new in
     let done = does-texts c.args.limits.now (chars (string_bytes old.name)) old.tags new.tags old.marks old.history new.history (g.S.TextStore.content old.store) (g.S.TextStore.content new.store)
-    c.args.at c.args.pairs.items c.args.self.now (record { kept = c.self.invariant.0; fresh = c.self.invariant.1; is = c.self.view_is })
+    c.args.at c.args.pairs.items c.args.self.now (record { kept = c.self.invariant.0; marked = c.self.invariant.1; fresh = c.self.invariant.2; is = c.self.view_is })
     (record {
       bounds = c.in-Ok.ensures.bounds;
       front = c.in-Ok.ensures.front;
@@ -33,14 +33,14 @@ invariant_of-self g c =
       log_is = c.in-Ok.ensures.ok.1;
       room = c.in-Ok.ensures.room;
     }) c.requires in
-    (done.0, done.1)
+    (done.0, done.1, done.2)
 
 pub returns-in-Ok : goal.returns-in-Ok
 returns-in-Ok g c =
     let old = c.self.inside in
     let new = c.put_pairs-put.new in
     (does-texts c.args.limits.now (chars (string_bytes old.name)) old.tags new.tags old.marks old.history new.history (g.S.TextStore.content old.store) (g.S.TextStore.content new.store)
-    c.args.at c.args.pairs.items c.args.self.now (record { kept = c.self.invariant.0; fresh = c.self.invariant.1; is = c.self.view_is })
+    c.args.at c.args.pairs.items c.args.self.now (record { kept = c.self.invariant.0; marked = c.self.invariant.1; fresh = c.self.invariant.2; is = c.self.view_is })
     (record {
       bounds = c.in-Ok.ensures.bounds;
       front = c.in-Ok.ensures.front;
@@ -50,7 +50,7 @@ returns-in-Ok g c =
       content_is = c.in-Ok.ensures.ok.0;
       log_is = c.in-Ok.ensures.ok.1;
       room = c.in-Ok.ensures.room;
-    }) c.requires).2
+    }) c.requires).3
 
 pub invariant_of-self-in-Err : goal.invariant_of-self-in-Err
 invariant_of-self-in-Err g c =
@@ -58,8 +58,8 @@ invariant_of-self-in-Err g c =
     let new = c.put_pairs-put.new in
     let same = table-back old.tags new.tags c.truncate.new.self c.len-front.result c.len-front.ensures.value c.in-Err.ensures.front c.truncate.ensures in
     let left = stands-same (chars (string_bytes old.name)) old.tags c.truncate.new.self old.marks old.history new.history (g.S.TextStore.content old.store) (g.S.TextStore.content new.store) c.args.self.now
-    (record { kept = c.self.invariant.0; fresh = c.self.invariant.1; is = c.self.view_is }) same c.in-Err.ensures.err.1 c.in-Err.ensures.err.0 in
-    (left.kept, left.fresh)
+    (record { kept = c.self.invariant.0; marked = c.self.invariant.1; fresh = c.self.invariant.2; is = c.self.view_is }) same c.in-Err.ensures.err.1 c.in-Err.ensures.err.0 in
+    (left.kept, left.marked, left.fresh)
 
 pub returns-in-Err : goal.returns-in-Err
 returns-in-Err g c =
@@ -67,10 +67,10 @@ returns-in-Err g c =
     let new = c.put_pairs-put.new in
     let name = chars (string_bytes old.name) in
     let document = c.args.self.now in
-    let stands : Stands name old.tags old.marks old.history (g.S.TextStore.content old.store) document = record { kept = c.self.invariant.0; fresh = c.self.invariant.1; is = c.self.view_is } in
+    let stands : Stands name old.tags old.marks old.history (g.S.TextStore.content old.store) document = record { kept = c.self.invariant.0; marked = c.self.invariant.1; fresh = c.self.invariant.2; is = c.self.view_is } in
     let same = table-back old.tags new.tags c.truncate.new.self c.len-front.result c.len-front.ensures.value c.in-Err.ensures.front c.truncate.ensures in
     let left = stands-same name old.tags c.truncate.new.self old.marks old.history new.history (g.S.TextStore.content old.store) (g.S.TextStore.content new.store) document stands same c.in-Err.ensures.err.1
     c.in-Err.ensures.err.0 in
-    does-left c.args.limits.now document (lone_document name c.truncate.new.self.tags new.history.modified (g.S.TextStore.content new.store)) c.in-Err.fault
+    does-left c.args.limits.now document (lone_document name c.truncate.new.self.tags old.marks.marks new.history.modified (g.S.TextStore.content new.store)) c.in-Err.fault
     (insert_at c.args.limits.now document (lone_widget document) c.args.at c.args.pairs.items) left.is
     (λ other. texts-left c.args.limits.now name old.tags old.marks old.history (g.S.TextStore.content old.store) c.args.at c.args.pairs.items document c.in-Err.fault stands (c.in-Err.ensures.fault other))

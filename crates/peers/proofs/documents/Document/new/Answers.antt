@@ -1,13 +1,13 @@
-use Rattle.std.proofs.Common.{◌≡◌, ◌≤◌, ◌+◌, length, true, subst, sym, ap, ◌∙◌, arith}
+use Rattle.std.proofs.Common.{◌≡◌, length, [], true, subst, sym, ap, ◌∙◌, arith}
 use Rattle.std.specs.Prelude.{chars, string_bytes}
 use Rattle.text_model.specs.Content.{Content}
 use Rattle.mark_table.specs.SharedMarks.{SharedMarks}
 use Rattle.tag_table.specs.Tags.{Tags, AreTags}
 use Rattle.undo_stack.specs.Modified.{unmodified}
-use Rattle.text_model.specs.declared.limits.TheConstants.Limits.{MOST_TAGS}
-use Rattle.peers.specs.Kept.{IsKept, is_window_name}
-use Rattle.peers.specs.World.{lone_document, first_content}
-use Rattle.peers.proofs.FirstLaws.{kept-first, lone-first, sel_alone, sound-first}
+use Rattle.text_model.specs.declared.limits.TheConstants.Limits.{MOST_MARKS, MOST_TAGS}
+use Rattle.peers.specs.Kept.{AreMarked, IsKept, is_window_name}
+use Rattle.peers.specs.World.{lone_document}
+use Rattle.peers.proofs.FirstLaws.{kept-first, lone-first, marked-first, sel_alone, sound-first}
 use Rattle.peers.proofs.WellFormedLaws.{IsWellFormedDocument-lone}
 use Rattle.peers.proofs.documents.Document.new.Goals as goal
 
@@ -15,11 +15,12 @@ pub invariant_of-result : goal.invariant_of-result
 invariant_of-result g c =
     let name = chars (string_bytes c.in_ok-from_str.field-0) in
     let named : is_window_name name ≡ true = ap (λ bytes. is_window_name (chars bytes)) c.in_ok-from_str.ensures.ok ∙ c.requires in
-    let table : c.in_ok-new.field-0 ≡ record { tags = sel_alone; limit = MOST_TAGS } = c.in_ok-new.ensures ∙ ap (λ limit. record { tags = sel_alone; limit = limit }) c.greatest_limits-limits.ensures in (
+    let table : c.in_ok-new.field-0 ≡ record { tags = sel_alone; limit = MOST_TAGS } = c.in_ok-new.ensures ∙ ap (λ limit. record { tags = sel_alone; limit = limit }) c.greatest_limits-limits.ensures.tags in
+    let marks : c.in_ok-new-2.field-0 ≡ record { marks = []; limit = MOST_MARKS } = c.in_ok-new-2.ensures ∙ ap (λ limit. record { marks = []; limit = limit }) c.greatest_limits-limits.ensures.marks in (
       subst (λ content. IsKept name c.in_ok-new.field-0 content) (sym c.in_ok-new_store.ensures)
           (kept-first name c.in_ok-new.field-0 named (subst AreTags (sym table) sound-first) (ap (λ (t : Tags). t.limit) table)),
+      subst (λ table. AreMarked table (g.S.TextStore.content c.in_ok-new_store.field-0).marks) (sym marks) (marked-first (g.S.TextStore.content c.in_ok-new_store.field-0).marks),
       record {
-        none_shared = ap (λ (m : SharedMarks). m.marks) c.in_ok-new-2.ensures;
         no_history = c.new-3.ensures.history;
         no_limit = c.new-3.ensures.most;
       },
@@ -28,15 +29,18 @@ invariant_of-result g c =
 pub returns-clause-value : goal.returns-clause-value
 returns-clause-value g c =
     let content = g.S.TextStore.content c.in_ok-new_store.field-0 in
-    ap (λ bytes. lone_document (chars bytes) c.in_ok-new.field-0.tags c.new-3.result.modified content) c.in_ok-from_str.ensures.ok
-    ∙ ap (λ (t : Tags). lone_document (chars c.args.name.now) t.tags c.new-3.result.modified content) c.in_ok-new.ensures
-    ∙ ap (λ modified. lone_document (chars c.args.name.now) sel_alone modified content) c.new-3.ensures.modified
-    ∙ ap (lone_document (chars c.args.name.now) sel_alone unmodified) c.in_ok-new_store.ensures ∙ lone-first (chars c.args.name.now)
+    ap (λ bytes. lone_document (chars bytes) c.in_ok-new.field-0.tags c.in_ok-new-2.field-0.marks c.new-3.result.modified content) c.in_ok-from_str.ensures.ok
+    ∙ ap (λ (t : Tags). lone_document (chars c.args.name.now) t.tags c.in_ok-new-2.field-0.marks c.new-3.result.modified content) c.in_ok-new.ensures
+    ∙ ap (λ (m : SharedMarks). lone_document (chars c.args.name.now) sel_alone m.marks c.new-3.result.modified content) c.in_ok-new-2.ensures
+    ∙ ap (λ modified. lone_document (chars c.args.name.now) sel_alone [] modified content) c.new-3.ensures.modified
+    ∙ ap (lone_document (chars c.args.name.now) sel_alone [] unmodified) c.in_ok-new_store.ensures ∙ lone-first (chars c.args.name.now)
 
 pub returns-clause-well_formed : goal.returns-clause-well_formed
 returns-clause-well_formed g c = λ limits are.
     let name = chars (string_bytes c.in_ok-from_str.field-0) in
     let content = g.S.TextStore.content c.in_ok-new_store.field-0 in
     let one : length content.cells ≡ 1 = ap (λ (x : Content). length x.cells) c.in_ok-new_store.ensures in
+    let none : length c.in_ok-new-2.field-0.marks ≡ 0 = ap (λ (m : SharedMarks). length m.marks) c.in_ok-new-2.ensures in
     let few : length c.in_ok-new.field-0.tags ≡ 1 = ap (λ (t : Tags). length t.tags) c.in_ok-new.ensures in
-    IsWellFormedDocument-lone limits name c.in_ok-new.field-0 c.new-3.result.modified content (invariant_of-result g c).0 (omega (arith, are.some, one)) (omega (arith, few))
+    IsWellFormedDocument-lone limits name c.in_ok-new.field-0 c.in_ok-new-2.field-0 c.new-3.result.modified content (invariant_of-result g c).0 (invariant_of-result g c).1 (omega (arith, are.some, one)) (omega (arith, few))
+    (omega (arith, none))

@@ -1,6 +1,5 @@
-use Rattle.std.proofs.Common.{◌≡◌, ◌∙◌, sym, ap}
+use Rattle.std.proofs.Common.{◌∙◌}
 use Rattle.std.specs.Prelude.{chars, string_bytes}
-use Rattle.peers.specs.Faults.{at_position}
 use Rattle.peers.specs.Names.{place_of}
 use Rattle.peers.specs.World.{lone_widget}
 use Rattle.peers.proofs.EndLaws.{whole-view}
@@ -15,7 +14,7 @@ returns-clause-value g c =
     let self = c.self.inside in
     let content = g.S.TextStore.content self.store in
     let word = chars c.args.word.now in
-    let defined = place-lone (chars (string_bytes self.name)) self.tags self.history.modified content self.marks c.len.result c.args.self.now word
-    c.self.invariant.0 c.self.invariant.1.none_shared c.len.ensures c.self.view_is in
+    let defined = place-lone (chars (string_bytes self.name)) self.tags self.marks self.history.modified content c.len.result c.args.self.now word
+    c.self.invariant.0 c.self.invariant.1 c.len.ensures c.self.view_is in
     let gives = gives-place c.args.position c.locate.result (place_of c.args.self.now (lone_widget c.args.self.now) word) (λ other. c.locate.ensures.value other ∙ defined) in
     λ other. c.at_position.ensures.value ∙ gives (λ memory. other (c.at_position.ensures.value ∙ memory))

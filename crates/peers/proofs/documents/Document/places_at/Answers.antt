@@ -1,4 +1,4 @@
-use Rattle.std.proofs.Common.{◌≡◌, ◌≤◌, ◌∷◌, [], ℕ, length, ap, sym, ◌∙◌, arith, ◌+◌}
+use Rattle.std.proofs.Common.{◌≤◌, ◌∷◌, [], ℕ, length, ◌+◌}
 use Rattle.std.specs.Prelude.{chars}
 use Rattle.std.proofs.lemmas.List.Elements.{All-append, All-cons, All-nil}
 use Rattle.peers.specs.Indices.{place_at}

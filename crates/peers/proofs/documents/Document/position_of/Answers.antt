@@ -1,4 +1,4 @@
-use Rattle.std.proofs.Common.{◌≡◌, ◌++◌, [], sym, ap, ◌∙◌}
+use Rattle.std.proofs.Common.{◌++◌, ap, ◌∙◌}
 use Rattle.std.specs.Prelude.{chars, string_bytes}
 use Rattle.text_index.specs.Views as view
 use Rattle.text_index.specs.Positions.{position_text}
@@ -12,7 +12,7 @@ push_index-requires-clause-view g c = whole-view (g.S.TextStore.content c.self.i
 pub returns : goal.returns
 returns g c =
     let content = g.S.TextStore.content c.self.inside.store in
-    let text = shown-whole content c.len.result c.len.ensures ∙ shown-is (chars (string_bytes c.self.inside.name)) c.self.inside.tags.tags c.self.inside.history.modified content c.args.self.now c.self.view_is in
+    let text = shown-whole content c.len.result c.len.ensures ∙ shown-is (chars (string_bytes c.self.inside.name)) c.self.inside.tags.tags c.self.inside.marks.marks c.self.inside.history.modified content c.args.self.now c.self.view_is in
     c.new.ensures ∙ c.in_ok-push_index.ensures.ok
     ∙ ap (λ bytes. chars bytes ++ position_text (view.shown content 0 c.len.result) c.args.place) c.new-text.ensures.bytes
     ∙ ap (λ front. front ++ position_text (view.shown content 0 c.len.result) c.args.place) no_characters

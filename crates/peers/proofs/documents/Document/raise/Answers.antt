@@ -22,22 +22,23 @@ invariant_of-self g c =
     let content = g.S.TextStore.content old.store in
     let word = chars c.args.name.now in
     let other = option_map (λ w. chars w.now) c.args.above in
-    let stands : Stands name old.tags old.marks old.history content c.args.self.now = record { kept = c.self.invariant.0; fresh = c.self.invariant.1; is = c.self.view_is } in
+    let stands : Stands name old.tags old.marks old.history content c.args.self.now = record { kept = c.self.invariant.0; marked = c.self.invariant.1; fresh = c.self.invariant.2; is = c.self.view_is } in
     elim c.match-raise.branch [
       | in-Ok w ↦
           let ordered = raised-ordered word other old.tags.tags new.tags stands.kept.tags.names_apart w.in-Ok.ensures.ok in (
             (does-ordered c.args.limits.now name old.tags new old.marks old.history content c.args.self.now c.args.at raised word other stands ordered w.len-count.ensures.sound w.in-Ok.ensures.limit
                 (length-raised _ word other ordered.known)).0,
+            stands.marked,
             stands.fresh,
           )
       | in-Err-Moved w ↦
           let left = (does-unordered c.args.limits.now name old.tags new old.marks old.history content c.args.self.now c.args.at raised word other Moved stands w.in-Err-Moved.ensures.err
           (subst (IsUnknown word other old.tags.tags) w.in-Err-Moved.field-0-is (raised-unknown word other old.tags.tags w.in-Err-Moved.field-0 w.in-Err-Moved.ensures.fault))).0 in
-          (left.kept, left.fresh)
+          (left.kept, left.marked, left.fresh)
       | in-Err-Neighbour w ↦
           let left = (does-unordered c.args.limits.now name old.tags new old.marks old.history content c.args.self.now c.args.at raised word other Neighbour stands w.in-Err-Neighbour.ensures.err
           (subst (IsUnknown word other old.tags.tags) w.in-Err-Neighbour.field-0-is (raised-unknown word other old.tags.tags w.in-Err-Neighbour.field-0 w.in-Err-Neighbour.ensures.fault))).0 in
-          (left.kept, left.fresh)
+          (left.kept, left.marked, left.fresh)
     ]
 
 pub returns : goal.returns
@@ -48,8 +49,8 @@ returns g c =
     let content = g.S.TextStore.content old.store in
     let word = chars c.args.name.now in
     let other = option_map (λ w. chars w.now) c.args.above in
-    let stands : Stands name old.tags old.marks old.history content c.args.self.now = record { kept = c.self.invariant.0; fresh = c.self.invariant.1; is = c.self.view_is } in
-    let P : Result Answer Fault → Type 0 = λ result. Does c.args.limits.now c.args.self.now (lone_document name new.tags old.history.modified content) result (reordered c.args.self.now c.args.at raised (word, other)) in
+    let stands : Stands name old.tags old.marks old.history content c.args.self.now = record { kept = c.self.invariant.0; marked = c.self.invariant.1; fresh = c.self.invariant.2; is = c.self.view_is } in
+    let P : Result Answer Fault → Type 0 = λ result. Does c.args.limits.now c.args.self.now (lone_document name new.tags old.marks.marks old.history.modified content) result (reordered c.args.self.now c.args.at raised (word, other)) in
     elim c.match-raise.branch [
       | in-Ok w ↦
           let ordered = raised-ordered word other old.tags.tags new.tags stands.kept.tags.names_apart w.in-Ok.ensures.ok in

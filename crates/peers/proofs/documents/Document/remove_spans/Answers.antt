@@ -9,14 +9,14 @@ pub returns-in_default : goal.returns-in_default
 returns-in_default g c =
     let old = c.self.inside in
     does-remove_none c.args.limits.now (chars (string_bytes old.name)) old.tags old.marks old.history (g.S.TextStore.content old.store) (chars c.args.name.now) c.args.places.now c.args.self.now
-    (record { kept = c.self.invariant.0; fresh = c.self.invariant.1; is = c.self.view_is })
+    (record { kept = c.self.invariant.0; marked = c.self.invariant.1; fresh = c.self.invariant.2; is = c.self.view_is })
     (sym c.in_default.ensures.value)
 
 pub set_slot-requires-clause-spans : goal.set_slot-requires-clause-spans
 set_slot-requires-clause-spans g c =
     let old = c.self.inside in
     (spans-within (chars (string_bytes old.name)) old.tags old.marks old.history (g.S.TextStore.content old.store) c.args.self.now c.len.result c.args.places.now c.in_ok-spans.spans.items c.deref.result.now
-    (record { kept = c.self.invariant.0; fresh = c.self.invariant.1; is = c.self.view_is }) c.requires c.len.ensures c.in_ok-spans.ensures c.deref.ensures.value).1
+    (record { kept = c.self.invariant.0; marked = c.self.invariant.1; fresh = c.self.invariant.2; is = c.self.view_is }) c.requires c.len.ensures c.in_ok-spans.ensures c.deref.ensures.value).1
 
 pub invariant_of-self : goal.invariant_of-self
 invariant_of-self g c =
@@ -24,7 +24,7 @@ invariant_of-self g c =
     let new = c.set_slot.new in
     let content = g.S.TextStore.content old.store in
     let name = chars (string_bytes old.name) in
-    let stands : Stands name old.tags old.marks old.history content c.args.self.now = record { kept = c.self.invariant.0; fresh = c.self.invariant.1; is = c.self.view_is } in
+    let stands : Stands name old.tags old.marks old.history content c.args.self.now = record { kept = c.self.invariant.0; marked = c.self.invariant.1; fresh = c.self.invariant.2; is = c.self.view_is } in
     let within = spans-within name old.tags old.marks old.history content c.args.self.now c.len.result c.args.places.now c.in_ok-spans.spans.items c.deref.result.now
     stands c.requires c.len.ensures c.in_ok-spans.ensures c.deref.ensures.value in
     let done = does-remove c.args.limits.now name old.tags old.marks old.history new.history content (g.S.TextStore.content new.store) (chars c.args.name.now) c.args.places.now c.deref.result.now
@@ -38,7 +38,7 @@ invariant_of-self g c =
       content_is = c.in-Ok.ensures.ok;
       log_is = c.in-Ok.ensures.log;
     }) within.0 in
-    (done.0, done.1)
+    (done.0, done.1, done.2)
 
 pub returns-in-Ok : goal.returns-in-Ok
 returns-in-Ok g c =
@@ -46,7 +46,7 @@ returns-in-Ok g c =
     let new = c.set_slot.new in
     let content = g.S.TextStore.content old.store in
     let name = chars (string_bytes old.name) in
-    let stands : Stands name old.tags old.marks old.history content c.args.self.now = record { kept = c.self.invariant.0; fresh = c.self.invariant.1; is = c.self.view_is } in
+    let stands : Stands name old.tags old.marks old.history content c.args.self.now = record { kept = c.self.invariant.0; marked = c.self.invariant.1; fresh = c.self.invariant.2; is = c.self.view_is } in
     let within = spans-within name old.tags old.marks old.history content c.args.self.now c.len.result c.args.places.now c.in_ok-spans.spans.items c.deref.result.now
     stands c.requires c.len.ensures c.in_ok-spans.ensures c.deref.ensures.value in
     (does-remove c.args.limits.now name old.tags old.marks old.history new.history content (g.S.TextStore.content new.store) (chars c.args.name.now) c.args.places.now c.deref.result.now
@@ -59,4 +59,4 @@ returns-in-Ok g c =
       fit = within.1;
       content_is = c.in-Ok.ensures.ok;
       log_is = c.in-Ok.ensures.log;
-    }) within.0).2
+    }) within.0).3

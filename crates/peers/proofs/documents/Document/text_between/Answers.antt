@@ -10,4 +10,4 @@ returns g c =
     let content = g.S.TextStore.content c.self.inside.store in
     let count : c.max-to.result - c.args.from ≡ c.args.to - c.args.from = omega (arith, c.max-to.ensures) in
     c.new.ensures ∙ c.in_ok-copy_text.ensures ∙ turned-part (characters content.cells) c.args.from c.args.to c.max-to.result count
-    ∙ ap (λ text. slice_range text c.args.from c.args.to) (shown-is (chars (string_bytes c.self.inside.name)) c.self.inside.tags.tags c.self.inside.history.modified content c.args.self.now c.self.view_is)
+    ∙ ap (λ text. slice_range text c.args.from c.args.to) (shown-is (chars (string_bytes c.self.inside.name)) c.self.inside.tags.tags c.self.inside.marks.marks c.self.inside.history.modified content c.args.self.now c.self.view_is)

@@ -1,0 +1,15 @@
+use Rattle.std.proofs.Common.{◌∙◌, ap}
+use Rattle.std.specs.Prelude.{◌+◌, chars, length, option_map}
+use Rattle.peers.specs.Indices.{place_at}
+use Rattle.peers.specs.Tags.{next_between, place_or}
+use Rattle.peers.specs.View.{shown}
+use Rattle.peers.specs.World.{lone_widget}
+use Rattle.peers.proofs.PromiseLaws.{gives-both}
+use Rattle.peers.proofs.documents.Document.next_words.Goals as goal
+
+pub returns : goal.returns
+returns g c =
+    let document = c.args.self.now in let widget = lone_widget document in
+    gives-both c.place_at-from.result (place_at document widget (c.args.at + 1) (chars c.args.first.now)) c.place_or-to.result
+    (place_or document widget (length (shown document widget)) (c.args.at + 2) (option_map (λ word. chars word.now) c.args.last)) c.next_between.result (next_between document widget (chars c.args.name.now))
+    c.place_at-from.ensures.value c.place_or-to.ensures.value c.next_between.ensures

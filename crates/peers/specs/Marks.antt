@@ -1,0 +1,179 @@
+-- Commands on marks.
+use Rattle.std.specs.Prelude.{ℕ, zero, suc, ◌+◌, ◌-◌, min, nat_le, Bool, not, List, [], ◌∷◌, ◌++◌, length, map, filter, find, slice_index_or, Option, None, Some, option_map, Result, Ok, Err, if◌then◌else◌}
+use Rattle.mark_table.specs.declared.order.Origin.{Origin}
+use Rattle.mark_table.specs.declared.order.Origin.TheVariants.{Mark, Place as Offset}
+use Rattle.mark_table.specs.declared.order.Shown.{Shown}
+use Rattle.mark_table.specs.declared.order.WidgetMark.{WidgetMark}
+use Rattle.mark_table.specs.Order.{mark_of, next_mark, previous_mark, rank_of}
+use Rattle.text_index.specs.Views.{shared_place}
+use Rattle.text_model.specs.declared.places.Gravity.{Gravity}
+use Rattle.text_model.specs.declared.places.Gravity.TheVariants.{Left, Right}
+use Rattle.text_model.specs.declared.places.Place.{Place}
+use Rattle.text_model.specs.LimitTable.{LimitTable}
+use Rattle.peers.specs.declared.answers.Answer.{Answer}
+use Rattle.peers.specs.declared.answers.Answer.TheVariants.{Empty, Text}
+use Rattle.peers.specs.declared.answers.Fault.{Fault}
+use Rattle.peers.specs.declared.answers.Fault.TheVariants.{BadIndex, NoSuchMark, BadGravity, TooManyMarks}
+use Rattle.peers.specs.Arguments.{one_of, one_or_two_of, two_of}
+use Rattle.peers.specs.Faults.{with_value}
+use Rattle.peers.specs.Indices.{place_at}
+use Rattle.peers.specs.Names.{mark_number, mark_place}
+use Rattle.peers.specs.Promise.{Change, refused, answered, change_with}
+use Rattle.peers.specs.Tags.{listed}
+use Rattle.peers.specs.View.{view_start, view_end, shown}
+use Rattle.peers.specs.Words.{is_same, is_among, is_own, literal}
+use Rattle.peers.specs.World.{Document, Widget, SharedMark}
+
+-- ---- marks by their names
+
+-- the names of all marks: a widget's own two, and the shared ones by their creation
+abbrev pub mark_names : Document → List (List ℕ)
+mark_names document = literal "insert" ∷ literal "current" ∷ map (λ (mark : SharedMark). mark.name) document.marks
+
+-- where the mark of a name stands in the document, if there is one
+abbrev pub place_named : Document → Widget → List ℕ → Option Place
+place_named document widget name =
+    if is_same name (literal "insert") then Some widget.insert
+    else (if is_same name (literal "current") then Some widget.current
+    else option_map (λ (mark : SharedMark). mark.place) (find (λ (mark : SharedMark). is_same name mark.name) document.marks))
+
+abbrev pub with_widget : Document → Widget → (Widget → Widget) → Document
+with_widget document widget change =
+    record document { widgets = map (λ (other : Widget). if is_same widget.name other.name then change other else other) document.widgets }
+
+abbrev pub with_insert : Document → Widget → Place → Document
+with_insert document widget place = with_widget document widget (λ (other : Widget). record other { insert = place })
+
+abbrev pub with_current : Document → Widget → Place → Document
+with_current document widget place = with_widget document widget (λ (other : Widget). record other { current = place })
+
+abbrev pub with_shared : Document → List ℕ → Place → Document
+with_shared document name place =
+    record document { marks = map (λ (mark : SharedMark). if is_same name mark.name then record mark { place = place } else mark) document.marks }
+
+-- a document in which the mark of a name, the widget's own or a shared one, stands at a place; all marks keep their order
+abbrev pub with_mark : Document → Widget → List ℕ → Place → Document
+with_mark document widget name place =
+    if is_same name (literal "insert") then with_insert document widget place
+    else (if is_same name (literal "current") then with_current document widget place
+    else with_shared document name place)
+
+-- ---- marks that are set, and unset
+
+-- the offset for a mark at a place of the view; of the widget's own, the end is the view's last character
+abbrev pub mark_offset : Document → Widget → List ℕ → ℕ → ℕ
+mark_offset document widget name place = view_start widget + (if is_own name then min place (length (shown document widget) - 1) else place)
+
+-- a new mark comes last, with right gravity, unless there are too many; one that is there keeps its gravity
+abbrev pub set_found : LimitTable → Document → Widget → List ℕ → ℕ → Option Place → Change
+set_found limits document widget name offset (Some old) = answered (with_mark document widget name (record old { offset = offset })) Empty
+set_found limits document widget name offset None =
+    if nat_le limits.marks (length document.marks) then refused document TooManyMarks
+    else answered (record document {
+      marks = document.marks ++ record { name = name; place = record { offset = offset; gravity = Right } } ∷ [];
+    }) Empty
+
+abbrev pub set_at : LimitTable → Document → Widget → List ℕ → ℕ → Change
+set_at limits document widget name place = set_found limits document widget name (mark_offset document widget name place) (place_named document widget name)
+
+abbrev pub set_words : LimitTable → Document → Widget → ℕ → List ℕ × List ℕ → Change
+set_words limits document widget at (name, word) = change_with document (place_at document widget (at + 1) word) (set_at limits document widget name)
+
+-- `W mark set M I`
+abbrev pub mark_set : LimitTable → Document → Widget → ℕ → List (List ℕ) → Change
+mark_set limits document widget at words = change_with document (two_of words) (set_words limits document widget at)
+
+-- a mark stays that isn't named; a widget's own two stay in any case
+abbrev pub is_left : List (List ℕ) → List ℕ → Bool
+is_left names name = not (is_among name names)
+
+-- `W mark unset ?M ..?`
+abbrev pub mark_unset : Document → List (List ℕ) → Change
+mark_unset document names = answered (record document { marks = filter (λ (mark : SharedMark). is_left names mark.name) document.marks }) Empty
+
+-- ---- gravity
+
+abbrev pub gravity_word : Gravity → List ℕ
+gravity_word Left = literal "left"
+gravity_word Right = literal "right"
+
+abbrev pub gravity_of : List ℕ → Option Gravity
+gravity_of word = if is_same word (literal "left") then Some Left else (if is_same word (literal "right") then Some Right else None)
+
+-- of the mark that stands at a place
+abbrev pub gravity_asked : Document → ℕ → Option Place → Change
+gravity_asked document at None = refused document (NoSuchMark at)
+gravity_asked document at (Some place) = answered document (Text (gravity_word place.gravity))
+
+-- the mark has to be there, and then the word has to be a gravity
+abbrev pub gravity_given : Document → Widget → ℕ → List ℕ → Option Place → Option Gravity → Change
+gravity_given document widget at name None gravity = refused document (NoSuchMark at)
+gravity_given document widget at name (Some place) None = refused document (BadGravity (at + 1))
+gravity_given document widget at name (Some place) (Some gravity) = answered (with_mark document widget name (record place { gravity = gravity })) Empty
+
+abbrev pub gravity_words : Document → Widget → ℕ → List ℕ × Option (List ℕ) → Change
+gravity_words document widget at (name, None) = gravity_asked document at (place_named document widget name)
+gravity_words document widget at (name, Some word) = gravity_given document widget at name (place_named document widget name) (gravity_of word)
+
+-- `W mark gravity M ?left or right?`
+abbrev pub mark_gravity : Document → Widget → ℕ → List (List ℕ) → Change
+mark_gravity document widget at words = change_with document (one_or_two_of words) (gravity_words document widget at)
+
+-- ---- names, and the order of marks
+
+-- `W mark names`
+abbrev pub mark_names_of : Document → Result Answer Fault
+mark_names_of document = listed (mark_names document)
+
+-- a mark that the widget shows, by its number among all marks
+abbrev pub shown_at : ℕ → Option ℕ → List Shown
+shown_at number None = []
+shown_at number (Some place) = record { place = place; rank = number } ∷ []
+
+abbrev pub shared_from : ℕ → ℕ → ℕ → List SharedMark → List Shown
+shared_from start end number [] = []
+shared_from start end number (mark ∷ marks) = shown_at number (shared_place start end mark.place) ++ shared_from start end (number + 1) marks
+
+-- the marks that the widget can use, with the places where it shows them
+abbrev pub usable_marks : Document → Widget → List Shown
+usable_marks document widget =
+    shown_at 0 (mark_place document widget 0)
+    ++ (shown_at 1 (mark_place document widget 1) ++ shared_from (view_start widget) (view_end document widget) 2 document.marks)
+
+-- from a mark that the widget can use
+abbrev pub origin_marked : ℕ → ℕ → Option ℕ → Result Origin Fault
+origin_marked at number None = Err (BadIndex at)
+origin_marked at number (Some place) = Ok (Mark (mark_of number))
+
+-- a word that is whole the name of a mark means that mark, and else the place of an index
+abbrev pub origin_of : Document → Widget → ℕ → List ℕ → Option ℕ → Result Origin Fault
+origin_of document widget at word (Some number) = origin_marked at number (mark_place document widget number)
+origin_of document widget at word None = with_value (place_at document widget at word) (λ place. Ok (Offset place))
+
+abbrev pub origin_at : Document → Widget → ℕ → List ℕ → Result Origin Fault
+origin_at document widget at word = origin_of document widget at word (mark_number document word)
+
+-- the name of a mark, if there is one
+abbrev pub mark_answer : Document → Option WidgetMark → Result Answer Fault
+mark_answer document None = Ok Empty
+mark_answer document (Some mark) = Ok (Text (slice_index_or (mark_names document) (rank_of mark) []))
+
+abbrev pub next_from : Document → Widget → Origin → Result Answer Fault
+next_from document widget origin = mark_answer document (next_mark origin (usable_marks document widget))
+
+abbrev pub previous_from : Document → Widget → Origin → Result Answer Fault
+previous_from document widget origin = mark_answer document (previous_mark origin (usable_marks document widget))
+
+abbrev pub next_at : Document → Widget → ℕ → List ℕ → Result Answer Fault
+next_at document widget at word = with_value (origin_at document widget at word) (next_from document widget)
+
+abbrev pub previous_at : Document → Widget → ℕ → List ℕ → Result Answer Fault
+previous_at document widget at word = with_value (origin_at document widget at word) (previous_from document widget)
+
+-- `W mark next I`
+abbrev pub mark_next : Document → Widget → ℕ → List (List ℕ) → Result Answer Fault
+mark_next document widget at words = with_value (one_of words) (next_at document widget at)
+
+-- `W mark previous I`
+abbrev pub mark_previous : Document → Widget → ℕ → List (List ℕ) → Result Answer Fault
+mark_previous document widget at words = with_value (one_of words) (previous_at document widget at)
