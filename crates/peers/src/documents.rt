@@ -556,8 +556,9 @@ impl<S: TextStore> Document<S> {
         ensures value { result ≡ mark_offset self.now (lone_widget self.now) (chars name.now) place }
         ensures within { result ≤ length self.now.cells }
     {
+        let last = self.store.len() - 1;
         if is_word(name, "insert") || is_word(name, "current") {
-            self.insertion_offset(place)
+            place.min(last)
         } else {
             place
         }
