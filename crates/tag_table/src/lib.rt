@@ -3,8 +3,6 @@
 
 mod faults;
 mod tags;
-#[cfg(test)]
-mod tests;
 
 pub use faults::NoSuchTag;
 pub use tags::TagTable;
