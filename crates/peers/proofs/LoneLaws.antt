@@ -146,11 +146,11 @@ marks-same name tags table modified content end word is insert current marked =
       | true ↦ ap Some (own-shown end 0 (finite.get content.marks 0) refl insert ∙ ap (λ n. Some (own_place 0 n (mark_of content.marks 0))) is)
       | false ↦ elim (bytes_eq word (literal "current")) as (λ b. option_map (shown_mark content 0 end) (if b then Some 1 else number_of word table.marks)
           ≡ option_map (mark_place document widget) (if b then Some 1 else option_map (λ k. suc (suc k)) shared)) [
-        | true ↦ ap Some (own-shown end 1 (finite.get content.marks 1) refl current ∙ ap (λ n. Some (own_place 0 n (mark_of content.marks 1))) is)
-        | false ↦ shared-same content table end word marked
-            ∙ ap (λ n. option_map (λ k. option_and_then (λ (mark : SharedMark). shared_place 0 n mark.place) (slice_get document.marks k)) shared) is
-            ∙ twice shared (mark_place document widget)
-      ]
+            | true ↦ ap Some (own-shown end 1 (finite.get content.marks 1) refl current ∙ ap (λ n. Some (own_place 0 n (mark_of content.marks 1))) is)
+            | false ↦ shared-same content table end word marked
+                ∙ ap (λ n. option_map (λ k. option_and_then (λ (mark : SharedMark). shared_place 0 n mark.place) (slice_get document.marks k)) shared) is
+                ∙ twice shared (mark_place document widget)
+          ]
     ]
   where
     twice : (found : Option ℕ) (f : ℕ → Option ℕ) → option_map (λ k. f (suc (suc k))) found ≡ option_map f (option_map (λ k. suc (suc k)) found)

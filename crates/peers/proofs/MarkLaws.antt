@@ -464,9 +464,9 @@ marked-left one places names (mark ∷ marks) alike each =
     let rest = marked-left one places names marks (λ at. alike (suc at)) each.1 in
     elim (is_left names mark.name) as (λ b. is_left names mark.name ≡ b → AllByRecursion (IsMarked one) (cond b (mark ∷ marks_left names marks) (marks_left names marks))) [
       | true ↦ λ left. (
-          record { stands = ap (option_map (λ (place : Place). place.gravity)) (alike 0 mark refl left) ∙ each.0.stands; shared = each.0.shared },
-          rest,
-        )
+        record { stands = ap (option_map (λ (place : Place). place.gravity)) (alike 0 mark refl left) ∙ each.0.stands; shared = each.0.shared },
+        rest,
+      )
       | false ↦ λ _. rest
     ] refl
 

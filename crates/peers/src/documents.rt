@@ -33,7 +33,9 @@ ghost use Rattle.peers.specs.Marks.{gravity_word as spec_gravity_word, mark_name
 
 use crate::answers::{Answer, Fault};
 use crate::edits::{clear_slots, new_store, put_mark, put_texts, set_slot, take_marks};
-use crate::listing::{push_mark_names, push_names, push_names_in, push_next, push_previous, push_ranges};
+use crate::listing::{
+    push_mark_names, push_names, push_names_in, push_next, push_previous, push_ranges,
+};
 use crate::lists::Pair;
 use crate::marking::{gravity_word, make_mark, numbers_named, turn_mark, unset_names};
 use crate::ranges::spans_of;
@@ -568,10 +570,7 @@ impl<S: TextStore> Document<S> {
     pub fn gravity_text(&self, gravity: Gravity) -> Result<Text, AllocError>
         ensures { IfOk result (λ text. text ≡ spec_gravity_word gravity) }
     {
-        Ok(Text::new(String::from_str(
-            self.alloc,
-            gravity_word(gravity),
-        )?))
+        Ok(Text::new(String::from_str(self.alloc, gravity_word(gravity))?))
     }
 
     /// The names of all marks as a list: the widget's own two, and the shared ones by their creation.
@@ -682,12 +681,7 @@ impl<S: TextStore> Document<S> {
     }
 
     /// Makes a shared mark at an offset, with right gravity, unless there are too many.
-    pub fn make_mark(
-        &mut self,
-        limits: &Limits,
-        name: &str,
-        offset: usize,
-    ) -> Result<Answer, Fault>
+    pub fn make_mark(&mut self, limits: &Limits, name: &str, offset: usize) -> Result<Answer, Fault>
         requires within { offset ≤ length self.old.cells }
         requires new { place_named self.old (lone_widget self.old) (chars name.now) ≡ None }
         ensures { Does limits.now self.old self.new result (set_found limits.now self.old (lone_widget self.old) (chars name.now) offset None) }

@@ -12,8 +12,8 @@ ghost use Rattle.peers.specs.Tags.{range_words, begun};
 ghost use Rattle.peers.specs.Slots.{Goes};
 ghost use Rattle.peers.specs.Texts.{is_filled};
 
-use std::alloc::AllocError;
 use mark_table::MarkTable;
+use std::alloc::AllocError;
 use tag_table::TagTable;
 use tcl_words::push_element;
 use text_index::{TagRange, View, next_range, previous_range, push_index};

@@ -84,7 +84,11 @@ impl<'a> Line<'a> {
                 "\"\n",
             ),
             Fault::BadGravity(position) => {
-                Line::around("error: bad mark gravity \"", word_at(words, position), "\"\n")
+                Line::around(
+                    "error: bad mark gravity \"",
+                    word_at(words, position),
+                    "\"\n",
+                )
             }
             Fault::BadList(position) => {
                 Line::around("error: bad list \"", word_at(words, position), "\"\n")
