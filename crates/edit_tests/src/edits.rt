@@ -1,29 +1,59 @@
-use crate::fixtures::{NO_ANCHORS, SLOT, Scene, piece, tags_of};
+use crate::fixtures::{NO_ANCHORS, SLOT, Scene, check_tags, check_text, mark_of};
 use edit_ops::{Anchors, EditFault, Span};
 use std::alloc::Global;
 use std::process::Abort;
 use std::test::Fail;
-use text_model::{MarkNo, PlainStore, TagSlot, TextStore};
+use text_model::{PlainStore, TagSlot, TextStore};
+
+// Texts that are put in at an offset, with the tag, without it, or with the slots that both sides share; whether that is refused,
+// and how many characters there are then.
+struct PutIn {
+    at: usize,
+    texts: &'static [(&'static str, Option<bool>)],
+    wanted: Result<(), EditFault>,
+    len: usize,
+}
+
+fn check_put<S: TextStore>(
+    rt: &impl Abort,
+    alloc: Global,
+    scene: &mut Scene<S>,
+    row: &PutIn,
+) -> Result<(), Fail> {
+    let made = scene.insert(rt, alloc, row.at, row.texts);
+    assert!(rt;
+        made == row.wanted && scene.store.len() == row.len,
+        "{}",
+        row.len
+    );
+    Ok(())
+}
+
+static PUT: [PutIn; 2] = [
+    PutIn {
+        at: 0,
+        texts: &[("ab", Some(true)), ("", Some(true)), ("c", Some(false))],
+        wanted: Ok(()),
+        len: 4,
+    },
+    PutIn {
+        at: 1,
+        texts: &[("Y", None), ("Z", None)],
+        wanted: Ok(()),
+        len: 6,
+    },
+];
 
 // Texts put in one after another, with the slots that both sides share or with those of a list.
 #[test]
 fn texts_are_put_in(rt: HostRuntime) -> Result<(), Fail> {
     let alloc = rt.alloc();
     let mut scene: Scene<PlainStore> = Scene::new(alloc, "", NO_ANCHORS)?;
-    let first = [
-        piece(alloc, "ab", Some(true))?,
-        piece(alloc, "", Some(true))?,
-        piece(alloc, "c", Some(false))?,
-    ];
-    let made = scene.insert(&rt, alloc, 0, &first);
-    assert!(rt; made.is_ok());
-    let others = [piece(alloc, "Y", None)?, piece(alloc, "Z", None)?];
-    let made = scene.insert(&rt, alloc, 1, &others);
-    assert!(rt; made.is_ok());
-    let text = scene.text()?;
-    assert!(rt; text.as_str() == "aYZbc\n", "{text}");
-    let tags = tags_of(alloc, &scene.store, SLOT)?;
-    assert!(rt; tags.as_str() == "xxxx..", "{tags}");
+    for row in &PUT {
+        check_put(&rt, alloc, &mut scene, row)?;
+    }
+    check_text(&rt, &scene.store, "aYZbc\n")?;
+    check_tags(&rt, alloc, &scene.store, SLOT, "xxxx..")?;
     assert!(rt; scene.actions() == 4 && scene.history.modified());
     Ok(())
 }
@@ -33,7 +63,7 @@ fn texts_are_put_in(rt: HostRuntime) -> Result<(), Fail> {
 fn anchors_move(rt: HostRuntime) -> Result<(), Fail> {
     let alloc = rt.alloc();
     let mut scene: Scene<PlainStore> = Scene::new(alloc, "a\nb\nc\nd", SECOND)?;
-    let made = scene.insert(&rt, alloc, 2, &[piece(alloc, "xy", None)?]);
+    let made = scene.insert(&rt, alloc, 2, &[("xy", None)]);
     assert!(rt; made.is_ok());
     assert!(rt;
         scene.all_begin_and_end(Anchors {
@@ -44,17 +74,29 @@ fn anchors_move(rt: HostRuntime) -> Result<(), Fail> {
     Ok(())
 }
 
+static LONG: [PutIn; 2] = [
+    PutIn {
+        at: 0,
+        texts: &[("0123456789", None), ("0123456789", None)],
+        wanted: Err(EditFault::TextTooLong),
+        len: 1,
+    },
+    PutIn {
+        at: 0,
+        texts: &[("0123456789", None), ("012345678", None)],
+        wanted: Ok(()),
+        len: 20,
+    },
+];
+
 // The limit is met exactly, and passed by one.
 #[test]
 fn a_text_may_be_too_long(rt: HostRuntime) -> Result<(), Fail> {
     let alloc = rt.alloc();
     let mut scene: Scene<PlainStore> = Scene::new(alloc, "", NO_ANCHORS)?;
-    let ten = piece(alloc, "0123456789", None)?;
-    let made = scene.insert(&rt, alloc, 0, &[ten, piece(alloc, "0123456789", None)?]);
-    assert!(rt; made == Err(EditFault::TextTooLong));
-    let ten = piece(alloc, "0123456789", None)?;
-    let made = scene.insert(&rt, alloc, 0, &[ten, piece(alloc, "012345678", None)?]);
-    assert!(rt; made.is_ok() && scene.store.len() == 20);
+    for row in &LONG {
+        check_put(&rt, alloc, &mut scene, row)?;
+    }
     let made = scene.replace(&rt, alloc, 3, 4, "ab");
     assert!(rt; made == Err(EditFault::TextTooLong));
     let made = scene.replace(&rt, alloc, 3, 5, "ab");
@@ -104,12 +146,12 @@ fn check_clipped(rt: &impl Abort, alloc: Global, row: &Clipped) -> Result<(), Fa
     let mut scene: Scene<PlainStore> = Scene::new(alloc, "hello world", NO_ANCHORS)?;
     scene.put_mark(rt, alloc, row.offset)?;
     let made = scene.replace(rt, alloc, 0, 5, "hi");
-    assert!(rt; made.is_ok());
-    let text = scene.text()?;
-    assert!(rt; text.as_str() == "hi world\n", "{text}");
-    let place = scene.store.mark_place(MarkNo(0)).expect(rt, "the mark");
-    assert!(rt; place.offset == row.wanted, "a mark at {}", row.offset);
-    Ok(())
+    assert!(rt;
+        made.is_ok() && mark_of(&scene.store) == Some(row.wanted),
+        "{}",
+        row.offset
+    );
+    check_text(rt, &scene.store, "hi world\n")
 }
 
 // A mark before a character that is replaced stays as far behind the place as it was, or goes to the end of the new text;
@@ -196,9 +238,7 @@ fn check_replaced(rt: &impl Abort, alloc: Global, row: &Replaced) -> Result<(), 
     let made = scene.replace(rt, alloc, row.from, row.to, row.text);
     let found = made.map(|()| scene.actions());
     assert!(rt; found == row.wanted, "{}", row.made);
-    let text = scene.text()?;
-    assert!(rt; text.as_str() == row.made, "{text}");
-    Ok(())
+    check_text(rt, &scene.store, row.made)
 }
 
 // It grows and shrinks, does one half, does nothing, and is refused.
@@ -432,12 +472,9 @@ static DELETED: [Deleted; 14] = [
 fn check_deleted(rt: &impl Abort, alloc: Global, row: &Deleted) -> Result<(), Fail> {
     let mut scene: Scene<PlainStore> = Scene::new(alloc, row.text, NO_ANCHORS)?;
     let made = scene.delete(rt, alloc, row.start, row.end, row.spans);
-    assert!(rt; made.is_ok());
-    let text = scene.text()?;
-    assert!(rt; text.as_str() == row.left, "{text}");
-    assert!(rt; scene.actions() == row.runs, "{text}");
-    assert!(rt; scene.history.modified() == (row.runs > 0), "{text}");
-    Ok(())
+    assert!(rt; made.is_ok() && scene.actions() == row.runs, "{}", row.left);
+    assert!(rt; scene.history.modified() == (row.runs > 0), "{}", row.left);
+    check_text(rt, &scene.store, row.left)
 }
 
 // Spans in any order, that overlap, adjoin, nest or are empty; the last line that a widget shows, alone and with others.
@@ -459,8 +496,7 @@ fn the_last_character_loses_its_tags(rt: HostRuntime) -> Result<(), Fail> {
     assert!(rt; tagged.is_ok());
     let made = scene.delete(&rt, alloc, 0, 3, &[Span { from: 2, to: 3 }]);
     assert!(rt; made.is_ok());
-    let tags = tags_of(alloc, &scene.store, SLOT)?;
-    assert!(rt; tags.as_str() == "xx.", "{tags}");
+    check_tags(&rt, alloc, &scene.store, SLOT, "xx.")?;
     assert!(rt; scene.actions() == 0 && !scene.history.modified());
     Ok(())
 }
@@ -508,9 +544,7 @@ fn check_tagged<S: TextStore>(
 ) -> Result<(), Fail> {
     let made = scene.tag(rt, alloc, row.from, row.to, SLOT, row.is_on);
     assert!(rt; made.is_ok());
-    let tags = tags_of(alloc, &scene.store, SLOT)?;
-    assert!(rt; tags.as_str() == row.wanted, "{tags}");
-    Ok(())
+    check_tags(rt, alloc, &scene.store, SLOT, row.wanted)
 }
 
 // Tagging is no action.
@@ -542,14 +576,9 @@ fn slots_are_cleared(rt: HostRuntime) -> Result<(), Fail> {
     }
     let made = scene.clear(&rt, alloc, TagSlot(255), TagSlot(5));
     assert!(rt; made.is_ok());
-    let first = tags_of(alloc, &scene.store, TagSlot(5))?;
-    let last = tags_of(alloc, &scene.store, TagSlot(255))?;
-    assert!(rt;
-        first.as_str() == "...." && last.as_str() == "....",
-        "{first} {last}"
-    );
-    let others = tags_of(alloc, &scene.store, SLOT)?;
-    assert!(rt; others.as_str() == ".xxx", "{others}");
+    check_tags(&rt, alloc, &scene.store, TagSlot(5), "....")?;
+    check_tags(&rt, alloc, &scene.store, TagSlot(255), "....")?;
+    check_tags(&rt, alloc, &scene.store, SLOT, ".xxx")?;
     assert!(rt; scene.actions() == 0 && !scene.history.modified());
     Ok(())
 }

@@ -26,17 +26,27 @@ pub const NO_ANCHORS: Anchors = Anchors {
 /// The slot that the tests set.
 pub const SLOT: TagSlot = TagSlot(7);
 
-// A text to be put in; with the tag or without tags, where that is said.
-pub fn piece(alloc: Global, text: &str, is_tagged: Option<bool>) -> Result<Piece, AllocError> {
-    let slots = match is_tagged {
+// A text to be put in, and where that is said whether it has the tag.
+type Put<'a> = (&'a str, Option<bool>);
+
+fn piece(alloc: Global, put: &Put<'_>) -> Result<Piece, AllocError> {
+    let slots = match put.1 {
         None => None,
         Some(false) => Some(TagSet::empty()),
         Some(true) => Some(TagSet::empty().with(SLOT)),
     };
     Ok(Piece {
-        text: Text::new(String::from_str(alloc, text)?),
+        text: Text::new(String::from_str(alloc, put.0)?),
         slots,
     })
+}
+
+fn pieces_of(alloc: Global, puts: &[Put<'_>]) -> Result<Vec<Piece>, AllocError> {
+    let mut pieces = Vec::new(alloc);
+    for put in puts {
+        pieces.push(piece(alloc, put)?)?;
+    }
+    Ok(pieces)
 }
 
 // Whether spans end by an offset.
@@ -51,18 +61,40 @@ fn end_by(spans: &[Span], end: usize) -> bool
     true
 }
 
+pub fn check_text<S: TextStore>(rt: &impl Abort, store: &S, wanted: &str) -> Result<(), Fail> {
+    let text = store.copy_text(0, store.len())?;
+    assert!(rt; text.as_str() == wanted, "{text}");
+    Ok(())
+}
+
 // Which characters have the tag of a slot: an `x` for each that has it, and a dot for the others.
-pub fn tags_of<S: TextStore>(
-    alloc: Global,
-    store: &S,
-    slot: TagSlot,
-) -> Result<String, AllocError> {
+fn tags_of<S: TextStore>(alloc: Global, store: &S, slot: TagSlot) -> Result<String, AllocError> {
     let mut tags = String::new(alloc);
     for offset in 0..store.len() {
         let has_tag = slot.0 < TagSet::SLOTS && store.has_tag(offset, slot);
         tags.push(if has_tag { 'x' } else { '.' })?;
     }
     Ok(tags)
+}
+
+pub fn check_tags<S: TextStore>(
+    rt: &impl Abort,
+    alloc: Global,
+    store: &S,
+    slot: TagSlot,
+    wanted: &str,
+) -> Result<(), Fail> {
+    let tags = tags_of(alloc, store, slot)?;
+    assert!(rt; tags.as_str() == wanted, "{tags}");
+    Ok(())
+}
+
+// Where the mark 0 stands.
+pub fn mark_of<S: TextStore>(store: &S) -> Option<usize> {
+    match store.mark_place(MarkNo(0)) {
+        None => None,
+        Some(place) => Some(place.offset),
+    }
 }
 
 // A text, its history, and where the widgets that show it begin and end.
@@ -110,9 +142,10 @@ impl<S: TextStore> Scene<S> {
         rt: &impl Abort,
         alloc: Global,
         at: usize,
-        pieces: &[Piece],
+        puts: &[Put<'_>],
     ) -> Result<(), EditFault> {
         let limits = Limits::new(20, 3, 3, 3, 3).expect(rt, "limits");
+        let pieces = pieces_of(alloc, puts)?;
         let Scene {
             store,
             history,
@@ -120,7 +153,7 @@ impl<S: TextStore> Scene<S> {
         } = self;
         assert!(rt; at < store.len());
         assert!(rt; anchors_stand(anchors, store.len()));
-        let plan = plan_insert(alloc, &limits, store, history, anchors, at, pieces, KEPT)?;
+        let plan = plan_insert(alloc, &limits, store, history, anchors, at, &pieces, KEPT)?;
         commit(plan, store, history, anchors);
         Ok(())
     }
@@ -135,7 +168,7 @@ impl<S: TextStore> Scene<S> {
         text: &str,
     ) -> Result<(), EditFault> {
         let limits = Limits::new(20, 3, 3, 3, 3).expect(rt, "limits");
-        let pieces = [piece(alloc, text, None)?];
+        let pieces = [piece(alloc, &(text, None))?];
         let Scene {
             store,
             history,
@@ -223,10 +256,6 @@ impl<S: TextStore> Scene<S> {
         let plan = plan_clear(alloc, store, history, anchors, &slots)?;
         commit(plan, store, history, anchors);
         Ok(())
-    }
-
-    pub fn text(&self) -> Result<String, AllocError> {
-        self.store.copy_text(0, self.store.len())
     }
 
     // How many actions the last group has.

@@ -3,7 +3,7 @@ ghost use Rattle.edit_ops.specs.Keeping.{IsKept};
 ghost use Rattle.edit_ops.specs.States.{log_of, state_of};
 ghost use Rattle.text_model.specs.Content.{characters};
 
-use crate::fixtures::{SLOT, tags_of};
+use crate::fixtures::{SLOT, check_tags, check_text, mark_of};
 use edit_ops::laws::edits_fit;
 use edit_ops::{
     Anchors, EditFault, Piece, Recording, Span, anchors_stand, commit, plan_delete, plan_insert,
@@ -279,17 +279,10 @@ fn check_left<S: TextStore>(
     anchors: &[Anchors; 2],
     row: &Reversed,
 ) -> Result<(), Fail> {
-    let text = store.copy_text(0, store.len())?;
-    assert!(rt; text.as_str() == row.text, "{text}");
-    let tags = tags_of(alloc, store, SLOT)?;
-    assert!(rt; tags.as_str() == row.tags, "{tags}");
-    let place = store.mark_place(MarkNo(0)).expect(rt, "a mark");
-    assert!(rt; place.offset == row.mark, "{text}");
-    assert!(rt;
-        anchors[0] == ALL && anchors[1].end == Some(store.len()),
-        "{text}"
-    );
-    Ok(())
+    assert!(rt; mark_of(store) == Some(row.mark), "{}", row.mark);
+    assert!(rt; anchors[0] == ALL && anchors[1].end == Some(store.len()));
+    check_tags(rt, alloc, store, SLOT, row.tags)?;
+    check_text(rt, store, row.text)
 }
 
 fn check<S: TextStore>(rt: &impl Abort, alloc: Global, row: &Reversed) -> Result<(), Fail> {
