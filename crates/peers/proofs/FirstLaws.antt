@@ -1,15 +1,13 @@
 -- A new document.
-use Rattle.std.proofs.Common.{◌≡◌, ℕ, true, List, [], ◌∷◌, length, refl, sym, ap, ◌∙◌, arith}
-use Rattle.std.specs.Prelude.{Option, Some, None, is_some, unwrap_or}
+use Rattle.std.proofs.Common.{◌≡◌, ℕ, true, List, [], ◌∷◌, refl, sym, ap, ◌∙◌, arith}
+use Rattle.std.specs.Prelude.{Some, None, is_some, unwrap_or}
 use Rattle.std.specs.Cmp.{nat_cmp_total}
 use Rattle.std.specs.Ordering.{nat_cmp}
 use Rattle.std.specs.FinMap as finite
 use Rattle.std.specs.FinSet as set
 use Rattle.std.proofs.lemmas.List.Elements.{All-cons, All-nil}
-use Rattle.text_model.specs.declared.cells.Cell.{Cell}
 use Rattle.text_model.specs.declared.edits.Step.TheVariants.{PutMark}
-use Rattle.text_model.specs.declared.places.Place.{Place}
-use Rattle.text_model.specs.Content.{Content, Marks, new_content}
+use Rattle.text_model.specs.Content.{Marks, new_content}
 use Rattle.text_model.specs.Documents.{MarksStand}
 use Rattle.text_model.specs.Steps.{after_step}
 use Rattle.text_model.proofs.DocumentLaws.{IsDocument-new}
@@ -27,7 +25,7 @@ use Rattle.peers.specs.Keys.{keys_of, key_pairs}
 use Rattle.peers.proofs.BridgeLaws.{keys_of-empty}
 use Rattle.peers.specs.Kept.{AreMarked, IsKept, HasKnownSlots, is_window_name}
 use Rattle.peers.specs.Step.{new_document}
-use Rattle.peers.specs.World.{Document, lone_document, document_of, whole_widget, keyed, mark_of, new_mark, first_content}
+use Rattle.peers.specs.World.{lone_document, document_of, whole_widget, mark_of, new_mark, first_content}
 
 insert-first : finite.get first_content.marks 0 ≡ Some new_mark
 insert-first =

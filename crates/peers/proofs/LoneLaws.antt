@@ -1,34 +1,29 @@
 -- What a lone document shows, and what names mean to its widget.
-use Rattle.std.proofs.Common.{◌≡◌, ◌≢◌, ℕ, zero, suc, ◌+◌, ◌-◌, ◌*◌, ◌<◌, ◌≤◌, Bool, true, false, cond, List, [], ◌∷◌, length, map, refl, sym, ap, ap₂, ◌∙◌, arith}
+use Rattle.std.proofs.Common.{◌≡◌, ◌≢◌, ℕ, suc, ◌+◌, ◌≤◌, true, false, cond, List, [], ◌∷◌, length, refl, sym, ap, ap₂, ◌∙◌, arith}
 use Rattle.std.specs.Prelude.{find, slice_get, ◌||◌, Option, None, Some, Result, Ok, Err, is_some, option_map, option_and_then, unwrap_or, codes, bytes_eq, slice_range, nat_lt, if◌then◌else◌, ◌==◌}
 use Rattle.std.specs.Str.{chars}
-use Rattle.std.specs.FinSet as set
 use Rattle.std.specs.FinMap as finite
-use Rattle.std.specs.List.{All}
-use Rattle.std.specs.Ordering.{nat_cmp}
 use Rattle.std.proofs.lemmas.List.{length-map}
 use Rattle.std.proofs.lemmas.Bool.{false≢true}
 use Rattle.text_model.specs.declared.cells.Cell.{Cell}
 use Rattle.text_model.specs.declared.places.Place.{Place}
 use Rattle.text_model.specs.Content as model
 use Rattle.text_model.specs.Content.{Content, flags}
-use Rattle.mark_table.specs.SharedMarks.{Mark, SharedMarks, AreMarks, first_number, number_of, numbers_of}
+use Rattle.mark_table.specs.SharedMarks.{Mark, SharedMarks, first_number, number_of}
 use Rattle.name_list.specs.Names.{AreApart}
 use Rattle.tag_table.specs.Tags.{Tag, Tags, names_of, slot_of, is_named}
 use Rattle.index_grammar.specs.Names.{known_marks, known_tags}
 use Rattle.text_index.specs.Views as view
 use Rattle.text_index.specs.Views.{own_place, shared_place, shown_mark}
 use Rattle.text_index.specs.Words.{is_word}
-use Rattle.text_index.specs.Meanings.{Meanings, MeanTheSame, shown_meanings, word_value}
+use Rattle.text_index.specs.Meanings.{MeanTheSame, shown_meanings, word_value}
 use Rattle.text_index.proofs.MeaningLaws.{word_value-same}
 use Rattle.index_grammar.specs.declared.faults.IndexFault.{IndexFault}
 use Rattle.index_grammar.specs.declared.faults.IndexFault.TheVariants as index
-use Rattle.peers.specs.declared.answers.Fault.{Fault}
-use Rattle.peers.specs.declared.answers.Fault.TheVariants.{Memory}
 use Rattle.peers.specs.Faults.{index_fault, at_position}
 use Rattle.undo_stack.specs.Modified.{Modified}
 use Rattle.peers.specs.Keys.{Key, key_named, key_pairs}
-use Rattle.peers.specs.Kept.{AreMarked, IsKept, IsMarked}
+use Rattle.peers.specs.Kept.{AreMarked, IsKept}
 use Rattle.peers.specs.Names.{mark_number, mark_place, tag_number, tag_flags, meanings, place_of}
 use Rattle.peers.specs.Promise.{Gives}
 use Rattle.peers.specs.View.{shown, shown_flags}

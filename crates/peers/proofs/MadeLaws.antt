@@ -1,6 +1,6 @@
 -- Tables of tags as tags are made.
-use Rattle.std.proofs.Common.{◌≡◌, ◌≢◌, ℕ, zero, suc, ◌+◌, ◌<◌, ◌≤◌, Bool, true, false, cond, List, [], ◌∷◌, ◌++◌, length, map, take, refl, sym, ap, ap₂, subst, ◌∙◌, arith, inl, inr}
-use Rattle.std.specs.Prelude.{String, chars, string_bytes, get_or, drop, IfSome, Option, None, Some, find, option_map, ◌||◌, if◌then◌else◌}
+use Rattle.std.proofs.Common.{◌≡◌, ℕ, zero, suc, ◌+◌, ◌<◌, ◌≤◌, true, false, cond, List, [], ◌∷◌, ◌++◌, length, take, refl, sym, ap, subst, ◌∙◌, arith, inl, inr}
+use Rattle.std.specs.Prelude.{String, chars, string_bytes, get_or, drop, IfSome, Option, None, Some, find, option_map, if◌then◌else◌}
 use Rattle.std.proofs.lemmas.List.{length-map, map-append, append_assoc, append-nil, take_all, take-append-le, take-append-drop, length-append}
 use Rattle.std.proofs.Math.Seq.{take-suc}
 use Rattle.tcl_words.specs.Unread.{texts_of}
@@ -9,7 +9,7 @@ use Rattle.std.proofs.lemmas.Slice.Eq.{bytes_eq-Decides}
 use Rattle.tag_table.specs.Tags.{Tag, Tags, names_of, slot_of, is_named}
 use Rattle.peers.specs.Lists.{Pair, with_name, with_names, listed_names, all_names}
 use Rattle.peers.specs.Slots.{IsFront}
-use Rattle.peers.specs.Words.{is_same, is_among}
+use Rattle.peers.specs.Words.{is_among}
 use Rattle.peers.proofs.LoneLaws.{found_tag}
 
 pub among_slot : (name : List ℕ) (tags : List Tag) (slot : ℕ) → slot_of name tags ≡ Some slot → is_among name (names_of tags) ≡ true

@@ -1,6 +1,6 @@
 -- A lone document after a mark is put at a place, made or taken out.
 use Rattle.std.proofs.Common.{◌≡◌, ◌≢◌, ℕ, zero, suc, ◌+◌, ◌<◌, ◌≤◌, Bool, true, false, cond, List, [], ◌∷◌, ◌++◌, length, map, refl, sym, ap, ap₂, subst, ◌∙◌, arith, inl, inr}
-use Rattle.std.specs.Prelude.{Contains, bytes_eq, filter, find, nat_le, not, slice_get, Option, None, Some, Ok, is_some, option_map, unwrap_or, if◌then◌else◌}
+use Rattle.std.specs.Prelude.{bytes_eq, filter, find, nat_le, not, slice_get, Option, None, Some, Ok, is_some, option_map, unwrap_or, if◌then◌else◌}
 use Rattle.std.specs.Cmp.{nat_cmp_total, unsigned_tied}
 use Rattle.std.specs.FinMap as finite
 use Rattle.std.specs.List.{AllByRecursion, cons_option}
@@ -14,7 +14,6 @@ use Rattle.name_list.specs.Names.{AreApart}
 use Rattle.name_list.proofs.ListLaws.{Contains-from_stands}
 use Rattle.mark_table.specs.SharedMarks.{AreMarks, Mark, SharedMarks, first_number, is_named, names_of, number_of, numbers_of, turned}
 use Rattle.tag_table.specs.Tags.{Tag, Tags, names_of as tag_names}
-use Rattle.text_model.specs.declared.places.Gravity.{Gravity}
 use Rattle.text_model.specs.declared.places.Gravity.TheVariants.{Right}
 use Rattle.text_model.specs.declared.places.Place.{Place}
 use Rattle.text_model.specs.Content.{Content, Marks}
@@ -24,7 +23,7 @@ use Rattle.undo_stack.specs.Modified.{Modified}
 use Rattle.undo_stack.specs.Rings.{Kept}
 use Rattle.peers.specs.declared.answers.Answer.TheVariants.{Empty}
 use Rattle.peers.specs.Keys.{key_pairs}
-use Rattle.peers.specs.Kept.{AreMarked, AreNew, IsKept, IsMarked}
+use Rattle.peers.specs.Kept.{AreMarked, IsKept, IsMarked}
 use Rattle.peers.specs.Marks.{is_left, mark_unset, set_found, with_current, with_insert, with_shared}
 use Rattle.peers.specs.Promise.{Change, Does, answered, refused}
 use Rattle.peers.specs.Slots.{IsMadeMark, marks_left, numbers_named, taken}
@@ -36,7 +35,7 @@ use Rattle.peers.proofs.DeletedLaws.{filter-alike, not_pushed, without-filter}
 use Rattle.peers.specs.declared.answers.Fault.TheVariants.{TooManyMarks}
 use Rattle.name_list.specs.Moves.{without}
 use Rattle.peers.proofs.LoneLaws.{cells-lone, marks-lone}
-use Rattle.peers.proofs.PlacedLaws.{AreAlike, StandsMark, found_mark, marked-alike, placed-alike, placed-length}
+use Rattle.peers.proofs.PlacedLaws.{AreAlike, StandsMark, found_mark, marked-alike, placed-alike}
 use Rattle.peers.proofs.WellFormedLaws.{IsWellFormedDocument-lone}
 
 -- ---- one mark of a store

@@ -1,10 +1,10 @@
 -- What is found of marks in a lone document.
-use Rattle.std.proofs.Common.{◌≡◌, ℕ, zero, suc, ◌+◌, ◌-◌, ◌*◌, ◌<◌, ◌≤◌, min, max, Bool, true, false, List, [], ◌∷◌, ◌++◌, length, map, refl, sym, ap, ap₂, ◌∙◌, subst, arith, inl, inr}
+use Rattle.std.proofs.Common.{◌≡◌, ℕ, zero, suc, ◌+◌, ◌-◌, ◌≤◌, min, max, Bool, true, false, List, [], ◌∷◌, ◌++◌, length, refl, sym, ap, ap₂, ◌∙◌, arith, inl, inr}
 use Rattle.std.specs.Prelude.{Contains, find, slice_get, slice_index_or, nat_le, Option, None, Some, is_some, option_map, option_and_then, unwrap_or, ◌&&◌, ◌||◌, ◌==◌, if◌then◌else◌}
 use Rattle.std.specs.FinMap as finite
 use Rattle.std.specs.List.{AllByRecursion, position_from}
 use Rattle.std.proofs.lemmas.Bool.{false≢true}
-use Rattle.std.proofs.lemmas.Bool.Decides.{nat_tests, Decides-eqb}
+use Rattle.std.proofs.lemmas.Bool.Decides.{nat_tests}
 use Rattle.std.proofs.lemmas.List.{get_or_past, length-map}
 use Rattle.std.proofs.lemmas.Option.{none-some, same_Some, get_or_from_slice_get}
 use Rattle.name_list.proofs.ListLaws.{Contains-from_stands}
@@ -12,19 +12,18 @@ use Rattle.mark_table.specs.declared.order.MarkView.{MarkView}
 use Rattle.mark_table.specs.declared.order.Shown.{Shown}
 use Rattle.mark_table.specs.Order as order
 use Rattle.mark_table.specs.Order.{usable}
-use Rattle.mark_table.specs.SharedMarks.{Mark, SharedMarks, first_number, names_of, number_of, numbers_of}
-use Rattle.tag_table.specs.Tags.{Tag, Tags}
+use Rattle.mark_table.specs.SharedMarks.{Mark, SharedMarks, names_of, number_of, numbers_of}
+use Rattle.tag_table.specs.Tags.{Tags}
 use Rattle.text_model.specs.declared.places.Place.{Place}
-use Rattle.text_model.specs.declared.places.TagSlot.{TagSlot}
-use Rattle.text_model.specs.Content.{Content, Marks}
+use Rattle.text_model.specs.Content.{Content}
 use Rattle.text_index.specs.Views as view
 use Rattle.undo_stack.specs.Rings.{Kept}
-use Rattle.peers.specs.Kept.{IsKept, IsMarked}
+use Rattle.peers.specs.Kept.{IsMarked}
 use Rattle.peers.specs.Keys.{key_pairs}
 use Rattle.peers.specs.Marks.{mark_names, place_named, shared_from, shown_at, usable_marks}
 use Rattle.peers.specs.Names.{mark_number, mark_place}
 use Rattle.peers.specs.Words.{is_own, is_same, literal}
-use Rattle.peers.specs.World.{Document, SharedMark, Widget, lone_document, lone_widget, mark_of, new_mark, placed}
+use Rattle.peers.specs.World.{Document, SharedMark, lone_document, lone_widget, mark_of, new_mark, placed}
 use Rattle.peers.proofs.ChangeLaws.{Stands}
 use Rattle.peers.proofs.LoneLaws.{length-keyed}
 use Rattle.peers.proofs.PlacedLaws.{StandsMark, found_mark, marked-there, placed-names}

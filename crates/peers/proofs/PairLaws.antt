@@ -1,9 +1,9 @@
 -- Lists that are taken by twos.
-use Rattle.std.proofs.Common.{◌≡◌, ℕ, zero, suc, ◌+◌, ◌-◌, ◌<◌, ◌≤◌, List, [], ◌∷◌, ◌++◌, length, drop, get_or, refl, sym, ap, ◌∙◌, arith}
+use Rattle.std.proofs.Common.{◌≡◌, ℕ, suc, ◌+◌, ◌-◌, ◌<◌, ◌≤◌, List, [], ◌∷◌, ◌++◌, length, drop, get_or, refl, sym, ap, ◌∙◌, arith}
 use Rattle.std.specs.List.{All}
 use Rattle.std.proofs.lemmas.List.Elements.{All-cons, All-nil}
 use Rattle.edit_ops.specs.Tagging.{SpanFits}
-use Rattle.std.specs.Prelude.{min, max, take, map, Result, Ok, Err, Some, None, String, chars, string_bytes}
+use Rattle.std.specs.Prelude.{min, take, Result, Ok, Err, Some, None, String, chars, string_bytes}
 use Rattle.std.proofs.lemmas.List.{take_rest, append_assoc, drop-map, length-map, append-nil, get_or-map}
 use Rattle.tcl_words.specs.Unread.{texts_of}
 use Rattle.peers.specs.Faults.{with_value}

@@ -1,13 +1,11 @@
 -- The places of indices, one after the other.
-use Rattle.std.proofs.Common.{◌≡◌, ◌≢◌, ℕ, zero, suc, ◌+◌, ◌<◌, ◌≤◌, List, [], ◌∷◌, ◌++◌, length, drop, get_or, refl, sym, ap, ◌∙◌, arith}
+use Rattle.std.proofs.Common.{◌≡◌, ℕ, zero, suc, ◌+◌, ◌<◌, ◌≤◌, List, [], ◌∷◌, ◌++◌, length, drop, get_or, refl, sym, ap, ◌∙◌, arith}
 use Rattle.std.specs.Prelude.{Result, Ok, Err, String, chars, string_bytes}
 use Rattle.std.proofs.lemmas.List.{append_assoc, append-nil, drop_all}
 use Rattle.tcl_words.specs.Unread.{texts_of}
 use Rattle.peers.specs.declared.answers.Fault.{Fault}
-use Rattle.peers.specs.declared.answers.Fault.TheVariants.{Memory}
 use Rattle.peers.specs.Faults.{with_value}
 use Rattle.peers.specs.Indices.{place_at}
-use Rattle.peers.specs.Promise.{Gives}
 use Rattle.peers.specs.Ranges.{and_place, places_at}
 use Rattle.peers.specs.World.{Document, Widget}
 

@@ -1,5 +1,5 @@
 -- How a promise goes through a command, word by word.
-use Rattle.std.proofs.Common.{◌≡◌, ◌≢◌, ℕ, length, refl, sym, ap, ◌∙◌}
+use Rattle.std.proofs.Common.{◌≡◌, ◌≢◌, refl, sym, ap, ◌∙◌}
 use Rattle.std.specs.Prelude.{Result, Ok, Err, IfErr}
 use Rattle.text_model.specs.LimitTable.{LimitTable}
 use Rattle.peers.specs.declared.answers.Answer.{Answer}

@@ -1,13 +1,13 @@
 -- What the queries of a document's tables and store say of the document.
-use Rattle.std.proofs.Common.{◌≡◌, ℕ, zero, suc, ◌+◌, ◌-◌, ◌<◌, ◌≤◌, Bool, true, false, cond, List, [], ◌∷◌, ◌++◌, length, map, drop, refl, sym, ap, ap₂, ◌∙◌, subst, arith, inl, inr}
-use Rattle.std.specs.Prelude.{Option, None, Some, slice_get, slice_range, filter, chars, IsUtf8, encode_utf8_all, if◌then◌else◌}
+use Rattle.std.proofs.Common.{◌≡◌, ℕ, zero, suc, ◌-◌, ◌≤◌, Bool, true, false, cond, List, [], ◌∷◌, length, drop, refl, sym, ap, ◌∙◌, arith}
+use Rattle.std.specs.Prelude.{None, Some, slice_get, slice_range, filter, chars, IsUtf8, if◌then◌else◌}
 use Rattle.std.specs.FinSet as set
 use Rattle.std.proofs.lemmas.List.{length-map, length-take, length-drop}
-use Rattle.std.proofs.lemmas.Option.{none-some, get_or_from_slice_get, slice_get_within}
+use Rattle.std.proofs.lemmas.Option.{none-some, get_or_from_slice_get}
 use Rattle.std.proofs.lemmas.Str.{chars_from_encodes}
 use Rattle.name_list.specs.Names.{AreApart}
 use Rattle.mark_table.specs.SharedMarks.{Mark}
-use Rattle.tag_table.specs.Tags.{Tag, Tags, names_of, slot_of}
+use Rattle.tag_table.specs.Tags.{Tag, names_of, slot_of}
 use Rattle.tcl_words.specs.ListText.{list_text}
 use Rattle.text_model.specs.declared.cells.Cell.{Cell}
 use Rattle.text_model.specs.Changes.{flag_at}
@@ -18,11 +18,10 @@ use Rattle.peers.specs.Keys.{key_named}
 use Rattle.peers.specs.Slots.{Goes}
 use Rattle.peers.specs.Tags.{flags_of, tags_on}
 use Rattle.peers.specs.View.{shown, shown_flags, view_start, view_end}
-use Rattle.peers.specs.Words.{is_among}
 use Rattle.peers.specs.World.{Document, KeyedCell, lone_document, lone_widget}
 use Rattle.peers.proofs.ClearedLaws.{slot_standing}
 use Rattle.peers.proofs.EndLaws.{whole-part}
-use Rattle.peers.proofs.LoneLaws.{flags-lone, found_tag}
+use Rattle.peers.proofs.LoneLaws.{flags-lone}
 use Rattle.peers.proofs.MadeLaws.{among_slot, absent_slot}
 
 -- the text of a list that was begun with nothing

@@ -1,17 +1,14 @@
 -- A lone document after texts are put in.
 use Rattle.std.proofs.Common.{◌≡◌, ℕ, ◌+◌, ◌<◌, true, false, List, [], ◌∷◌, Option, None, Some, map, length, refl, sym, ap, ◌∙◌, arith, eqb-true}
-use Rattle.std.specs.Prelude.{is_some, option_map, unwrap_or, ◌==◌, if◌then◌else◌}
+use Rattle.std.specs.Prelude.{is_some, option_map, ◌==◌, if◌then◌else◌}
 use Rattle.std.specs.FinMap as finite
-use Rattle.std.proofs.lemmas.Bool.{false≢true}
 use Rattle.std.proofs.lemmas.List.{length-map}
 use Rattle.name_list.specs.Names.{AreApart}
 use Rattle.tag_table.specs.Tags.{Tag, names_of}
 use Rattle.text_model.specs.declared.cells.Cell.{Cell}
-use Rattle.text_model.specs.declared.places.Place.{Place}
-use Rattle.text_model.specs.Content.{Content, Marks, Slots, map_marks}
+use Rattle.text_model.specs.Content.{Content, Slots, map_marks}
 use Rattle.text_model.specs.Splices.{inserted, moved}
 use Rattle.text_model.specs.Steps.{after_insertion, cells_of}
-use Rattle.text_model.proofs.PlaceLaws.{get-map_marks}
 use Rattle.text_model.proofs.SpliceLaws.{length-cells_inserted}
 use Rattle.undo_stack.specs.History.{no_history}
 use Rattle.undo_stack.specs.Modified.{Modified, counted_new}

@@ -1,14 +1,13 @@
 -- A lone document is well formed.
-use Rattle.std.proofs.Common.{◌≡◌, ℕ, zero, suc, ◌≤◌, true, false, List, [], ◌∷◌, length, refl, sym, ap, subst, ◌∙◌, arith}
+use Rattle.std.proofs.Common.{◌≡◌, ℕ, suc, ◌≤◌, true, false, List, [], ◌∷◌, length, refl, sym, ap, subst, ◌∙◌, arith}
 use Rattle.std.proofs.Common.{inl, inr, ap₂, ◌+◌}
 use Rattle.std.proofs.lemmas.Bool.{false_from_ne_true}
 use Rattle.std.proofs.lemmas.List.{length-map}
 use Rattle.std.proofs.lemmas.Slice.Eq.{bytes_eq-Decides}
 use Rattle.std.specs.List.{IsDistinct, AllByRecursion}
-use Rattle.std.specs.Prelude.{◌||◌, ◌&&◌, not, map, slice_get, if◌then◌else◌, Option, None, Some, is_some, unwrap_or}
+use Rattle.std.specs.Prelude.{◌||◌, ◌&&◌, not, map, slice_get, if◌then◌else◌, None, Some}
 use Rattle.std.specs.FinMap as finite
 use Rattle.text_model.specs.declared.cells.Cell.{Cell}
-use Rattle.text_model.specs.declared.places.Place.{Place}
 use Rattle.text_model.specs.Content.{Content}
 use Rattle.text_model.specs.Documents.{IsDocument}
 use Rattle.text_model.specs.LimitTable.{LimitTable}

@@ -1,5 +1,5 @@
 -- The fault of a command, by the fault of one of its words, and what comes after a word without one.
-use Rattle.std.specs.Prelude.{ℕ, List, Result, Ok, Err}
+use Rattle.std.specs.Prelude.{ℕ, Result, Ok, Err}
 use Rattle.command_table.specs.declared.shapes.ShapeFault.{ShapeFault}
 use Rattle.command_table.specs.declared.shapes.ShapeFault.TheVariants as shape
 use Rattle.index_grammar.specs.declared.faults.IndexFault.{IndexFault}

@@ -1,5 +1,5 @@
 -- Commands on marks.
-use Rattle.std.specs.Prelude.{ℕ, zero, suc, ◌+◌, ◌-◌, min, nat_le, Bool, not, List, [], ◌∷◌, ◌++◌, length, map, filter, find, slice_index_or, Option, None, Some, option_map, Result, Ok, Err, if◌then◌else◌}
+use Rattle.std.specs.Prelude.{ℕ, ◌+◌, ◌-◌, min, nat_le, Bool, not, List, [], ◌∷◌, ◌++◌, length, map, filter, find, slice_index_or, Option, None, Some, option_map, Result, Ok, Err, if◌then◌else◌}
 use Rattle.mark_table.specs.declared.order.Origin.{Origin}
 use Rattle.mark_table.specs.declared.order.Origin.TheVariants.{Mark, Place as Offset}
 use Rattle.mark_table.specs.declared.order.Shown.{Shown}

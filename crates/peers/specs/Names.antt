@@ -1,5 +1,5 @@
 -- What the names of marks and of tags mean to a widget, and the place that a word stands for in what it shows.
-use Rattle.std.specs.Prelude.{ℕ, zero, suc, Bool, true, false, List, Option, Some, option_map, option_and_then, slice_get, slice_index_or, [], Result, if◌then◌else◌}
+use Rattle.std.specs.Prelude.{ℕ, zero, suc, Bool, List, Option, Some, option_map, option_and_then, slice_get, slice_index_or, [], Result, if◌then◌else◌}
 use Rattle.std.specs.List.{position_from}
 use Rattle.index_grammar.specs.declared.faults.IndexFault.{IndexFault}
 use Rattle.text_index.specs.Views.{own_place, shared_place}

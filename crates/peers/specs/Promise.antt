@@ -1,5 +1,5 @@
 -- What every command promises.
-use Rattle.std.specs.Prelude.{◌≡◌, ◌≢◌, ℕ, List, length, Result, Ok, Err, IfErr}
+use Rattle.std.specs.Prelude.{◌≡◌, ◌≢◌, length, Result, Ok, Err, IfErr}
 use Rattle.text_model.specs.LimitTable.{LimitTable}
 use Rattle.peers.specs.declared.answers.Answer.{Answer}
 use Rattle.peers.specs.declared.answers.Fault.{Fault}

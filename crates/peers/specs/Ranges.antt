@@ -1,5 +1,5 @@
 -- The ranges that a command's indices make.
-use Rattle.std.specs.Prelude.{ℕ, suc, ◌+◌, min, max, List, [], ◌∷◌, length, slice_range, Result, Ok}
+use Rattle.std.specs.Prelude.{ℕ, suc, ◌+◌, min, max, List, [], ◌∷◌, length, Result, Ok}
 use Rattle.edit_ops.specs.declared.spans.Span.{Span}
 use Rattle.peers.specs.declared.answers.Fault.{Fault}
 use Rattle.peers.specs.Faults.{with_value}

@@ -1,10 +1,9 @@
 -- Commands on tags.
-use Rattle.std.specs.Prelude.{ℕ, suc, ◌+◌, nat_lt, nat_le, Bool, true, false, not, ◌||◌, List, [], ◌∷◌, ◌++◌, length, map, filter, Option, None, Some, Result, Ok, Err, unwrap_or, if◌then◌else◌}
+use Rattle.std.specs.Prelude.{ℕ, ◌+◌, nat_lt, nat_le, Bool, true, false, not, ◌||◌, List, [], ◌∷◌, ◌++◌, length, map, filter, Option, None, Some, Result, Ok, if◌then◌else◌}
 use Rattle.std.specs.FinSet as set
 use Rattle.name_list.specs.Moves.{without, put_behind, put_before}
 use Rattle.text_model.specs.Changes.{flag_at}
 use Rattle.text_model.specs.LimitTable.{LimitTable}
-use Rattle.edit_ops.specs.declared.spans.Span.{Span}
 use Rattle.tcl_words.specs.ListText.{list_text}
 use Rattle.text_index.specs.Positions.{position_text}
 use Rattle.text_index.specs.Ranges.{tag_ranges, next_range, previous_range}

@@ -1,5 +1,5 @@
 -- Commands on texts: `insert` and `get`.
-use Rattle.std.specs.Prelude.{ℕ, suc, ◌+◌, ◌-◌, min, nat_lt, Bool, not, ◌==◌, List, [], ◌∷◌, length, map, filter, sum_by, slice_range, Option, None, Some, option_map, Result, Ok, if◌then◌else◌}
+use Rattle.std.specs.Prelude.{ℕ, suc, ◌+◌, ◌-◌, min, nat_lt, Bool, not, ◌==◌, List, [], ◌∷◌, length, map, filter, sum_by, slice_range, option_map, Result, Ok, if◌then◌else◌}
 use Rattle.text_model.specs.LimitTable.{LimitTable}
 use Rattle.undo_stack.specs.declared.actions.EditKind.TheVariants as kind
 use Rattle.tcl_words.specs.ListText.{list_text}

@@ -7,7 +7,7 @@ use Rattle.text_model.specs.declared.places.Place.{Place}
 use Rattle.text_model.specs.Content.{Content, Marks, new_content}
 use Rattle.text_model.specs.LimitTable.{LimitTable}
 use Rattle.undo_stack.specs.History.{History, no_history}
-use Rattle.undo_stack.specs.Modified.{Modified, unmodified}
+use Rattle.undo_stack.specs.Modified.{Modified}
 pub use Rattle.tag_table.specs.Tags.{sel}
 use Rattle.tag_table.specs.Tags.{Tag, names_of}
 use Rattle.mark_table.specs.SharedMarks.{Mark}

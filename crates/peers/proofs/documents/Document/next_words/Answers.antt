@@ -1,5 +1,5 @@
 use Rattle.std.proofs.Common.{subst}
-use Rattle.std.specs.Prelude.{◌+◌, chars, length, option_map}
+use Rattle.std.specs.Prelude.{◌+◌, chars, option_map}
 use Rattle.peers.specs.Faults.{with_value}
 use Rattle.peers.specs.Indices.{place_at}
 use Rattle.peers.specs.Promise.{Gives}
