@@ -13,3 +13,4 @@ pub mod ListStages
 pub mod ListWriting
 pub mod SpellsBack
 pub mod ListForms
+pub mod ListGrowth

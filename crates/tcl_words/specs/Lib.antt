@@ -2,6 +2,7 @@ pub mod Characters
 pub mod Encoding
 pub mod EscapeSteps
 pub mod Escapes
+pub mod ListGrowth
 pub mod ListSteps
 pub mod ListText
 pub mod Progression

@@ -2,7 +2,8 @@
 
 ghost use Rattle.std.specs.Prelude.{◌≡◌, ◌||◌, ◌++◌, ◌∷◌, [], List, ℕ, IfOk, OnOk, OnErr, chars, string_bytes, encode_utf8_all};
 ghost use Rattle.tcl_words.specs.Characters.{begins_with};
-ghost use Rattle.tcl_words.specs.ListText.{is_white, is_special, has_special, needs_quotes, balances, white_letter, with_backslashes, list_text, space_behind};
+ghost use Rattle.tcl_words.specs.ListGrowth.{Goes};
+ghost use Rattle.tcl_words.specs.ListText.{is_white, is_special, has_special, needs_quotes, balances, white_letter, with_backslashes, space_behind};
 
 use crate::list_steps::is_white;
 use crate::pieces::first_char;
@@ -135,8 +136,7 @@ fn push_parts(
 /// Appends an element to the text of a list: as it is, in braces, or with backslashes. After want of memory the text is
 /// as before.
 pub fn push_element(list: &mut String, element: &str) -> Result<(), AllocError>
-    ensures list { OnOk result ((xs : List (List ℕ)) → string_bytes list.old ≡ encode_utf8_all (list_text xs)
-        → string_bytes list.new ≡ encode_utf8_all (list_text (xs ++ chars element.now ∷ []))) }
+    ensures list { OnOk result (Goes (string_bytes list.old) (string_bytes list.new) (chars element.now ∷ [])) }
     ensures err { OnErr result (string_bytes list.new ≡ string_bytes list.old) }
 {
     if !needs_quotes(element) {

@@ -1,0 +1,7 @@
+-- A list that grows at its end.
+use Rattle.std.specs.Prelude.{◌≡◌, ℕ, List, ◌++◌, encode_utf8_all}
+use Rattle.tcl_words.specs.ListText.{list_text}
+
+-- the bytes of a list's text become those with some elements more
+abbrev pub Goes : List ℕ → List ℕ → List (List ℕ) → Type 0
+Goes old new more = (list : List (List ℕ)) → old ≡ encode_utf8_all (list_text list) → new ≡ encode_utf8_all (list_text (list ++ more))
