@@ -16,19 +16,9 @@ use Rattle.text_model.specs.Content.{Slots}
 use Rattle.text_model.specs.Steps.{set_slot}
 use Rattle.text_model.proofs.CellLaws.{contains-set_slot}
 use Rattle.peers.specs.Keys.{Key, Keys, key_cmp, keys_of, key_named, key_pairs, set_key}
-use Rattle.peers.specs.Words.{is_among}
+use Rattle.command_parts.specs.Words.{is_among}
+use Rattle.command_parts.proofs.LeftLaws.{AreApart-head, AreApart-tail}
 use Rattle.peers.proofs.KeyLaws.{key_cmp_total, key_cmp_exact}
-
--- ---- lists of distinct elements
-
-same_suc : (i j : ℕ) → suc i ≡ suc j → i ≡ j
-same_suc i j e = cc
-
-pub AreApart-tail : {A : Type 0} (x : A) (xs : List A) → AreApart (x ∷ xs) → AreApart xs
-AreApart-tail x xs apart = λ i j y is also. same_suc i j (apart (suc i) (suc j) y is also)
-
-pub AreApart-head : {A : Type 0} (x : A) (xs : List A) (at : ℕ) → AreApart (x ∷ xs) → slice_get xs at ≡ Some x → ⊥
-AreApart-head x xs at apart is = let none : zero ≡ suc at = apart zero (suc at) x refl is in absurd (cc)
 
 -- ---- keys that are one
 

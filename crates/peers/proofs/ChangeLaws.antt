@@ -8,13 +8,13 @@ use Rattle.text_model.specs.Splices.{changed}
 use Rattle.text_model.specs.LimitTable.{LimitTable}
 use Rattle.undo_stack.specs.Rings.{Kept}
 use Rattle.edit_ops.specs.States.{Log, log_of}
-use Rattle.peers.specs.declared.answers.Answer.{Answer}
-use Rattle.peers.specs.declared.answers.Answer.TheVariants.{Empty}
-use Rattle.peers.specs.declared.answers.Fault.{Fault}
-use Rattle.peers.specs.declared.answers.Fault.TheVariants.{Memory}
+use Rattle.command_parts.specs.declared.answers.Answer.{Answer}
+use Rattle.command_parts.specs.declared.answers.Answer.TheVariants.{Empty}
+use Rattle.command_parts.specs.declared.answers.Fault.{Fault}
+use Rattle.command_parts.specs.declared.answers.Fault.TheVariants.{Memory}
 use Rattle.peers.specs.Kept.{AreMarked, AreNew, IsKept}
 use Rattle.peers.specs.Promise.{Change, Does, answered, refused}
-use Rattle.peers.specs.Slots.{IsFront}
+use Rattle.command_parts.specs.Tagging.{IsFront}
 use Rattle.peers.specs.WellFormed.{IsWellFormedDocument}
 use Rattle.peers.specs.World.{Document, lone_document}
 

@@ -21,11 +21,12 @@ use Rattle.undo_stack.specs.Modified.{Modified}
 use Rattle.edit_ops.specs.Tagging.{cell_without, cleared, without}
 use Rattle.peers.specs.Kept.{HasKnownSlots, IsKept}
 use Rattle.peers.specs.Keys.{key_pairs}
-use Rattle.peers.specs.Slots.{slot_taken, slots_deleted, tags_left}
-use Rattle.peers.specs.Tags.{stays, without_tags}
-use Rattle.peers.specs.Words.{is_among}
+use Rattle.command_parts.specs.Tagging.{slot_taken, slots_deleted, tags_left, stays}
+use Rattle.peers.specs.Tags.{without_tags}
+use Rattle.command_parts.specs.Words.{is_among}
 use Rattle.peers.specs.World.{Document, keyed, lone_document}
-use Rattle.peers.proofs.BridgeLaws.{AreApart-head, AreApart-tail, and_none, left_true, same_slot}
+use Rattle.command_parts.proofs.LeftLaws.{AreApart-head, AreApart-tail}
+use Rattle.peers.proofs.BridgeLaws.{and_none, left_true, same_slot}
 use Rattle.peers.proofs.KeyedLaws.{keyed_cell}
 use Rattle.peers.proofs.DeletedLaws.{StaySame, keys_of-deleted}
 

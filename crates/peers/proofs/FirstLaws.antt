@@ -1,6 +1,6 @@
 -- A new document.
-use Rattle.std.proofs.Common.{◌≡◌, ℕ, true, List, [], ◌∷◌, refl, sym, ap, ◌∙◌, arith}
-use Rattle.std.specs.Prelude.{Some, None, is_some, unwrap_or}
+use Rattle.std.proofs.Common.{◌≡◌, ℕ, true, List, [], ◌∷◌, refl, sym, ap, ◌∙◌, arith, zero, suc, ◌≢◌, ◌+◌, ◌<◌, ◌≤◌, cond, true≢false}
+use Rattle.std.specs.Prelude.{Some, None, is_some, unwrap_or, slice_get, option_map}
 use Rattle.std.specs.Cmp.{nat_cmp_total}
 use Rattle.std.specs.Ordering.{nat_cmp}
 use Rattle.std.specs.FinMap as finite
@@ -15,17 +15,15 @@ use Rattle.text_model.proofs.StepLaws.{MarksStand-after_step}
 use Rattle.undo_stack.specs.Modified.{unmodified}
 use Rattle.name_list.specs.Names.{AreApart}
 use Rattle.tag_table.specs.Tags.{Tag, Tags, AreTags, first_slot, sel}
-use Rattle.std.proofs.Common.{zero, suc, ◌≢◌, ◌+◌, ◌<◌, ◌≤◌, cond}
-use Rattle.std.specs.Prelude.{slice_get, option_map}
 use Rattle.std.proofs.lemmas.Option.{none-some, same_Some}
 use Rattle.std.proofs.lemmas.Slice.Eq.{bytes_eq-Decides}
 use Rattle.text_model.specs.declared.limits.TheConstants.Limits.{MOST_MARKS, MOST_TAGS}
-use Rattle.std.proofs.Common.{true≢false}
 use Rattle.peers.specs.Keys.{keys_of, key_pairs}
 use Rattle.peers.proofs.BridgeLaws.{keys_of-empty}
 use Rattle.peers.specs.Kept.{AreMarked, IsKept, HasKnownSlots, is_window_name}
 use Rattle.peers.specs.Step.{new_document}
-use Rattle.peers.specs.World.{lone_document, document_of, whole_widget, mark_of, new_mark, first_content}
+use Rattle.peers.specs.World.{lone_document, document_of, whole_widget, mark_of}
+use Rattle.command_parts.specs.Edits.{new_mark, first_content}
 
 insert-first : finite.get first_content.marks 0 ≡ Some new_mark
 insert-first =

@@ -1,15 +1,16 @@
 -- The texts of ranges, as a list of those that aren't empty.
 use Rattle.std.proofs.Common.{◌≡◌, ◌≢◌, ℕ, zero, suc, true≢false, ◌-◌, ◌<◌, ◌≤◌, ◌==◌, true, false, cond, List, [], ◌∷◌, ◌++◌, length, take, drop, get_or, refl, sym, ap, subst, ◌∙◌, arith}
 use Rattle.std.specs.Prelude.{chars, filter, if◌then◌else◌}
-use Rattle.peers.proofs.LoneLaws.{no_characters}
+use Rattle.std.proofs.lemmas.Str.{chars-nil}
 use Rattle.std.proofs.lemmas.List.{take_rest, append_assoc, append-nil}
-use Rattle.peers.specs.Slots.{Goes}
-use Rattle.peers.specs.Texts.{text_of, texts_of_places, is_filled, got}
+use Rattle.tcl_words.specs.ListGrowth.{Goes}
+use Rattle.peers.specs.Texts.{text_of, texts_of_places, got}
+use Rattle.command_parts.specs.Listing.{is_filled}
 use Rattle.tcl_words.specs.ListText.{list_text}
-use Rattle.peers.specs.declared.answers.Answer.TheVariants.{Text}
+use Rattle.command_parts.specs.declared.answers.Answer.TheVariants.{Text}
 use Rattle.peers.specs.World.{Document, Widget}
-use Rattle.peers.proofs.ListingLaws.{goes_nowhere, goes_on}
-use Rattle.peers.proofs.WrittenLaws.{filter-append}
+use Rattle.tcl_words.proofs.ListGrowth.{goes_nowhere, goes_on}
+use Rattle.command_parts.proofs.WrittenLaws.{filter-append}
 
 -- the texts before some places are listed
 pub record AreGot (document : Document) (widget : Widget) (places rest : List ℕ) (old new : List ℕ) : Type 0 where
@@ -58,11 +59,6 @@ got-last document widget places [] old between new text one got is goes = absurd
 got-last document widget places (from ∷ to ∷ rest) old between new text one got is goes = absurd (omega (arith, one))
 got-last document widget places (from ∷ []) old between new text one got is goes =
     subst (λ ts. Goes old new (filter is_filled ts)) (sym (got.texts ∙ ap (λ t. got.done ++ t ∷ []) (sym is))) (got-one_more document widget old between new text got.done got.goes goes)
-
--- a text of no bytes isn't listed
-pub unfilled : (bytes text : List ℕ) → chars bytes ≡ text → length bytes ≡ 0 → is_filled text ≡ false
-unfilled [] text is none = ap is_filled (sym is ∙ no_characters)
-unfilled (b ∷ bytes) text is none = absurd (omega (arith, none))
 
 pub one_left : (n : ℕ) → (n == 0) ≡ false → n < 2 → n ≡ 1
 one_left zero some few = absurd (true≢false some)

@@ -17,17 +17,18 @@ use Rattle.edit_ops.specs.Insertions.{inserted_text, inserted_texts}
 use Rattle.edit_ops.specs.States.{Log, State, log_of}
 use Rattle.edit_ops.specs.declared.pieces.Piece.{Piece}
 use Rattle.edit_ops.proofs.InsertLaws.{total-cons}
-use Rattle.peers.specs.declared.answers.Answer.TheVariants.{Empty}
-use Rattle.peers.specs.declared.answers.Fault.{Fault}
-use Rattle.peers.specs.declared.answers.Fault.TheVariants.{TextTooLong, TooManyTags}
+use Rattle.command_parts.specs.declared.answers.Answer.TheVariants.{Empty}
+use Rattle.command_parts.specs.declared.answers.Fault.{Fault}
+use Rattle.command_parts.specs.declared.answers.Fault.TheVariants.{TextTooLong, TooManyTags}
 use Rattle.peers.specs.Edits.{with_texts}
 use Rattle.peers.specs.Kept.{AreMarked, AreNew, IsKept, IsMarked}
 use Rattle.peers.specs.Keys.{key_pairs}
-use Rattle.peers.specs.Lists.{Pair, all_names, with_names}
+use Rattle.command_parts.specs.Lists.{Pair, all_names, with_names, total}
 use Rattle.peers.specs.Promise.{Does, answered, refused}
-use Rattle.peers.specs.Slots.{IsFront, excess, piece_of, state_shown, texts_put_in, unkept}
-use Rattle.peers.specs.Texts.{insert_at, keyed_text, tags_with, total}
-use Rattle.peers.specs.Words.{is_among}
+use Rattle.command_parts.specs.Tagging.{IsFront, piece_of}
+use Rattle.command_parts.specs.Edits.{excess, state_shown, texts_put_in, unkept}
+use Rattle.peers.specs.Texts.{insert_at, keyed_text, tags_with}
+use Rattle.command_parts.specs.Words.{is_among}
 use Rattle.peers.specs.World.{Document, Widget, lone_document, lone_widget}
 use Rattle.peers.proofs.KeptLaws.{kept-texts}
 use Rattle.peers.proofs.LoneLaws.{cells-lone, length-keyed}

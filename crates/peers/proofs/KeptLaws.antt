@@ -32,7 +32,8 @@ use Rattle.edit_ops.specs.States.{Log, State, log_noted}
 use Rattle.edit_ops.specs.Tagging.{SpanFits, tagged}
 use Rattle.edit_ops.proofs.InsertLaws.{total-cons}
 use Rattle.peers.specs.Kept.{HasKnownSlots, IsKept}
-use Rattle.peers.specs.Slots.{slots_named, state_shown, texts_put_in, unkept, with_found}
+use Rattle.command_parts.specs.Tagging.{slots_named, with_found}
+use Rattle.command_parts.specs.Edits.{state_shown, texts_put_in, unkept}
 use Rattle.peers.proofs.BridgeLaws.{slot_at}
 use Rattle.peers.proofs.PlacedLaws.{mark-there}
 use Rattle.peers.proofs.TextLaws.{length-text}

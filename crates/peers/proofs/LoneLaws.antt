@@ -1,5 +1,5 @@
 -- What a lone document shows, and what names mean to its widget.
-use Rattle.std.proofs.Common.{◌≡◌, ◌≢◌, ℕ, suc, ◌+◌, ◌≤◌, true, false, cond, List, [], ◌∷◌, length, refl, sym, ap, ap₂, ◌∙◌, arith}
+use Rattle.std.proofs.Common.{◌≡◌, ◌≢◌, ℕ, suc, ◌+◌, ◌≤◌, true, false, cond, List, [], ◌∷◌, length, refl, sym, ap, ap₂, ◌∙◌, arith, inl, inr, ◌⊎◌}
 use Rattle.std.specs.Prelude.{find, slice_get, ◌||◌, Option, None, Some, Result, Ok, Err, is_some, option_map, option_and_then, unwrap_or, codes, bytes_eq, slice_range, nat_lt, if◌then◌else◌, ◌==◌}
 use Rattle.std.specs.Str.{chars}
 use Rattle.std.specs.FinMap as finite
@@ -20,21 +20,22 @@ use Rattle.text_index.specs.Meanings.{MeanTheSame, shown_meanings, word_value}
 use Rattle.text_index.proofs.MeaningLaws.{word_value-same}
 use Rattle.index_grammar.specs.declared.faults.IndexFault.{IndexFault}
 use Rattle.index_grammar.specs.declared.faults.IndexFault.TheVariants as index
-use Rattle.peers.specs.Faults.{index_fault, at_position}
+use Rattle.command_parts.specs.Faults.{index_fault, at_position}
 use Rattle.undo_stack.specs.Modified.{Modified}
+use Rattle.command_parts.proofs.MadeLaws.{found_tag}
 use Rattle.peers.specs.Keys.{Key, key_named, key_pairs}
 use Rattle.peers.specs.Kept.{AreMarked, IsKept}
 use Rattle.peers.specs.Names.{mark_number, mark_place, tag_number, tag_flags, meanings, place_of}
 use Rattle.peers.specs.Promise.{Gives}
 use Rattle.peers.specs.View.{shown, shown_flags}
-use Rattle.peers.specs.Words.{literal, is_same, is_among}
+use Rattle.command_parts.specs.Words.{literal, is_same, is_among}
 use Rattle.peers.proofs.KeyedLaws.{keyed-flags}
 use Rattle.std.proofs.lemmas.Option.{get_or_from_slice_get}
 use Rattle.std.proofs.lemmas.Bool.Decides.{Decides-eqb, nat_tests}
 use Rattle.std.proofs.lemmas.Slice.Eq.{bytes_eq-Decides}
 use Rattle.std.specs.List.{position_from}
-use Rattle.std.proofs.Common.{inl, inr, ◌⊎◌}
-use Rattle.peers.specs.World.{Document, KeyedCell, Widget, keyed, characters, SharedMark, lone_document, lone_widget, mark_of, new_mark, placed}
+use Rattle.peers.specs.World.{Document, KeyedCell, Widget, keyed, characters, SharedMark, lone_document, lone_widget, mark_of, placed}
+use Rattle.command_parts.specs.Edits.{new_mark}
 use Rattle.peers.proofs.EndLaws.{whole-part}
 use Rattle.peers.proofs.PlacedLaws.{found_mark, marked-there, placed-length}
 
@@ -79,11 +80,6 @@ cells-lone name tags marks modified content document is = ap (λ (d : Document).
 pub marks-lone : (name : List ℕ) (tags : List Tag) (marks : List Mark) (modified : Modified) (content : Content) (document : Document) → lone_document name tags marks modified content ≡ document
     → length document.marks ≡ length marks
 marks-lone name tags marks modified content document is = ap (λ (d : Document). length d.marks) (sym is) ∙ placed-length content.marks marks
-
--- a new text has no characters
-pub no_characters : chars [] ≡ []
-unfolding chars
-no_characters = refl
 
 -- ---- names mean the same to it as to its tables
 
@@ -151,49 +147,6 @@ marks-same name tags table modified content end word is insert current marked =
     twice : (found : Option ℕ) (f : ℕ → Option ℕ) → option_map (λ k. f (suc (suc k))) found ≡ option_map f (option_map (λ k. suc (suc k)) found)
     twice None f = refl
     twice (Some k) f = refl
-
--- an unknown name, and one that stands in a table, at a place
-abbrev IsUnknown : List ℕ → List Tag → ℕ → Type 0
-IsUnknown word tags at = (slot_of word tags ≡ None) × (position_from (is_same word) at (names_of tags) ≡ None) × (is_among word (names_of tags) ≡ false)
-
-pub record Stands (word : List ℕ) (tags : List Tag) (at : ℕ) : Type 0 where
-  pub tag_slot : ℕ
-  pub place : ℕ
-  pub slot : slot_of word tags ≡ Some tag_slot
-  pub found : position_from (is_same word) at (names_of tags) ≡ Some (at + place)
-  pub named : slice_get (names_of tags) place ≡ Some word
-  pub among : is_among word (names_of tags) ≡ true
-
-pub found_tag : (word : List ℕ) (tags : List Tag) (at : ℕ) → IsUnknown word tags at ⊎ Stands word tags at
-found_tag word [] at = inl (refl, refl, refl)
-found_tag word (tag ∷ tags) at =
-    elim (bytes_eq word tag.name) as (λ b. bytes_eq word tag.name ≡ b → IsUnknown word (tag ∷ tags) at ⊎ Stands word (tag ∷ tags) at) [
-      | true ↦ λ same.
-          let named : word ≡ tag.name = (bytes_eq-Decides word tag.name).0 same in
-          inr (record {
-            tag_slot = tag.slot;
-            place = 0;
-            slot = ap (λ b. option_map (λ (t : Tag). t.slot) (cond b (Some tag) (find (is_named word) tags))) same;
-            found = ap (λ b. cond b (Some at) (position_from (is_same word) (at + 1) (names_of tags))) same ∙ ap Some (let h : at ≡ at + 0 = omega arith in h);
-            named = ap Some (sym named);
-            among = ap (λ b. b || is_among word (names_of tags)) same;
-          })
-      | false ↦ λ other.
-          let slot = ap (λ b. option_map (λ (t : Tag). t.slot) (cond b (Some tag) (find (is_named word) tags))) other in
-          let found = ap (λ b. cond b (Some at) (position_from (is_same word) (at + 1) (names_of tags))) other in
-          let among = ap (λ b. b || is_among word (names_of tags)) other in
-          elim (found_tag word tags (at + 1)) [
-            | inl none ↦ inl (slot ∙ none.0, found ∙ none.1, among ∙ none.2)
-            | inr there ↦ inr (record {
-              tag_slot = there.tag_slot;
-              place = suc there.place;
-              slot = slot ∙ there.slot;
-              found = found ∙ there.found ∙ ap Some (let h : at + 1 + there.place ≡ at + suc there.place = omega arith in h);
-              named = there.named;
-              among = among ∙ there.among;
-            })
-          ]
-    ] refl
 
 -- a slot that isn't that of `sel` is meant as it is
 own_slot : (slot : ℕ) → (if slot == 0 then 0 else slot) ≡ slot

@@ -21,18 +21,19 @@ use Rattle.text_model.specs.Documents.{MarksStand}
 use Rattle.text_model.specs.LimitTable.{LimitTable}
 use Rattle.undo_stack.specs.Modified.{Modified}
 use Rattle.undo_stack.specs.Rings.{Kept}
-use Rattle.peers.specs.declared.answers.Answer.TheVariants.{Empty}
+use Rattle.command_parts.specs.declared.answers.Answer.TheVariants.{Empty}
 use Rattle.peers.specs.Keys.{key_pairs}
 use Rattle.peers.specs.Kept.{AreMarked, IsKept, IsMarked}
-use Rattle.peers.specs.Marks.{is_left, mark_unset, set_found, with_current, with_insert, with_shared}
+use Rattle.command_parts.specs.Marking.{is_left, IsMadeMark, marks_left, numbers_named, taken}
+use Rattle.peers.specs.Marks.{mark_unset, set_found, with_current, with_insert, with_shared}
 use Rattle.peers.specs.Promise.{Change, Does, answered, refused}
-use Rattle.peers.specs.Slots.{IsMadeMark, marks_left, numbers_named, taken}
 use Rattle.peers.specs.WellFormed.{IsWellFormedDocument}
-use Rattle.peers.specs.Words.{is_among, is_own, is_same}
-use Rattle.peers.specs.World.{Document, SharedMark, Widget, document_of, keyed, lone_document, lone_widget, mark_of, new_mark, placed, whole_widget}
+use Rattle.command_parts.specs.Words.{is_among, is_own, is_same}
+use Rattle.peers.specs.World.{Document, SharedMark, Widget, document_of, keyed, lone_document, lone_widget, mark_of, placed, whole_widget}
+use Rattle.command_parts.specs.Edits.{new_mark}
 use Rattle.peers.proofs.ChangeLaws.{Stands, does-answered, stands-same}
-use Rattle.peers.proofs.DeletedLaws.{filter-alike, not_pushed, without-filter}
-use Rattle.peers.specs.declared.answers.Fault.TheVariants.{TooManyMarks}
+use Rattle.command_parts.proofs.LeftLaws.{filter-alike, not_pushed, without-filter}
+use Rattle.command_parts.specs.declared.answers.Fault.TheVariants.{TooManyMarks}
 use Rattle.name_list.specs.Moves.{without}
 use Rattle.peers.proofs.LoneLaws.{cells-lone, marks-lone}
 use Rattle.peers.proofs.PlacedLaws.{AreAlike, StandsMark, found_mark, marked-alike, placed-alike}
@@ -477,16 +478,6 @@ shorter names (mark ∷ marks) =
       | true ↦ omega (arith, rest)
       | false ↦ omega (arith, rest)
     ]
-
--- a table without some marks, from which one more is taken out
-pub marks_left-more : (names : List (List ℕ)) (name : List ℕ) (marks : List Mark) → AreApart (names_of marks) → without (is_named name) (marks_left names marks) ≡ marks_left (names ++ name ∷ []) marks
-marks_left-more names name marks apart =
-    without-filter (λ (mark : Mark). mark.name) (λ (mark : Mark). is_left names mark.name) name marks apart
-    ∙ filter-alike _ _ (λ (mark : Mark). sym (not_pushed names name mark.name)) marks
-
-pub marks_left-none : (marks : List Mark) → marks_left [] marks ≡ marks
-marks_left-none [] = refl
-marks_left-none (mark ∷ marks) = ap (λ rest. mark ∷ rest) (marks_left-none marks)
 
 stand-taken : (numbers : List ℕ) (content : Content) → MarksStand content → MarksStand (record content { marks = taken numbers content.marks })
 stand-taken [] content stand = stand

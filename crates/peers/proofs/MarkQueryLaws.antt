@@ -22,8 +22,9 @@ use Rattle.peers.specs.Kept.{IsMarked}
 use Rattle.peers.specs.Keys.{key_pairs}
 use Rattle.peers.specs.Marks.{mark_names, place_named, shared_from, shown_at, usable_marks}
 use Rattle.peers.specs.Names.{mark_number, mark_place}
-use Rattle.peers.specs.Words.{is_own, is_same, literal}
-use Rattle.peers.specs.World.{Document, SharedMark, lone_document, lone_widget, mark_of, new_mark, placed}
+use Rattle.command_parts.specs.Words.{is_own, is_same, literal}
+use Rattle.peers.specs.World.{Document, SharedMark, lone_document, lone_widget, mark_of, placed}
+use Rattle.command_parts.specs.Edits.{new_mark}
 use Rattle.peers.proofs.ChangeLaws.{Stands}
 use Rattle.peers.proofs.LoneLaws.{length-keyed}
 use Rattle.peers.proofs.PlacedLaws.{StandsMark, found_mark, marked-there, placed-names}

@@ -15,11 +15,11 @@ use Rattle.tag_table.specs.Tags.{Tag, is_named, names_of, slot_of, slots_of}
 use Rattle.peers.specs.Keys.{keys_of, key_named, key_pairs, keys_named}
 use Rattle.edit_ops.specs.declared.pieces.Piece.{Piece}
 use Rattle.edit_ops.specs.Insertions.{total}
-use Rattle.peers.specs.Lists.{Pair, all_names, listed_names, with_name, with_names}
-use Rattle.peers.specs.Slots.{piece_of, slots_named, with_found}
-use Rattle.peers.specs.Texts as texts
+use Rattle.command_parts.specs.Lists.{Pair, all_names, listed_names, with_name, with_names}
+use Rattle.command_parts.specs.Tagging.{piece_of, slots_named, with_found}
+use Rattle.command_parts.specs.Lists as texts
 use Rattle.peers.specs.Texts.{keyed_text}
-use Rattle.peers.specs.Words.{is_among, is_same}
+use Rattle.command_parts.specs.Words.{is_among, is_same}
 use Rattle.peers.specs.World.{Widget}
 use Rattle.peers.proofs.BridgeLaws.{keys_of-empty, keys_of-set_slot}
 use Rattle.peers.proofs.KeptLaws.{AreKnown, IsKnownPiece, known-named}

@@ -3,8 +3,8 @@ use Rattle.std.proofs.Common.{◌≡◌, ℕ, zero, suc, ◌+◌, ◌<◌, ◌�
 use Rattle.std.specs.Prelude.{Result, Ok, Err, String, chars, string_bytes}
 use Rattle.std.proofs.lemmas.List.{append_assoc, append-nil, drop_all}
 use Rattle.tcl_words.specs.Unread.{texts_of}
-use Rattle.peers.specs.declared.answers.Fault.{Fault}
-use Rattle.peers.specs.Faults.{with_value}
+use Rattle.command_parts.specs.declared.answers.Fault.{Fault}
+use Rattle.command_parts.specs.Faults.{with_value}
 use Rattle.peers.specs.Indices.{place_at}
 use Rattle.peers.specs.Ranges.{and_place, places_at}
 use Rattle.peers.specs.World.{Document, Widget}

@@ -14,8 +14,9 @@ use Rattle.text_model.specs.Content.{Marks, map_marks}
 use Rattle.text_model.specs.Splices.{goes_behind, moved}
 use Rattle.text_model.proofs.PlaceLaws.{get-map_marks}
 use Rattle.peers.specs.Kept.{AreMarked, IsMarked}
-use Rattle.peers.specs.Words.{is_own, is_same}
-use Rattle.peers.specs.World.{SharedMark, mark_of, new_mark, placed}
+use Rattle.command_parts.specs.Words.{is_own, is_same}
+use Rattle.peers.specs.World.{SharedMark, mark_of, placed}
+use Rattle.command_parts.specs.Edits.{new_mark}
 
 -- a mark that is there moves, and stays there
 pub mark_of-moved : (f : Place → Place) (marks : Marks) (number : ℕ) → is_some (finite.get marks number) ≡ true → mark_of (map_marks f marks) number ≡ f (mark_of marks number)

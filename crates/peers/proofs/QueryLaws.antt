@@ -15,14 +15,14 @@ use Rattle.text_model.specs.Content.{Content, Slots, slot_sets, flags}
 use Rattle.text_index.specs.Views as view
 use Rattle.undo_stack.specs.Modified.{Modified}
 use Rattle.peers.specs.Keys.{key_named}
-use Rattle.peers.specs.Slots.{Goes}
+use Rattle.tcl_words.specs.ListGrowth.{Goes}
 use Rattle.peers.specs.Tags.{flags_of, tags_on}
 use Rattle.peers.specs.View.{shown, shown_flags, view_start, view_end}
 use Rattle.peers.specs.World.{Document, KeyedCell, lone_document, lone_widget}
 use Rattle.peers.proofs.ClearedLaws.{slot_standing}
 use Rattle.peers.proofs.EndLaws.{whole-part}
 use Rattle.peers.proofs.LoneLaws.{flags-lone}
-use Rattle.peers.proofs.MadeLaws.{among_slot, absent_slot}
+use Rattle.command_parts.proofs.MadeLaws.{among_slot, absent_slot}
 
 -- the text of a list that was begun with nothing
 pub written : (bytes : List ℕ) (elements : List (List ℕ)) → IsUtf8 bytes → Goes [] bytes elements → chars bytes ≡ list_text elements

@@ -19,26 +19,27 @@ use Rattle.undo_stack.specs.Rings.{Kept}
 use Rattle.edit_ops.specs.Tagging.{SpanFits, tagged}
 use Rattle.edit_ops.specs.declared.spans.Span.{Span}
 use Rattle.edit_ops.specs.States.{Log, log_of}
-use Rattle.peers.specs.declared.answers.Answer.TheVariants.{Empty}
-use Rattle.peers.specs.declared.answers.Fault.TheVariants.{TooManyTags}
+use Rattle.command_parts.specs.declared.answers.Answer.TheVariants.{Empty}
+use Rattle.command_parts.specs.declared.answers.Fault.TheVariants.{TooManyTags}
 use Rattle.peers.specs.Edits.{with_tag}
 use Rattle.peers.specs.Kept.{AreMarked, AreNew, IsKept}
 use Rattle.peers.specs.Keys.{Key, key_named, key_pairs}
-use Rattle.peers.specs.Lists.{with_name}
+use Rattle.command_parts.specs.Lists.{with_name}
 use Rattle.peers.specs.Promise.{Change, Does, answered, refused}
-use Rattle.peers.specs.Ranges.{spans_of, spans_shown}
-use Rattle.peers.specs.Slots.{IsFront}
+use Rattle.command_parts.specs.Ranges.{spans_of}
+use Rattle.peers.specs.Ranges.{spans_shown}
+use Rattle.command_parts.specs.Tagging.{IsFront}
 use Rattle.peers.specs.Tags.{add_spans, remove_spans}
 use Rattle.peers.specs.View.{shown}
 use Rattle.peers.specs.WellFormed.{IsWellFormedDocument}
-use Rattle.peers.specs.Words.{is_among}
+use Rattle.command_parts.specs.Words.{is_among}
 use Rattle.peers.specs.World.{Document, Widget, document_of, lone_document, lone_widget, mark_of, placed, whole_widget}
 use Rattle.peers.proofs.KeptLaws.{kept-tagged, slot_stands}
 use Rattle.peers.proofs.KeyedLaws.{keyed-tagged}
 use Rattle.peers.proofs.LoneLaws.{length-keyed, length-lone}
-use Rattle.peers.proofs.MadeLaws.{absent_slot, among_slot}
+use Rattle.command_parts.proofs.MadeLaws.{absent_slot, among_slot}
 use Rattle.peers.proofs.PlacedLaws.{placed-length}
-use Rattle.peers.proofs.PairLaws.{spans_of-fit}
+use Rattle.command_parts.proofs.PairLaws.{spans_of-fit}
 use Rattle.peers.proofs.TableLaws.{kept-front, lone-front}
 use Rattle.peers.proofs.WellFormedLaws.{IsWellFormedDocument-lone}
 use Rattle.peers.proofs.ChangeLaws.{Stands, fresh-same, does-answered}

@@ -12,7 +12,7 @@ use Rattle.text_model.specs.Content.{Content}
 use Rattle.undo_stack.specs.Modified.{Modified}
 use Rattle.peers.specs.Kept.{HasKnownSlots, IsKept}
 use Rattle.peers.specs.Keys.{key_pairs}
-use Rattle.peers.specs.Slots.{IsFront}
+use Rattle.command_parts.specs.Tagging.{IsFront}
 use Rattle.peers.specs.World.{Document, keyed, lone_document}
 use Rattle.peers.proofs.BridgeLaws.{get_front}
 use Rattle.peers.proofs.ClearedLaws.{slot_standing}

@@ -9,12 +9,12 @@ use Rattle.text_model.specs.LimitTable.{LimitTable}
 use Rattle.undo_stack.specs.Rings.{Kept}
 use Rattle.edit_ops.specs.Tagging.{cell_without, cleared}
 use Rattle.edit_ops.specs.States.{Log, log_of}
-use Rattle.peers.specs.declared.answers.Answer.TheVariants.{Empty}
-use Rattle.peers.specs.declared.answers.Fault.TheVariants.{NoSuchTag}
+use Rattle.command_parts.specs.declared.answers.Answer.TheVariants.{Empty}
+use Rattle.command_parts.specs.declared.answers.Fault.TheVariants.{NoSuchTag}
 use Rattle.peers.specs.Kept.{AreMarked, AreNew, IsKept}
 use Rattle.peers.specs.Promise.{Does}
-use Rattle.peers.specs.Slots.{slots_deleted, tags_left}
-use Rattle.peers.specs.Tags.{reordered, stays, tag_delete}
+use Rattle.command_parts.specs.Tagging.{slots_deleted, tags_left, stays}
+use Rattle.peers.specs.Tags.{reordered, tag_delete}
 use Rattle.peers.specs.World.{Document, lone_document}
 use Rattle.peers.proofs.ClearedLaws.{kept-cleared, lone-cleared}
 use Rattle.peers.proofs.LoneLaws.{cells-lone, marks-lone}

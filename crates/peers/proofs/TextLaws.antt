@@ -20,7 +20,7 @@ use Rattle.edit_ops.specs.States.{Log, State, log_noted}
 use Rattle.edit_ops.specs.declared.pieces.Piece.{Piece}
 use Rattle.peers.specs.Edits.{KeyedText, keys_between, keys_or, with_action, with_cells, with_text, with_texts}
 use Rattle.peers.specs.Keys.{Keys, keys_of, key_pairs}
-use Rattle.peers.specs.Slots.{state_shown, texts_put_in, unkept}
+use Rattle.command_parts.specs.Edits.{state_shown, texts_put_in, unkept}
 use Rattle.peers.specs.Kept.{IsMarked}
 use Rattle.peers.specs.World.{Document, KeyedCell, SharedMark, document_of, keyed, lone_document, mark_of, placed, whole_widget}
 use Rattle.peers.proofs.PlacedLaws.{gravity-moved, mark_of-moved, mark-there, marked-moved, placed-moved}

@@ -1,6 +1,5 @@
 -- A lone document is well formed.
-use Rattle.std.proofs.Common.{◌≡◌, ℕ, suc, ◌≤◌, true, false, List, [], ◌∷◌, length, refl, sym, ap, subst, ◌∙◌, arith}
-use Rattle.std.proofs.Common.{inl, inr, ap₂, ◌+◌}
+use Rattle.std.proofs.Common.{◌≡◌, ℕ, suc, ◌≤◌, true, false, List, [], ◌∷◌, length, refl, sym, ap, subst, ◌∙◌, arith, inl, inr, ap₂, ◌+◌}
 use Rattle.std.proofs.lemmas.Bool.{false_from_ne_true}
 use Rattle.std.proofs.lemmas.List.{length-map}
 use Rattle.std.proofs.lemmas.Slice.Eq.{bytes_eq-Decides}
@@ -12,18 +11,19 @@ use Rattle.text_model.specs.Content.{Content}
 use Rattle.text_model.specs.Documents.{IsDocument}
 use Rattle.text_model.specs.LimitTable.{LimitTable}
 use Rattle.name_list.specs.Names.{AreApart}
-use Rattle.mark_table.specs.SharedMarks.{SharedMarks}
-use Rattle.mark_table.specs.SharedMarks.{names_of as names_of_marks}
+use Rattle.mark_table.specs.SharedMarks.{SharedMarks, names_of as names_of_marks}
 use Rattle.tag_table.specs.Tags.{Tag, Tags, AreTags, names_of}
 use Rattle.undo_stack.specs.Modified.{Modified}
 use Rattle.peers.specs.Keys.{key_named, key_pairs}
 use Rattle.peers.specs.Kept.{AreMarked, IsKept}
-use Rattle.peers.specs.Words.{is_same, is_among}
+use Rattle.command_parts.specs.Words.{is_same, is_among}
 use Rattle.peers.specs.World.{Document, Widget, keyed, lone_document, lone_widget, sel}
 use Rattle.peers.specs.WellFormed.{belongs, HasItsKeys, IsWellFormedDocument}
-use Rattle.peers.proofs.BridgeLaws.{AreApart-head, AreApart-tail, keys_of-belongs}
+use Rattle.command_parts.proofs.LeftLaws.{AreApart-head, AreApart-tail}
+use Rattle.peers.proofs.BridgeLaws.{keys_of-belongs}
 use Rattle.peers.proofs.PlacedLaws.{offset-within, placed-length, placed-names, placed-within, placed-words}
-use Rattle.peers.proofs.LoneLaws.{characters-keyed, length-keyed, found_tag}
+use Rattle.peers.proofs.LoneLaws.{characters-keyed, length-keyed}
+use Rattle.command_parts.proofs.MadeLaws.{found_tag}
 
 -- a key on a cell is that of a tag, or of the widget
 belongs-named : (document : Document) (widget : Widget) (name : List ℕ) (tags : List Tag) → document.widgets ≡ widget ∷ [] → document.tags ≡ names_of tags → is_among name (names_of tags) ≡ true

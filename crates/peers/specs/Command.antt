@@ -6,8 +6,8 @@ use Rattle.command_table.specs.declared.commands.Command.{Command}
 use Rattle.command_table.specs.declared.commands.Command.TheVariants.{Insert, Get, Index, Compare, MarkGravity, MarkNames, MarkNext, MarkPrevious, MarkSet, MarkUnset, TagAdd, TagRemove, TagDelete, TagNames, TagRanges, TagNextRange, TagPreviousRange, TagRaise, TagLower}
 use Rattle.command_table.specs.declared.shapes.Shape.{Shape}
 use Rattle.command_table.specs.declared.shapes.ShapeFault.{ShapeFault}
-use Rattle.peers.specs.declared.answers.Fault.TheVariants.{BadOption}
-use Rattle.peers.specs.Faults.{shape_fault}
+use Rattle.command_parts.specs.declared.answers.Fault.TheVariants.{BadOption}
+use Rattle.command_parts.specs.Faults.{shape_fault}
 use Rattle.peers.specs.Indices.{index, compare}
 use Rattle.peers.specs.Marks.{mark_set, mark_unset, mark_gravity, mark_names_of, mark_next, mark_previous}
 use Rattle.peers.specs.Promise.{Change, refused, asked}

@@ -1,18 +1,19 @@
 -- Commands on indices: `index` and `compare`.
 use Rattle.std.specs.Prelude.{ℕ, ◌+◌, nat_lt, nat_le, ◌==◌, Bool, not, List, Option, None, Some, Result, Ok, Err, if◌then◌else◌}
 use Rattle.text_index.specs.Positions.{position_text}
-use Rattle.peers.specs.declared.answers.Answer.{Answer}
-use Rattle.peers.specs.declared.answers.Answer.TheVariants.{Text, Flag}
-use Rattle.peers.specs.declared.answers.Fault.{Fault}
-use Rattle.peers.specs.declared.answers.Fault.TheVariants.{BadComparison}
-use Rattle.peers.specs.declared.comparisons.Comparison.{Comparison}
-use Rattle.peers.specs.declared.comparisons.Comparison.TheVariants.{Below, UpTo, Same, From, Above, Other}
-use Rattle.peers.specs.Arguments.{one_of, three_of}
-use Rattle.peers.specs.Faults.{at_position, with_value}
+use Rattle.command_parts.specs.declared.answers.Answer.{Answer}
+use Rattle.command_parts.specs.declared.answers.Answer.TheVariants.{Text, Flag}
+use Rattle.command_parts.specs.declared.answers.Fault.{Fault}
+use Rattle.command_parts.specs.declared.answers.Fault.TheVariants.{BadComparison}
+use Rattle.command_parts.specs.declared.comparisons.Comparison.{Comparison}
+use Rattle.command_parts.specs.declared.comparisons.Comparison.TheVariants.{Below, UpTo, Same, From, Above, Other}
+use Rattle.command_parts.specs.Arguments.{one_of, three_of}
+use Rattle.command_parts.specs.Faults.{at_position, with_value}
 use Rattle.peers.specs.Names.{place_of}
 use Rattle.peers.specs.View.{shown}
-use Rattle.peers.specs.Words.{is_same, literal}
+use Rattle.command_parts.specs.Words.{is_same, literal}
 use Rattle.peers.specs.World.{Document, Widget}
+use Rattle.command_parts.specs.Comparisons.{comparison_at, comparison_of, holds}
 
 -- the place of the index at a position of the command, or the fault there
 abbrev pub place_at : Document → Widget → ℕ → List ℕ → Result ℕ Fault
@@ -28,28 +29,6 @@ index_of document widget at word = with_value (place_at document widget at word)
 -- `W index I`
 abbrev pub index : Document → Widget → ℕ → List (List ℕ) → Result Answer Fault
 index document widget at words = with_value (one_of words) (index_of document widget at)
-
-abbrev pub comparison_of : List ℕ → Option Comparison
-comparison_of word =
-    if is_same word (literal "<") then Some Below
-    else (if is_same word (literal "<=") then Some UpTo
-    else (if is_same word (literal "==") then Some Same
-    else (if is_same word (literal ">=") then Some From
-    else (if is_same word (literal ">") then Some Above
-    else (if is_same word (literal "!=") then Some Other
-    else None)))))
-
-abbrev pub comparison_at : ℕ → Option Comparison → Result Comparison Fault
-comparison_at position None = Err (BadComparison position)
-comparison_at position (Some comparison) = Ok comparison
-
-abbrev pub holds : Comparison → ℕ → ℕ → Bool
-holds Below a b = nat_lt a b
-holds UpTo a b = nat_le a b
-holds Same a b = a == b
-holds From a b = nat_le b a
-holds Above a b = nat_lt b a
-holds Other a b = not (a == b)
 
 -- whether a comparison holds of two places: the first is decided first, then the comparison, then the second
 abbrev pub compared : Result ℕ Fault → Result Comparison Fault → Result ℕ Fault → Result Answer Fault

@@ -12,7 +12,7 @@ use Rattle.mark_table.specs.SharedMarks.{AreMarks, Mark, SharedMarks}
 use Rattle.tag_table.specs.Tags.{Tag, Tags, slots_of, AreTags}
 use Rattle.undo_stack.specs.History.{no_history}
 use Rattle.undo_stack.specs.Rings.{Kept}
-use Rattle.peers.specs.Words.{is_own}
+use Rattle.command_parts.specs.Words.{is_own}
 
 -- a dot and at least one more character
 abbrev pub is_window_name : List ℕ → Bool

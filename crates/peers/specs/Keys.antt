@@ -7,7 +7,7 @@ use Rattle.std.specs.Ordering.{nat_cmp, ordering_then}
 use Rattle.std.specs.Cmp.Lexicographic.{slice_cmp}
 use Rattle.text_model.specs.Content.{Slots}
 use Rattle.tag_table.specs.Tags.{Tag, sel}
-use Rattle.peers.specs.Words.{is_same}
+use Rattle.command_parts.specs.Words.{is_same}
 
 -- the key of a tag, by its name, or of a widget's `sel`, by the widget's name
 pub record Key : Type 0 where

@@ -10,19 +10,20 @@ use Rattle.text_model.specs.declared.places.Gravity.{Gravity}
 use Rattle.text_model.specs.declared.places.Gravity.TheVariants.{Left, Right}
 use Rattle.text_model.specs.declared.places.Place.{Place}
 use Rattle.text_model.specs.LimitTable.{LimitTable}
-use Rattle.peers.specs.declared.answers.Answer.{Answer}
-use Rattle.peers.specs.declared.answers.Answer.TheVariants.{Empty, Text}
-use Rattle.peers.specs.declared.answers.Fault.{Fault}
-use Rattle.peers.specs.declared.answers.Fault.TheVariants.{BadIndex, NoSuchMark, BadGravity, TooManyMarks}
-use Rattle.peers.specs.Arguments.{one_of, one_or_two_of, two_of}
-use Rattle.peers.specs.Faults.{with_value}
+use Rattle.command_parts.specs.declared.answers.Answer.{Answer}
+use Rattle.command_parts.specs.declared.answers.Answer.TheVariants.{Empty, Text}
+use Rattle.command_parts.specs.declared.answers.Fault.{Fault}
+use Rattle.command_parts.specs.declared.answers.Fault.TheVariants.{BadIndex, NoSuchMark, BadGravity, TooManyMarks}
+use Rattle.command_parts.specs.Arguments.{one_of, one_or_two_of, two_of}
+use Rattle.command_parts.specs.Faults.{with_value}
 use Rattle.peers.specs.Indices.{place_at}
 use Rattle.peers.specs.Names.{mark_number, mark_place}
 use Rattle.peers.specs.Promise.{Change, refused, answered, change_with}
 use Rattle.peers.specs.Tags.{listed}
 use Rattle.peers.specs.View.{view_start, view_end, shown}
-use Rattle.peers.specs.Words.{is_same, is_among, is_own, literal}
+use Rattle.command_parts.specs.Words.{is_same, is_among, is_own, literal}
 use Rattle.peers.specs.World.{Document, Widget, SharedMark}
+use Rattle.command_parts.specs.Marking.{gravity_of, gravity_word, is_left}
 
 -- ---- marks by their names
 
@@ -83,22 +84,11 @@ set_words limits document widget at (name, word) = change_with document (place_a
 abbrev pub mark_set : LimitTable → Document → Widget → ℕ → List (List ℕ) → Change
 mark_set limits document widget at words = change_with document (two_of words) (set_words limits document widget at)
 
--- a mark stays that isn't named; a widget's own two stay in any case
-abbrev pub is_left : List (List ℕ) → List ℕ → Bool
-is_left names name = not (is_among name names)
-
 -- `W mark unset ?M ..?`
 abbrev pub mark_unset : Document → List (List ℕ) → Change
 mark_unset document names = answered (record document { marks = filter (λ (mark : SharedMark). is_left names mark.name) document.marks }) Empty
 
 -- ---- gravity
-
-abbrev pub gravity_word : Gravity → List ℕ
-gravity_word Left = literal "left"
-gravity_word Right = literal "right"
-
-abbrev pub gravity_of : List ℕ → Option Gravity
-gravity_of word = if is_same word (literal "left") then Some Left else (if is_same word (literal "right") then Some Right else None)
 
 -- of the mark that stands at a place
 abbrev pub gravity_asked : Document → ℕ → Option Place → Change

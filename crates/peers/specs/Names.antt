@@ -6,7 +6,7 @@ use Rattle.text_index.specs.Views.{own_place, shared_place}
 use Rattle.text_index.specs.Words.{is_word}
 use Rattle.text_index.specs.Meanings.{Meanings, word_value}
 use Rattle.peers.specs.Keys.{Key, key_named}
-use Rattle.peers.specs.Words.{is_same, literal}
+use Rattle.command_parts.specs.Words.{is_same, literal}
 use Rattle.peers.specs.World.{Document, Widget, SharedMark}
 use Rattle.peers.specs.View.{view_start, view_end, shown, shown_flags}
 

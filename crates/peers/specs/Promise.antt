@@ -1,9 +1,9 @@
 -- What every command promises.
 use Rattle.std.specs.Prelude.{◌≡◌, ◌≢◌, length, Result, Ok, Err, IfErr}
 use Rattle.text_model.specs.LimitTable.{LimitTable}
-use Rattle.peers.specs.declared.answers.Answer.{Answer}
-use Rattle.peers.specs.declared.answers.Fault.{Fault}
-use Rattle.peers.specs.declared.answers.Fault.TheVariants.{Memory}
+use Rattle.command_parts.specs.declared.answers.Answer.{Answer}
+use Rattle.command_parts.specs.declared.answers.Fault.{Fault}
+use Rattle.command_parts.specs.declared.answers.Fault.TheVariants.{Memory}
 use Rattle.peers.specs.World.{Document}
 use Rattle.peers.specs.WellFormed.{IsWellFormedDocument}
 

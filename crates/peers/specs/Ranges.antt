@@ -1,11 +1,12 @@
 -- The ranges that a command's indices make.
 use Rattle.std.specs.Prelude.{ℕ, suc, ◌+◌, min, max, List, [], ◌∷◌, length, Result, Ok}
 use Rattle.edit_ops.specs.declared.spans.Span.{Span}
-use Rattle.peers.specs.declared.answers.Fault.{Fault}
-use Rattle.peers.specs.Faults.{with_value}
+use Rattle.command_parts.specs.declared.answers.Fault.{Fault}
+use Rattle.command_parts.specs.Faults.{with_value}
 use Rattle.peers.specs.Indices.{place_at}
 use Rattle.peers.specs.View.{view_start, shown}
 use Rattle.peers.specs.World.{Document, Widget}
+use Rattle.command_parts.specs.Ranges.{spans_of}
 
 abbrev pub and_place : Result ℕ Fault → Result (List ℕ) Fault → Result (List ℕ) Fault
 and_place place places = with_value place (λ place. with_value places (λ places. Ok (place ∷ places)))
@@ -14,16 +15,6 @@ and_place place places = with_value place (λ place. with_value places (λ place
 abbrev pub places_at : Document → Widget → ℕ → List (List ℕ) → Result (List ℕ) Fault
 places_at document widget at [] = Ok []
 places_at document widget at (word ∷ words) = and_place (place_at document widget at word) (places_at document widget (suc at) words)
-
--- from one place of a view of so many characters to another, or to the same where that one is before it
-abbrev pub span : ℕ → ℕ → ℕ → Span
-span start from to = record { from = start + from; to = start + max from to }
-
--- Pairs of places are ranges, as offsets of the document; a last place alone stands for one character.
-abbrev pub spans_of : ℕ → ℕ → List ℕ → List Span
-spans_of start len [] = []
-spans_of start len (from ∷ []) = span start from (min (suc from) len) ∷ []
-spans_of start len (from ∷ to ∷ places) = span start from to ∷ spans_of start len places
 
 abbrev pub spans_shown : Document → Widget → List ℕ → List Span
 spans_shown document widget places = spans_of (view_start widget) (length (shown document widget)) places

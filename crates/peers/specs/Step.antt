@@ -1,18 +1,19 @@
 -- One command of a script: the new world and an answer, or the first fault and the same world.
 use Rattle.std.specs.Prelude.{ℕ, nat_lt, List, [], ◌∷◌, Option, None, Some, Result, Ok, Err, find, if◌then◌else◌}
 use Rattle.std.specs.FinSet as set
-use Rattle.peers.specs.declared.answers.Answer.{Answer}
-use Rattle.peers.specs.declared.answers.Answer.TheVariants.{Word}
-use Rattle.peers.specs.declared.answers.Fault.{Fault}
-use Rattle.peers.specs.declared.answers.Fault.TheVariants.{WrongArguments, InvalidCommandName, WindowExists, DocumentExists, TooManyWidgets}
+use Rattle.command_parts.specs.declared.answers.Answer.{Answer}
+use Rattle.command_parts.specs.declared.answers.Answer.TheVariants.{Word}
+use Rattle.command_parts.specs.declared.answers.Fault.{Fault}
+use Rattle.command_parts.specs.declared.answers.Fault.TheVariants.{WrongArguments, InvalidCommandName, WindowExists, DocumentExists, TooManyWidgets}
 use Rattle.undo_stack.specs.Modified.{unmodified}
-use Rattle.peers.specs.World.{World, Document, Widget, whole_widget, new_mark, document_of, sel}
-use Rattle.peers.specs.Words.{is_same, literal}
+use Rattle.peers.specs.World.{World, Document, Widget, whole_widget, document_of, sel}
+use Rattle.command_parts.specs.Edits.{new_mark}
+use Rattle.command_parts.specs.Words.{is_same, literal}
 use Rattle.peers.specs.Kept.{is_window_name}
 use Rattle.command_table.specs.Reading.{reading}
 use Rattle.command_table.specs.declared.shapes.Shape.{Shape}
 use Rattle.command_table.specs.declared.shapes.ShapeFault.{ShapeFault}
-use Rattle.peers.specs.Faults.{shape_fault}
+use Rattle.command_parts.specs.Faults.{shape_fault}
 use Rattle.peers.specs.Promise.{Change}
 use Rattle.peers.specs.Command.{command, arguments_of}
 

@@ -8,22 +8,24 @@ use Rattle.tcl_words.specs.ListText.{list_text}
 use Rattle.text_index.specs.Positions.{position_text}
 use Rattle.text_index.specs.Ranges.{tag_ranges, next_range, previous_range}
 use Rattle.text_index.specs.declared.ranges.TagRange.{TagRange}
-use Rattle.peers.specs.declared.answers.Answer.{Answer}
-use Rattle.peers.specs.declared.answers.Answer.TheVariants.{Empty, Text}
-use Rattle.peers.specs.declared.answers.Fault.{Fault}
-use Rattle.peers.specs.declared.answers.Fault.TheVariants.{NoSuchTag, TooManyTags}
-use Rattle.peers.specs.Arguments.{first_of, none_or_one_of, one_of, one_or_two_of, two_or_three_of}
+use Rattle.command_parts.specs.declared.answers.Answer.{Answer}
+use Rattle.command_parts.specs.declared.answers.Answer.TheVariants.{Empty, Text}
+use Rattle.command_parts.specs.declared.answers.Fault.{Fault}
+use Rattle.command_parts.specs.declared.answers.Fault.TheVariants.{NoSuchTag, TooManyTags}
+use Rattle.command_parts.specs.Arguments.{first_of, none_or_one_of, one_of, one_or_two_of, two_or_three_of}
 use Rattle.peers.specs.Edits.{with_tag}
-use Rattle.peers.specs.Faults.{with_value}
+use Rattle.command_parts.specs.Faults.{with_value}
 use Rattle.peers.specs.Indices.{place_at}
 use Rattle.peers.specs.Keys.{Key}
-use Rattle.peers.specs.Lists.{with_name}
+use Rattle.command_parts.specs.Lists.{with_name}
 use Rattle.peers.specs.Names.{key_of}
 use Rattle.peers.specs.Promise.{Change, refused, answered, change_with}
 use Rattle.peers.specs.Ranges.{places_at, spans_shown}
 use Rattle.peers.specs.View.{shown, shown_flags}
-use Rattle.peers.specs.Words.{is_same, is_among}
+use Rattle.command_parts.specs.Words.{is_same, is_among}
 use Rattle.peers.specs.World.{Document, Widget, KeyedCell, sel}
+use Rattle.command_parts.specs.Listing.{begun, range_words}
+use Rattle.command_parts.specs.Tagging.{stays}
 
 -- ---- on characters
 
@@ -58,10 +60,6 @@ remove_words document widget at (name, words) =
 -- `W tag remove T I ?I ..?`
 abbrev pub tag_remove : Document → Widget → ℕ → List (List ℕ) → Change
 tag_remove document widget at words = change_with document (first_of words) (remove_words document widget at)
-
--- a name stays that isn't among those to be deleted, and `sel` in any case
-abbrev pub stays : List (List ℕ) → List ℕ → Bool
-stays names name = is_same name sel || not (is_among name names)
 
 abbrev pub key_stays : List (List ℕ) → Key → Bool
 key_stays names key = key.selects || not (is_among key.name names)
@@ -98,11 +96,6 @@ tag_names document widget at words = with_value (none_or_one_of words) (names_at
 abbrev pub flags_of : Document → Widget → List ℕ → List Bool
 flags_of document widget name = if is_among name document.tags then shown_flags document widget (key_of widget name) else []
 
--- where ranges begin and end, as `line.char`
-abbrev pub range_words : List ℕ → List TagRange → List (List ℕ)
-range_words text [] = []
-range_words text (range ∷ ranges) = position_text text range.start ∷ position_text text range.end ∷ range_words text ranges
-
 abbrev pub listed_ranges : Document → Widget → List TagRange → Result Answer Fault
 listed_ranges document widget ranges = listed (range_words (shown document widget) ranges)
 
@@ -112,11 +105,6 @@ ranges_of document widget name = listed_ranges document widget (tag_ranges (flag
 -- `W tag ranges T`
 abbrev pub tag_ranges_of : Document → Widget → List (List ℕ) → Result Answer Fault
 tag_ranges_of document widget words = with_value (one_of words) (ranges_of document widget)
-
--- a range, if there is one and it begins as wanted
-abbrev pub begun : (ℕ → Bool) → Option TagRange → List TagRange
-begun wanted None = []
-begun wanted (Some range) = if wanted range.start then range ∷ [] else []
 
 -- the place of a last index, if it is there
 abbrev pub place_or : Document → Widget → ℕ → ℕ → Option (List ℕ) → Result ℕ Fault

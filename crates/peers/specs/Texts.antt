@@ -3,20 +3,21 @@ use Rattle.std.specs.Prelude.{ℕ, suc, ◌+◌, ◌-◌, min, nat_lt, Bool, not
 use Rattle.text_model.specs.LimitTable.{LimitTable}
 use Rattle.undo_stack.specs.declared.actions.EditKind.TheVariants as kind
 use Rattle.tcl_words.specs.ListText.{list_text}
-use Rattle.peers.specs.declared.answers.Answer.{Answer}
-use Rattle.peers.specs.declared.answers.Answer.TheVariants.{Empty, Text}
-use Rattle.peers.specs.declared.answers.Fault.{Fault}
-use Rattle.peers.specs.declared.answers.Fault.TheVariants.{TooManyTags, TextTooLong}
-use Rattle.peers.specs.Arguments.{first_of}
+use Rattle.command_parts.specs.declared.answers.Answer.{Answer}
+use Rattle.command_parts.specs.declared.answers.Answer.TheVariants.{Empty, Text}
+use Rattle.command_parts.specs.declared.answers.Fault.{Fault}
+use Rattle.command_parts.specs.declared.answers.Fault.TheVariants.{TooManyTags, TextTooLong}
+use Rattle.command_parts.specs.Arguments.{first_of}
 use Rattle.peers.specs.Edits.{KeyedText, with_texts}
-use Rattle.peers.specs.Faults.{with_value}
+use Rattle.command_parts.specs.Faults.{with_value}
 use Rattle.peers.specs.Indices.{place_at}
 use Rattle.peers.specs.Keys.{keys_named}
-use Rattle.peers.specs.Lists.{Pair, pairs_at, all_names, with_names}
+use Rattle.command_parts.specs.Lists.{Pair, pairs_at, all_names, total, with_names}
 use Rattle.peers.specs.Promise.{Change, refused, answered, change_with}
 use Rattle.peers.specs.Ranges.{places_at}
 use Rattle.peers.specs.View.{view_start, shown}
 use Rattle.peers.specs.World.{Document, Widget}
+use Rattle.command_parts.specs.Listing.{is_filled}
 
 -- a text with the keys of its tag list, of which `sel` is the acting widget's
 abbrev pub keyed_text : Widget → Pair → KeyedText
@@ -25,10 +26,6 @@ keyed_text widget pair = record { text = pair.text; keys = option_map (keys_name
 -- the tags of a document with those of some lists, the new ones last
 abbrev pub tags_with : Document → List Pair → List (List ℕ)
 tags_with document pairs = with_names document.tags (all_names pairs)
-
--- how many characters texts have
-abbrev pub total : List Pair → ℕ
-total pairs = sum_by (λ (pair : Pair). length pair.text) pairs
 
 -- Texts go in at an offset of the document, each behind the one before it, and the tags of their lists are made, unless there
 -- are too many tags or the document grows too long.
@@ -63,9 +60,6 @@ abbrev pub texts_of_places : Document → Widget → List ℕ → List (List ℕ
 texts_of_places document widget [] = []
 texts_of_places document widget (from ∷ []) = text_of document widget from (suc from) ∷ []
 texts_of_places document widget (from ∷ to ∷ places) = text_of document widget from to ∷ texts_of_places document widget places
-
-abbrev pub is_filled : List ℕ → Bool
-is_filled text = not (length text == 0)
 
 -- the text of one range; of more the list of the texts that aren't empty
 abbrev pub got : Document → Widget → List ℕ → Answer

@@ -9,7 +9,7 @@ use Rattle.text_model.specs.LimitTable.{LimitTable, AreLimits}
 use Rattle.peers.specs.Keys.{Key}
 use Rattle.peers.specs.World.{World, Document, Widget, SharedMark, KeyedCell, characters, sel}
 use Rattle.peers.specs.View.{view_start, view_end}
-use Rattle.peers.specs.Words.{is_same, is_among, is_own}
+use Rattle.command_parts.specs.Words.{is_same, is_among, is_own}
 use Rattle.peers.specs.Kept.{is_window_name}
 use Rattle.undo_stack.specs.Fits.{FitsText}
 

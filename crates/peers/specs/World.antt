@@ -12,6 +12,7 @@ pub use Rattle.tag_table.specs.Tags.{sel}
 use Rattle.tag_table.specs.Tags.{Tag, names_of}
 use Rattle.mark_table.specs.SharedMarks.{Mark}
 use Rattle.peers.specs.Keys.{Key, Keys, keys_of, key_pairs}
+use Rattle.command_parts.specs.Edits.{new_mark}
 
 -- a character with a finite set of keys
 pub record KeyedCell : Type 0 where
@@ -48,10 +49,6 @@ pub record World : Type 0 where
   pub limits : LimitTable
   pub documents : List Document
 
--- a mark at the start
-abbrev pub new_mark : Place
-new_mark = record { offset = 0; gravity = Right }
-
 -- a widget of the whole document, whose own marks stand at these places
 abbrev pub whole_widget : List ℕ → Place → Place → Widget
 whole_widget name insert current = record {
@@ -80,10 +77,6 @@ document_of cells widget marks tags modified = record {
 -- the cells of a store, with the keys that the pairs of a slot and a key give their slots
 abbrev pub keyed : List (ℕ × Key) → List Cell → List KeyedCell
 keyed pairs cells = map (λ (cell : Cell). record { character = cell.character; keys = keys_of pairs cell.tags }) cells
-
--- a new text: one newline, and a widget's own two marks at its start
-abbrev pub first_content : Content
-first_content = record new_content { marks = finite.insert (finite.insert finite.empty 0 new_mark) 1 new_mark }
 
 -- where a mark stands, by its number in a store
 abbrev pub mark_of : Marks → ℕ → Place

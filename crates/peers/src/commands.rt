@@ -4,8 +4,8 @@ ghost use Rattle.peers.specs.World.{lone_widget};
 ghost use Rattle.peers.specs.Promise.{Does};
 ghost use Rattle.peers.specs.Command.{done, command};
 
-use crate::answers::{Answer, Fault};
 use crate::documents::Document;
+use command_parts::{Answer, Fault};
 use command_table::{Command, shape};
 use text_model::{Limits, TextStore};
 

@@ -1,4 +1,4 @@
-ghost use Rattle.std.specs.Prelude.{◌≡◌, ◌≢◌, ℕ, true, suc, None, Some, is_some, ◌+◌, ◌-◌, ◌<◌, ◌≤◌, min, length, chars, map, slice_range, option_map, nat_lt, nat_le, Ok, Err, IfOk, IfErr, OnOk, OnErr};
+ghost use Rattle.std.specs.Prelude.{◌≡◌, ◌≢◌, ℕ, true, suc, None, Some, is_some, ◌+◌, ◌-◌, ◌<◌, ◌≤◌, min, length, chars, map, slice_range, option_map, nat_lt, nat_le, Ok, Err, IfOk, IfErr, OnOk, OnErr, [], IfSome, slice_index_or};
 ghost use Rattle.std.specs.List.{All};
 ghost use Rattle.text_model.specs.LimitTable.{LimitTable, AreLimits};
 ghost use Rattle.text_index.specs.Positions.{position_text};
@@ -7,13 +7,14 @@ ghost use Rattle.peers.specs.View.{view_start, shown};
 ghost use Rattle.peers.specs.Step.{widget_named, new_document};
 ghost use Rattle.peers.specs.Kept.{is_window_name};
 ghost use Rattle.peers.specs.WellFormed.{IsWellFormedDocument};
-ghost use Rattle.peers.specs.Faults.{at_position};
-ghost use Rattle.peers.specs.Promise.{Gives, Does};
+ghost use Rattle.command_parts.specs.Faults.{at_position};
+ghost use Rattle.peers.specs.Promise.{Gives, Does, answered};
 ghost use Rattle.peers.specs.Indices.{place_at};
-ghost use Rattle.peers.specs.Texts.{insert_at, insertion_offset, total};
-ghost use Rattle.peers.specs.Lists.{with_name, with_names, all_names};
-ghost use Rattle.peers.specs.Slots.{IsFront, excess, piece_of, texts_put_in};
-ghost use Rattle.peers.specs.declared.answers.Fault.TheVariants.{Memory, TooManyTags};
+ghost use Rattle.peers.specs.Texts.{insert_at, insertion_offset};
+ghost use Rattle.command_parts.specs.Lists.{total, with_name, with_names, all_names};
+ghost use Rattle.command_parts.specs.Tagging.{IsFront, piece_of};
+ghost use Rattle.command_parts.specs.Edits.{excess, texts_put_in};
+ghost use Rattle.command_parts.specs.declared.answers.Fault.TheVariants.{Memory, TooManyTags};
 ghost use Rattle.edit_ops.specs.States.{log_of};
 ghost use Rattle.edit_ops.specs.Tagging.{SpanFits, tagged};
 ghost use Rattle.tag_table.specs.Tags.{AreTags, names_of, slot_of};
@@ -22,25 +23,21 @@ ghost use Rattle.std.specs.Char.{IsScalar};
 ghost use Rattle.tcl_words.specs.ListText.{list_text};
 ghost use Rattle.tcl_words.specs.Unread.{texts_of};
 ghost use Rattle.text_index.specs.Ranges.{tag_ranges, next_range, previous_range};
-ghost use Rattle.peers.specs.Tags.{flags_of, tags_on, range_words, begun, add_spans, remove_spans, tag_delete, reordered, raised, lowered};
-ghost use Rattle.peers.specs.Words.{is_among};
-ghost use Rattle.std.specs.Prelude.{[], IfSome, slice_index_or};
+ghost use Rattle.peers.specs.Tags.{flags_of, tags_on, add_spans, remove_spans, tag_delete, reordered, raised, lowered};
+ghost use Rattle.command_parts.specs.Listing.{range_words, begun};
+ghost use Rattle.command_parts.specs.Words.{is_among};
 ghost use Rattle.mark_table.specs.Order.{next_mark, previous_mark, rank_of};
-ghost use Rattle.peers.specs.declared.answers.Answer.TheVariants.{Empty};
-ghost use Rattle.peers.specs.Promise.{answered};
+ghost use Rattle.command_parts.specs.declared.answers.Answer.TheVariants.{Empty};
 ghost use Rattle.peers.specs.Names.{mark_number, mark_place};
-ghost use Rattle.peers.specs.Marks.{gravity_word as spec_gravity_word, mark_names, mark_offset, mark_unset, place_named, set_found, usable_marks, with_current, with_insert, with_mark, with_shared};
+ghost use Rattle.command_parts.specs.Marking.{gravity_word as spec_gravity_word};
+ghost use Rattle.peers.specs.Marks.{mark_names, mark_offset, mark_unset, place_named, set_found, usable_marks, with_current, with_insert, with_mark, with_shared};
 
-use crate::answers::{Answer, Fault};
-use crate::edits::{clear_slots, new_store, put_mark, put_texts, set_slot, take_marks};
-use crate::listing::{
-    push_mark_names, push_names, push_names_in, push_next, push_previous, push_ranges,
+use command_parts::{
+    Answer, Fault, Pair, clear_slots, delete_names, deleted_slots, gravity_word, is_word,
+    make_mark, new_store, numbers_named, push_mark_names, push_names, push_names_in, push_next,
+    push_previous, push_ranges, put_mark, put_pairs, set_slot, spans_of, tag_spans, take_marks,
+    turn_mark, unset_names,
 };
-use crate::lists::Pair;
-use crate::marking::{gravity_word, make_mark, numbers_named, turn_mark, unset_names};
-use crate::ranges::spans_of;
-use crate::tagging::{delete_names, deleted_slots, make_listed, make_tag, pieces_of};
-use crate::words::is_word;
 use edit_ops::Span;
 use mark_table::{MarkTable, MarkView, Origin, WidgetMark};
 use std::alloc::{AllocError, Global};
@@ -284,91 +281,6 @@ impl<S: TextStore> Document<S> {
         };
         push_previous(&mut list, &view, slot, from, to)?;
         Ok(Text::new(list))
-    }
-}
-
-/// The texts of pairs are of Unicode scalar values, as the bytes of each show.
-fn read_texts(pairs: &[Pair])
-    ensures { All (λ pair. All IsScalar pair.text) pairs.now }
-{
-    for pair in pairs {
-        let _text = pair.text.as_str();
-    }
-}
-
-/// Makes the tags of pairs that are new, and puts their texts in. Where that is refused, new tags may stand behind the others.
-fn put_pairs<S: TextStore>(
-    alloc: Global,
-    limits: &Limits,
-    tags: &mut TagTable,
-    store: &mut S,
-    history: &mut UndoStack,
-    at: usize,
-    pairs: Vec<Pair>,
-) -> Result<(), Fault>
-    requires within { at < length (S.content store.old).cells }
-    requires roomy { tags.old.limit ≡ MOST_TAGS }
-    ensures bounds { AreLimits limits.now }
-    ensures front { IsFront tags.old tags.new }
-    ensures sound { OnOk result (AreTags tags.new) }
-    ensures scalars { All (λ pair. All IsScalar pair.text) pairs.items }
-    ensures made { OnOk result (names_of tags.new.tags ≡ with_names (names_of tags.old.tags) (all_names pairs.items)) }
-    ensures ok { OnOk result (
-        (S.content store.new ≡ (texts_put_in at (map (piece_of tags.new.tags) pairs.items) (S.content store.old) (log_of history.old)).content)
-        × (log_of history.new ≡ (texts_put_in at (map (piece_of tags.new.tags) pairs.items) (S.content store.old) (log_of history.old)).log)) }
-    ensures room { OnOk result (excess limits.now (length (with_names (names_of tags.old.tags) (all_names pairs.items)))
-        (length (S.content store.old).cells + total pairs.items) ≡ None) }
-    ensures err { OnErr result ((S.content store.new ≡ S.content store.old) × (log_of history.new ≡ log_of history.old)) }
-    ensures fault { IfErr result (λ fault. fault ≢ Memory → excess limits.now (length (with_names (names_of tags.old.tags) (all_names pairs.items)))
-        (length (S.content store.old).cells + total pairs.items) ≡ Some fault) }
-{
-    // Where one of the limits is read, all are known to be in their bounds.
-    let _chars = limits.chars();
-    read_texts(&pairs);
-    match make_listed(alloc, tags, &pairs) {
-        Err(fault) => return Err(fault),
-        Ok(()) => {}
-    }
-    if tags.len() > limits.tags() as usize + 1 {
-        return Err(Fault::TooManyTags);
-    }
-    let pieces = pieces_of(alloc, tags, pairs)?;
-    put_texts(alloc, limits, store, history, at, &pieces)
-}
-
-/// Makes a tag if it is new, and sets it on spans. Where that is refused, the new tag may stand behind the others.
-fn tag_spans<S: TextStore>(
-    alloc: Global,
-    limits: &Limits,
-    tags: &mut TagTable,
-    store: &mut S,
-    history: &mut UndoStack,
-    name: &str,
-    spans: &[Span],
-) -> Result<(), Fault>
-    requires spans { All (SpanFits (length (S.content store.old).cells)) spans.now }
-    requires roomy { tags.old.limit ≡ MOST_TAGS }
-    ensures front { IsFront tags.old tags.new }
-    ensures sound { OnOk result (AreTags tags.new) }
-    ensures made { OnOk result (names_of tags.new.tags ≡ with_name (names_of tags.old.tags) (chars name.now)) }
-    ensures ok { OnOk result (option_map (λ slot. tagged slot true spans.now (S.content store.old)) (slot_of (chars name.now) tags.new.tags)
-        ≡ Some (S.content store.new)) }
-    ensures room { OnOk result (length (with_name (names_of tags.old.tags) (chars name.now)) ≤ limits.now.tags + 1) }
-    ensures err { OnErr result (S.content store.new ≡ S.content store.old) }
-    ensures log { log_of history.new ≡ log_of history.old }
-    ensures fault { IfErr result (λ fault. fault ≢ Memory →
-        (fault ≡ TooManyTags) × (limits.now.tags + 1 < length (with_name (names_of tags.old.tags) (chars name.now)))) }
-{
-    // Where one of the limits is read, all are known to be in their bounds.
-    let _chars = limits.chars();
-    match make_tag(alloc, tags, name) {
-        Err(fault) => Err(fault),
-        Ok(slot) => {
-            if tags.len() > limits.tags() as usize + 1 {
-                return Err(Fault::TooManyTags);
-            }
-            set_slot(alloc, store, history, spans, slot, true)
-        }
     }
 }
 

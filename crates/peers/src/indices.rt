@@ -2,14 +2,13 @@ ghost use Rattle.std.specs.Prelude.{◌≡◌, ◌+◌, ◌≤◌, length, chars
 ghost use Rattle.tcl_words.specs.Unread.{texts_of};
 ghost use Rattle.peers.specs.World.{lone_widget};
 ghost use Rattle.peers.specs.View.{shown};
-ghost use Rattle.peers.specs.Faults.{with_value};
+ghost use Rattle.command_parts.specs.Faults.{with_value};
 ghost use Rattle.peers.specs.Promise.{Gives};
-ghost use Rattle.peers.specs.Indices.{position_answer, index_of, index, comparison_at, comparison_of, compared, compared_at, compare};
+ghost use Rattle.peers.specs.Indices.{position_answer, index_of, index, compared, compared_at, compare};
+ghost use Rattle.command_parts.specs.Comparisons.{comparison_at, comparison_of};
 
-use crate::answers::{Answer, Fault};
-use crate::arguments::{one, three};
-use crate::comparisons::Comparison;
 use crate::documents::Document;
+use command_parts::{Answer, Comparison, Fault, one, three};
 use text_model::TextStore;
 
 /// The comparison that the word at a position is.

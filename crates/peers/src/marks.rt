@@ -2,14 +2,13 @@ ghost use Rattle.std.specs.Prelude.{◌≡◌, ◌+◌, ◌≤◌, length, chars
 ghost use Rattle.tcl_words.specs.Unread.{texts_of};
 ghost use Rattle.peers.specs.World.{lone_widget};
 ghost use Rattle.peers.specs.View.{shown};
-ghost use Rattle.peers.specs.Faults.{with_value};
+ghost use Rattle.command_parts.specs.Faults.{with_value};
 ghost use Rattle.peers.specs.Promise.{Gives, Does, change_with};
-ghost use Rattle.peers.specs.Marks.{place_named, set_at, set_words, mark_set, gravity_asked, gravity_given, gravity_words, mark_gravity, mark_names_of, mark_answer, origin_at, next_from, next_at, mark_next, previous_from, previous_at, mark_previous, gravity_of};
+ghost use Rattle.peers.specs.Marks.{place_named, set_at, set_words, mark_set, gravity_asked, gravity_given, gravity_words, mark_gravity, mark_names_of, mark_answer, origin_at, next_from, next_at, mark_next, previous_from, previous_at, mark_previous};
+ghost use Rattle.command_parts.specs.Marking.{gravity_of};
 
-use crate::answers::{Answer, Fault};
-use crate::arguments::{one, one_or_two, two};
 use crate::documents::Document;
-use crate::marking::read_gravity;
+use command_parts::{Answer, Fault, one, one_or_two, read_gravity, two};
 use mark_table::{Origin, WidgetMark};
 use text_model::{Gravity, Limits, Place, TextStore};
 

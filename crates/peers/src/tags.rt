@@ -2,13 +2,12 @@ ghost use Rattle.std.specs.Prelude.{◌≡◌, ◌≢◌, ◌+◌, ◌≤◌, le
 ghost use Rattle.tcl_words.specs.Unread.{texts_of};
 ghost use Rattle.peers.specs.World.{lone_widget};
 ghost use Rattle.peers.specs.View.{shown};
-ghost use Rattle.peers.specs.Faults.{with_value};
+ghost use Rattle.command_parts.specs.Faults.{with_value};
 ghost use Rattle.peers.specs.Promise.{Gives, Does};
 ghost use Rattle.peers.specs.Tags.{add_words, tag_add, remove_words, tag_remove, names_on, names_at_word, tag_names, tag_ranges_of, ranges_of, place_or, next_between, next_words, tag_nextrange, previous_between, previous_words, tag_prevrange, tag_raise, tag_lower};
 
-use crate::answers::{Answer, Fault};
-use crate::arguments::{first, none_or_one, one, one_or_two, two_or_three};
 use crate::documents::Document;
+use command_parts::{Answer, Fault, first, none_or_one, one, one_or_two, two_or_three};
 use text_model::{Limits, TextStore};
 
 impl<S: TextStore> Document<S> {

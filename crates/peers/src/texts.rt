@@ -5,14 +5,12 @@ ghost use Rattle.tcl_words.specs.Unread.{texts_of};
 ghost use Rattle.peers.specs.World.{lone_widget};
 ghost use Rattle.peers.specs.View.{shown};
 ghost use Rattle.peers.specs.Promise.{Gives, Does, change_with};
-ghost use Rattle.peers.specs.Lists.{pairs_at};
-ghost use Rattle.peers.specs.Texts.{insert_pairs, insert_words, insert, texts_of_places, is_filled, got, get};
+ghost use Rattle.command_parts.specs.Lists.{pairs_at};
+ghost use Rattle.peers.specs.Texts.{insert_pairs, insert_words, insert, texts_of_places, got, get};
+ghost use Rattle.command_parts.specs.Listing.{is_filled};
 
-use crate::answers::{Answer, Fault};
-use crate::arguments::first;
 use crate::documents::Document;
-use crate::listing::push_filled;
-use crate::lists::pairs_at;
+use command_parts::{Answer, Fault, first, pairs_at, push_filled};
 use std::alloc::AllocError;
 use text_model::{Limits, Text, TextStore};
 

@@ -1,13 +1,6 @@
 ghost use Rattle.std.specs.Prelude.{◌≡◌, chars};
 ghost use Rattle.peers.specs.Kept.{is_window_name};
-ghost use Rattle.peers.specs.Words.{is_same};
-
-/// Whether a word is one that the program knows.
-pub fn is_word(word: &str, known: &str) -> bool
-    ensures { result ≡ is_same (chars word.now) (chars known.now) }
-{
-    word == known
-}
+ghost use Rattle.command_parts.specs.Words.{is_same};
 
 /// Whether a word may name a widget: a dot and at least one more character.
 pub fn is_window_name(word: &str) -> bool

@@ -5,9 +5,9 @@ ghost use Rattle.peers.specs.Step.{create_first, create, create_shaped, on_widge
 ghost use Rattle.peers.specs.Kept.{is_window_name};
 ghost use Rattle.peers.specs.WellFormed.{IsWellFormed};
 
-use crate::answers::{Answer, Fault};
 use crate::documents::Document;
-use crate::words::{is_window_name, is_word};
+use crate::words::is_window_name;
+use command_parts::{Answer, Fault, is_word};
 use command_table::shape;
 use std::alloc::Global;
 use std::marker::Model;

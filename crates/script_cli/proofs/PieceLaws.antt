@@ -1,7 +1,6 @@
 -- The characters of what is printed.
 use Rattle.std.proofs.Common.{◌≡◌, ℕ, ◌<◌, ◌≤◌, true, false, take, arith, List, [], ◌∷◌, ◌++◌, length, get_or, String, string_bytes, encode_utf8_all, codes, refl, sym, ap, ◌∙◌, append_assoc}
-use Rattle.std.specs.Str.{chars, IsUtf8}
-use Rattle.std.specs.Str.{IsCharBoundary}
+use Rattle.std.specs.Str.{chars, IsUtf8, IsCharBoundary}
 use Rattle.std.specs.Prelude.{if◌then◌else◌}
 use Rattle.std.proofs.lemmas.Bool.Decides.{nat_tests}
 use Rattle.std.proofs.Math.ListN.{get_or-eq_default}
@@ -9,7 +8,7 @@ use Rattle.std.proofs.lemmas.Grind.{common_steps}
 use Rattle.std.proofs.lemmas.List.{append-nil, get_or-map}
 use Rattle.std.proofs.lemmas.Str.{encodes-append, encodes-chars}
 use Rattle.tcl_words.specs.Unread.{texts_of}
-use Rattle.peers.specs.Words.{literal}
+use Rattle.command_parts.specs.Words.{literal}
 use Rattle.script_cli.specs.Pieces.{Line, line_text, error_line, word_at, is_boundary, front_of}
 
 -- the bytes of three texts
@@ -68,9 +67,9 @@ pub answer_line : (text : List ℕ) → chars (codes "") ++ (text ++ chars (code
 unfolding chars
 answer_line text = refl
 
-pub no_characters : chars [] ≡ []
+pub chars-nil : chars [] ≡ []
 unfolding chars
-no_characters = refl
+chars-nil = refl
 
 pub no_word : {Z : Type 0} (words : List (String Z)) (position : ℕ) → length words ≤ position → chars [] ≡ word_at (texts_of words) position
 unfolding chars

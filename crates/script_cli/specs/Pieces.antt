@@ -1,13 +1,13 @@
 -- What is printed for a command, as characters.
 use Rattle.std.specs.Prelude.{ℕ, Bool, true, false, ◌&&◌, ◌||◌, nat_le, nat_lt, List, [], ◌∷◌, ◌++◌, length, take, chars, encode_utf8_all, slice_index, slice_index_or, Result, Ok, Err, if◌then◌else◌}
-use Rattle.peers.specs.declared.answers.Answer.{Answer}
-use Rattle.peers.specs.declared.answers.Answer.TheVariants.{Empty, Word, Flag, Text}
-use Rattle.peers.specs.declared.answers.Fault.{Fault}
-use Rattle.peers.specs.declared.answers.Fault.TheVariants.{BadIndex, NoTaggedCharacters, NoSuchMark, NoSuchTag, BadOption, WrongArguments, InvalidCommandName, WindowExists, BadComparison, BadGravity, BadList, DocumentExists, TooManyWidgets, TooManyTags, TooManyMarks, TextTooLong, Memory}
+use Rattle.command_parts.specs.declared.answers.Answer.{Answer}
+use Rattle.command_parts.specs.declared.answers.Answer.TheVariants.{Empty, Word, Flag, Text}
+use Rattle.command_parts.specs.declared.answers.Fault.{Fault}
+use Rattle.command_parts.specs.declared.answers.Fault.TheVariants.{BadIndex, NoTaggedCharacters, NoSuchMark, NoSuchTag, BadOption, WrongArguments, InvalidCommandName, WindowExists, BadComparison, BadGravity, BadList, DocumentExists, TooManyWidgets, TooManyTags, TooManyMarks, TextTooLong, Memory}
 use Rattle.tcl_words.specs.declared.fault.ScriptFault.{ScriptFault}
 use Rattle.tcl_words.specs.declared.fault.ScriptFault.TheVariants as script
 use Prim.Native.String.{String}
-use Rattle.peers.specs.Words.{literal}
+use Rattle.command_parts.specs.Words.{literal}
 
 -- the word of a command at a position
 abbrev pub word_at : List (List ℕ) → ℕ → List ℕ

@@ -2,7 +2,7 @@ ghost use Rattle.std.specs.Prelude.{◌≡◌, ◌++◌, false, not, Ok, Err, ch
 ghost use Rattle.tcl_words.specs.Unread.{texts_of};
 ghost use Rattle.script_cli.specs.Pieces.{piece, fault_line, error_line, script_fault_text, answer_text as spec_answer_text, word_at as spec_word_at, front_of as spec_front_of};
 ghost use Rattle.script_cli.specs.Sending.{Gathers};
-ghost use Rattle.peers.specs.Words.{literal};
+ghost use Rattle.command_parts.specs.Words.{literal};
 
 use crate::output::Output;
 use devices::ByteSink;

@@ -1,5 +1,5 @@
-use Rattle.script_cli.proofs.PieceLaws.{no_characters}
+use Rattle.script_cli.proofs.PieceLaws.{chars-nil}
 use Rattle.script_cli.proofs.pieces.answer_text.Goals as goal
 
 pub returns-in-Empty : goal.returns-in-Empty
-returns-in-Empty c = rw c.in-Empty.is no_characters
+returns-in-Empty c = rw c.in-Empty.is chars-nil

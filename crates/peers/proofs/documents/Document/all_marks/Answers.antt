@@ -3,8 +3,8 @@ use Rattle.std.specs.Prelude.{chars, string_bytes}
 use Rattle.std.proofs.lemmas.Str.{IsUtf8-string_bytes}
 use Rattle.mark_table.specs.SharedMarks.{names_of}
 use Rattle.tcl_words.specs.ListText.{list_text}
-use Rattle.peers.specs.Slots.{Goes}
-use Rattle.peers.specs.Words.{literal}
+use Rattle.tcl_words.specs.ListGrowth.{Goes}
+use Rattle.command_parts.specs.Words.{literal}
 use Rattle.peers.proofs.ChangeLaws.{Stands}
 use Rattle.peers.proofs.MarkQueryLaws.{names-lone}
 use Rattle.peers.proofs.QueryLaws.{written}

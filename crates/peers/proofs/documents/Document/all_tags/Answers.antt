@@ -3,7 +3,7 @@ use Rattle.std.specs.Prelude.{string_bytes}
 use Rattle.std.proofs.lemmas.Str.{IsUtf8-string_bytes}
 use Rattle.tcl_words.specs.ListText.{list_text}
 use Rattle.tag_table.specs.Tags.{names_of}
-use Rattle.peers.specs.Slots.{Goes}
+use Rattle.tcl_words.specs.ListGrowth.{Goes}
 use Rattle.peers.specs.World.{Document}
 use Rattle.peers.proofs.QueryLaws.{written}
 use Rattle.peers.proofs.documents.Document.all_tags.Goals as goal

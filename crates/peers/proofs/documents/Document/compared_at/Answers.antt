@@ -1,7 +1,8 @@
 use Rattle.std.proofs.Common.{◌+◌, Ok, ap, ◌∙◌}
 use Rattle.std.specs.Prelude.{chars}
-use Rattle.peers.specs.declared.answers.Answer.TheVariants.{Flag}
-use Rattle.peers.specs.Indices.{place_at, comparison_at, comparison_of, compared, holds}
+use Rattle.command_parts.specs.declared.answers.Answer.TheVariants.{Flag}
+use Rattle.peers.specs.Indices.{place_at, compared}
+use Rattle.command_parts.specs.Comparisons.{comparison_at, comparison_of, holds}
 use Rattle.peers.specs.World.{lone_widget}
 use Rattle.peers.proofs.PromiseLaws.{gives-three}
 use Rattle.peers.proofs.documents.Document.compared_at.Goals as goal

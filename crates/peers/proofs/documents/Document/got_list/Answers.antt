@@ -2,8 +2,9 @@ use Rattle.std.proofs.Common.{◌≤◌, ◌-◌, ℕ, length, drop, sym, subst,
 use Rattle.std.specs.Prelude.{string_bytes, filter}
 use Rattle.std.proofs.lemmas.Str.{IsUtf8-string_bytes}
 use Rattle.std.proofs.lemmas.List.Elements.{All-take, All-drop}
-use Rattle.peers.specs.Slots.{Goes}
-use Rattle.peers.specs.Texts.{texts_of_places, is_filled}
+use Rattle.tcl_words.specs.ListGrowth.{Goes}
+use Rattle.peers.specs.Texts.{texts_of_places}
+use Rattle.command_parts.specs.Listing.{is_filled}
 use Rattle.peers.specs.View.{shown}
 use Rattle.peers.specs.World.{lone_widget}
 use Rattle.peers.proofs.GotLaws.{got-more, got-end, got-last, one_left}

@@ -1,7 +1,7 @@
 use Rattle.std.specs.Prelude.{◌+◌, chars}
 use Rattle.tcl_words.specs.Unread.{texts_of}
 use Rattle.peers.specs.Indices.{place_at}
-use Rattle.peers.specs.Lists.{pairs_at}
+use Rattle.command_parts.specs.Lists.{pairs_at}
 use Rattle.peers.specs.Texts.{insert_pairs}
 use Rattle.peers.specs.World.{lone_widget}
 use Rattle.peers.proofs.PromiseLaws.{does-through}

@@ -1,7 +1,7 @@
 use Rattle.std.proofs.Common.{◌<◌, ◌≤◌, None, length, sym, subst, arith}
 use Rattle.std.specs.Prelude.{Result, chars, string_bytes}
-use Rattle.peers.specs.declared.answers.Answer.{Answer}
-use Rattle.peers.specs.declared.answers.Fault.{Fault}
+use Rattle.command_parts.specs.declared.answers.Answer.{Answer}
+use Rattle.command_parts.specs.declared.answers.Fault.{Fault}
 use Rattle.peers.specs.Marks.{set_found}
 use Rattle.peers.specs.Promise.{Does}
 use Rattle.peers.specs.World.{lone_document, lone_widget}

@@ -3,7 +3,7 @@ use Rattle.std.specs.Prelude.{chars, string_bytes, slice_index_or}
 use Rattle.mark_table.specs.Order.{rank_of}
 use Rattle.peers.specs.Marks.{mark_names}
 use Rattle.peers.proofs.ChangeLaws.{Stands}
-use Rattle.peers.proofs.LoneLaws.{no_characters}
+use Rattle.std.proofs.lemmas.Str.{chars-nil}
 use Rattle.peers.proofs.MarkQueryLaws.{name-past, name-shared}
 use Rattle.peers.proofs.documents.Document.mark_name.Goals as goal
 use Rattle.peers.proofs.documents.Document.mark_name.Goals.{in-Insert, in-Current, in-Shared, in-Shared-2}
@@ -24,6 +24,6 @@ returns g c =
           ∙ ap (λ m. slice_index_or (mark_names document) (rank_of m) []) (sym w.in-Shared.is)
       | in-Shared-2 w ↦
           let past : length old.marks.marks ≤ w.in-Shared.place = omega (arith, w.len.ensures.value, w.if-place-len.false) in
-          ap (λ n. chars n.now) w.name-is ∙ no_characters ∙ name-past name old.tags old.marks old.history content document stands w.in-Shared.place past
+          ap (λ n. chars n.now) w.name-is ∙ chars-nil ∙ name-past name old.tags old.marks old.history content document stands w.in-Shared.place past
           ∙ ap (λ m. slice_index_or (mark_names document) (rank_of m) []) (sym w.in-Shared.is)
     ]

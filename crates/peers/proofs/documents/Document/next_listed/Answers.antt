@@ -2,18 +2,18 @@ use Rattle.std.proofs.Common.{◌≡◌, ap, sym, ◌∙◌, subst}
 use Rattle.std.specs.Prelude.{string_bytes, chars, None, Some, nat_lt}
 use Rattle.std.specs.Option.{option_map}
 use Rattle.text_model.specs.declared.places.TagSlot.{TagSlot}
-use Rattle.std.proofs.lemmas.Str.{IsUtf8-string_bytes}
+use Rattle.std.proofs.lemmas.Str.{IsUtf8-string_bytes, chars-nil}
 use Rattle.tcl_words.specs.ListText.{list_text}
 use Rattle.tag_table.specs.Tags.{slot_of}
 use Rattle.text_index.specs.Views as view
 use Rattle.text_index.specs.Ranges.{next_range}
-use Rattle.peers.specs.Slots.{Goes}
-use Rattle.peers.specs.Tags.{range_words, begun}
+use Rattle.tcl_words.specs.ListGrowth.{Goes}
+use Rattle.command_parts.specs.Listing.{range_words, begun}
 use Rattle.peers.specs.View.{shown}
 use Rattle.peers.specs.World.{lone_widget}
 use Rattle.peers.proofs.EndLaws.{whole-view}
 use Rattle.peers.proofs.QueryLaws.{written, flags-known, flags-unknown}
-use Rattle.peers.proofs.LoneLaws.{no_characters, shown-is, shown-whole}
+use Rattle.peers.proofs.LoneLaws.{shown-is, shown-whole}
 use Rattle.peers.proofs.documents.Document.next_listed.Goals as goal
 
 pub returns-in_default : goal.returns-in_default
@@ -22,7 +22,7 @@ returns-in_default g c =
     let content = g.S.TextStore.content self.store in
     let word = chars c.args.name.now in
     let unknown : slot_of word self.tags.tags ≡ None = sym c.find.ensures.value ∙ ap (option_map (λ (slot : TagSlot). slot.0)) c.in_default.is in
-    c.new.ensures ∙ ap chars c.new-list.ensures.bytes ∙ no_characters
+    c.new.ensures ∙ ap chars c.new-list.ensures.bytes ∙ chars-nil
     ∙ ap (λ flags. list_text (range_words (shown document (lone_widget document)) (begun (λ start. nat_lt start c.args.to) (next_range flags c.args.from)))) (flags-unknown (chars (string_bytes self.name)) self.tags.tags self.marks.marks self.history.modified content document word c.self.view_is unknown)
 
 pub push_next-requires-clause-view : goal.push_next-requires-clause-view

@@ -3,7 +3,8 @@ use Rattle.std.specs.Prelude.{chars, string_bytes}
 use Rattle.text_index.specs.Views as view
 use Rattle.text_index.specs.Positions.{position_text}
 use Rattle.peers.proofs.EndLaws.{whole-view}
-use Rattle.peers.proofs.LoneLaws.{shown-is, shown-whole, no_characters}
+use Rattle.peers.proofs.LoneLaws.{shown-is, shown-whole}
+use Rattle.std.proofs.lemmas.Str.{chars-nil}
 use Rattle.peers.proofs.documents.Document.position_of.Goals as goal
 
 pub push_index-requires-clause-view : goal.push_index-requires-clause-view
@@ -15,5 +16,5 @@ returns g c =
     let text = shown-whole content c.len.result c.len.ensures ∙ shown-is (chars (string_bytes c.self.inside.name)) c.self.inside.tags.tags c.self.inside.marks.marks c.self.inside.history.modified content c.args.self.now c.self.view_is in
     c.new.ensures ∙ c.in_ok-push_index.ensures.ok
     ∙ ap (λ bytes. chars bytes ++ position_text (view.shown content 0 c.len.result) c.args.place) c.new-text.ensures.bytes
-    ∙ ap (λ front. front ++ position_text (view.shown content 0 c.len.result) c.args.place) no_characters
+    ∙ ap (λ front. front ++ position_text (view.shown content 0 c.len.result) c.args.place) chars-nil
     ∙ ap (λ t. position_text t c.args.place) text

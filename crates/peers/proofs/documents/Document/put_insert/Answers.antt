@@ -1,9 +1,9 @@
 use Rattle.std.proofs.Common.{◌≤◌, length, refl, sym, subst, arith}
 use Rattle.std.specs.Prelude.{Result, chars, string_bytes}
-use Rattle.peers.specs.declared.answers.Answer.{Answer}
-use Rattle.peers.specs.declared.answers.Answer.TheVariants.{Empty}
-use Rattle.peers.specs.declared.answers.Fault.{Fault}
-use Rattle.peers.specs.declared.answers.Fault.TheVariants.{Memory}
+use Rattle.command_parts.specs.declared.answers.Answer.{Answer}
+use Rattle.command_parts.specs.declared.answers.Answer.TheVariants.{Empty}
+use Rattle.command_parts.specs.declared.answers.Fault.{Fault}
+use Rattle.command_parts.specs.declared.answers.Fault.TheVariants.{Memory}
 use Rattle.peers.specs.Marks.{with_insert}
 use Rattle.peers.specs.Promise.{Does, answered}
 use Rattle.peers.specs.World.{lone_document, lone_widget}

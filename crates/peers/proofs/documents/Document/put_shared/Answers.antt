@@ -3,10 +3,10 @@ use Rattle.std.specs.Prelude.{Result, chars, string_bytes}
 use Rattle.std.specs.Option.{option_map}
 use Rattle.mark_table.specs.SharedMarks.{number_of}
 use Rattle.text_model.specs.declared.places.MarkNo.{MarkNo}
-use Rattle.peers.specs.declared.answers.Answer.{Answer}
-use Rattle.peers.specs.declared.answers.Answer.TheVariants.{Empty}
-use Rattle.peers.specs.declared.answers.Fault.{Fault}
-use Rattle.peers.specs.declared.answers.Fault.TheVariants.{Memory}
+use Rattle.command_parts.specs.declared.answers.Answer.{Answer}
+use Rattle.command_parts.specs.declared.answers.Answer.TheVariants.{Empty}
+use Rattle.command_parts.specs.declared.answers.Fault.{Fault}
+use Rattle.command_parts.specs.declared.answers.Fault.TheVariants.{Memory}
 use Rattle.peers.specs.Marks.{with_shared}
 use Rattle.peers.specs.Promise.{Does, answered}
 use Rattle.peers.specs.World.{lone_document}

@@ -1,9 +1,8 @@
 use Rattle.std.proofs.Common.{sym, subst}
-use Rattle.std.specs.Prelude.{chars, string_bytes, option_map}
+use Rattle.std.specs.Prelude.{chars, string_bytes, option_map, Result}
 use Rattle.tag_table.specs.declared.faults.NoSuchTag.TheVariants.{Moved, Neighbour}
-use Rattle.std.specs.Prelude.{Result}
-use Rattle.peers.specs.declared.answers.Answer.{Answer}
-use Rattle.peers.specs.declared.answers.Fault.{Fault}
+use Rattle.command_parts.specs.declared.answers.Answer.{Answer}
+use Rattle.command_parts.specs.declared.answers.Fault.{Fault}
 use Rattle.peers.specs.Promise.{Does}
 use Rattle.peers.specs.Tags.{raised, reordered}
 use Rattle.peers.specs.World.{lone_document}

@@ -2,7 +2,7 @@ use Rattle.std.proofs.Common.{sym}
 use Rattle.std.specs.Prelude.{chars, string_bytes}
 use Rattle.peers.proofs.ChangeLaws.{Stands}
 use Rattle.peers.proofs.SpanLaws.{does-remove, does-remove_none, spans-within}
-use Rattle.peers.proofs.MadeLaws.{front_same}
+use Rattle.command_parts.proofs.MadeLaws.{front_same}
 use Rattle.peers.proofs.documents.Document.remove_spans.Goals as goal
 
 pub returns-in_default : goal.returns-in_default

@@ -1,12 +1,12 @@
 use Rattle.std.proofs.Common.{ap, ◌∙◌, subst, arith}
 use Rattle.std.specs.FinSet as set
 use Rattle.std.specs.Prelude.{string_bytes, chars, filter}
-use Rattle.std.proofs.lemmas.Str.{IsUtf8-string_bytes}
+use Rattle.std.proofs.lemmas.Str.{IsUtf8-string_bytes, chars-nil}
 use Rattle.tcl_words.specs.ListText.{list_text}
 use Rattle.tag_table.specs.Tags.{Tag, names_of}
-use Rattle.peers.specs.Slots.{Goes}
+use Rattle.tcl_words.specs.ListGrowth.{Goes}
 use Rattle.peers.proofs.QueryLaws.{written, tags_on-known, tags_on-end}
-use Rattle.peers.proofs.LoneLaws.{no_characters, length-lone}
+use Rattle.peers.proofs.LoneLaws.{length-lone}
 use Rattle.peers.proofs.documents.Document.tags_on.Goals as goal
 
 pub returns-then-place-len : goal.returns-then-place-len
@@ -14,7 +14,7 @@ returns-then-place-len g c =
     let document = c.args.self.now in
     let content = g.S.TextStore.content c.self.inside.store in
     let long = length-lone (chars (string_bytes c.self.inside.name)) c.self.inside.tags.tags c.self.inside.marks.marks c.self.inside.history.modified content document c.self.view_is in
-    c.new.ensures ∙ ap chars c.new-list.ensures.bytes ∙ no_characters ∙ ap list_text (tags_on-end document c.args.place (omega (arith, long, c.len.ensures, c.if-place-len.true)))
+    c.new.ensures ∙ ap chars c.new-list.ensures.bytes ∙ chars-nil ∙ ap list_text (tags_on-end document c.args.place (omega (arith, long, c.len.ensures, c.if-place-len.true)))
 
 pub returns : goal.returns
 returns g c =

@@ -1,0 +1,10 @@
+pub mod Arguments
+pub mod Comparisons
+pub mod Edits
+pub mod Faults
+pub mod Listing
+pub mod Lists
+pub mod Marking
+pub mod Ranges
+pub mod Tagging
+pub mod Words

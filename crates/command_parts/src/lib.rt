@@ -1,0 +1,29 @@
+//! What the commands of a text widget are made of: their answers and faults, their words as lists, ranges and comparisons, lists
+//! as they are written, and edits of a store together with the tables of its tags and its marks.
+#![tactic(auto)]
+
+mod answers;
+mod arguments;
+mod comparisons;
+mod edits;
+mod listing;
+mod lists;
+mod marking;
+mod ranges;
+mod tagged_edits;
+mod tagging;
+mod words;
+
+pub use answers::{Answer, Fault};
+pub use arguments::{first, none_or_one, one, one_or_two, three, two, two_or_three};
+pub use comparisons::Comparison;
+pub use edits::{clear_slots, new_store, put_mark, set_slot, take_marks};
+pub use listing::{
+    push_filled, push_mark_names, push_names, push_names_in, push_next, push_previous, push_ranges,
+};
+pub use lists::{Pair, pairs_at};
+pub use marking::{gravity_word, make_mark, numbers_named, read_gravity, turn_mark, unset_names};
+pub use ranges::spans_of;
+pub use tagged_edits::{put_pairs, tag_spans};
+pub use tagging::{delete_names, deleted_slots};
+pub use words::is_word;
