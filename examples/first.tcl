@@ -17,3 +17,7 @@ text .t
 .t insert 2.0 "so: " {bold em}
 .t tag ranges bold
 .t get bold.first "bold.first wordend" em.first em.last
+.t replace 1.0 1.5 goodbye em
+.t delete 2.0 end
+.t get 1.0 end-1c
+.t tag ranges em

@@ -63,6 +63,28 @@ def character_queries(size):
     return text + [f".t get 1.{place}" for place in spread_places(size)]
 
 
+def middle_deletes(size):
+    """A text of `size` characters, from which single ones go all over it."""
+    text = ["text .t", ".t insert end " + "a" * size]
+    return text + [f".t delete 1.{place}" for place in spread_places(size // 4)]
+
+
+def middle_replaces(size):
+    """A text of `size` characters, of which single ones are replaced all over it."""
+    text = ["text .t", ".t insert end " + "a" * size]
+    return text + [f".t replace 1.{place} 1.{place + 1} x" for place in spread_places(size // 4)]
+
+
+RANGES = 1_000
+
+
+def many_ranges(size):
+    """A text of `size` characters and twice as many as there are ranges, of which many go by one command, and come back."""
+    text = ["text .t", ".t insert end " + "a" * (size + 2 * RANGES)]
+    ranges = " ".join(f"1.{2 * number} 1.{2 * number + 1}" for number in range(RANGES))
+    return text + [f".t delete {ranges}", ".t insert 1.0 " + "b" * RANGES] * (size // RANGES)
+
+
 def refused_commands(size):
     """Commands that are refused for a bad index."""
     return ["text .t"] + [".t index zz"] * size
@@ -118,6 +140,9 @@ def spread_places(size):
 KINDS = [
     Kind("append a word at the end", appends),
     Kind("insert in the middle", middle_inserts),
+    Kind("delete in the middle", middle_deletes),
+    Kind("replace in the middle", middle_replaces),
+    Kind("delete 1,000 ranges", many_ranges),
     Kind("index by position", index_queries),
     Kind("index by line number", line_queries),
     Kind("get one character", character_queries),

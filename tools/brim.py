@@ -30,6 +30,8 @@ def brim_scripts():
     yield past, b".t\n\nerror: text is too long\na\n", 1
     over = command("text .t") + command(".t insert end", "a" * (room + 1)) + command(".t get 1.0 end")
     yield over, b".t\nerror: text is too long\n\n\n", 1
+    replaced = full + command(".t replace 1.0 1.1 bc") + command(".t replace 1.1 1.3 bc") + command(".t delete 1.0") + command(".t insert 1.0 d")
+    yield replaced + command(".t get 1.0 1.3"), b".t\n\nerror: text is too long\n\n\n\ndbc\n", 1
     most = PROGRAM_LIMITS.marks
     marks = command("text .t") + b"".join(command(f".t mark set m{number} 1.0") for number in range(most + 1))
     yield marks + command(f".t mark next m{most - 2}"), b".t\n" + b"\n" * most + b"error: too many marks\nm%d\n" % (most - 1), 1

@@ -538,6 +538,10 @@ def bad_list(word):
     return Fault(f'bad list "{word}"')
 
 
+def index_order(first, last):
+    return Fault(f'index "{last}" before "{first}" in the text')
+
+
 def bad_option(word):
     return Fault(f'bad option "{word}"')
 
@@ -992,6 +996,125 @@ def insertion_place(place, shown):
 
 
 # ---------------------------------------------------------------------------------------------------
+# Removal
+
+
+def drawn_mark(mark, first, last):
+    """A mark after a span was taken out: it stands behind the kept cells that it stood behind."""
+    kept = [offset for offset in range(mark.offset) if not first <= offset < last]
+    return mark._replace(offset=len(kept))
+
+
+def drawn_start(start, first, last, line):
+    """A start anchor after a span was taken out: from inside the span it goes to where the span's line begins."""
+    if start is None or start <= first:
+        return start
+    return line if start <= last else start - (last - first)
+
+
+def drawn_end(end, first, last, stop):
+    """An end anchor after a span was taken out: from inside the span it goes to `stop`."""
+    if end is None or end <= first:
+        return end
+    return stop if end <= last else end - (last - first)
+
+
+def line_start_at(offset, characters):
+    """Where the line of an offset begins."""
+    return line_begin(len(newlines(characters[:offset])), characters)
+
+
+def next_line_start(offset, characters):
+    """Where the line behind that of an offset begins; the length where there is none."""
+    return next((place + 1 for place in newlines(characters) if place >= offset), len(characters))
+
+
+def drawn_widget(widget, first, last, characters):
+    """A widget after a span was taken out, which left these characters.
+
+    An end anchor in the span goes to the next line where the widget began at the span or before it and the span
+    didn't begin with its line; else to the beginning of the span's line.
+    """
+    line = line_start_at(first, characters)
+    keeps_line = (widget.start or 0) <= first and first != line
+    stop = next_line_start(first, characters) if keeps_line else line
+    return replace(
+        widget,
+        start=drawn_start(widget.start, first, last, line),
+        end=drawn_end(widget.end, first, last, stop),
+        insert=drawn_mark(widget.insert, first, last),
+        current=drawn_mark(widget.current, first, last),
+    )
+
+
+def removed(document, first, last):
+    """The document without the cells of a span, of which the last newline is none."""
+    if first == last:
+        return document
+    cells = document.cells[:first] + document.cells[last:]
+    characters = tuple(cell.character for cell in cells)
+    return replace(
+        document,
+        cells=cells,
+        widgets=tuple(drawn_widget(widget, first, last, characters) for widget in document.widgets),
+        marks=tuple((name, drawn_mark(mark, first, last)) for name, mark in document.marks),
+    )
+
+
+def runs(offsets):
+    """The maximal runs of a set of offsets, from first to last, each with its end."""
+    return tag_ranges([offset in offsets for offset in range(max(offsets, default=-1) + 1)])
+
+
+def delete_set(spans, shown):
+    """The offsets that a deletion takes: those of the spans, but never the last one that is shown.
+
+    Where that one is in a span and the run that it ends begins with a line, and not with the view, the newline before
+    that line goes in its place.
+    """
+    offsets = {offset for first, last in spans for offset in range(first, last)}
+    if shown.end - 1 not in offsets:
+        return offsets
+    begin, _ = runs(offsets)[-1]
+    if begin > shown.start and shown.characters[begin - 1 - shown.start] == "\n":
+        offsets = offsets | {begin - 1}
+    return offsets - {shown.end - 1}
+
+
+def bared(document, offset):
+    """The document after one cell lost all its keys, those of every widget's `sel` too."""
+    return retagged(document, [(offset, offset + 1)], lambda keys: frozenset())
+
+
+def deleted(document, spans, shown):
+    """The document after spans of a view were deleted: its last cell loses its keys if it is in one, and stays."""
+    newline = shown.end - 1
+    if any(first <= newline < last for first, last in spans):
+        document = bared(document, newline)
+    for first, last in reversed(runs(delete_set(spans, shown))):
+        document = removed(document, first, last)
+    return document
+
+
+def clipped_mark(mark, old, first, last, length):
+    """A mark after a span was replaced by texts of a length, where it was the mark `old` before.
+
+    One that stood in the span ends as many cells behind its start as it did, or at the end of the texts.
+    """
+    if not first <= old.offset < last:
+        return mark
+    return mark._replace(offset=first + min(old.offset - first, length))
+
+
+def replaced(document, widget, first, last, pieces):
+    """The document after a span went and the pieces came in at its start; the widget's `insert` isn't drawn along."""
+    changed = inserted_texts(removed(document, first, last), widget, first, pieces)
+    length = sum(len(piece.text) for piece in pieces)
+    mark = clipped_mark(widget_named(changed, widget.name).insert, widget.insert, first, last, length)
+    return with_mark(changed, widget_named(changed, widget.name), "insert", mark)
+
+
+# ---------------------------------------------------------------------------------------------------
 # Tags: their names from the lowest priority to the highest, and the cells that have them
 
 
@@ -1040,6 +1163,11 @@ def without_tags(document, tags):
 GRAVITIES = ("left", "right")
 
 
+def widget_named(document, name):
+    """The widget of a name as it stands in a document."""
+    return next(widget for widget in document.widgets if widget.name == name)
+
+
 def named_mark(document, widget, name):
     """The mark of a name, the widget's own or a shared one, or None."""
     return getattr(widget, name) if name in OWN_MARKS else dict(document.marks).get(name)
@@ -1080,7 +1208,7 @@ def mark_walk(word, document, widget):
 
 # ---------------------------------------------------------------------------------------------------
 # One command.  Faults are decided in this order: the first word; the subcommand or option words; the
-# number of words; the arguments from left to right; a name that is taken; the limits.
+# number of words; the arguments from left to right; the order of places; a name that is taken; the limits.
 
 
 def find_widget(world, name):
@@ -1139,16 +1267,49 @@ def texts_of(words):
     return [TaggedText(text, lists[number] if number < len(lists) else None) for number, text in enumerate(words[0::2])]
 
 
+def with_text_tags(world, document, pieces):
+    """The document with the new tags of all pieces, in the order in which they are first named."""
+    return with_names(document, [tag for piece in pieces for tag in piece.tags or ()], world.limits)
+
+
+def check_length(world, document, more):
+    """The document with so many cells more, or fewer, may not pass the limit."""
+    if len(document.cells) + more > world.limits.characters:
+        raise text_too_long()
+
+
 def insert_command(world, document, widget, arguments):
     """`W insert I chars ?tagList chars ..?`: puts the texts in at I, and makes the new tags.  The answer is empty."""
     shown = view(document, widget)
     place = argument_place(arguments[0], document, widget)
     pieces = texts_of(arguments[1:])
-    named = with_names(document, [tag for piece in pieces for tag in piece.tags or ()], world.limits)
-    if len(document.cells) + sum(len(piece.text) for piece in pieces) > world.limits.characters:
-        raise text_too_long()
+    named = with_text_tags(world, document, pieces)
+    check_length(world, document, sum(len(piece.text) for piece in pieces))
     offset = shown.start + insertion_place(place, shown)
     return with_document(world, document, inserted_texts(named, widget, offset, pieces)), ""
+
+
+def delete_command(world, document, widget, arguments):
+    """`W delete I ?I ..?`: takes out what the ranges hold, as one set of characters.  The answer is empty."""
+    shown = view(document, widget)
+    spans = offsets_of(pairs_of(arguments, document, widget), shown)
+    return with_document(world, document, deleted(document, spans, shown)), ""
+
+
+def replace_command(world, document, widget, arguments):
+    """`W replace A B chars ?tagList chars ..?`: puts the texts in place of what stands from A to before B.
+
+    The places are compared as they are, and then neither goes behind the view's last newline.  The answer is empty.
+    """
+    shown = view(document, widget)
+    places = [argument_place(word, document, widget) for word in arguments[:2]]
+    pieces = texts_of(arguments[2:])
+    if places[1] < places[0]:
+        raise index_order(*arguments[:2])
+    first, last = (shown.start + insertion_place(place, shown) for place in places)
+    named = with_text_tags(world, document, pieces)
+    check_length(world, document, sum(len(piece.text) for piece in pieces) - (last - first))
+    return with_document(world, document, replaced(named, widget, first, last, pieces)), ""
 
 
 def pairs_of(words, document, widget):
@@ -1344,9 +1505,9 @@ def compare_command(world, document, widget, arguments):
 
 
 class Subcommand(NamedTuple):
-    """A widget's subcommand: what it does (None: nothing yet), and the least and greatest number of its arguments."""
+    """A widget's subcommand: what it does, and the least and greatest number of its arguments."""
 
-    body: Optional[callable]
+    body: callable
     least: int
     greatest: Optional[int]
 
@@ -1354,6 +1515,8 @@ class Subcommand(NamedTuple):
 # By their words: one, or that of a family and that of its member.  A greatest number of None is no bound.
 SUBCOMMANDS = {
     ("insert",): Subcommand(insert_command, 2, None),
+    ("delete",): Subcommand(delete_command, 1, None),
+    ("replace",): Subcommand(replace_command, 3, None),
     ("get",): Subcommand(get_command, 1, None),
     ("index",): Subcommand(index_command, 1, 1),
     ("compare",): Subcommand(compare_command, 3, 3),
@@ -1366,8 +1529,6 @@ SUBCOMMANDS = {
     ("tag", "prevrange"): Subcommand(tag_prevrange_command, 2, 3),
     ("tag", "raise"): Subcommand(tag_raise_command, 1, 2),
     ("tag", "lower"): Subcommand(tag_lower_command, 1, 2),
-    ("delete",): Subcommand(None, 1, None),
-    ("replace",): Subcommand(None, 3, None),
     ("mark", "gravity"): Subcommand(mark_gravity_command, 1, 2),
     ("mark", "names"): Subcommand(mark_names_command, 0, 0),
     ("mark", "next"): Subcommand(mark_next_command, 1, 1),
@@ -1375,9 +1536,6 @@ SUBCOMMANDS = {
     ("mark", "set"): Subcommand(mark_set_command, 2, 2),
     ("mark", "unset"): Subcommand(mark_unset_command, 0, None),
 }
-
-# The subcommands whose words are known and which do nothing yet.
-COMING = [names for names, subcommand in SUBCOMMANDS.items() if subcommand.body is None]
 
 
 def subcommand_of(words):
@@ -1400,8 +1558,6 @@ def widget_command(world, document, widget, words):
         raise wrong_arguments()
     if subcommand.greatest is not None and len(arguments) > subcommand.greatest:
         raise wrong_arguments()
-    if subcommand.body is None:
-        raise bad_option(words[1])
     return subcommand.body(world, document, widget, arguments)
 
 

@@ -140,7 +140,7 @@ def main():
     tally = Tally()
     kinds = Counter()
     growths = 0
-    scripts = worked.program_scripts()
+    scripts = worked.refused_scripts()
     with tempfile.TemporaryDirectory() as folder:
         program = Preloaded(options.program, options.shim, os.path.join(folder, "growths"))
         for name, script in scripts:

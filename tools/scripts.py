@@ -241,7 +241,7 @@ NO_COMMANDS = [
     "foo", "puts", "destroy", "pack", "Text", "TEXT", "texts", "tex", "insert", "$", "]", "end", "\x00", "", "#", "text .t",
 ]
 NO_SUBCOMMANDS = [
-    "foo", "ins", "Insert", "inserts", "ge", "gets", "ind", "indexes", "edit", "peer", "configure", "cget", "search", "count",
+    "foo", "ins", "Insert", "inserts", "del", "deletes", "Replace", "ge", "gets", "ind", "indexes", "edit", "peer", "configure", "cget", "search", "count",
     "dump", "ta", "tags", "-undo", "$", "]", "#", ".t", "text", "é", "", " ", "get ", "{", "\\", "names", "gravity",
 ]
 NO_GRAVITIES = ["", "Left", "lef", "right ", "up", "l", "é", "1.0", "leftright"]
@@ -344,6 +344,59 @@ def range_words(chance):
     return [range_index(chance) for _ in range(chance.choice([1, 2, 2, 2, 3, 4, 4, 5, 8]))]
 
 
+def last_place(chance):
+    """A place at the text's end, or near it."""
+    return chance.choice(["end", "end-1c", "end-2c", "end-1l", "end-2l", "end -2c linestart", "end-2l lineend", "9.0"])
+
+
+def span_index(chance):
+    """A word for an end of a range that is taken out: at the text's end now and then."""
+    return last_place(chance) if indices.PROGRAM_READS_ALL and chance.random() < 0.2 else range_index(chance)
+
+
+def near_span(chance):
+    """Two places near the beginning, of which the first isn't behind the second."""
+    return sorted([near_begin(chance), near_begin(chance)])
+
+
+def lines_span(chance):
+    """Whole lines near the beginning, up to the end now and then."""
+    line = chance.choice([1, 2, 2, 2, 3, 3, 4])
+    return ["%d.0" % line, chance.choice(["end", "end", "%d.0" % (line + 1), "%d.0" % (line + 2), "%d.end" % line])]
+
+
+def insert_span(chance):
+    """A range round the mark `insert`."""
+    return [chance.choice(["insert", "insert-1c", "insert -3c", "insert linestart"]), chance.choice(["insert+1c", "insert +2c", "insert lineend"])]
+
+
+def any_span(chance):
+    return [span_index(chance), span_index(chance)]
+
+
+def span(chance):
+    """The two words of a range that is taken out."""
+    return pick(chance, [(near_span, 4), (lines_span, 2), (any_span, 2), (insert_span, 1)])
+
+
+def last_lines(chance):
+    """The last lines, and a range of the line before them that ends with its characters."""
+    line = chance.choice([2, 3, 4])
+    return ["%d.0" % line, "end", "%d.%d" % (line - 1, chance.randrange(0, 3)), "%d.end" % (line - 1)]
+
+
+def delete_command(chance):
+    """`delete` of one range or more, which may meet, lie in one another, be turned round or be empty."""
+    if chance.random() < 0.1:
+        return [widget(chance), "delete"] + last_lines(chance)
+    words = [word for _ in range(chance.choice([1, 1, 1, 2, 3, 4])) for word in span(chance)]
+    return [widget(chance), "delete"] + (words[:-1] if chance.random() < 0.3 else words)
+
+
+def replace_command(chance):
+    return [widget(chance), "replace"] + span(chance) + pairs(chance)
+
+
 def get_command(chance):
     return [widget(chance), "get"] + range_words(chance)
 
@@ -432,6 +485,8 @@ def wrong_count_command(chance):
     """A command of too few words or too many, whose other words may be wrong too."""
     subcommand, counts = chance.choice([
         (["insert"], [0, 1]),
+        (["delete"], [0]),
+        (["replace"], [0, 1, 2]),
         (["get"], [0]),
         (["index"], [0, 2, 3]),
         (["compare"], [0, 1, 2, 4]),
@@ -465,13 +520,6 @@ def bad_option_command(chance):
     return [widget(chance), chance.choice(NO_SUBCOMMANDS)] + arguments
 
 
-def coming_command(chance):
-    """A subcommand whose words are known and which isn't there yet, or the front of one, with any words after it."""
-    names = chance.choice(model.COMING)
-    arguments = [argument_index(chance) for _ in range(chance.randrange(0, 4))]
-    return [widget(chance), *names[: chance.choice([1, 2, 2])], *arguments]
-
-
 def unknown_command(chance):
     """A first word that is no command, and any words after it."""
     first = chance.choice(NO_COMMANDS + WIDGETS[1:])
@@ -480,12 +528,14 @@ def unknown_command(chance):
 
 def any_words(chance):
     """Words of any kind in any order."""
-    words = ["text", ".t", "insert", "get", "index", "1.0", "end"]
+    words = ["text", ".t", "insert", "delete", "replace", "get", "index", "1.0", "end"]
     return [chance.choice(words) if chance.random() < 0.8 else text(chance) for _ in range(chance.randrange(1, 7))]
 
 
 COMMANDS = [
     (insert_command, 12),
+    (delete_command, 3),
+    (replace_command, 3),
     (get_command, 7),
     (index_command, 5),
     (compare_command, 2),
@@ -509,7 +559,6 @@ COMMANDS = [
     (text_alone, 0.1),
     (wrong_count_command, 1),
     (bad_option_command, 1),
-    (coming_command, 1),
     (unknown_command, 0.7),
     (any_words, 0.7),
 ]
@@ -551,6 +600,14 @@ FORMS = [
     Form(FORM_WORLD, [".t", "insert"], [FORM_INDICES, FORM_TEXTS, [None, "{q r}"]]),
     Form(FORM_WORLD, [".t", "insert"], [["1.1"], ["x", "{}"], FORM_LISTS, FORM_TEXTS, [None, *FORM_LISTS]]),
     Form(FORM_WORLD, [".t", "insert", "1.1", "a", "p", "b", "{}", "c"], [[None, "{p q}"]]),
+    Form(FORM_WORLD, [".t", "delete"], [FORM_INDICES, [None, *indices.PLACES]]),
+    Form(FORM_WORLD, [".t", "delete"], [indices.PLACES, FORM_INDICES]),
+    Form(FORM_WORLD, [".t", "delete", "1.0", "1.2"], [FORM_INDICES, [None, *indices.PLACES]]),
+    Form(FORM_WORLD, [".t", "delete", "1.3", "end", "1.1", "1.2"], [[None, "1.0"], [None, "1.1", "end"]]),
+    Form(FORM_WORLD, [".t", "replace"], [["1.0"], FORM_INDICES, FORM_TEXTS, [None, "{q r}"]]),
+    Form(FORM_WORLD, [".t", "replace"], [FORM_INDICES, ["end"], ["x", "{}"], [None, "x"], [None, "y"]]),
+    Form(FORM_WORLD, [".t", "replace", "1.1", "1.3"], [["x", "{}"], FORM_LISTS, FORM_TEXTS, [None, *FORM_LISTS]]),
+    Form(FORM_WORLD, [".t", "replace", "1.1", "1.1"], [["x", "{}"], [None, "{q r}"]]),
     Form(FORM_WORLD, [".t", "get"], [FORM_INDICES, [None, *indices.PLACES]]),
     Form(FORM_WORLD, [".t", "get"], [indices.PLACES, FORM_INDICES]),
     Form(FORM_WORLD, [".t", "get", "1.0", "1.2"], [FORM_INDICES, [None, *indices.PLACES]]),
@@ -775,12 +832,21 @@ def stretched(chance, script_bytes):
 # Whole scripts
 
 
+def first_commands(chance):
+    """The characters of the first commands: the widget that the others name is made, and mostly has a text of a few lines."""
+    words = [["text", ".t"]]
+    if chance.random() < 0.6:
+        first_lines = ["".join(chance.choices(CHARACTERS + "é€ ", k=chance.randrange(0, 9))) for _ in range(chance.randrange(1, 6))]
+        words.append([".t", "insert", "end", "\n".join(first_lines)])
+    return "".join(" ".join(spelled(chance, word) for word in each) + command_end(chance) for each in words)
+
+
 def commands(chance):
     """The characters of a script without faults.  Most begin with the widget that the others name."""
     count = chance.choice([0, 1, 3, 10, 20, 30])
     if chance.random() < 0.05:
         count = 300
-    beginning = "text .t" + command_end(chance) if chance.random() < 0.9 else ""
+    beginning = first_commands(chance) if chance.random() < 0.9 else ""
     if chance.random() < 0.02:
         beginning = "\ufeff" + beginning
     ending = chance.choice(["", "", command_end(chance), optional_blanks(chance)])
@@ -795,6 +861,8 @@ def valid_commands(chance):
         words.append(chance.choice([
             lambda: [".t", "insert", index(chance), text(chance)],
             lambda: [".t", "insert", index(chance), text(chance), written_list(chance), text(chance)],
+            lambda: [".t", "delete", index(chance), index(chance), *near_span(chance)],
+            lambda: [".t", "replace", *near_span(chance), text(chance), written_list(chance), text(chance)],
             lambda: [".t", "get", index(chance)],
             lambda: [".t", "get", index(chance), index(chance)],
             lambda: [".t", "get", index(chance), index(chance), index(chance)],

@@ -14,7 +14,7 @@ import scripts
 import worked
 from harness import Tally
 
-SEEDS = 900
+SEEDS = 1_500
 
 # Every fault that a script can bring about under the program's own limits, without a text of millions
 # of characters.
@@ -26,6 +26,7 @@ REACHED_FAULTS = [
     b'error: bad comparison operator "',
     b'error: bad list "',
     b"error: too many tags",
+    b'" in the text',
     b'error: window name "',
     b"\" isn't defined in text widget",
     b'error: there is no mark named "',
@@ -244,7 +245,7 @@ def check_generator(tally):
 
 def main():
     tally = Tally()
-    for row in worked.ROWS:
+    for row in worked.ROWS + worked.LONG_ROWS:
         check_row(row, tally)
     check_lists(tally)
     check_indices(tally)

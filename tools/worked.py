@@ -3,7 +3,6 @@
 `ROWS` holds the expected output.  A row with limits of its own can only be run by the model; all others
 can be run by the program too.  `long_scripts` are for refused growth alone: what they print is the
 model's answer.
-
 """
 
 from typing import NamedTuple
@@ -412,6 +411,170 @@ def marks():
     ]
 
 
+def index_order(first, last):
+    return f'error: index "{last}" before "{first}" in the text'
+
+
+def deletions():
+    """What `delete` takes out, and what stays."""
+    return [
+        Row(
+            "the last line, alone and with a line before it",
+            b'text .t; .t insert 1.0 "a\nb"; .t delete 2.0 end; .t get 1.0 end; .t delete 1.0 end; .t get 1.0 end; .t delete end; '
+            b".t delete end-1c; .t index end",
+            lines(".t", "", "", "a\n", "", "\n", "", "", "2.0"),
+            0,
+        ),
+        Row(
+            "ranges that overlap are one, and a bad index leaves them all",
+            b"text .t; .t insert 1.0 abcdefgh; .t delete 1.0 1.4 1.2 1.6 1.0 1.1; .t get 1.0 end-1c; .t delete 1.0 1.1 1.0 zz; "
+            b".t get 1.0 end-1c; .t delete zz yy; .t delete 1.0 x.first; .t delete 1.0 sel.first; .t delete; .t get 1.0 1.end",
+            lines(".t", "", "", "gh", bad_index("zz"), "gh", bad_index("zz"), bad_index("x.first"), no_characters("sel"),
+                  "error: wrong # args", "gh"),
+            1,
+        ),
+        Row(
+            "ranges overlapping, nested, adjoining, turned round and empty, and one without its end",
+            b"text .t; .t insert 1.0 abcdefghij; .t delete 1.2 1.5 1.4 1.7; .t get 1.0 1.end; .t insert 1.2 cdefg; .t delete 1.1 1.8 1.3 1.5; "
+            b".t get 1.0 1.end; .t insert 1.1 bcdefgh; .t delete 1.3 1.5 1.1 1.3; .t get 1.0 1.end; .t insert 1.1 bcde; "
+            b".t delete 1.5 1.2 1.7 1.8 1.3 1.3; .t get 1.0 1.end; .t delete 1.0 1.1 1.1; .t get 1.0 1.end; .t delete 1.2 1.0; "
+            b".t delete 1.6 1.7 1.3 1.4 1.0; .t get 1.0 1.end; .t delete 1.3; .t delete end end end; .t get 1.0 end",
+            lines(".t", "", "", "abhij", "", "", "aij", "", "", "afghij", "", "", "abcdefgij", "", "cdefgij", "", "", "degi", "", "", "deg\n"),
+            0,
+        ),
+        Row(
+            "the last newline stays, and the one before goes where whole lines went",
+            b'text .t; .t insert 1.0 "ab\ncd"; .t delete 2.1 end; .t get 1.0 end; .t delete 1.1 end; .t get 1.0 end; .t insert end "\n"; '
+            b'.t delete end-1c; .t get 1.0 end; .t delete end-1c; .t get 1.0 end; .t insert end "\nb\nc"; .t delete 3.0 end 3.0 end; .t get 1.0 end; '
+            b".t delete 2.0 end end-1c end; .t get 1.0 end; .t delete 1.0 end; .t get 1.0 end; .t delete 1.0 9.9 0.0; .t get 1.0 end",
+            lines(".t", "", "", "ab\nc\n", "", "a\n", "", "", "a\n", "", "a\n", "", "", "a\nb\n", "", "a\n", "", "\n", "", "\n"),
+            0,
+        ),
+        Row(
+            "the newline before joins the range before it",
+            b'text .t; .t insert 1.0 "ab\ncd\nef"; .t mark set m 2.1; .t mark set n 3.1; .t mark set o end; .t delete 3.0 end 2.1 2.2; .t get 1.0 end; '
+            b'.t index m; .t index n; .t index o; .t index insert; .t insert end "\nx\ny"; .t delete 3.0 4.0 4.0 end 1.1 1.2; .t get 1.0 end; '
+            b'.t insert end "\n\n"; .t delete 4.0 end 1.0 2.0; .t get 1.0 end; .t delete 2.0 end 1.1; .t get 1.0 end',
+            lines(".t", "", "", "", "", "", "ab\nc\n", "2.1", "2.1", "3.0", "2.1", "", "", "a\nc\n", "", "", "c\n\n", "", "c\n"),
+            0,
+        ),
+        Row(
+            "the tags of the last newline",
+            b'text .t; .t insert 1.0 "a\nb"; .t tag add x 1.0 end; .t delete 2.0 end; .t get 1.0 end; .t tag ranges x; .t tag add x 1.1; '
+            b".t tag add sel 1.0 end; .t delete 1.0; .t tag names 1.0; .t delete end; .t delete 1.0 1.0; .t delete end 1.0; .t tag names 1.0; "
+            b".t delete end-1c; .t tag names 1.0; .t tag ranges sel; .t tag names; .t tag add x 1.0; .t insert 1.0 ab x; .t delete 1.1 end; "
+            b".t tag ranges x; .t tag add x 1.0 end; .t delete 1.0 1.1; .t tag ranges x",
+            lines(".t", "", "", "", "a\n", "1.0 1.1", "", "", "", "sel x", "", "", "", "sel x", "", "", "", "sel x", "", "", "", "1.0 1.1", "",
+                  "", "1.0 2.0"),
+            0,
+        ),
+        Row(
+            "marks stand behind the kept characters before them",
+            b"text .t; .t insert 1.0 abcdef; .t mark set a 1.1; .t mark set b 1.2; .t mark gravity b left; .t mark set c 1.4; .t mark set d 1.6; "
+            b".t mark set z end; .t mark set insert 1.5; .t delete 1.1 1.3 1.4 1.5; .t get 1.0 1.end; .t index a; .t index b; .t index c; "
+            b".t index d; .t index z; .t index insert; .t index current; .t mark gravity b; .t delete 1.0 end; .t index a; .t index d; .t index z; "
+            b".t insert 1.0 xy; .t index a; .t index b; .t index insert",
+            lines(".t", "", "", "", "", "", "", "", "", "", "adf", "1.1", "1.1", "1.2", "1.3", "2.0", "1.2", "1.3", "left", "", "1.0", "1.0", "2.0",
+                  "", "1.2", "1.0", "1.2"),
+            0,
+        ),
+    ]
+
+
+def replacements():
+    """What `replace` puts in the place of a range, and where marks stand then."""
+    return [
+        Row(
+            "a range is replaced, and insert goes with its text",
+            b'text .t; .t insert 1.0 "hello world"; .t mark set insert 1.3; .t replace 1.0 1.5 hi; .t get 1.0 end-1c; .t index insert; '
+            b".t replace 1.2 1.0 x",
+            lines(".t", "", "", "", "hi world", "1.2", index_order("1.2", "1.0")),
+            1,
+        ),
+        Row(
+            "up to the end, where the last newline stays with its tags",
+            b"text .t; .t insert 1.0 ab; .t tag add x 1.0 end; .t tag ranges x; .t delete end-1c; .t tag ranges x; .t replace 1.0 end Q; "
+            b".t get 1.0 end-1c; .t index insert; .t tag add x 1.1; .t replace end end R; .t replace end-1c end S; .t replace 9.9 9.9 {}; "
+            b".t get 1.0 end; .t tag ranges x; .t replace 0.0 9.9 {}; .t get 1.0 end; .t tag ranges x",
+            lines(".t", "", "", "1.0 2.0", "", "1.0 1.2", "", "Q", "1.1", "", "", "", "", "QRS\n", "1.3 2.0", "", "\n", "1.0 2.0"),
+            0,
+        ),
+        Row(
+            "where insert ends up",
+            b"text .t; .t insert 1.0 abcdef; .t mark set insert 1.1; .t replace 1.1 1.4 XYZW; .t index insert; .t mark set insert 1.3; "
+            b".t replace 1.1 1.5 mn; .t index insert; .t mark set insert 1.2; .t replace 1.1 1.3 {}; .t index insert; .t get 1.0 1.end; "
+            b".t mark set insert 1.3; .t replace 1.1 1.3 pq; .t index insert; .t mark set insert 1.0; .t replace 1.1 1.2 zz; .t index insert; "
+            b".t mark set insert 1.1; .t replace 1.1 1.1 b; .t index insert; .t mark gravity insert left; .t mark set insert 1.1; "
+            b".t replace 1.1 1.1 c; .t index insert; .t mark set insert 1.2; .t replace 1.0 1.4 x {} y {} z; .t index insert; .t mark gravity insert; "
+            b".t get 1.0 end",
+            lines(".t", "", "", "", "1.1", "", "", "1.3", "", "", "1.1", "aef", "", "", "1.3", "", "", "1.0", "", "", "1.2", "", "", "", "1.1",
+                  "", "", "1.2", "left", "xyzzq\n"),
+            0,
+        ),
+        Row(
+            "other marks move as with a deletion and an insertion",
+            b"text .t; .t insert 1.0 abcdef; .t mark set m 1.2; .t mark set l 1.2; .t mark gravity l left; .t mark set current 1.2; .t mark set n 1.4; "
+            b".t mark set o 1.1; .t replace 1.1 1.4 uv; .t index m; .t index l; .t index current; .t index n; .t index o; .t index insert; "
+            b".t get 1.0 1.end",
+            lines(".t", "", "", "", "", "", "", "", "", "1.3", "1.1", "1.3", "1.3", "1.3", "1.5", "auvef"),
+            0,
+        ),
+        Row(
+            "a text without a list has the tags that both sides share when the range is gone",
+            b"text .t; .t insert 1.0 abcd {x}; .t insert 1.4 ef y; .t replace 1.1 1.2 Z; .t tag names 1.1; .t replace 1.3 1.5 W; .t tag names 1.3; "
+            b".t replace 1.0 1.1 V; .t tag names 1.0; .t replace 1.2 1.3 m {x z} n {} o; .t tag ranges x; .t tag ranges z; .t tag names 1.3; "
+            b".t replace 1.1 1.1 p; .t tag names 1.1; .t replace 1.3 1.3 q; .t tag names 1.3; .t get 1.0 end",
+            lines(".t", "", "", "", "x", "", "", "", "", "", "1.1 1.3", "1.2 1.3", "", "", "", "", "x", "VpZqmnoWf\n"),
+            0,
+        ),
+        Row(
+            "empty on either side, and new tags all the same",
+            b"text .t; .t insert 1.0 abc; .t replace 1.1 1.1 {} {q r}; .t tag names; .t get 1.0 1.end; .t replace 1.1 1.2 {}; .t get 1.0 1.end; "
+            b".t replace 1.1 1.1 bd; .t get 1.0 1.end; .t replace 1.0 1.4 {} {q s} {} {} {} t; .t get 1.0 end; .t tag names; .t replace end end {}; "
+            b".t replace 1.0 1.0 e {sel q} f s; .t tag ranges sel; .t tag ranges s; .t get 1.0 end",
+            lines(".t", "", "", "sel q r", "abc", "", "ac", "", "abdc", "", "\n", "sel q r s t", "", "", "1.0 1.1", "1.1 1.2", "ef\n"),
+            0,
+        ),
+        Row(
+            "indices come first, then lists, then their order, which the places have as they are given",
+            b"text .t; .t insert 1.0 ab; .t replace q r x \{; .t replace 1.0 r x \{; .t replace x.first q x; .t replace 1.2 1.0 x \{; "
+            b".t replace end 1.0+1c x y; .t replace end end-1c x; .t replace {1.2 lineend} 01.0 x; .t replace end 1.end {}; .t replace 2.0 1.9 x; "
+            b".t replace 1.0; .t replace 1.0 1.1; .t replace 1.1 1.0; .t replace; .t get 1.0 end; .t tag names",
+            lines(".t", "", bad_index("q"), bad_index("r"), bad_index("x.first"), bad_list("{"), index_order("end", "1.0+1c"),
+                  index_order("end", "end-1c"), index_order("1.2 lineend", "01.0"), index_order("end", "1.end"), index_order("2.0", "1.9"),
+                  *["error: wrong # args"] * 4, "ab\n", "sel"),
+            1,
+        ),
+        Row(
+            "too many tags comes before a text that is too long, whose length is the one at the end",
+            b"text .t; .t insert 1.0 abc; .t replace 1.2 1.0 xy {p q}; .t replace 1.0 1.1 xy {p q}; .t replace 1.0 1.1 xy p; .t tag names; "
+            b".t replace 1.0 1.2 x p y; .t tag names; .t get 1.0 1.end; .t replace 1.0 end wxyz; .t replace 1.0 end w {} xy; .t replace 1.1 1.2 {} q; "
+            b".t insert 1.0 a; .t replace 1.0 1.0 a; .t replace end end {}; .t delete 1.0; .t insert 1.0 a; .t get 1.0 1.end",
+            lines(".t", "", index_order("1.2", "1.0"), TOO_MANY_TAGS, TEXT_TOO_LONG, "sel", "", "sel p", "xyc", TEXT_TOO_LONG, "", TOO_MANY_TAGS,
+                  TEXT_TOO_LONG, TEXT_TOO_LONG, "", "", "", "axy"),
+            1,
+            Limits(characters=4, tags=1),
+        ),
+        Row(
+            "replaced at small limits",
+            b"text .t; .t insert 1.0 abcd; .t insert 1.0 abc; .t replace 1.0 1.1 xy; .t replace 1.0 1.2 xy; .t tag add a 1.0; .t tag add b 1.0; "
+            b".t mark set m 1.0; .t mark set n 1.0; .t insert 1.0 {} c; .t replace 1.0 1.0 {} c; .t replace 1.0 1.0 {} a",
+            lines(".t", TEXT_TOO_LONG, "", TEXT_TOO_LONG, "", "", TOO_MANY_TAGS, "", TOO_MANY_MARKS, TOO_MANY_TAGS, TOO_MANY_TAGS, ""),
+            1,
+            Limits(4, 1, 1, 2),
+        ),
+    ]
+
+
+def many_lines():
+    """A text of 300 lines, most of which go."""
+    appended = 300 * (b'.t insert end "ab\\n"',)
+    asked = (b".t index end", b".t tag add x 100.0 260.1", b".t mark set m 150.1", b".t mark set k 299.1", b".t delete 50.0 250.0", b".t index end",
+             b".t tag ranges x", b".t index m", b".t index k")
+    wanted = lines(".t", *300 * ("",), "302.0", "", "", "", "", "102.0", "50.0 60.1", "50.0", "99.1")
+    return Row("lines that go from the middle", b"\n".join((b"text .t",) + appended + asked), wanted, 0)
+
+
 def whole_runs():
     """Runs of several commands."""
     return [
@@ -528,9 +691,9 @@ def command_faults():
         ),
         Row(
             "bad option",
-            b"text .t; .t foo; .t ins 1.0 a; .t delete 1.0; .t configure; .t Insert zz; .t replace 1.0 1.1 a",
+            b"text .t; .t foo; .t ins 1.0 a; .t del 1.0; .t configure; .t Insert zz; .t replaces 1.0 1.1 a",
             lines(".t", *(f'error: bad option "{word}"' for word in
-                          ("foo", "ins", "delete", "configure", "Insert", "replace"))),
+                          ("foo", "ins", "del", "configure", "Insert", "replaces"))),
             1,
         ),
         Row(
@@ -725,7 +888,12 @@ def script_faults():
     ]
 
 
-ROWS = whole_runs() + places() + tag_lists() + tags() + marks() + quoting() + command_faults() + script_faults()
+ROWS = (
+    whole_runs() + places() + tag_lists() + tags() + marks() + deletions() + replacements() + quoting() + command_faults() + script_faults()
+)
+
+# Rows of so many commands that they aren't run once for each growth.
+LONG_ROWS = [many_lines()]
 
 
 def long_scripts():
@@ -748,6 +916,22 @@ def long_scripts():
             "an insertion with three new tags",
             b"text .t;.t tag names;.t insert 1.0 a {p q} bc {} d {r sel p};.t tag names;.t tag names 1.0;.t tag names 1.3;.t tag add s 1.0 1.1;"
             b".t tag names;.t insert end e {t p};.t tag names;.t tag ranges p",
+        ),
+        (
+            "deletions of three ranges",
+            b"text .t;.t insert 1.0 abcdefgh x ijkl y mnop {x y};.t mark set m 1.9;.t delete 1.0 1.2 1.4 1.6 1.9 1.11;.t get 1.0 1.end;.t tag ranges x;"
+            b".t index m;.t delete 1.1 1.3 1.2 1.4 1.6;.t get 1.0 end;.t tag ranges y;.t delete end-1c 1.0 1.2 1.1 1.3;.t get 1.0 end;.t tag ranges x",
+        ),
+        (
+            "replacements with new tags",
+            b"text .t;.t insert 1.0 abcdefgh;.t mark set insert 1.3;.t replace 1.1 1.5 x;.t index insert;.t replace 1.1 1.2 long p;.t tag names;"
+            b".t replace 1.0 1.1 a {q p} b {} c {r s t};.t tag names;.t tag names 1.0;.t get 1.0 end;.t replace 1.0 end {} {u v};.t tag names;"
+            b".t index insert;.t get 1.0 end;.t replace 1.0 1.0 {} w;.t tag names",
+        ),
+        (
+            "deletions of many ranges",
+            b"text .t;.t insert 1.0 " + b"ab" * 60 + b";.t delete " + many_ranges + b";.t get 1.0 end;.t insert 1.0 " + b"cd" * 30 + b";.t delete "
+            + many_ranges + b" " + many_ranges + b";.t get 1.0 end",
         ),
         (
             "tags deleted and made again",
@@ -774,7 +958,12 @@ def long_scripts():
     ]
 
 
-def program_scripts():
-    """The names and scripts of everything here that the program can run under its own limits."""
+def refused_scripts():
+    """The names and scripts that the program is run on once for each of their growths."""
     rows = [(row.name, row.script) for row in ROWS if row.limits == PROGRAM_LIMITS]
     return rows + long_scripts()
+
+
+def program_scripts():
+    """The names and scripts of everything here that the program can run under its own limits."""
+    return refused_scripts() + [(row.name, row.script) for row in LONG_ROWS]

@@ -8,6 +8,12 @@ abbrev pub first_of : List (List ℕ) → Result (List ℕ × List (List ℕ)) F
 first_of [] = Err WrongArguments
 first_of (first ∷ others) = Ok (first, others)
 
+-- two, and those behind them
+abbrev pub first_two_of : List (List ℕ) → Result (List ℕ × List ℕ × List (List ℕ)) Fault
+first_two_of [] = Err WrongArguments
+first_two_of (first ∷ []) = Err WrongArguments
+first_two_of (first ∷ second ∷ others) = Ok (first, second, others)
+
 -- none, or one
 abbrev pub none_or_one_of : List (List ℕ) → Result (Option (List ℕ)) Fault
 none_or_one_of [] = Ok None

@@ -6,5 +6,6 @@ pub mod Listing
 pub mod Lists
 pub mod Marking
 pub mod Ranges
+pub mod Settings
 pub mod Tagging
 pub mod Words

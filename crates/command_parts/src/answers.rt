@@ -59,6 +59,9 @@ pub enum Fault {
     /// The word is the text of no list.
     #[error("bad list")]
     BadList(usize),
+    /// The word is an index that stands before that of the word before it.
+    #[error("index before another in the text")]
+    IndexOrder(usize),
     /// There is a document.
     #[error("a document exists")]
     DocumentExists,

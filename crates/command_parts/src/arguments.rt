@@ -1,6 +1,6 @@
 ghost use Rattle.std.specs.Prelude.{◌≡◌, Some, None, Ok, Err, option_map, chars, length, ◌+◌, IfOk, IfErr};
 ghost use Rattle.tcl_words.specs.Unread.{texts_of};
-ghost use Rattle.command_parts.specs.Arguments.{first_of, none_or_one_of, one_of, one_or_two_of, two_of, two_or_three_of, three_of};
+ghost use Rattle.command_parts.specs.Arguments.{first_of, first_two_of, none_or_one_of, one_of, one_or_two_of, two_of, two_or_three_of, three_of};
 
 use crate::answers::Fault;
 
@@ -14,6 +14,22 @@ pub fn first(arguments: &[String]) -> Result<(&str, &[String]), Fault>
         return Err(Fault::WrongArguments);
     }
     Ok((arguments[0].as_str(), &arguments[1..]))
+}
+
+/// The first two arguments of a command, and those behind them; "wrong # args" where there are fewer.
+pub fn first_two(arguments: &[String]) -> Result<(&str, &str, &[String]), Fault>
+    ensures ok { IfOk result (λ parts. first_two_of (texts_of arguments.now) ≡ Ok (chars parts.0.now, chars parts.1.now, texts_of parts.2.now)) }
+    ensures err { IfErr result (λ fault. first_two_of (texts_of arguments.now) ≡ Err fault) }
+    ensures behind { IfOk result (λ parts. length parts.2.now + 2 ≡ length arguments.now) }
+{
+    if arguments.len() < 2 {
+        return Err(Fault::WrongArguments);
+    }
+    Ok((
+        arguments[0].as_str(),
+        arguments[1].as_str(),
+        &arguments[2..],
+    ))
 }
 
 /// The argument of a command that takes one or none.

@@ -1,4 +1,4 @@
-ghost use Rattle.std.specs.Prelude.{◌≡◌, ◌≢◌, ◌∷◌, ◌+◌, ◌<◌, ◌≤◌, [], length, map, OnOk, OnErr, IfOk, IfErr};
+ghost use Rattle.std.specs.Prelude.{◌≡◌, ◌≢◌, ◌∷◌, ◌+◌, ◌-◌, ◌<◌, ◌≤◌, [], length, map, min, OnOk, OnErr, IfOk, IfErr};
 ghost use Rattle.std.specs.List.{All};
 ghost use Rattle.std.specs.FinMap as finite;
 ghost use Rattle.text_model.specs.Steps.{Fits, after};
@@ -8,11 +8,12 @@ ghost use Rattle.edit_ops.specs.States.{log_of};
 ghost use Rattle.edit_ops.specs.Tagging.{SpanFits, tagged, cleared};
 ghost use Rattle.command_parts.specs.declared.answers.Fault.TheVariants.{Memory, TextTooLong};
 ghost use Rattle.command_parts.specs.Marking.{taken};
-ghost use Rattle.command_parts.specs.Edits.{texts_put_in, new_mark, first_content};
+ghost use Rattle.command_parts.specs.Edits.{first_content, length_replaced, new_mark, spans_deleted, texts_in_place, texts_put_in};
 
 use crate::answers::Fault;
 use edit_ops::{
-    Anchors, EditFault, Piece, Recording, Span, commit, plan_clear, plan_insert, plan_tag,
+    Anchors, EditFault, Piece, Recording, Span, commit, plan_clear, plan_delete, plan_insert,
+    plan_replace, plan_tag,
 };
 use std::alloc::{AllocError, Global};
 use text_model::{Edit, Gravity, Limits, MarkNo, Place, Step, StepList, TagSlot, TextStore};
@@ -90,12 +91,6 @@ const WHOLE: Anchors = Anchors {
     end: None,
 };
 
-/// No action is kept, as there is no option yet that asks for it.
-const UNKEPT: Recording = Recording {
-    undo: false,
-    separators: true,
-};
-
 /// Puts texts in before the character at an offset of a store, each behind the one before it.
 pub fn put_texts<S: TextStore>(
     alloc: Global,
@@ -104,18 +99,95 @@ pub fn put_texts<S: TextStore>(
     history: &mut UndoStack,
     at: usize,
     pieces: &[Piece],
+    recording: Recording,
 ) -> Result<(), Fault>
     requires { at < length (S.content store.old).cells }
     ensures ok { OnOk result (
-        (S.content store.new ≡ (texts_put_in at pieces.now (S.content store.old) (log_of history.old)).content)
-        × (log_of history.new ≡ (texts_put_in at pieces.now (S.content store.old) (log_of history.old)).log)) }
+        (S.content store.new ≡ (texts_put_in recording at pieces.now (S.content store.old) (log_of history.old)).content)
+        × (log_of history.new ≡ (texts_put_in recording at pieces.now (S.content store.old) (log_of history.old)).log)) }
     ensures fits { OnOk result (length (S.content store.old).cells + total pieces.now ≤ limits.now.chars) }
     ensures err { OnErr result ((S.content store.new ≡ S.content store.old) × (log_of history.new ≡ log_of history.old)) }
     ensures fault { IfErr result (λ fault. fault ≢ Memory →
         (fault ≡ TextTooLong) × (limits.now.chars < length (S.content store.old).cells + total pieces.now)) }
 {
     let mut anchors = [WHOLE];
-    match plan_insert(alloc, limits, store, history, &anchors, at, pieces, UNKEPT) {
+    match plan_insert(
+        alloc, limits, store, history, &anchors, at, pieces, recording,
+    ) {
+        Err(EditFault::TextTooLong) => Err(Fault::TextTooLong),
+        Err(_) => Err(Fault::Memory),
+        Ok(plan) => {
+            commit(plan, store, history, &mut anchors);
+            Ok(())
+        }
+    }
+}
+
+/// Deletes spans of a store, in any order: they may overlap or be empty, and the last character stays, though without its slots.
+pub fn delete_spans<S: TextStore>(
+    alloc: Global,
+    store: &mut S,
+    history: &mut UndoStack,
+    spans: &[Span],
+    recording: Recording,
+) -> Result<(), Fault>
+    requires filled { 0 < length (S.content store.old).cells }
+    requires spans { All (SpanFits (length (S.content store.old).cells)) spans.now }
+    ensures ok { OnOk result (
+        (S.content store.new ≡ (spans_deleted recording spans.now (S.content store.old) (log_of history.old)).content)
+        × (log_of history.new ≡ (spans_deleted recording spans.now (S.content store.old) (log_of history.old)).log)) }
+    ensures err { OnErr result ((S.content store.new ≡ S.content store.old) × (log_of history.new ≡ log_of history.old)) }
+    ensures fault { IfErr result (λ fault. fault ≡ Memory) }
+{
+    let mut anchors = [WHOLE];
+    let len = store.len();
+    match plan_delete(alloc, store, history, &anchors, 0, len, spans, recording) {
+        Err(_) => Err(Fault::Memory),
+        Ok(plan) => {
+            commit(plan, store, history, &mut anchors);
+            Ok(())
+        }
+    }
+}
+
+/// Puts texts in the place of the characters of a store from one offset to another, where both are cut to the last character.
+/// The first mark, if it stands before one of these, stays as far behind the place as it was, or goes to the end of the texts.
+pub fn replace_texts<S: TextStore>(
+    alloc: Global,
+    limits: &Limits,
+    store: &mut S,
+    history: &mut UndoStack,
+    from: usize,
+    to: usize,
+    pieces: &[Piece],
+    recording: Recording,
+) -> Result<(), Fault>
+    requires filled { 0 < length (S.content store.old).cells }
+    requires ordered { from ≤ to }
+    ensures ok { OnOk result (
+        (S.content store.new ≡ (texts_in_place recording from to pieces.now (S.content store.old) (log_of history.old)).content)
+        × (log_of history.new ≡ (texts_in_place recording from to pieces.now (S.content store.old) (log_of history.old)).log)) }
+    ensures fits { OnOk result (length_replaced (length (S.content store.old).cells) from to + total pieces.now ≤ limits.now.chars) }
+    ensures err { OnErr result ((S.content store.new ≡ S.content store.old) × (log_of history.new ≡ log_of history.old)) }
+    ensures fault { IfErr result (λ fault. fault ≢ Memory →
+        (fault ≡ TextTooLong) × (limits.now.chars < length_replaced (length (S.content store.old).cells) from to + total pieces.now)) }
+{
+    let mut anchors = [WHOLE];
+    let last = store.len() - 1;
+    let planned = plan_replace(
+        alloc,
+        limits,
+        store,
+        history,
+        &anchors,
+        last,
+        from,
+        to,
+        pieces,
+        MarkNo(0),
+        recording,
+    );
+    match planned {
         Err(EditFault::TextTooLong) => Err(Fault::TextTooLong),
         Err(_) => Err(Fault::Memory),
         Ok(plan) => {

@@ -10,20 +10,22 @@ mod listing;
 mod lists;
 mod marking;
 mod ranges;
+mod settings;
 mod tagged_edits;
 mod tagging;
 mod words;
 
 pub use answers::{Answer, Fault};
-pub use arguments::{first, none_or_one, one, one_or_two, three, two, two_or_three};
+pub use arguments::{first, first_two, none_or_one, one, one_or_two, three, two, two_or_three};
 pub use comparisons::Comparison;
-pub use edits::{clear_slots, new_store, put_mark, set_slot, take_marks};
+pub use edits::{clear_slots, delete_spans, new_store, put_mark, set_slot, take_marks};
 pub use listing::{
     push_filled, push_mark_names, push_names, push_names_in, push_next, push_previous, push_ranges,
 };
 pub use lists::{Pair, pairs_at};
 pub use marking::{gravity_word, make_mark, numbers_named, read_gravity, turn_mark, unset_names};
 pub use ranges::spans_of;
-pub use tagged_edits::{put_pairs, tag_spans};
+pub use settings::Settings;
+pub use tagged_edits::{put_pairs, replace_pairs, tag_spans};
 pub use tagging::{delete_names, deleted_slots};
 pub use words::is_word;

@@ -1,4 +1,4 @@
-ghost use Rattle.std.specs.Prelude.{◌≡◌, ◌≢◌, true, None, Some, ◌+◌, ◌<◌, ◌≤◌, length, chars, map, option_map, IfErr, OnOk, OnErr};
+ghost use Rattle.std.specs.Prelude.{◌≡◌, ◌≢◌, true, None, Some, ◌+◌, ◌<◌, ◌≤◌, length, chars, map, option_map, IfOk, IfErr, OnOk, OnErr};
 ghost use Rattle.std.specs.Char.{IsScalar};
 ghost use Rattle.std.specs.List.{All};
 ghost use Rattle.edit_ops.specs.States.{log_of};
@@ -7,15 +7,15 @@ ghost use Rattle.tag_table.specs.Tags.{AreTags, names_of, slot_of};
 ghost use Rattle.text_model.specs.LimitTable.{AreLimits};
 ghost use Rattle.text_model.specs.declared.limits.TheConstants.Limits.{MOST_TAGS};
 ghost use Rattle.command_parts.specs.declared.answers.Fault.TheVariants.{Memory, TooManyTags};
-ghost use Rattle.command_parts.specs.Edits.{excess, texts_put_in};
+ghost use Rattle.command_parts.specs.Edits.{excess, length_replaced, texts_in_place, texts_put_in};
 ghost use Rattle.command_parts.specs.Lists.{with_name, with_names, all_names, total};
 ghost use Rattle.command_parts.specs.Tagging.{IsFront, piece_of};
 
 use crate::answers::Fault;
-use crate::edits::{put_texts, set_slot};
+use crate::edits::{put_texts, replace_texts, set_slot};
 use crate::lists::Pair;
 use crate::tagging::{make_listed, make_tag, pieces_of};
-use edit_ops::Span;
+use edit_ops::{Piece, Recording, Span};
 use std::alloc::Global;
 use tag_table::TagTable;
 use text_model::{Limits, TextStore};
@@ -30,31 +30,24 @@ fn read_texts(pairs: &[Pair])
     }
 }
 
-/// Makes the tags of pairs that are new, and puts their texts in. Where that is refused, new tags may stand behind the others.
-pub fn put_pairs<S: TextStore>(
+/// Makes the tags of pairs that are new, unless there are too many then, and gives the texts with the slots of their lists. Where
+/// that is refused, new tags may stand behind the others.
+fn make_pieces(
     alloc: Global,
     limits: &Limits,
     tags: &mut TagTable,
-    store: &mut S,
-    history: &mut UndoStack,
-    at: usize,
     pairs: Vec<Pair>,
-) -> Result<(), Fault>
-    requires within { at < length (S.content store.old).cells }
+) -> Result<Vec<Piece>, Fault>
     requires roomy { tags.old.limit ≡ MOST_TAGS }
     ensures bounds { AreLimits limits.now }
     ensures front { IsFront tags.old tags.new }
     ensures sound { OnOk result (AreTags tags.new) }
     ensures scalars { All (λ pair. All IsScalar pair.text) pairs.items }
     ensures made { OnOk result (names_of tags.new.tags ≡ with_names (names_of tags.old.tags) (all_names pairs.items)) }
-    ensures ok { OnOk result (
-        (S.content store.new ≡ (texts_put_in at (map (piece_of tags.new.tags) pairs.items) (S.content store.old) (log_of history.old)).content)
-        × (log_of history.new ≡ (texts_put_in at (map (piece_of tags.new.tags) pairs.items) (S.content store.old) (log_of history.old)).log)) }
-    ensures room { OnOk result (excess limits.now (length (with_names (names_of tags.old.tags) (all_names pairs.items)))
-        (length (S.content store.old).cells + total pairs.items) ≡ None) }
-    ensures err { OnErr result ((S.content store.new ≡ S.content store.old) × (log_of history.new ≡ log_of history.old)) }
-    ensures fault { IfErr result (λ fault. fault ≢ Memory → excess limits.now (length (with_names (names_of tags.old.tags) (all_names pairs.items)))
-        (length (S.content store.old).cells + total pairs.items) ≡ Some fault) }
+    ensures pieces { IfOk result (λ pieces. pieces.items ≡ map (piece_of tags.new.tags) pairs.items) }
+    ensures few { OnOk result (length (with_names (names_of tags.old.tags) (all_names pairs.items)) ≤ limits.now.tags + 1) }
+    ensures fault { IfErr result (λ fault. fault ≢ Memory →
+        (fault ≡ TooManyTags) × (limits.now.tags + 1 < length (with_names (names_of tags.old.tags) (all_names pairs.items)))) }
 {
     // Where one of the limits is read, all are known to be in their bounds.
     let _chars = limits.chars();
@@ -66,8 +59,78 @@ pub fn put_pairs<S: TextStore>(
     if tags.len() > limits.tags() as usize + 1 {
         return Err(Fault::TooManyTags);
     }
-    let pieces = pieces_of(alloc, tags, pairs)?;
-    put_texts(alloc, limits, store, history, at, &pieces)
+    Ok(pieces_of(alloc, tags, pairs)?)
+}
+
+/// Makes the tags of pairs that are new, and puts their texts in. Where that is refused, new tags may stand behind the others.
+pub fn put_pairs<S: TextStore>(
+    alloc: Global,
+    limits: &Limits,
+    tags: &mut TagTable,
+    store: &mut S,
+    history: &mut UndoStack,
+    at: usize,
+    pairs: Vec<Pair>,
+    recording: Recording,
+) -> Result<(), Fault>
+    requires within { at < length (S.content store.old).cells }
+    requires roomy { tags.old.limit ≡ MOST_TAGS }
+    ensures bounds { AreLimits limits.now }
+    ensures front { IsFront tags.old tags.new }
+    ensures sound { OnOk result (AreTags tags.new) }
+    ensures scalars { All (λ pair. All IsScalar pair.text) pairs.items }
+    ensures made { OnOk result (names_of tags.new.tags ≡ with_names (names_of tags.old.tags) (all_names pairs.items)) }
+    ensures ok { OnOk result (
+        (S.content store.new ≡ (texts_put_in recording at (map (piece_of tags.new.tags) pairs.items) (S.content store.old) (log_of history.old)).content)
+        × (log_of history.new ≡ (texts_put_in recording at (map (piece_of tags.new.tags) pairs.items) (S.content store.old) (log_of history.old)).log)) }
+    ensures room { OnOk result (excess limits.now (length (with_names (names_of tags.old.tags) (all_names pairs.items)))
+        (length (S.content store.old).cells + total pairs.items) ≡ None) }
+    ensures err { OnErr result ((S.content store.new ≡ S.content store.old) × (log_of history.new ≡ log_of history.old)) }
+    ensures fault { IfErr result (λ fault. fault ≢ Memory → excess limits.now (length (with_names (names_of tags.old.tags) (all_names pairs.items)))
+        (length (S.content store.old).cells + total pairs.items) ≡ Some fault) }
+{
+    let pieces = match make_pieces(alloc, limits, tags, pairs) {
+        Err(fault) => return Err(fault),
+        Ok(pieces) => pieces,
+    };
+    put_texts(alloc, limits, store, history, at, &pieces, recording)
+}
+
+/// Makes the tags of pairs that are new, and puts their texts in the place of the characters from one offset to another, where
+/// both are cut to the last character. Where that is refused, new tags may stand behind the others.
+pub fn replace_pairs<S: TextStore>(
+    alloc: Global,
+    limits: &Limits,
+    tags: &mut TagTable,
+    store: &mut S,
+    history: &mut UndoStack,
+    from: usize,
+    to: usize,
+    pairs: Vec<Pair>,
+    recording: Recording,
+) -> Result<(), Fault>
+    requires filled { 0 < length (S.content store.old).cells }
+    requires ordered { from ≤ to }
+    requires roomy { tags.old.limit ≡ MOST_TAGS }
+    ensures bounds { AreLimits limits.now }
+    ensures front { IsFront tags.old tags.new }
+    ensures sound { OnOk result (AreTags tags.new) }
+    ensures scalars { All (λ pair. All IsScalar pair.text) pairs.items }
+    ensures made { OnOk result (names_of tags.new.tags ≡ with_names (names_of tags.old.tags) (all_names pairs.items)) }
+    ensures ok { OnOk result (
+        (S.content store.new ≡ (texts_in_place recording from to (map (piece_of tags.new.tags) pairs.items) (S.content store.old) (log_of history.old)).content)
+        × (log_of history.new ≡ (texts_in_place recording from to (map (piece_of tags.new.tags) pairs.items) (S.content store.old) (log_of history.old)).log)) }
+    ensures room { OnOk result (excess limits.now (length (with_names (names_of tags.old.tags) (all_names pairs.items)))
+        (length_replaced (length (S.content store.old).cells) from to + total pairs.items) ≡ None) }
+    ensures err { OnErr result ((S.content store.new ≡ S.content store.old) × (log_of history.new ≡ log_of history.old)) }
+    ensures fault { IfErr result (λ fault. fault ≢ Memory → excess limits.now (length (with_names (names_of tags.old.tags) (all_names pairs.items)))
+        (length_replaced (length (S.content store.old).cells) from to + total pairs.items) ≡ Some fault) }
+{
+    let pieces = match make_pieces(alloc, limits, tags, pairs) {
+        Err(fault) => return Err(fault),
+        Ok(pieces) => pieces,
+    };
+    replace_texts(alloc, limits, store, history, from, to, &pieces, recording)
 }
 
 /// Makes a tag if it is new, and sets it on spans. Where that is refused, the new tag may stand behind the others.

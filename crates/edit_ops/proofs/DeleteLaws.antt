@@ -14,6 +14,9 @@ use Rattle.text_model.specs.Splices.{removed}
 use Rattle.text_model.specs.Steps.{Fits, after, after_step, after_removal, without_slots}
 use Rattle.text_model.proofs.SpliceLaws.{length-removed, map-removed, take-removed, drop-removed, map-changed, changed-same}
 use Rattle.text_model.proofs.StepLaws.{Fits-append, after-append}
+use Rattle.undo_stack.specs.History.{noted}
+use Rattle.undo_stack.specs.Modified.{counted_new}
+use Rattle.undo_stack.specs.declared.actions.Action.{Action}
 use Rattle.undo_stack.specs.declared.actions.EditKind.{EditKind}
 use Rattle.undo_stack.specs.declared.actions.EditKind.TheVariants.{Delete}
 use Rattle.edit_ops.specs.declared.anchors.Anchors.{Anchors}
@@ -77,6 +80,18 @@ pub rest-fits : (len border rest to behind : ℕ) → border + rest ≤ len → 
 rest-fits len border rest to behind room before within above =
     elim (nat_le behind border) as (λ b. to + (if b then behind - to else border - to + rest) ≤ len) [ true ↦ omega arith | false ↦ omega arith ]
 
+-- where no action is kept, its text doesn't matter
+noted-alike : (recording : Recording) (kind : EditKind) (at : ℕ) (text other : List ℕ) (log : Log) → (recording.undo ≡ true → text ≡ other)
+    → log_noted recording kind (record { inserts = false; at = at; text = text }) log ≡ log_noted recording kind (record { inserts = false; at = at; text = other }) log
+noted-alike recording kind at text other log same =
+    let taken : List ℕ → Action = λ t. record { inserts = false; at = at; text = t } in
+    elim recording.undo as (λ b. (b ≡ true → text ≡ other)
+    → record log { history = if b then noted kind (taken text) recording.separators log.most log.history else log.history; modified = counted_new log.modified }
+    ≡ record log { history = if b then noted kind (taken other) recording.separators log.most log.history else log.history; modified = counted_new log.modified }) [
+      | true ↦ λ is. ap (λ t. record log { history = noted kind (taken t) recording.separators log.most log.history; modified = counted_new log.modified }) (is refl)
+      | false ↦ λ _. refl
+    ] same
+
 -- one span more is taken out of a draft
 pub span-out : (recording : Recording) (kind : EditKind) (draft new : Draft) (state : State) (text : List ℕ) (line next from to : ℕ)
     → new ≡ record {
@@ -85,7 +100,7 @@ pub span-out : (recording : Recording) (kind : EditKind) (draft new : Draft) (st
       actions = draft.actions ++ record { inserts = false; at = from; text = text } ∷ [];
     }
     → from < to
-    → text ≡ slice_range (characters (after draft.steps state.content).cells) from to
+    → (recording.undo ≡ true → text ≡ slice_range (characters (after draft.steps state.content).cells) from to)
     → line ≡ line_start (line_of (characters (after draft.steps state.content).cells) from) (characters (after draft.steps state.content).cells)
     → next ≡ next_line (removed from to (characters (after draft.steps state.content).cells)) from
     → drafted recording kind new state ≡ removed_span recording kind from to (drafted recording kind draft state)
@@ -97,8 +112,8 @@ span-out recording kind draft new state text line next from to made some text_is
     ∙ ap₂ (λ c l. state_of c (map (anchors_drawn line next from to) draft.anchors) l) (after-append draft.steps (Remove from to ∷ []) state.content)
     (noted-append recording kind draft.actions (record { inserts = false; at = from; text = text } ∷ []) state.log)
     ∙ ap₂ (λ l n. state_of (after_removal from to before) (map (anchors_drawn l n from to) draft.anchors) (log_noted recording kind (record { inserts = false; at = from; text = text }) noted)) line_is next_is
-    ∙ ap (λ (t : List ℕ). state_of (after_removal from to before) (map (anchors_drawn (line_start (line_of now from) now) (next_line (removed from to now) from) from to) draft.anchors)
-    (log_noted recording kind (record { inserts = false; at = from; text = t }) noted)) text_is
+    ∙ ap (state_of (after_removal from to before) (map (anchors_drawn (line_start (line_of now from) now) (next_line (removed from to now) from) from to) draft.anchors))
+    (noted-alike recording kind from text (slice_range now from to) noted text_is)
     ∙ ap (λ b. if b then drafted recording kind draft state
     else state_of (after_removal from to before) (map (anchors_drawn (line_start (line_of now from) now) (next_line (removed from to now) from) from to) draft.anchors)
     (log_noted recording kind (record { inserts = false; at = from; text = slice_range now from to }) noted)) (sym (ne_eqb from to (λ same. omega (arith, same, some))))
@@ -111,27 +126,27 @@ pub record RemovedSoFar (recording : Recording) (kind : EditKind) (draft new : D
   pub next : rest ≡ line_start 1 (drop border (characters (after new.steps state.content).cells))
   pub makes : removed_spans recording kind left (drafted recording kind new state) ≡ removed_spans recording kind spans (drafted recording kind draft state)
 
-pub record RemovingSpans (draft new : Draft) (text : List ℕ) (spans left : List Span) (border rest : ℕ) : Type 0 where
+pub record RemovingSpans (keeps : Bool) (draft new : Draft) (text : List ℕ) (spans left : List Span) (border rest : ℕ) : Type 0 where
   pub count : length new.anchors ≡ length draft.anchors
   pub apart : AreApart border left
   pub room : border + rest ≤ length text
-  pub goes : (recording : Recording) (kind : EditKind) (state : State) → Fits draft.steps state.content → characters (after draft.steps state.content).cells ≡ text
+  pub goes : (recording : Recording) (kind : EditKind) (state : State) → (recording.undo ≡ true → keeps ≡ true) → Fits draft.steps state.content → characters (after draft.steps state.content).cells ≡ text
       → RemovedSoFar recording kind draft new state text spans left border rest
 
 -- what a span that is left gives
-pub span-stands : (draft now : Draft) (text : List ℕ) (spans all left : List Span) (span : Span) (border rest : ℕ)
-    → RemovingSpans draft now text spans all border rest → all ≡ span ∷ left → (span.from < span.to) × (span.to < border) × (border + rest ≤ length text) × (span.to ≤ next_line text span.to)
-span-stands draft now text spans all left span border rest so_far all_is =
+pub span-stands : (keeps : Bool) (draft now : Draft) (text : List ℕ) (spans all left : List Span) (span : Span) (border rest : ℕ)
+    → RemovingSpans keeps draft now text spans all border rest → all ≡ span ∷ left → (span.from < span.to) × (span.to < border) × (border + rest ≤ length text) × (span.to ≤ next_line text span.to)
+span-stands keeps draft now text spans all left span border rest so_far all_is =
     let apart : AreApart border (span ∷ left) = subst (AreApart border) all_is so_far.apart in
     let below = apart.1 in let room = so_far.room in
     (apart.0, apart.1, so_far.room, (let far = next_line-is text span.to (omega (arith, below, room)) in omega (arith, far)))
 
-pub removing-first : (draft : Draft) (text : List ℕ) (spans : List Span) (len : ℕ) → length text ≡ len → AreApart len spans → RemovingSpans draft draft text spans spans len 0
-removing-first draft text spans len long apart = record {
+pub removing-first : (keeps : Bool) (draft : Draft) (text : List ℕ) (spans : List Span) (len : ℕ) → length text ≡ len → AreApart len spans → RemovingSpans keeps draft draft text spans spans len 0
+removing-first keeps draft text spans len long apart = record {
   count = refl;
   apart = apart;
   room = omega (arith, long);
-  goes = λ recording kind state fits is. record {
+  goes = λ recording kind state _ fits is. record {
     fits = fits;
     front = ap (take len) is;
     long = let h = ap length is in omega (arith, h, long);
@@ -142,7 +157,7 @@ removing-first draft text spans len long apart = record {
 
 one-removed : (recording : Recording) (kind : EditKind) (draft now new : Draft) (state : State) (text taken : List ℕ) (spans left : List Span) (span : Span) (border rest behind line : ℕ)
     → RemovedSoFar recording kind draft now state text spans (span ∷ left) border rest → border + rest ≤ length text → span.from < span.to → span.to < border
-    → behind ≡ next_line text span.to → taken ≡ slice_range text span.from span.to → line ≡ line_start (line_of text span.from) text
+    → behind ≡ next_line text span.to → (recording.undo ≡ true → taken ≡ slice_range text span.from span.to) → line ≡ line_start (line_of text span.from) text
     → new ≡ record {
       steps = now.steps ++ Remove span.from span.to ∷ [];
       anchors = map (anchors_drawn line (span.from + (if nat_le behind border then behind - span.to else border - span.to + rest)) span.from span.to) now.anchors;
@@ -167,23 +182,23 @@ one-removed recording kind draft now new state text taken spans left span border
           ∙ ap (line_start 1) (drop-removed span.from span.to old span.from (omega (arith, some, below, within)) (omega (arith, some)) (omega arith)
           ∙ ap (λ n. drop n old) (let e : span.from + (span.to - span.from) ≡ span.to = omega (arith, some) in e)));
       makes = ap (removed_spans recording kind left) (span-out recording kind now new state taken line (span.from + next) span.from span.to made some
-          (taken_is ∙ sym (slice-front span.from span.to border old text (omega (arith, some)) (omega (arith, below)) so_far.front))
+          (λ kept. taken_is kept ∙ sym (slice-front span.from span.to border old text (omega (arith, some)) (omega (arith, below)) so_far.front))
           (line_is ∙ sym (line-front old text span.from shorter))
           (ap (λ n. span.from + n) rest_is ∙ sym (next_line-removed old span.from span.to (omega (arith, some, below, within)))))
           ∙ so_far.makes;
     }
 
-pub removing-more : (draft now new : Draft) (text taken : List ℕ) (spans all left : List Span) (span : Span) (border rest behind line next : ℕ)
-    → RemovingSpans draft now text spans all border rest → all ≡ span ∷ left → behind ≤ length text
-    → behind ≡ next_line text span.to → taken ≡ slice_range text span.from span.to → line ≡ line_start (line_of text span.from) text
+pub removing-more : (keeps : Bool) (draft now new : Draft) (text taken : List ℕ) (spans all left : List Span) (span : Span) (border rest behind line next : ℕ)
+    → RemovingSpans keeps draft now text spans all border rest → all ≡ span ∷ left → behind ≤ length text
+    → behind ≡ next_line text span.to → (keeps ≡ true → taken ≡ slice_range text span.from span.to) → line ≡ line_start (line_of text span.from) text
     → next ≡ (if nat_le behind border then behind - span.to else border - span.to + rest)
     → new ≡ record {
       steps = now.steps ++ Remove span.from span.to ∷ [];
       anchors = map (anchors_drawn line (span.from + next) span.from span.to) now.anchors;
       actions = now.actions ++ record { inserts = false; at = span.from; text = taken } ∷ [];
     }
-    → RemovingSpans draft new text spans left span.from next
-removing-more draft now new text taken spans all left span border rest behind line next so_far all_is bound behind_is taken_is line_is next_is made =
+    → RemovingSpans keeps draft new text spans left span.from next
+removing-more keeps draft now new text taken spans all left span border rest behind line next so_far all_is bound behind_is taken_is line_is next_is made =
     let apart : AreApart border (span ∷ left) = subst (AreApart border) all_is so_far.apart in
     let some = apart.0 in let below = apart.1 in
     record {
@@ -193,11 +208,11 @@ removing-more draft now new text taken spans all left span border rest behind li
           let far = behind_is ∙ next_line-is text span.to (omega (arith, below, room)) in
           let fits = rest-fits (length text) border rest span.to behind room (omega (arith, below)) bound (omega (arith, far)) in
           omega (arith, fits, next_is, some);
-      goes = λ recording kind state fits is.
+      goes = λ recording kind state kept fits is.
           subst (RemovedSoFar recording kind draft new state text spans left span.from) (sym next_is)
           (one-removed recording kind draft now new state text taken spans left span border rest behind line
-          (subst (λ xs. RemovedSoFar recording kind draft now state text spans xs border rest) all_is (so_far.goes recording kind state fits is))
-          so_far.room some below behind_is taken_is line_is
+          (subst (λ xs. RemovedSoFar recording kind draft now state text spans xs border rest) all_is (so_far.goes recording kind state kept fits is))
+          so_far.room some below behind_is (λ on. taken_is (kept on)) line_is
           (made ∙ ap (λ n. record {
             steps = now.steps ++ Remove span.from span.to ∷ [];
             anchors = map (anchors_drawn line (span.from + n) span.from span.to) now.anchors;
@@ -223,15 +238,15 @@ bare-made : (b : Bool) (at : ℕ) (content : Content) (anchors : List Anchors) (
 bare-made true at content anchors log = refl
 bare-made false at content anchors log = refl
 
-pub delete-made : (draft new : Draft) (content : Content) (anchors : List Anchors) (start end : ℕ) (spans runs left : List Span) (takes : Bool) (steps : List Step) → start < end → end ≤ length content.cells
+pub delete-made : (keeps : Bool) (draft new : Draft) (content : Content) (anchors : List Anchors) (start end : ℕ) (spans runs left : List Span) (takes : Bool) (steps : List Step) → start < end → end ≤ length content.cells
     → ((offset : ℕ) → in_spans runs offset ≡ in_spans spans offset) → takes ≡ in_spans runs (end - 1) → AreApart end left
     → ((offset : ℕ) → in_spans left offset ≡ delete_set (characters content.cells) start end (in_spans runs) offset)
     → steps ≡ (if takes then ClearTags (end - 1) ∷ [] else []) → draft ≡ record { steps = steps; anchors = anchors; actions = [] }
-    → ((recording : Recording) (kind : EditKind) (state : State) → Fits draft.steps state.content → characters (after draft.steps state.content).cells ≡ characters content.cells
+    → ((recording : Recording) (kind : EditKind) (state : State) → (recording.undo ≡ true → keeps ≡ true) → Fits draft.steps state.content → characters (after draft.steps state.content).cells ≡ characters content.cells
     → Fits new.steps state.content × (drafted recording kind new state ≡ removed_spans recording kind left (drafted recording kind draft state)))
-    → (recording : Recording) (log : Log)
+    → (recording : Recording) (log : Log) → (recording.undo ≡ true → keeps ≡ true)
     → Fits new.steps content × (drafted recording Delete new (state_of content anchors log) ≡ deleted recording start end spans (state_of content anchors log))
-delete-made draft new content anchors start end spans runs left takes steps shows within covers takes_is apart left_is steps_are begun goes recording log =
+delete-made keeps draft new content anchors start end spans runs left takes steps shows within covers takes_is apart left_is steps_are begun goes recording log kept =
     let text = characters content.cells in
     let state = state_of content anchors log in
     let bared = (if takes then ClearTags (end - 1) ∷ [] else []) in
@@ -241,7 +256,7 @@ delete-made draft new content anchors start end spans runs left takes steps show
     runs-are (length content.cells) (delete_set text start end (in_spans spans)) left (apart-wider end (length content.cells + 1) left apart (omega (arith, within)))
     (λ offset _. ap (λ set. delete_set text start end set offset) (sym same) ∙ sym (left_is offset)) in
     let takes_last : takes ≡ in_spans spans (end - 1) = takes_is ∙ covers (end - 1) in
-    let done = goes recording Delete state
+    let done = goes recording Delete state kept
     (subst (λ (d : Draft). Fits d.steps content) (sym first) (bare-fits takes (end - 1) content (omega (arith, shows, within))))
     (ap (λ (d : Draft). characters (after d.steps content).cells) first ∙ bare-text takes (end - 1) content) in (
       done.0,

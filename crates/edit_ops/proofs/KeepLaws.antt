@@ -257,6 +257,12 @@ set-below text start end offset spans some within =
           ]
     ] refl
 
+-- the runs that go stand apart, before the last character
+pub deleted-runs : (text : List ℕ) (start end len : ℕ) (spans : List Span) → 0 < end → end ≤ len → All (λ (span : Span). span.to ≤ end) spans
+    → AreApart len (runs_below len (delete_set text start end (in_spans spans)))
+deleted-runs text start end len spans some within inside =
+    runs-short len len (delete_set text start end (in_spans spans)) (λ offset is. let below = set-below text start end offset spans some inside is in omega (arith, below, within))
+
 bared-kept : (limit at : ℕ) (recording : Recording) (b : Bool) (state : State) → IsKept limit recording state → at < length state.content.cells
     → IsKept limit recording (if b then record state { content = after_step (ClearTags at) state.content } else state)
     × (length (if b then record state { content = after_step (ClearTags at) state.content } else state).content.cells ≡ length state.content.cells)
@@ -280,6 +286,5 @@ deleted-kept limit start end recording spans state kept shows within inside =
     let long = bared.1 in
     spans-kept limit len recording Delete (runs_below len (delete_set text start end (in_spans spans)))
     (if in_spans spans (end - 1) then record state { content = after_step (ClearTags (end - 1)) state.content } else state) bared.0
-    (runs-short len len (delete_set text start end (in_spans spans))
-    (λ offset is. let below = set-below text start end offset spans (omega (arith, shows)) inside is in omega (arith, below, within)))
+    (deleted-runs text start end len spans (omega (arith, shows)) within inside)
     (omega (arith, long))

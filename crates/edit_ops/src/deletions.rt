@@ -1,4 +1,4 @@
-ghost use Rattle.std.specs.Prelude.{◌≡◌, ℕ, ◌+◌, ◌-◌, ◌<◌, ◌≤◌, ◌^◌, ◌&&◌, ◌∷◌, [], nat_le, nat_lt, get_or, length, OnOk, IfOk, IfErr, if◌then◌else◌};
+ghost use Rattle.std.specs.Prelude.{◌≡◌, true, slice_range, ℕ, ◌+◌, ◌-◌, ◌<◌, ◌≤◌, ◌^◌, ◌&&◌, ◌∷◌, [], nat_le, nat_lt, get_or, length, OnOk, IfOk, IfErr, if◌then◌else◌};
 ghost use Rattle.std.specs.List.{All};
 ghost use Rattle.edit_ops.specs.Deletions.{in_spans, delete_set, AreApart, deleted, removed_spans};
 ghost use Rattle.edit_ops.specs.Plans.{planned, HasRoom};
@@ -34,12 +34,36 @@ fn to_next_line(offset: usize, behind: usize, border: usize, rest: usize) -> usi
     }
 }
 
+/// The characters from one offset to another, where they are to be kept, and else no text.
+fn kept_text<S: TextStore>(
+    alloc: Global,
+    store: &S,
+    span: Span,
+    keeps: bool,
+) -> Result<Text, AllocError>
+    requires ordered { span.from ≤ span.to }
+    requires within { span.to ≤ length (S.content store.now).cells }
+    ensures { IfOk result (λ text. keeps ≡ true → text ≡ slice_range (characters (S.content store.now).cells) span.from span.to) }
+{
+    if !keeps {
+        return Ok(Text::new(String::new(alloc)));
+    }
+    Ok(Text::new(store.copy_text(span.from, span.to)?))
+}
+
 impl Draft {
-    /// Takes spans of a text out, the last first.
-    fn remove_spans<S: TextStore>(&mut self, store: &S, spans: &[Span]) -> Result<(), AllocError>
+    /// Takes spans of a text out, the last first, with the texts of the actions where these are to be kept.
+    fn remove_spans<S: TextStore>(
+        &mut self,
+        alloc: Global,
+        store: &S,
+        spans: &[Span],
+        keeps: bool,
+    ) -> Result<(), AllocError>
         requires apart { AreApart (length (S.content store.now).cells) spans.now }
         ensures widgets { OnOk result (length self.new.anchors ≡ length self.old.anchors) }
         ensures makes { OnOk result ((recording : Recording) (kind : EditKind) (state : State) →
+            (recording.undo ≡ true → keeps ≡ true) →
             Fits self.old.steps state.content →
             characters (after self.old.steps state.content).cells ≡ characters (S.content store.now).cells →
             Fits self.new.steps state.content ×
@@ -50,7 +74,7 @@ impl Draft {
         for span in spans {
             let behind = line_behind(store, span.to);
             rest = to_next_line(span.to, behind, border, rest);
-            let text = Text::new(store.copy_text(span.from, span.to)?);
+            let text = kept_text(alloc, store, *span, keeps)?;
             let line = line_at(store, span.from);
             self.remove(span.from, span.to, text, line, span.from + rest)?;
             border = span.from;
@@ -97,7 +121,7 @@ fn bare(alloc: Global, offset: usize, is_bared: bool) -> Result<StepList, AllocE
     Ok(steps)
 }
 
-/// The edit that deletes spans of what a widget shows.
+/// The edit that deletes spans of what a widget shows, with the texts of its actions where these are to be kept.
 fn draft_delete<S: TextStore>(
     alloc: Global,
     store: &S,
@@ -105,12 +129,13 @@ fn draft_delete<S: TextStore>(
     start: usize,
     end: usize,
     spans: &[Span],
+    keeps: bool,
 ) -> Result<Draft, AllocError>
     requires shows { start < end }
     requires within { end ≤ length (S.content store.now).cells }
     requires spans { All (λ span. span.to ≤ end) spans.now }
     ensures widgets { IfOk result (λ draft. length draft.anchors ≡ length anchors.now) }
-    ensures makes { IfOk result (λ draft. (recording : Recording) (log : Log) →
+    ensures makes { IfOk result (λ draft. (recording : Recording) (log : Log) → (recording.undo ≡ true → keeps ≡ true) →
         Fits draft.steps (S.content store.now) ×
         (drafted recording EditKind.Delete draft (state_of (S.content store.now) anchors.now log)
         ≡ deleted recording start end spans.now (state_of (S.content store.now) anchors.now log))) }
@@ -119,7 +144,7 @@ fn draft_delete<S: TextStore>(
     let takes_last = spare_shown(store, start, end, &mut runs);
     let steps = bare(alloc, end - 1, takes_last)?;
     let mut draft = Draft::of_steps(alloc, anchors, steps, runs.len())?;
-    draft.remove_spans(store, &runs)?;
+    draft.remove_spans(alloc, store, &runs, keeps)?;
     Ok(draft)
 }
 
@@ -150,6 +175,6 @@ pub fn plan_delete<S: TextStore>(
         planned plan.notes (S.outcome store.new plan.prepared) plan.anchors.items (log_of history.old)
         ≡ deleted recording start end spans.now (state_of (S.content store.old) anchors.now (log_of history.old))) }
 {
-    let draft = draft_delete(alloc, store, anchors, start, end, spans)?;
+    let draft = draft_delete(alloc, store, anchors, start, end, spans, recording.undo)?;
     Ok(prepare(store, history, draft, EditKind::Delete, recording)?)
 }

@@ -8,40 +8,42 @@ use Rattle.text_model.specs.Splices.{changed}
 use Rattle.text_model.specs.LimitTable.{LimitTable}
 use Rattle.undo_stack.specs.Rings.{Kept}
 use Rattle.edit_ops.specs.States.{Log, log_of}
+use Rattle.command_parts.specs.declared.settings.Settings.{Settings}
 use Rattle.command_parts.specs.declared.answers.Answer.{Answer}
 use Rattle.command_parts.specs.declared.answers.Answer.TheVariants.{Empty}
 use Rattle.command_parts.specs.declared.answers.Fault.{Fault}
 use Rattle.command_parts.specs.declared.answers.Fault.TheVariants.{Memory}
-use Rattle.peers.specs.Kept.{AreMarked, AreNew, IsKept}
+use Rattle.peers.specs.Kept.{AreMarked, IsOrderly, IsKept}
 use Rattle.peers.specs.Promise.{Change, Does, answered, refused}
 use Rattle.command_parts.specs.Tagging.{IsFront}
 use Rattle.peers.specs.WellFormed.{IsWellFormedDocument}
-use Rattle.peers.specs.World.{Document, lone_document}
+use Rattle.peers.specs.World.{Document, lone_document, Journal, journal_of}
 
 -- a document stands in its fields
-pub record Stands (name : List ℕ) (table : Tags) (marks : SharedMarks) (history : Kept) (content : Content) (document : Document) : Type 0 where
+pub record Stands (name : List ℕ) (table : Tags) (marks : SharedMarks) (journal : Journal) (content : Content) (document : Document) : Type 0 where
   pub kept : IsKept name table content
   pub marked : AreMarked marks content.marks
-  pub fresh : AreNew history
-  pub is : lone_document name table.tags marks.marks history.modified content ≡ document
+  pub orderly : IsOrderly journal
+  pub is : lone_document name table.tags marks.marks journal content ≡ document
 
-pub fresh-same : (old new : Kept) → AreNew old → log_of new ≡ log_of old → AreNew new
-fresh-same old new fresh same = record {
-  no_history = ap (λ (l : Log). l.history) same ∙ fresh.no_history;
-  no_limit = ap (λ (l : Log). l.most) same ∙ fresh.no_limit;
-}
+pub orderly-same : (old new : Journal) → IsOrderly old → new ≡ old → IsOrderly new
+orderly-same old new orderly same = subst IsOrderly (sym same) orderly
+
+-- what is kept is the same, and so are the options
+pub journal-same : (settings : Settings) (before after : Kept) → log_of after ≡ log_of before → journal_of settings after ≡ journal_of settings before
+journal-same settings before after same = ap (λ (log : Log). record { settings = settings; log = log }) same
 
 -- ---- what is refused
 
 -- the fields are as they were
-pub stands-same : (name : List ℕ) (old new : Tags) (marks : SharedMarks) (before after : Kept) (content changed : Content) (document : Document) → Stands name old marks before content document
-    → new ≡ old → log_of after ≡ log_of before → changed ≡ content → Stands name new marks after changed document
+pub stands-same : (name : List ℕ) (old new : Tags) (marks : SharedMarks) (before after : Journal) (content changed : Content) (document : Document) → Stands name old marks before content document
+    → new ≡ old → after ≡ before → changed ≡ content → Stands name new marks after changed document
 stands-same name old new marks before after content changed document stands tags log same = record {
   kept = subst (λ c. IsKept name new c) (sym same) (subst (λ t. IsKept name t content) (sym tags) stands.kept);
   marked = subst (λ (c : Content). AreMarked marks c.marks) (sym same) stands.marked;
-  fresh = fresh-same before after stands.fresh log;
-  is = ap (λ (t : Tags). lone_document name t.tags marks.marks after.modified changed) tags ∙ ap (λ (l : Log). lone_document name old.tags marks.marks l.modified changed) log
-      ∙ ap (lone_document name old.tags marks.marks before.modified) same ∙ stands.is;
+  orderly = orderly-same before after stands.orderly log;
+  is = ap (λ (t : Tags). lone_document name t.tags marks.marks after changed) tags ∙ ap (λ (j : Journal). lone_document name old.tags marks.marks j changed) log
+      ∙ ap (lone_document name old.tags marks.marks before) same ∙ stands.is;
 }
 
 abbrev failed : Fault → Result Answer Fault

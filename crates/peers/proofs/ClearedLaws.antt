@@ -17,14 +17,13 @@ use Rattle.text_model.specs.declared.cells.Cell.{Cell}
 use Rattle.text_model.specs.Content.{Content, Slots}
 use Rattle.text_model.specs.Documents.{IsDocument}
 use Rattle.text_model.proofs.SpliceLaws.{map-alike, map-map}
-use Rattle.undo_stack.specs.Modified.{Modified}
 use Rattle.edit_ops.specs.Tagging.{cell_without, cleared, without}
 use Rattle.peers.specs.Kept.{HasKnownSlots, IsKept}
 use Rattle.peers.specs.Keys.{key_pairs}
 use Rattle.command_parts.specs.Tagging.{slot_taken, slots_deleted, tags_left, stays}
 use Rattle.peers.specs.Tags.{without_tags}
 use Rattle.command_parts.specs.Words.{is_among}
-use Rattle.peers.specs.World.{Document, keyed, lone_document}
+use Rattle.peers.specs.World.{Document, keyed, lone_document, Journal}
 use Rattle.command_parts.proofs.LeftLaws.{AreApart-head, AreApart-tail}
 use Rattle.peers.proofs.BridgeLaws.{and_none, left_true, same_slot}
 use Rattle.peers.proofs.KeyedLaws.{keyed_cell}
@@ -170,14 +169,14 @@ module _ (table : Tags) (names : List (List ℕ)) (sound : AreTags table) where
       ∙ sym (map-map (without_tags names) (keyed_cell pairs) cells)
 
   -- the document after tags are deleted is the one that the definition gives
-  pub lone-cleared : (widget : List ℕ) (marks : List Mark) (modified : Modified) (content : Content) (document : Document) → lone_document widget table.tags marks modified content ≡ document
-      → lone_document widget (tags_left names table.tags) marks modified (cleared gone content)
+  pub lone-cleared : (widget : List ℕ) (marks : List Mark) (journal : Journal) (content : Content) (document : Document) → lone_document widget table.tags marks journal content ≡ document
+      → lone_document widget (tags_left names table.tags) marks journal (cleared gone content)
       ≡ record document { tags = filter (stays names) document.tags; cells = map (without_tags names) document.cells }
-  lone-cleared widget marks modified content document is =
-      let old = lone_document widget table.tags marks modified content in
+  lone-cleared widget marks journal content document is =
+      let old = lone_document widget table.tags marks journal content in
       let cells = keyed-cleared widget content.cells in
       let tags = names_left names table.tags in
-      let made : lone_document widget (tags_left names table.tags) marks modified (cleared gone content) ≡ record old { tags = filter (stays names) old.tags; cells = map (without_tags names) old.cells } =
+      let made : lone_document widget (tags_left names table.tags) marks journal (cleared gone content) ≡ record old { tags = filter (stays names) old.tags; cells = map (without_tags names) old.cells } =
       λ i. record old { tags = tags i; cells = cells i } in
       made ∙ ap (λ (d : Document). record d { tags = filter (stays names) d.tags; cells = map (without_tags names) d.cells }) is
 

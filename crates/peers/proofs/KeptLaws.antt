@@ -22,8 +22,10 @@ use Rattle.text_model.proofs.CellLaws.{characters-inserted, characters-with_slot
 use Rattle.text_model.proofs.DocumentLaws.{IsDocument-inserted}
 use Rattle.text_model.proofs.SpliceLaws.{length-cells_inserted, length-changed}
 use Rattle.text_model.proofs.StepLaws.{MarksStand-after_step}
+use Rattle.undo_stack.specs.declared.actions.EditKind.{EditKind}
 use Rattle.undo_stack.specs.declared.actions.EditKind.TheVariants as kind
 use Rattle.edit_ops.specs.declared.pieces.Piece.{Piece}
+use Rattle.edit_ops.specs.declared.plans.Recording.{Recording}
 use Rattle.edit_ops.specs.declared.spans.Span.{Span}
 use Rattle.edit_ops.specs.Anchors.{anchors_moved}
 use Rattle.edit_ops.specs.Insertions.{inserted_text, inserted_texts, slots_or, total}
@@ -33,7 +35,7 @@ use Rattle.edit_ops.specs.Tagging.{SpanFits, tagged}
 use Rattle.edit_ops.proofs.InsertLaws.{total-cons}
 use Rattle.peers.specs.Kept.{HasKnownSlots, IsKept}
 use Rattle.command_parts.specs.Tagging.{slots_named, with_found}
-use Rattle.command_parts.specs.Edits.{state_shown, texts_put_in, unkept}
+use Rattle.command_parts.specs.Edits.{state_shown, texts_put_in}
 use Rattle.peers.proofs.BridgeLaws.{slot_at}
 use Rattle.peers.proofs.PlacedLaws.{mark-there}
 use Rattle.peers.proofs.TextLaws.{length-text}
@@ -138,33 +140,33 @@ kept-put name table content at text slots kept within short scalars new = record
   roomy = kept.roomy;
 }
 
-kept-text : (name : List ℕ) (table : Tags) (at : ℕ) (piece : Piece) (state : State) → IsKept name table state.content → at < length state.content.cells
-    → length state.content.cells + length piece.text ≤ MOST_CHARS → IsKnownPiece table.tags piece → IsKept name table (inserted_text unkept kind.Insert at piece state).content
-kept-text name table at piece state kept within short known =
+kept-text : (name : List ℕ) (table : Tags) (recording : Recording) (kind : EditKind) (at : ℕ) (piece : Piece) (state : State) → IsKept name table state.content → at < length state.content.cells
+    → length state.content.cells + length piece.text ≤ MOST_CHARS → IsKnownPiece table.tags piece → IsKept name table (inserted_text recording kind at piece state).content
+kept-text name table recording kind at piece state kept within short known =
     let slots = slots_or piece.slots (shared_slots at state.content.cells) in
     let made : State = record {
       content = after_insertion at piece.text slots state.content;
       anchors = map (anchors_moved at (length piece.text)) state.anchors;
-      log = log_noted unkept kind.Insert (record { inserts = true; at = at; text = piece.text }) state.log;
+      log = log_noted recording kind (record { inserts = true; at = at; text = piece.text }) state.log;
     } in
     elim (length piece.text == 0) as (λ b. IsKept name table (if b then state else made).content) [
       | true ↦ kept
       | false ↦ kept-put name table state.content at piece.text slots kept within short known.text (known-put table.tags at piece.slots state.content.cells known.slots kept.known within)
     ]
 
-kept-all : (name : List ℕ) (table : Tags) (at : ℕ) (pieces : List Piece) (state : State) → IsKept name table state.content → at < length state.content.cells
-    → length state.content.cells + total pieces ≤ MOST_CHARS → All (IsKnownPiece table.tags) pieces → IsKept name table (inserted_texts unkept kind.Insert at pieces state).content
-kept-all name table at [] state kept within short known = kept
-kept-all name table at (piece ∷ pieces) state kept within short known =
+pub kept-all : (name : List ℕ) (table : Tags) (recording : Recording) (kind : EditKind) (at : ℕ) (pieces : List Piece) (state : State) → IsKept name table state.content → at < length state.content.cells
+    → length state.content.cells + total pieces ≤ MOST_CHARS → All (IsKnownPiece table.tags) pieces → IsKept name table (inserted_texts recording kind at pieces state).content
+kept-all name table recording kind at [] state kept within short known = kept
+kept-all name table recording kind at (piece ∷ pieces) state kept within short known =
     let counted = total-cons piece pieces in
-    let long = length-text at piece state within in
-    kept-all name table (at + length piece.text) pieces (inserted_text unkept kind.Insert at piece state)
-    (kept-text name table at piece state kept within (omega (arith, counted, short)) (All-head (IsKnownPiece table.tags) piece pieces known))
+    let long = length-text recording kind at piece state within in
+    kept-all name table recording kind (at + length piece.text) pieces (inserted_text recording kind at piece state)
+    (kept-text name table recording kind at piece state kept within (omega (arith, counted, short)) (All-head (IsKnownPiece table.tags) piece pieces known))
     (omega (arith, long, within)) (omega (arith, long, counted, short)) (All-tail (IsKnownPiece table.tags) piece pieces known)
 
-pub kept-texts : (name : List ℕ) (table : Tags) (at : ℕ) (pieces : List Piece) (content : Content) (log : Log) → IsKept name table content → at < length content.cells
-    → length content.cells + total pieces ≤ MOST_CHARS → All (IsKnownPiece table.tags) pieces → IsKept name table (texts_put_in at pieces content log).content
-kept-texts name table at pieces content log kept within short known = kept-all name table at pieces (state_shown content log) kept within short known
+pub kept-texts : (name : List ℕ) (table : Tags) (recording : Recording) (at : ℕ) (pieces : List Piece) (content : Content) (log : Log) → IsKept name table content → at < length content.cells
+    → length content.cells + total pieces ≤ MOST_CHARS → All (IsKnownPiece table.tags) pieces → IsKept name table (texts_put_in recording at pieces content log).content
+kept-texts name table recording at pieces content log kept within short known = kept-all name table recording kind.Insert at pieces (state_shown content log) kept within short known
 
 -- ---- spans that are tagged
 

@@ -1,5 +1,5 @@
 -- The cells of a store and those of a document.
-use Rattle.std.proofs.Common.{◌≡◌, ℕ, zero, suc, ◌-◌, ◌<◌, Bool, List, [], ◌∷◌, ◌++◌, Some, map, length, get_or, refl, sym, ap, ap₂, ◌∙◌, ne_eqb, arith}
+use Rattle.std.proofs.Common.{◌≡◌, ℕ, zero, suc, ◌+◌, ◌-◌, ◌<◌, Bool, List, [], ◌∷◌, ◌++◌, Some, map, length, get_or, refl, sym, ap, ap₂, ◌∙◌, ne_eqb, arith}
 use Rattle.std.specs.Prelude.{slice_get, option_map, if◌then◌else◌}
 use Rattle.std.specs.FinSet as set
 use Rattle.std.specs.List.{All}
@@ -10,13 +10,13 @@ use Rattle.name_list.specs.Names.{AreApart}
 use Rattle.tag_table.specs.Tags.{Tag, names_of, slots_of, slot_of}
 use Rattle.text_model.specs.declared.cells.Cell.{Cell}
 use Rattle.text_model.specs.Content.{Content, Slots, flags, slot_sets}
-use Rattle.text_model.specs.Splices.{inserted, changed}
-use Rattle.text_model.specs.Steps.{cells_of, with_slot}
-use Rattle.text_model.proofs.SpliceLaws.{map-inserted, map-changed, map-alike, map-map}
+use Rattle.text_model.specs.Splices.{inserted, removed, changed}
+use Rattle.text_model.specs.Steps.{cells_of, with_slot, without_slots}
+use Rattle.text_model.proofs.SpliceLaws.{map-inserted, map-removed, map-changed, map-alike, map-map}
 use Rattle.edit_ops.specs.declared.spans.Span.{Span}
 use Rattle.text_cursor.specs.Around.{shared_slots}
 use Rattle.edit_ops.specs.Tagging.{tagged}
-use Rattle.peers.specs.Edits.{with_key, with_tag, keys_between, common_keys}
+use Rattle.peers.specs.Edits.{bare, with_key, with_tag, keys_between, common_keys}
 use Rattle.peers.specs.Kept.{HasKnownSlots}
 use Rattle.peers.specs.Keys.{Key, Keys, keys_of, key_named, key_pairs}
 use Rattle.peers.specs.World.{KeyedCell, keyed}
@@ -34,6 +34,15 @@ pub keyed-inserted : (pairs : List (ℕ × Key)) (at : ℕ) (text : List ℕ) (s
 keyed-inserted pairs at text slots cells =
     map-inserted (keyed_cell pairs) at (cells_of text slots) cells
     ∙ ap (λ new. inserted at new (keyed pairs cells)) (map-map (keyed_cell pairs) (λ character. record { character = character; tags = slots }) text)
+
+pub keyed-removed : (pairs : List (ℕ × Key)) (from to : ℕ) (cells : List Cell) → keyed pairs (removed from to cells) ≡ removed from to (keyed pairs cells)
+keyed-removed pairs from to cells = map-removed (keyed_cell pairs) from to cells
+
+-- a cell that loses all its slots
+pub keyed-bare : (widget : List ℕ) (tags : List Tag) (at : ℕ) (cells : List Cell)
+    → keyed (key_pairs widget tags) (changed without_slots at (at + 1) cells) ≡ changed bare at (at + 1) (keyed (key_pairs widget tags) cells)
+keyed-bare widget tags at cells =
+    map-changed (keyed_cell (key_pairs widget tags)) without_slots bare (λ cell. ap (with_keys cell) (keys_of-empty widget tags)) at (at + 1) cells
 
 -- a slot that is set, or taken off
 pub keyed-changed : (widget : List ℕ) (tags : List Tag) (name : List ℕ) (slot : ℕ) (on : Bool) → AreApart (names_of tags) → AreApart (slots_of tags) → slot_of name tags ≡ Some slot

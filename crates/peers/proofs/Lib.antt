@@ -20,7 +20,9 @@ pub mod PlaceLaws
 pub mod PlacedLaws
 pub mod PromiseLaws
 pub mod QueryLaws
+pub mod RemovalLaws
 pub mod ReorderLaws
+pub mod ReplacementLaws
 pub mod SpanLaws
 pub mod TableLaws
 pub mod TagLaws

@@ -1,6 +1,6 @@
 -- What a lone document shows, and what names mean to its widget.
-use Rattle.std.proofs.Common.{◌≡◌, ◌≢◌, ℕ, suc, ◌+◌, ◌≤◌, true, false, cond, List, [], ◌∷◌, length, refl, sym, ap, ap₂, ◌∙◌, arith, inl, inr, ◌⊎◌}
-use Rattle.std.specs.Prelude.{find, slice_get, ◌||◌, Option, None, Some, Result, Ok, Err, is_some, option_map, option_and_then, unwrap_or, codes, bytes_eq, slice_range, nat_lt, if◌then◌else◌, ◌==◌}
+use Rattle.std.proofs.Common.{◌≡◌, ◌≢◌, ℕ, suc, ◌+◌, ◌≤◌, true, false, List, [], ◌∷◌, length, refl, sym, ap, ap₂, ◌∙◌, arith, inl, inr}
+use Rattle.std.specs.Prelude.{slice_get, Option, None, Some, Result, Ok, Err, is_some, option_map, option_and_then, unwrap_or, codes, bytes_eq, slice_range, nat_lt, if◌then◌else◌, ◌==◌}
 use Rattle.std.specs.Str.{chars}
 use Rattle.std.specs.FinMap as finite
 use Rattle.std.proofs.lemmas.List.{length-map}
@@ -11,7 +11,7 @@ use Rattle.text_model.specs.Content as model
 use Rattle.text_model.specs.Content.{Content, flags}
 use Rattle.mark_table.specs.SharedMarks.{Mark, SharedMarks, first_number, number_of}
 use Rattle.name_list.specs.Names.{AreApart}
-use Rattle.tag_table.specs.Tags.{Tag, Tags, names_of, slot_of, is_named}
+use Rattle.tag_table.specs.Tags.{Tag, Tags, names_of, slot_of}
 use Rattle.index_grammar.specs.Names.{known_marks, known_tags}
 use Rattle.text_index.specs.Views as view
 use Rattle.text_index.specs.Views.{own_place, shared_place, shown_mark}
@@ -21,20 +21,18 @@ use Rattle.text_index.proofs.MeaningLaws.{word_value-same}
 use Rattle.index_grammar.specs.declared.faults.IndexFault.{IndexFault}
 use Rattle.index_grammar.specs.declared.faults.IndexFault.TheVariants as index
 use Rattle.command_parts.specs.Faults.{index_fault, at_position}
-use Rattle.undo_stack.specs.Modified.{Modified}
 use Rattle.command_parts.proofs.MadeLaws.{found_tag}
 use Rattle.peers.specs.Keys.{Key, key_named, key_pairs}
 use Rattle.peers.specs.Kept.{AreMarked, IsKept}
 use Rattle.peers.specs.Names.{mark_number, mark_place, tag_number, tag_flags, meanings, place_of}
 use Rattle.peers.specs.Promise.{Gives}
 use Rattle.peers.specs.View.{shown, shown_flags}
-use Rattle.command_parts.specs.Words.{literal, is_same, is_among}
+use Rattle.command_parts.specs.Words.{literal, is_same}
 use Rattle.peers.proofs.KeyedLaws.{keyed-flags}
 use Rattle.std.proofs.lemmas.Option.{get_or_from_slice_get}
 use Rattle.std.proofs.lemmas.Bool.Decides.{Decides-eqb, nat_tests}
-use Rattle.std.proofs.lemmas.Slice.Eq.{bytes_eq-Decides}
 use Rattle.std.specs.List.{position_from}
-use Rattle.peers.specs.World.{Document, KeyedCell, Widget, keyed, characters, SharedMark, lone_document, lone_widget, mark_of, placed}
+use Rattle.peers.specs.World.{Document, KeyedCell, Widget, keyed, characters, SharedMark, lone_document, lone_widget, mark_of, placed, Journal}
 use Rattle.command_parts.specs.Edits.{new_mark}
 use Rattle.peers.proofs.EndLaws.{whole-part}
 use Rattle.peers.proofs.PlacedLaws.{found_mark, marked-there, placed-length}
@@ -51,9 +49,9 @@ length-characters cells = length-map cells (λ (cell : KeyedCell). cell.characte
 
 -- ---- it shows all of its text
 
-pub shown-lone : (name : List ℕ) (tags : List Tag) (marks : List Mark) (modified : Modified) (content : Content)
-    → shown (lone_document name tags marks modified content) (lone_widget (lone_document name tags marks modified content)) ≡ model.characters content.cells
-shown-lone name tags marks modified content =
+pub shown-lone : (name : List ℕ) (tags : List Tag) (marks : List Mark) (journal : Journal) (content : Content)
+    → shown (lone_document name tags marks journal content) (lone_widget (lone_document name tags marks journal content)) ≡ model.characters content.cells
+shown-lone name tags marks journal content =
     let pairs = key_pairs name tags in
     whole-part (characters (keyed pairs content.cells)) (length (keyed pairs content.cells)) (omega (arith, length-characters (keyed pairs content.cells)))
     ∙ characters-keyed pairs content.cells
@@ -63,23 +61,23 @@ shown-whole content end is =
     whole-part (model.characters content.cells) end (omega (arith, length-map content.cells (λ (cell : Cell). cell.character)))
 
 -- the text of a store is what the widget of its document shows
-pub shown-is : (name : List ℕ) (tags : List Tag) (marks : List Mark) (modified : Modified) (content : Content) (document : Document) → lone_document name tags marks modified content ≡ document
+pub shown-is : (name : List ℕ) (tags : List Tag) (marks : List Mark) (journal : Journal) (content : Content) (document : Document) → lone_document name tags marks journal content ≡ document
     → model.characters content.cells ≡ shown document (lone_widget document)
-shown-is name tags marks modified content document is = sym (shown-lone name tags marks modified content) ∙ ap (λ (d : Document). shown d (lone_widget d)) is
+shown-is name tags marks journal content document is = sym (shown-lone name tags marks journal content) ∙ ap (λ (d : Document). shown d (lone_widget d)) is
 
-pub length-lone : (name : List ℕ) (tags : List Tag) (marks : List Mark) (modified : Modified) (content : Content) (document : Document) → lone_document name tags marks modified content ≡ document
+pub length-lone : (name : List ℕ) (tags : List Tag) (marks : List Mark) (journal : Journal) (content : Content) (document : Document) → lone_document name tags marks journal content ≡ document
     → length (shown document (lone_widget document)) ≡ length content.cells
-length-lone name tags marks modified content document is =
-    ap length (sym (shown-is name tags marks modified content document is)) ∙ length-map content.cells (λ (cell : Cell). cell.character)
+length-lone name tags marks journal content document is =
+    ap length (sym (shown-is name tags marks journal content document is)) ∙ length-map content.cells (λ (cell : Cell). cell.character)
 
-pub cells-lone : (name : List ℕ) (tags : List Tag) (marks : List Mark) (modified : Modified) (content : Content) (document : Document) → lone_document name tags marks modified content ≡ document
+pub cells-lone : (name : List ℕ) (tags : List Tag) (marks : List Mark) (journal : Journal) (content : Content) (document : Document) → lone_document name tags marks journal content ≡ document
     → length document.cells ≡ length content.cells
-cells-lone name tags marks modified content document is = ap (λ (d : Document). length d.cells) (sym is) ∙ length-keyed (key_pairs name tags) content.cells
+cells-lone name tags marks journal content document is = ap (λ (d : Document). length d.cells) (sym is) ∙ length-keyed (key_pairs name tags) content.cells
 
 -- its shared marks are as many as the table's
-pub marks-lone : (name : List ℕ) (tags : List Tag) (marks : List Mark) (modified : Modified) (content : Content) (document : Document) → lone_document name tags marks modified content ≡ document
+pub marks-lone : (name : List ℕ) (tags : List Tag) (marks : List Mark) (journal : Journal) (content : Content) (document : Document) → lone_document name tags marks journal content ≡ document
     → length document.marks ≡ length marks
-marks-lone name tags marks modified content document is = ap (λ (d : Document). length d.marks) (sym is) ∙ placed-length content.marks marks
+marks-lone name tags marks journal content document is = ap (λ (d : Document). length d.marks) (sym is) ∙ placed-length content.marks marks
 
 -- ---- names mean the same to it as to its tables
 
@@ -120,13 +118,13 @@ shared-same content table end word marked =
           ∙ sym (ap P (there.found ∙ ap Some (let h : 0 + there.place ≡ there.place = omega arith in h)))
     ]
 
-marks-same : (name : List ℕ) (tags : List Tag) (table : SharedMarks) (modified : Modified) (content : Content) (end : ℕ) (word : List ℕ) → end ≡ length (keyed (key_pairs name tags) content.cells)
+marks-same : (name : List ℕ) (tags : List Tag) (table : SharedMarks) (journal : Journal) (content : Content) (end : ℕ) (word : List ℕ) → end ≡ length (keyed (key_pairs name tags) content.cells)
     → is_some (finite.get content.marks 0) ≡ true → is_some (finite.get content.marks 1) ≡ true → AreMarked table content.marks
     → option_map (shown_mark content 0 end) (known_marks table.marks 0 word)
-    ≡ option_map (mark_place (lone_document name tags table.marks modified content) (lone_widget (lone_document name tags table.marks modified content)))
-    (mark_number (lone_document name tags table.marks modified content) word)
-marks-same name tags table modified content end word is insert current marked =
-    let document : Document = lone_document name tags table.marks modified content in
+    ≡ option_map (mark_place (lone_document name tags table.marks journal content) (lone_widget (lone_document name tags table.marks journal content)))
+    (mark_number (lone_document name tags table.marks journal content) word)
+marks-same name tags table journal content end word is insert current marked =
+    let document : Document = lone_document name tags table.marks journal content in
     let widget : Widget = lone_widget document in
     let shared : Option ℕ = position_from (λ (mark : SharedMark). is_same word mark.name) 0 document.marks in
     let long : ℕ = length (keyed (key_pairs name tags) content.cells) in
@@ -156,16 +154,16 @@ own_slot slot = elim (slot == 0) as (λ b. (slot == 0) ≡ b → (if b then 0 el
 ] refl
 
 -- which characters have a tag
-pub flags-lone : (name : List ℕ) (tags : List Tag) (marks : List Mark) (modified : Modified) (content : Content) (word : List ℕ) (slot : ℕ) → AreApart (names_of tags) → slot_of word tags ≡ Some slot
-    → view.shown_flags slot content 0 (length content.cells) ≡ shown_flags (lone_document name tags marks modified content) (lone_widget (lone_document name tags marks modified content)) (key_named name word)
-flags-lone name tags marks modified content word slot apart is =
+pub flags-lone : (name : List ℕ) (tags : List Tag) (marks : List Mark) (journal : Journal) (content : Content) (word : List ℕ) (slot : ℕ) → AreApart (names_of tags) → slot_of word tags ≡ Some slot
+    → view.shown_flags slot content 0 (length content.cells) ≡ shown_flags (lone_document name tags marks journal content) (lone_widget (lone_document name tags marks journal content)) (key_named name word)
+flags-lone name tags marks journal content word slot apart is =
     ap₂ (λ fs n. slice_range fs 0 n) (keyed-flags name tags word slot content.cells apart is) (sym (length-keyed (key_pairs name tags) content.cells))
 
-tags-same : (name : List ℕ) (tags : List Tag) (marks : List Mark) (modified : Modified) (content : Content) (end : ℕ) (word : List ℕ) → end ≡ length content.cells → AreApart (names_of tags)
+tags-same : (name : List ℕ) (tags : List Tag) (marks : List Mark) (journal : Journal) (content : Content) (end : ℕ) (word : List ℕ) → end ≡ length content.cells → AreApart (names_of tags)
     → option_map (λ slot. view.shown_flags slot content 0 end) (known_tags tags 0 word)
-    ≡ option_map (tag_flags (lone_document name tags marks modified content) (lone_widget (lone_document name tags marks modified content))) (tag_number (lone_document name tags marks modified content) word)
-tags-same name tags marks modified content end word is apart =
-    let document : Document = lone_document name tags marks modified content in
+    ≡ option_map (tag_flags (lone_document name tags marks journal content) (lone_widget (lone_document name tags marks journal content))) (tag_number (lone_document name tags marks journal content) word)
+tags-same name tags marks journal content end word is apart =
+    let document : Document = lone_document name tags marks journal content in
     let widget : Widget = lone_widget document in
     elim (found_tag word tags 0) [
       | inl none ↦ ap (λ found. option_map (λ slot. view.shown_flags slot content 0 end) (option_map (λ slot. if slot == 0 then 0 else slot) found)) none.0
@@ -174,29 +172,29 @@ tags-same name tags marks modified content end word is apart =
           ap (λ found. option_map (λ slot. view.shown_flags slot content 0 end) (option_map (λ slot. if slot == 0 then 0 else slot) found)) there.slot
           ∙ ap (λ slot. Some (view.shown_flags slot content 0 end)) (own_slot there.tag_slot)
           ∙ ap (λ n. Some (view.shown_flags there.tag_slot content 0 n)) is
-          ∙ ap Some (flags-lone name tags marks modified content word there.tag_slot apart there.slot)
+          ∙ ap Some (flags-lone name tags marks journal content word there.tag_slot apart there.slot)
           ∙ ap (λ w. Some (shown_flags document widget (key_named name w))) (sym (get_or_from_slice_get (names_of tags) there.place word [] there.named))
           ∙ sym (ap (option_map (tag_flags document widget)) (there.found ∙ ap Some (let h : 0 + there.place ≡ there.place = omega arith in h)))
     ]
 
-pub meanings-same : (name : List ℕ) (tags : Tags) (marks : SharedMarks) (modified : Modified) (content : Content) (end : ℕ) → IsKept name tags content → AreMarked marks content.marks → end ≡ length content.cells
+pub meanings-same : (name : List ℕ) (tags : Tags) (marks : SharedMarks) (journal : Journal) (content : Content) (end : ℕ) → IsKept name tags content → AreMarked marks content.marks → end ≡ length content.cells
     → MeanTheSame (shown_meanings marks.marks tags.tags 0 content 0 end)
-    (meanings (lone_document name tags.tags marks.marks modified content) (lone_widget (lone_document name tags.tags marks.marks modified content)))
-meanings-same name tags marks modified content end kept marked is =
+    (meanings (lone_document name tags.tags marks.marks journal content) (lone_widget (lone_document name tags.tags marks.marks journal content)))
+meanings-same name tags marks journal content end kept marked is =
     let whole : end ≡ length (keyed (key_pairs name tags.tags) content.cells) = is ∙ sym (length-keyed (key_pairs name tags.tags) content.cells) in
     record {
-      marks = λ word. marks-same name tags.tags marks modified content end word whole kept.insert kept.current marked;
-      tags = λ word. tags-same name tags.tags marks.marks modified content end word is kept.tags.names_apart;
+      marks = λ word. marks-same name tags.tags marks journal content end word whole kept.insert kept.current marked;
+      tags = λ word. tags-same name tags.tags marks.marks journal content end word is kept.tags.names_apart;
     }
 
 -- the place of a word is the one of the definition
-pub place-lone : (name : List ℕ) (tags : Tags) (marks : SharedMarks) (modified : Modified) (content : Content) (end : ℕ) (document : Document) (word : List ℕ) → IsKept name tags content
-    → AreMarked marks content.marks → end ≡ length content.cells → lone_document name tags.tags marks.marks modified content ≡ document
+pub place-lone : (name : List ℕ) (tags : Tags) (marks : SharedMarks) (journal : Journal) (content : Content) (end : ℕ) (document : Document) (word : List ℕ) → IsKept name tags content
+    → AreMarked marks content.marks → end ≡ length content.cells → lone_document name tags.tags marks.marks journal content ≡ document
     → word_value is_word (shown_meanings marks.marks tags.tags 0 content 0 end) (view.shown content 0 end) word ≡ place_of document (lone_widget document) word
-place-lone name tags marks modified content end document word kept marked is view_is =
-    ap (λ text. word_value is_word (shown_meanings marks.marks tags.tags 0 content 0 end) text word) (shown-whole content end is ∙ sym (shown-lone name tags.tags marks.marks modified content))
-    ∙ word_value-same is_word _ _ (shown (lone_document name tags.tags marks.marks modified content) (lone_widget (lone_document name tags.tags marks.marks modified content))) word
-    (meanings-same name tags marks modified content end kept marked is)
+place-lone name tags marks journal content end document word kept marked is view_is =
+    ap (λ text. word_value is_word (shown_meanings marks.marks tags.tags 0 content 0 end) text word) (shown-whole content end is ∙ sym (shown-lone name tags.tags marks.marks journal content))
+    ∙ word_value-same is_word _ _ (shown (lone_document name tags.tags marks.marks journal content) (lone_widget (lone_document name tags.tags marks.marks journal content))) word
+    (meanings-same name tags marks journal content end kept marked is)
     ∙ ap (λ (d : Document). place_of d (lone_widget d) word) view_is
 
 -- want of memory is want of memory

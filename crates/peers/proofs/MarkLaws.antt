@@ -10,17 +10,15 @@ use Rattle.std.proofs.lemmas.Bool.Decides.{nat_tests}
 use Rattle.std.proofs.lemmas.List.{length-map, length-append, map-append}
 use Rattle.std.proofs.lemmas.Option.{none-some, same_Some}
 use Rattle.std.proofs.lemmas.Slice.Eq.{bytes_eq-Decides}
-use Rattle.name_list.specs.Names.{AreApart}
 use Rattle.name_list.proofs.ListLaws.{Contains-from_stands}
-use Rattle.mark_table.specs.SharedMarks.{AreMarks, Mark, SharedMarks, first_number, is_named, names_of, number_of, numbers_of, turned}
+use Rattle.mark_table.specs.SharedMarks.{AreMarks, Mark, SharedMarks, first_number, is_named, number_of, numbers_of, turned}
 use Rattle.tag_table.specs.Tags.{Tag, Tags, names_of as tag_names}
 use Rattle.text_model.specs.declared.places.Gravity.TheVariants.{Right}
 use Rattle.text_model.specs.declared.places.Place.{Place}
-use Rattle.text_model.specs.Content.{Content, Marks}
+use Rattle.text_model.specs.Content.{Content, Marks, characters}
+use Rattle.undo_stack.specs.Fits.{FitsText}
 use Rattle.text_model.specs.Documents.{MarksStand}
 use Rattle.text_model.specs.LimitTable.{LimitTable}
-use Rattle.undo_stack.specs.Modified.{Modified}
-use Rattle.undo_stack.specs.Rings.{Kept}
 use Rattle.command_parts.specs.declared.answers.Answer.TheVariants.{Empty}
 use Rattle.peers.specs.Keys.{key_pairs}
 use Rattle.peers.specs.Kept.{AreMarked, IsKept, IsMarked}
@@ -29,15 +27,13 @@ use Rattle.peers.specs.Marks.{mark_unset, set_found, with_current, with_insert, 
 use Rattle.peers.specs.Promise.{Change, Does, answered, refused}
 use Rattle.peers.specs.WellFormed.{IsWellFormedDocument}
 use Rattle.command_parts.specs.Words.{is_among, is_own, is_same}
-use Rattle.peers.specs.World.{Document, SharedMark, Widget, document_of, keyed, lone_document, lone_widget, mark_of, placed, whole_widget}
+use Rattle.peers.specs.World.{Document, SharedMark, Widget, document_of, keyed, lone_document, lone_widget, mark_of, placed, whole_widget, Journal}
 use Rattle.command_parts.specs.Edits.{new_mark}
 use Rattle.peers.proofs.ChangeLaws.{Stands, does-answered, stands-same}
-use Rattle.command_parts.proofs.LeftLaws.{filter-alike, not_pushed, without-filter}
 use Rattle.command_parts.specs.declared.answers.Fault.TheVariants.{TooManyMarks}
-use Rattle.name_list.specs.Moves.{without}
-use Rattle.peers.proofs.LoneLaws.{cells-lone, marks-lone}
+use Rattle.peers.proofs.LoneLaws.{marks-lone}
 use Rattle.peers.proofs.PlacedLaws.{AreAlike, StandsMark, found_mark, marked-alike, placed-alike}
-use Rattle.peers.proofs.WellFormedLaws.{IsWellFormedDocument-lone}
+use Rattle.peers.proofs.WellFormedLaws.{IsWellFormedDocument-lone, fits-lone}
 
 -- ---- one mark of a store
 
@@ -107,18 +103,18 @@ shared-number table at mark are is = (are.numbers at mark.number (get-mapped (λ
 pub record IsRemade (name : List ℕ) (tags : Tags) (new : SharedMarks) (content changed : Content) : Type 0 where
   pub kept : IsKept name tags changed
   pub marked : AreMarked new changed.marks
-  pub cells : length changed.cells ≡ length content.cells
+  pub cells : changed.cells ≡ content.cells
 
-pub does-remade : (limits : LimitTable) (name : List ℕ) (tags : Tags) (old new : SharedMarks) (history : Kept) (content changed : Content) (document made : Document) (change : Change)
-    → Stands name tags old history content document → IsRemade name tags new content changed → (IsWellFormedDocument limits document → length new.marks ≤ limits.marks)
-    → lone_document name tags.tags new.marks history.modified changed ≡ made → change ≡ answered made Empty
-    → Does limits document (lone_document name tags.tags new.marks history.modified changed) (Ok Empty) change
-does-remade limits name tags old new history content changed document made change stands remade few is same =
-    let long = cells-lone name tags.tags old.marks history.modified content document stands.is in
+pub does-remade : (limits : LimitTable) (name : List ℕ) (tags : Tags) (old new : SharedMarks) (journal : Journal) (content changed : Content) (document made : Document) (change : Change)
+    → Stands name tags old journal content document → IsRemade name tags new content changed → (IsWellFormedDocument limits document → length new.marks ≤ limits.marks)
+    → lone_document name tags.tags new.marks journal changed ≡ made → change ≡ answered made Empty
+    → Does limits document (lone_document name tags.tags new.marks journal changed) (Ok Empty) change
+does-remade limits name tags old new journal content changed document made change stands remade few is same =
     let count : length document.tags ≡ length tags.tags = ap (λ (d : Document). length d.tags) (sym stands.is) ∙ length-map tags.tags (λ (tag : Tag). tag.name) in
-    does-answered limits document (lone_document name tags.tags new.marks history.modified changed) made change is same
-    (λ formed. (let fits = formed.fits in let tag_count = formed.tag_count in
-    IsWellFormedDocument-lone limits name tags new history.modified changed remade.kept remade.marked (omega (arith, long, fits, remade.cells)) (omega (arith, count, tag_count)) (few formed)))
+    does-answered limits document (lone_document name tags.tags new.marks journal changed) made change is same
+    (λ formed. (let tag_count = formed.tag_count in
+    IsWellFormedDocument-lone limits name tags new journal changed remade.kept remade.marked
+    (subst (λ cells. FitsText limits.chars (characters cells) journal.log.history) (sym remade.cells) (fits-lone limits name tags.tags old.marks journal content document stands.is formed)) (omega (arith, count, tag_count)) (few formed)))
     (ap (λ (d : Document). length d.widgets) stands.is)
 
 -- ---- a mark of the widget's own
@@ -128,7 +124,7 @@ own-alike table places number place are own at mark is =
     let shared = shared-number table at mark are is in
     get-put_other places number place mark.number (λ same. omega (arith, shared, own, same))
 
-own-remade : (name : List ℕ) (tags : Tags) (table : SharedMarks) (content : Content) (number : ℕ) (place : Place) → IsKept name tags content → AreMarked table content.marks
+pub own-remade : (name : List ℕ) (tags : Tags) (table : SharedMarks) (content : Content) (number : ℕ) (place : Place) → IsKept name tags content → AreMarked table content.marks
     → number < first_number → place.offset ≤ length content.cells → IsRemade name tags table content (put_in number place content)
 own-remade name tags table content number place kept marked own within = record {
   kept = kept-put name tags content number place kept within;
@@ -149,77 +145,77 @@ mark_of-put_other places number place other apart = ap (λ found. unwrap_or foun
 named_so : (name : List ℕ) → is_same name name ≡ true
 named_so name = (bytes_eq-Decides name name).1 refl
 
-lone-insert : (name : List ℕ) (tags : List Tag) (table : SharedMarks) (modified : Modified) (content : Content) (place : Place) → AreMarks table
-    → let document = lone_document name tags table.marks modified content in
-    lone_document name tags table.marks modified (put_in 0 place content) ≡ with_insert document (lone_widget document) place
-lone-insert name tags table modified content place are =
-    let document : Document = lone_document name tags table.marks modified content in
+pub lone-insert : (name : List ℕ) (tags : List Tag) (table : SharedMarks) (journal : Journal) (content : Content) (place : Place) → AreMarks table
+    → let document = lone_document name tags table.marks journal content in
+    lone_document name tags table.marks journal (put_in 0 place content) ≡ with_insert document (lone_widget document) place
+lone-insert name tags table journal content place are =
+    let document : Document = lone_document name tags table.marks journal content in
     let widget : Widget = lone_widget document in
     let put = finite.insert content.marks 0 place in
     let first : mark_of put 0 ≡ place = mark_of-put content.marks 0 place in
     let second : mark_of put 1 ≡ mark_of content.marks 1 = mark_of-put_other content.marks 0 place 1 (λ same. omega (arith, same)) in
     let shared : placed put table.marks ≡ placed content.marks table.marks =
     placed-alike put content.marks table.marks (own-alike table content.marks 0 place are (omega arith)) in
-    let made : lone_document name tags table.marks modified (put_in 0 place content) ≡ record document { widgets = record widget { insert = place } ∷ [] } =
-    λ i. document_of (keyed (key_pairs name tags) content.cells) (whole_widget name (first i) (second i)) (shared i) (tag_names tags) modified in
+    let made : lone_document name tags table.marks journal (put_in 0 place content) ≡ record document { widgets = record widget { insert = place } ∷ [] } =
+    λ i. document_of (keyed (key_pairs name tags) content.cells) (whole_widget name journal.settings.disabled (first i) (second i)) (shared i) (tag_names tags) journal in
     made ∙ ap (λ b. record document { widgets = (if b then record widget { insert = place } else widget) ∷ [] }) (sym (named_so name))
 
-lone-current : (name : List ℕ) (tags : List Tag) (table : SharedMarks) (modified : Modified) (content : Content) (place : Place) → AreMarks table
-    → let document = lone_document name tags table.marks modified content in
-    lone_document name tags table.marks modified (put_in 1 place content) ≡ with_current document (lone_widget document) place
-lone-current name tags table modified content place are =
-    let document : Document = lone_document name tags table.marks modified content in
+lone-current : (name : List ℕ) (tags : List Tag) (table : SharedMarks) (journal : Journal) (content : Content) (place : Place) → AreMarks table
+    → let document = lone_document name tags table.marks journal content in
+    lone_document name tags table.marks journal (put_in 1 place content) ≡ with_current document (lone_widget document) place
+lone-current name tags table journal content place are =
+    let document : Document = lone_document name tags table.marks journal content in
     let widget : Widget = lone_widget document in
     let put = finite.insert content.marks 1 place in
     let first : mark_of put 0 ≡ mark_of content.marks 0 = mark_of-put_other content.marks 1 place 0 (λ same. omega (arith, same)) in
     let second : mark_of put 1 ≡ place = mark_of-put content.marks 1 place in
     let shared : placed put table.marks ≡ placed content.marks table.marks =
     placed-alike put content.marks table.marks (own-alike table content.marks 1 place are (omega arith)) in
-    let made : lone_document name tags table.marks modified (put_in 1 place content) ≡ record document { widgets = record widget { current = place } ∷ [] } =
-    λ i. document_of (keyed (key_pairs name tags) content.cells) (whole_widget name (first i) (second i)) (shared i) (tag_names tags) modified in
+    let made : lone_document name tags table.marks journal (put_in 1 place content) ≡ record document { widgets = record widget { current = place } ∷ [] } =
+    λ i. document_of (keyed (key_pairs name tags) content.cells) (whole_widget name journal.settings.disabled (first i) (second i)) (shared i) (tag_names tags) journal in
     made ∙ ap (λ b. record document { widgets = (if b then record widget { current = place } else widget) ∷ [] }) (sym (named_so name))
 
 -- as many marks as before
-few-marks : (limits : LimitTable) (name : List ℕ) (tags : List Tag) (marks : List Mark) (modified : Modified) (content : Content) (document : Document) → lone_document name tags marks modified content ≡ document
+few-marks : (limits : LimitTable) (name : List ℕ) (tags : List Tag) (marks : List Mark) (journal : Journal) (content : Content) (document : Document) → lone_document name tags marks journal content ≡ document
     → IsWellFormedDocument limits document → length marks ≤ limits.marks
-few-marks limits name tags marks modified content document is formed =
-    let many = formed.mark_count in omega (arith, many, marks-lone name tags marks modified content document is)
+few-marks limits name tags marks journal content document is formed =
+    let many = formed.mark_count in omega (arith, many, marks-lone name tags marks journal content document is)
 
-pub does-insert : (limits : LimitTable) (name : List ℕ) (tags : Tags) (table : SharedMarks) (history : Kept) (content changed : Content) (document : Document) (place : Place)
-    → Stands name tags table history content document → place.offset ≤ length content.cells → changed ≡ put_in 0 place content
+pub does-insert : (limits : LimitTable) (name : List ℕ) (tags : Tags) (table : SharedMarks) (journal : Journal) (content changed : Content) (document : Document) (place : Place)
+    → Stands name tags table journal content document → place.offset ≤ length content.cells → changed ≡ put_in 0 place content
     → IsKept name tags changed × AreMarked table changed.marks
-    × Does limits document (lone_document name tags.tags table.marks history.modified changed) (Ok Empty) (answered (with_insert document (lone_widget document) place) Empty)
-does-insert limits name tags table history content changed document place stands within is =
+    × Does limits document (lone_document name tags.tags table.marks journal changed) (Ok Empty) (answered (with_insert document (lone_widget document) place) Empty)
+does-insert limits name tags table journal content changed document place stands within is =
     let remade = subst (IsRemade name tags table content) (sym is) (own-remade name tags table content 0 place stands.kept stands.marked (omega arith) within) in
-    let made = ap (lone_document name tags.tags table.marks history.modified) is ∙ lone-insert name tags.tags table history.modified content place stands.marked.marks
+    let made = ap (lone_document name tags.tags table.marks journal) is ∙ lone-insert name tags.tags table journal content place stands.marked.marks
     ∙ ap (λ (d : Document). with_insert d (lone_widget d) place) stands.is in (
       remade.kept,
       remade.marked,
-      does-remade limits name tags table table history content changed document (with_insert document (lone_widget document) place)
+      does-remade limits name tags table table journal content changed document (with_insert document (lone_widget document) place)
           (answered (with_insert document (lone_widget document) place) Empty) stands remade
-          (few-marks limits name tags.tags table.marks history.modified content document stands.is) made refl,
+          (few-marks limits name tags.tags table.marks journal content document stands.is) made refl,
     )
 
-pub does-current : (limits : LimitTable) (name : List ℕ) (tags : Tags) (table : SharedMarks) (history : Kept) (content changed : Content) (document : Document) (place : Place)
-    → Stands name tags table history content document → place.offset ≤ length content.cells → changed ≡ put_in 1 place content
+pub does-current : (limits : LimitTable) (name : List ℕ) (tags : Tags) (table : SharedMarks) (journal : Journal) (content changed : Content) (document : Document) (place : Place)
+    → Stands name tags table journal content document → place.offset ≤ length content.cells → changed ≡ put_in 1 place content
     → IsKept name tags changed × AreMarked table changed.marks
-    × Does limits document (lone_document name tags.tags table.marks history.modified changed) (Ok Empty) (answered (with_current document (lone_widget document) place) Empty)
-does-current limits name tags table history content changed document place stands within is =
+    × Does limits document (lone_document name tags.tags table.marks journal changed) (Ok Empty) (answered (with_current document (lone_widget document) place) Empty)
+does-current limits name tags table journal content changed document place stands within is =
     let remade = subst (IsRemade name tags table content) (sym is) (own-remade name tags table content 1 place stands.kept stands.marked (omega arith) within) in
-    let made = ap (lone_document name tags.tags table.marks history.modified) is ∙ lone-current name tags.tags table history.modified content place stands.marked.marks
+    let made = ap (lone_document name tags.tags table.marks journal) is ∙ lone-current name tags.tags table journal content place stands.marked.marks
     ∙ ap (λ (d : Document). with_current d (lone_widget d) place) stands.is in (
       remade.kept,
       remade.marked,
-      does-remade limits name tags table table history content changed document (with_current document (lone_widget document) place)
+      does-remade limits name tags table table journal content changed document (with_current document (lone_widget document) place)
           (answered (with_current document (lone_widget document) place) Empty) stands remade
-          (few-marks limits name tags.tags table.marks history.modified content document stands.is) made refl,
+          (few-marks limits name tags.tags table.marks journal content document stands.is) made refl,
     )
 
 -- the table and the store are as they were
-pub stands-unmarked : (name : List ℕ) (tags : Tags) (old new : SharedMarks) (history : Kept) (content changed : Content) (document : Document) → Stands name tags old history content document
-    → new ≡ old → changed ≡ content → Stands name tags new history changed document
-stands-unmarked name tags old new history content changed document stands table is =
-    subst (λ t. Stands name tags t history changed document) (sym table) (stands-same name tags tags old history history content changed document stands refl refl is)
+pub stands-unmarked : (name : List ℕ) (tags : Tags) (old new : SharedMarks) (journal : Journal) (content changed : Content) (document : Document) → Stands name tags old journal content document
+    → new ≡ old → changed ≡ content → Stands name tags new journal changed document
+stands-unmarked name tags old new journal content changed document stands table is =
+    subst (λ t. Stands name tags t journal changed document) (sym table) (stands-same name tags tags old journal journal content changed document stands refl refl is)
 
 -- ---- a name of no shared mark
 
@@ -237,11 +233,11 @@ unnamed places word place (mark ∷ marks) none = by (is_named word mark) refl (
         (ap (λ b. if b then record { name = mark.name; place = place } else record { name = mark.name; place = mark_of places mark.number }) other)
         (rest (sym (ap (λ b. option_map (λ (m : Mark). m.number) (cond b (Some mark) (find (is_named word) marks))) other) ∙ none))
 
-pub does-unnamed : (limits : LimitTable) (name : List ℕ) (tags : Tags) (table : SharedMarks) (history : Kept) (content : Content) (document : Document) (word : List ℕ) (place : Place)
-    → Stands name tags table history content document → number_of word table.marks ≡ None
+pub does-unnamed : (limits : LimitTable) (name : List ℕ) (tags : Tags) (table : SharedMarks) (journal : Journal) (content : Content) (document : Document) (word : List ℕ) (place : Place)
+    → Stands name tags table journal content document → number_of word table.marks ≡ None
     → Does limits document document (Ok Empty) (answered (with_shared document word place) Empty)
-does-unnamed limits name tags table history content document word place stands none =
-    let lone : Document = lone_document name tags.tags table.marks history.modified content in
+does-unnamed limits name tags table journal content document word place stands none =
+    let lone : Document = lone_document name tags.tags table.marks journal content in
     let same : with_shared lone word place ≡ lone = ap (λ marks. record lone { marks = marks }) (unnamed content.marks word place table.marks none) in
     let is : with_shared document word place ≡ document = subst (λ (d : Document). with_shared d word place ≡ d) stands.is same in
     does-answered limits document document document (answered (with_shared document word place) Empty) refl (ap (λ (d : Document). answered d Empty) is) (λ formed. formed) refl
@@ -304,12 +300,12 @@ marked-turned places word number place (mark ∷ marks) have each = (
   marked-turned places word number place marks (λ at. have (suc at)) each.1,
 )
 
-pub does-turned : (limits : LimitTable) (name : List ℕ) (tags : Tags) (old new : SharedMarks) (history : Kept) (content changed : Content) (document : Document) (word : List ℕ) (number : ℕ) (place : Place)
-    → Stands name tags old history content document → place.offset ≤ length content.cells → number_of word old.marks ≡ Some number → AreMarks new
+pub does-turned : (limits : LimitTable) (name : List ℕ) (tags : Tags) (old new : SharedMarks) (journal : Journal) (content changed : Content) (document : Document) (word : List ℕ) (number : ℕ) (place : Place)
+    → Stands name tags old journal content document → place.offset ≤ length content.cells → number_of word old.marks ≡ Some number → AreMarks new
     → new ≡ record old { marks = turned word place.gravity old.marks } → changed ≡ put_in number place content
     → IsKept name tags changed × AreMarked new changed.marks
-    × Does limits document (lone_document name tags.tags new.marks history.modified changed) (Ok Empty) (answered (with_shared document word place) Empty)
-does-turned limits name tags old new history content changed document word number place stands within known sound table is =
+    × Does limits document (lone_document name tags.tags new.marks journal changed) (Ok Empty) (answered (with_shared document word place) Empty)
+does-turned limits name tags old new journal content changed document word number place stands within known sound table is =
     elim (found_mark content.marks word old.marks 0 stands.marked.each) [
       | inl none ↦ absurd (none-some number (sym none.0 ∙ known))
       | inr there ↦
@@ -323,20 +319,20 @@ does-turned limits name tags old new history content changed document word numbe
             marked = record { marks = sound; roomy = ap (λ (t : SharedMarks). t.limit) table ∙ stands.marked.roomy; each = each };
             cells = refl;
           }) in
-          let lone : Document = lone_document name tags.tags old.marks history.modified content in
+          let lone : Document = lone_document name tags.tags old.marks journal content in
           let apart = shared-number old there.place there.mark stands.marked.marks there.listed in
           let first : mark_of put 0 ≡ mark_of content.marks 0 = mark_of-put_other content.marks number place 0 (λ same. omega (arith, same, one, apart)) in
           let second : mark_of put 1 ≡ mark_of content.marks 1 = mark_of-put_other content.marks number place 1 (λ same. omega (arith, same, one, apart)) in
           let shared : placed put (turned word place.gravity old.marks) ≡ (with_shared lone word place).marks = placed-turned content.marks word number place old.marks have in
-          let turned_is : lone_document name tags.tags (turned word place.gravity old.marks) history.modified (put_in number place content) ≡ with_shared lone word place =
-          λ i. document_of (keyed (key_pairs name tags.tags) content.cells) (whole_widget name (first i) (second i)) (shared i) (tag_names tags.tags) history.modified in
-          let made = ap₂ (λ (t : SharedMarks) c. lone_document name tags.tags t.marks history.modified c) table is ∙ turned_is
+          let turned_is : lone_document name tags.tags (turned word place.gravity old.marks) journal (put_in number place content) ≡ with_shared lone word place =
+          λ i. document_of (keyed (key_pairs name tags.tags) content.cells) (whole_widget name journal.settings.disabled (first i) (second i)) (shared i) (tag_names tags.tags) journal in
+          let made = ap₂ (λ (t : SharedMarks) c. lone_document name tags.tags t.marks journal c) table is ∙ turned_is
           ∙ ap (λ (d : Document). with_shared d word place) stands.is in
           let count : length new.marks ≡ length old.marks = ap (λ (t : SharedMarks). length t.marks) table ∙ length-map old.marks _ in (
             remade.kept,
             remade.marked,
-            does-remade limits name tags old new history content changed document (with_shared document word place) (answered (with_shared document word place) Empty) stands remade
-                (λ formed. (let few = few-marks limits name tags.tags old.marks history.modified content document stands.is formed in omega (arith, count, few))) made refl,
+            does-remade limits name tags old new journal content changed document (with_shared document word place) (answered (with_shared document word place) Empty) stands remade
+                (λ formed. (let few = few-marks limits name tags.tags old.marks journal content document stands.is formed in omega (arith, count, few))) made refl,
           )
     ]
 
@@ -352,11 +348,11 @@ few_enough limit count less = grind (arith, nat_tests)
 too_many : (limit count : ℕ) → limit ≤ count → nat_le limit count ≡ true
 too_many limit count less = grind (arith, nat_tests)
 
-pub does-made : (limits : LimitTable) (name : List ℕ) (tags : Tags) (old new : SharedMarks) (history : Kept) (content changed : Content) (document : Document) (word : List ℕ) (offset : ℕ)
-    → Stands name tags old history content document → offset ≤ length content.cells → is_own word ≡ false → length old.marks < limits.marks → IsMadeMark word offset old new content changed
+pub does-made : (limits : LimitTable) (name : List ℕ) (tags : Tags) (old new : SharedMarks) (journal : Journal) (content changed : Content) (document : Document) (word : List ℕ) (offset : ℕ)
+    → Stands name tags old journal content document → offset ≤ length content.cells → is_own word ≡ false → length old.marks < limits.marks → IsMadeMark word offset old new content changed
     → IsKept name tags changed × AreMarked new changed.marks
-    × Does limits document (lone_document name tags.tags new.marks history.modified changed) (Ok Empty) (set_found limits document (lone_widget document) word offset None)
-does-made limits name tags old new history content changed document word offset stands within shared few made =
+    × Does limits document (lone_document name tags.tags new.marks journal changed) (Ok Empty) (set_found limits document (lone_widget document) word offset None)
+does-made limits name tags old new journal content changed document word offset stands within shared few made =
     let place : Place = record { offset = offset; gravity = Right } in
     let number = made.number in
     let mark : Mark = record { name = word; number = number; gravity = Right } in
@@ -373,7 +369,7 @@ does-made limits name tags old new history content changed document word offset 
       marked = record { marks = made.sound; roomy = ap (λ (t : SharedMarks). t.limit) made.table ∙ stands.marked.roomy; each = each };
       cells = refl;
     }) in
-    let lone : Document = lone_document name tags.tags old.marks history.modified content in
+    let lone : Document = lone_document name tags.tags old.marks journal content in
     let least = made.fresh.shared in
     let first : mark_of put 0 ≡ mark_of content.marks 0 = mark_of-put_other content.marks number place 0 (λ same. omega (arith, same, least)) in
     let second : mark_of put 1 ≡ mark_of content.marks 1 = mark_of-put_other content.marks number place 1 (λ same. omega (arith, same, least)) in
@@ -381,24 +377,24 @@ does-made limits name tags old new history content changed document word offset 
     map-append (λ (m : Mark). record { name = m.name; place = mark_of put m.number }) old.marks (mark ∷ [])
     ∙ ap₂ (λ (marks : List SharedMark) (p : Place). marks ++ record { name = word; place = p } ∷ []) (placed-alike put content.marks old.marks alike) (mark_of-put content.marks number place) in
     let with_new : Document → Document = λ document. record document { marks = document.marks ++ record { name = word; place = place } ∷ [] } in
-    let made_is : lone_document name tags.tags (old.marks ++ mark ∷ []) history.modified (put_in number place content) ≡ with_new lone =
-    λ i. document_of (keyed (key_pairs name tags.tags) content.cells) (whole_widget name (first i) (second i)) (all i) (tag_names tags.tags) history.modified in
-    let is = ap₂ (λ (t : SharedMarks) c. lone_document name tags.tags t.marks history.modified c) made.table made.store ∙ made_is ∙ ap with_new stands.is in
-    let long = marks-lone name tags.tags old.marks history.modified content document stands.is in
+    let made_is : lone_document name tags.tags (old.marks ++ mark ∷ []) journal (put_in number place content) ≡ with_new lone =
+    λ i. document_of (keyed (key_pairs name tags.tags) content.cells) (whole_widget name journal.settings.disabled (first i) (second i)) (all i) (tag_names tags.tags) journal in
+    let is = ap₂ (λ (t : SharedMarks) c. lone_document name tags.tags t.marks journal c) made.table made.store ∙ made_is ∙ ap with_new stands.is in
+    let long = marks-lone name tags.tags old.marks journal content document stands.is in
     let count : length new.marks ≡ length old.marks + 1 = ap (λ (t : SharedMarks). length t.marks) made.table ∙ length-append old.marks (mark ∷ []) in
     let room : nat_le limits.marks (length document.marks) ≡ false = few_enough limits.marks (length document.marks) (omega (arith, long, few)) in (
       remade.kept,
       remade.marked,
-      does-remade limits name tags old new history content changed document (with_new document) (set_found limits document (lone_widget document) word offset None) stands remade
+      does-remade limits name tags old new journal content changed document (with_new document) (set_found limits document (lone_widget document) word offset None) stands remade
           (λ _. omega (arith, count, few)) is (ap (λ b. if b then refused document TooManyMarks else answered (with_new document) Empty) room),
     )
 
 -- there are too many
-pub made-left : (limits : LimitTable) (name : List ℕ) (tags : Tags) (table : SharedMarks) (history : Kept) (content : Content) (document : Document) (word : List ℕ) (offset : ℕ)
-    → Stands name tags table history content document → limits.marks ≤ length table.marks
+pub made-left : (limits : LimitTable) (name : List ℕ) (tags : Tags) (table : SharedMarks) (journal : Journal) (content : Content) (document : Document) (word : List ℕ) (offset : ℕ)
+    → Stands name tags table journal content document → limits.marks ≤ length table.marks
     → set_found limits document (lone_widget document) word offset None ≡ refused document TooManyMarks
-made-left limits name tags table history content document word offset stands many =
-    let long = marks-lone name tags.tags table.marks history.modified content document stands.is in
+made-left limits name tags table journal content document word offset stands many =
+    let long = marks-lone name tags.tags table.marks journal content document stands.is in
     ap (λ b. if b then refused document TooManyMarks else answered (record document { marks = document.marks ++ record { name = word; place = record { offset = offset; gravity = Right } } ∷ [] }) Empty)
     (too_many limits.marks (length document.marks) (omega (arith, long, many)))
 
@@ -489,12 +485,12 @@ stand-taken (number ∷ numbers) content stand =
     by other found true never = absurd (none-some found never)
     by other found false same = stand other found same
 
-pub does-unset : (limits : LimitTable) (name : List ℕ) (tags : Tags) (old new : SharedMarks) (history : Kept) (content changed : Content) (document : Document) (names : List (List ℕ)) (numbers : List ℕ)
-    → Stands name tags old history content document → AreMarks new → new ≡ record old { marks = marks_left names old.marks } → numbers ≡ numbers_named old.marks names
+pub does-unset : (limits : LimitTable) (name : List ℕ) (tags : Tags) (old new : SharedMarks) (journal : Journal) (content changed : Content) (document : Document) (names : List (List ℕ)) (numbers : List ℕ)
+    → Stands name tags old journal content document → AreMarks new → new ≡ record old { marks = marks_left names old.marks } → numbers ≡ numbers_named old.marks names
     → changed ≡ record content { marks = taken numbers content.marks }
     → IsKept name tags changed × AreMarked new changed.marks
-    × Does limits document (lone_document name tags.tags new.marks history.modified changed) (Ok Empty) (mark_unset document names)
-does-unset limits name tags old new history content changed document names numbers stands sound table gone store =
+    × Does limits document (lone_document name tags.tags new.marks journal changed) (Ok Empty) (mark_unset document names)
+does-unset limits name tags old new journal content changed document names numbers stands sound table gone store =
     let places = taken (numbers_named old.marks names) content.marks in
     let is : changed ≡ record content { marks = places } = store ∙ ap (λ ns. record content { marks = taken ns content.marks }) gone in
     let alike = left-alike content.marks old names stands.marked.marks stands.marked.each in
@@ -527,15 +523,15 @@ does-unset limits name tags old new history content changed document names numbe
       marked = record { marks = sound; roomy = ap (λ (t : SharedMarks). t.limit) table ∙ stands.marked.roomy; each = each };
       cells = refl;
     }) in
-    let lone : Document = lone_document name tags.tags old.marks history.modified content in
+    let lone : Document = lone_document name tags.tags old.marks journal content in
     let left : placed places (marks_left names old.marks) ≡ filter (λ (mark : SharedMark). is_left names mark.name) lone.marks = placed-left places content.marks names old.marks alike in
     let with_left : Document → Document = λ document. record document { marks = filter (λ (mark : SharedMark). is_left names mark.name) document.marks } in
-    let made : lone_document name tags.tags (marks_left names old.marks) history.modified (record content { marks = places }) ≡ with_left lone =
-    λ i. document_of (keyed (key_pairs name tags.tags) content.cells) (whole_widget name (first i) (second i)) (left i) (tag_names tags.tags) history.modified in
-    let made_is = ap₂ (λ (t : SharedMarks) c. lone_document name tags.tags t.marks history.modified c) table is ∙ made ∙ ap with_left stands.is in
+    let made : lone_document name tags.tags (marks_left names old.marks) journal (record content { marks = places }) ≡ with_left lone =
+    λ i. document_of (keyed (key_pairs name tags.tags) content.cells) (whole_widget name journal.settings.disabled (first i) (second i)) (left i) (tag_names tags.tags) journal in
+    let made_is = ap₂ (λ (t : SharedMarks) c. lone_document name tags.tags t.marks journal c) table is ∙ made ∙ ap with_left stands.is in
     let count : length new.marks ≤ length old.marks = subst (λ (t : SharedMarks). length t.marks ≤ length old.marks) (sym table) (shorter names old.marks) in (
       remade.kept,
       remade.marked,
-      does-remade limits name tags old new history content changed document (with_left document) (mark_unset document names) stands remade
-          (λ formed. (let few = few-marks limits name tags.tags old.marks history.modified content document stands.is formed in omega (arith, count, few))) made_is refl,
+      does-remade limits name tags old new journal content changed document (with_left document) (mark_unset document names) stands remade
+          (λ formed. (let few = few-marks limits name tags.tags old.marks journal content document stands.is formed in omega (arith, count, few))) made_is refl,
     )

@@ -17,13 +17,12 @@ use Rattle.tag_table.specs.Tags.{Tags}
 use Rattle.text_model.specs.declared.places.Place.{Place}
 use Rattle.text_model.specs.Content.{Content}
 use Rattle.text_index.specs.Views as view
-use Rattle.undo_stack.specs.Rings.{Kept}
 use Rattle.peers.specs.Kept.{IsMarked}
 use Rattle.peers.specs.Keys.{key_pairs}
 use Rattle.peers.specs.Marks.{mark_names, place_named, shared_from, shown_at, usable_marks}
 use Rattle.peers.specs.Names.{mark_number, mark_place}
 use Rattle.command_parts.specs.Words.{is_own, is_same, literal}
-use Rattle.peers.specs.World.{Document, SharedMark, lone_document, lone_widget, mark_of, placed}
+use Rattle.peers.specs.World.{Document, SharedMark, lone_document, lone_widget, mark_of, placed, Journal}
 use Rattle.command_parts.specs.Edits.{new_mark}
 use Rattle.peers.proofs.ChangeLaws.{Stands}
 use Rattle.peers.proofs.LoneLaws.{length-keyed}
@@ -39,9 +38,9 @@ pub record IsShared (word : List ℕ) : Type 0 where
   pub insert : is_same word (literal "insert") ≡ false
   pub current : is_same word (literal "current") ≡ false
 
-module _ (name : List ℕ) (tags : Tags) (table : SharedMarks) (history : Kept) (content : Content) (document : Document) (stands : Stands name tags table history content document) where
+module _ (name : List ℕ) (tags : Tags) (table : SharedMarks) (journal : Journal) (content : Content) (document : Document) (stands : Stands name tags table journal content document) where
   abbrev lone : Document
-  lone = lone_document name tags.tags table.marks history.modified content
+  lone = lone_document name tags.tags table.marks journal content
 
   -- ---- the mark of a name
 

@@ -64,6 +64,15 @@ does-through limits old new result (Err fault) defined next found does =
 does-through limits old new result (Ok value) defined next found does =
     does-same limits old new result _ _ (λ other. ap (λ f. change_with old f next) (found (value≢memory (Ok value) value refl))) does
 
+-- the same with two words, one after the other
+pub does-both : {A B : Type 0} (limits : LimitTable) (old new : Document) (result : Result Answer Fault) (found defined : Result A Fault) (also known : Result B Fault) (next : A → B → Change)
+    → Gives found defined → Gives also known → Does limits old new result (change_with old found (λ a. change_with old also (next a)))
+    → Does limits old new result (change_with old defined (λ a. change_with old known (next a)))
+does-both limits old new result (Err fault) defined also known next first second does =
+    does-through limits old new result (Err fault) defined (λ a. change_with old known (next a)) first does
+does-both limits old new result (Ok value) defined also known next first second does =
+    does-through limits old new result (Ok value) defined (λ a. change_with old known (next a)) first (does-through limits old new result also known (next value) second does)
+
 -- a command that only reads leaves the document
 pub does-nothing : (limits : LimitTable) (document : Document) (result defined : Result Answer Fault) → Gives result defined → IfErr result (λ _. document ≡ document)
     → Does limits document document result (record { reply = defined; document = document })

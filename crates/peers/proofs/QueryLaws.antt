@@ -13,12 +13,11 @@ use Rattle.text_model.specs.declared.cells.Cell.{Cell}
 use Rattle.text_model.specs.Changes.{flag_at}
 use Rattle.text_model.specs.Content.{Content, Slots, slot_sets, flags}
 use Rattle.text_index.specs.Views as view
-use Rattle.undo_stack.specs.Modified.{Modified}
 use Rattle.peers.specs.Keys.{key_named}
 use Rattle.tcl_words.specs.ListGrowth.{Goes}
 use Rattle.peers.specs.Tags.{flags_of, tags_on}
 use Rattle.peers.specs.View.{shown, shown_flags, view_start, view_end}
-use Rattle.peers.specs.World.{Document, KeyedCell, lone_document, lone_widget}
+use Rattle.peers.specs.World.{Document, KeyedCell, lone_document, lone_widget, Journal}
 use Rattle.peers.proofs.ClearedLaws.{slot_standing}
 use Rattle.peers.proofs.EndLaws.{whole-part}
 use Rattle.peers.proofs.LoneLaws.{flags-lone}
@@ -29,18 +28,18 @@ pub written : (bytes : List ℕ) (elements : List (List ℕ)) → IsUtf8 bytes �
 written bytes elements text goes = sym (chars_from_encodes (list_text elements) bytes text (sym (goes [] refl)))
 
 -- the flags of a tag by its slot, and of an unknown one
-pub flags-known : (name : List ℕ) (tags : List Tag) (marks : List Mark) (modified : Modified) (content : Content) (document : Document) (word : List ℕ) (slot end : ℕ) → AreApart (names_of tags)
-    → lone_document name tags marks modified content ≡ document → slot_of word tags ≡ Some slot → end ≡ length content.cells
+pub flags-known : (name : List ℕ) (tags : List Tag) (marks : List Mark) (journal : Journal) (content : Content) (document : Document) (word : List ℕ) (slot end : ℕ) → AreApart (names_of tags)
+    → lone_document name tags marks journal content ≡ document → slot_of word tags ≡ Some slot → end ≡ length content.cells
     → view.shown_flags slot content 0 end ≡ flags_of document (lone_widget document) word
-flags-known name tags marks modified content document word slot end apart is found long =
-    ap (view.shown_flags slot content 0) long ∙ flags-lone name tags marks modified content word slot apart found
-    ∙ ap (λ b. if b then shown_flags (lone_document name tags marks modified content) (lone_widget (lone_document name tags marks modified content)) (key_named name word) else []) (sym (among_slot word tags slot found))
+flags-known name tags marks journal content document word slot end apart is found long =
+    ap (view.shown_flags slot content 0) long ∙ flags-lone name tags marks journal content word slot apart found
+    ∙ ap (λ b. if b then shown_flags (lone_document name tags marks journal content) (lone_widget (lone_document name tags marks journal content)) (key_named name word) else []) (sym (among_slot word tags slot found))
     ∙ ap (λ (d : Document). flags_of d (lone_widget d) word) is
 
-pub flags-unknown : (name : List ℕ) (tags : List Tag) (marks : List Mark) (modified : Modified) (content : Content) (document : Document) (word : List ℕ)
-    → lone_document name tags marks modified content ≡ document → slot_of word tags ≡ None → [] ≡ flags_of document (lone_widget document) word
-flags-unknown name tags marks modified content document word is none =
-    ap (λ b. if b then shown_flags (lone_document name tags marks modified content) (lone_widget (lone_document name tags marks modified content)) (key_named name word) else []) (sym (absent_slot word tags none))
+pub flags-unknown : (name : List ℕ) (tags : List Tag) (marks : List Mark) (journal : Journal) (content : Content) (document : Document) (word : List ℕ)
+    → lone_document name tags marks journal content ≡ document → slot_of word tags ≡ None → [] ≡ flags_of document (lone_widget document) word
+flags-unknown name tags marks journal content document word is none =
+    ap (λ b. if b then shown_flags (lone_document name tags marks journal content) (lone_widget (lone_document name tags marks journal content)) (key_named name word) else []) (sym (absent_slot word tags none))
     ∙ ap (λ (d : Document). flags_of d (lone_widget d) word) is
 
 names-filtered : (tags : List Tag) (wanted : Tag → Bool) (passes : List ℕ → Bool) → ((at : ℕ) (tag : Tag) → slice_get tags at ≡ Some tag → wanted tag ≡ passes tag.name)
@@ -61,16 +60,16 @@ flag_of (cell ∷ cells) slots slot zero is = ap (λ s. set.contains s slot) (ge
 flag_of (cell ∷ cells) slots slot (suc place) is = flag_of cells slots slot place is
 
 -- the tags of a character, by the slots of its cell
-pub tags_on-known : (name : List ℕ) (tags : List Tag) (marks : List Mark) (modified : Modified) (content : Content) (document : Document) (slots : Slots) (place : ℕ) → AreApart (names_of tags)
-    → lone_document name tags marks modified content ≡ document → slice_get (slot_sets content.cells) place ≡ Some slots
+pub tags_on-known : (name : List ℕ) (tags : List Tag) (marks : List Mark) (journal : Journal) (content : Content) (document : Document) (slots : Slots) (place : ℕ) → AreApart (names_of tags)
+    → lone_document name tags marks journal content ≡ document → slice_get (slot_sets content.cells) place ≡ Some slots
     → names_of (filter (λ (tag : Tag). set.contains slots tag.slot) tags) ≡ tags_on document (lone_widget document) place
-tags_on-known name tags marks modified content document slots place apart is found =
-    let lone = lone_document name tags marks modified content in
+tags_on-known name tags marks journal content document slots place apart is found =
+    let lone = lone_document name tags marks journal content in
     names-filtered tags (λ (tag : Tag). set.contains slots tag.slot) (λ word. flag_at (shown_flags lone (lone_widget lone) (key_named name word)) place)
     (λ at tag stands.
     sym (flag_of content.cells slots tag.slot place found)
     ∙ ap (λ fs. flag_at fs place) (sym (whole-part (flags tag.slot content.cells) (length content.cells) (omega (arith, length-map content.cells (λ (cell : Cell). set.contains cell.tags tag.slot)))))
-    ∙ ap (λ fs. flag_at fs place) (flags-lone name tags marks modified content tag.name tag.slot apart (slot_standing tags at tag apart stands)))
+    ∙ ap (λ fs. flag_at fs place) (flags-lone name tags marks journal content tag.name tag.slot apart (slot_standing tags at tag apart stands)))
     ∙ ap (λ (d : Document). tags_on d (lone_widget d) place) is
 
 -- no tags at the end

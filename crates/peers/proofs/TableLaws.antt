@@ -9,11 +9,10 @@ use Rattle.mark_table.specs.SharedMarks.{Mark}
 use Rattle.tag_table.specs.Tags.{AreTags, Tag, Tags, names_of, slot_of, slots_of}
 use Rattle.text_model.specs.declared.cells.Cell.{Cell}
 use Rattle.text_model.specs.Content.{Content}
-use Rattle.undo_stack.specs.Modified.{Modified}
 use Rattle.peers.specs.Kept.{HasKnownSlots, IsKept}
 use Rattle.peers.specs.Keys.{key_pairs}
 use Rattle.command_parts.specs.Tagging.{IsFront}
-use Rattle.peers.specs.World.{Document, keyed, lone_document}
+use Rattle.peers.specs.World.{Document, keyed, lone_document, Journal}
 use Rattle.peers.proofs.BridgeLaws.{get_front}
 use Rattle.peers.proofs.ClearedLaws.{slot_standing}
 use Rattle.peers.proofs.KeptLaws.{slot_stands}
@@ -49,12 +48,12 @@ keyed-front widget old new cells front sound known =
     ∙ keyed-more widget old.tags more cells known (subst (λ ts. AreApart (slots_of ts)) (front_is old new front) sound.slots_apart)
 
 -- the document has more tags, and is else the same
-pub lone-front : (widget : List ℕ) (old new : Tags) (marks : List Mark) (modified : Modified) (content : Content) (document : Document) → IsFront old new → AreTags new → All (HasKnownSlots old.tags) content.cells
-    → lone_document widget old.tags marks modified content ≡ document → lone_document widget new.tags marks modified content ≡ record document { tags = names_of new.tags }
-lone-front widget old new marks modified content document front sound known is =
+pub lone-front : (widget : List ℕ) (old new : Tags) (marks : List Mark) (journal : Journal) (content : Content) (document : Document) → IsFront old new → AreTags new → All (HasKnownSlots old.tags) content.cells
+    → lone_document widget old.tags marks journal content ≡ document → lone_document widget new.tags marks journal content ≡ record document { tags = names_of new.tags }
+lone-front widget old new marks journal content document front sound known is =
     let cells = keyed-front widget old new content.cells front sound known in
-    let made : lone_document widget new.tags marks modified content ≡ record (lone_document widget old.tags marks modified content) { tags = names_of new.tags } =
-    λ i. record (lone_document widget old.tags marks modified content) { tags = names_of new.tags; cells = cells i } in
+    let made : lone_document widget new.tags marks journal content ≡ record (lone_document widget old.tags marks journal content) { tags = names_of new.tags } =
+    λ i. record (lone_document widget old.tags marks journal content) { tags = names_of new.tags; cells = cells i } in
     made ∙ ap (λ (d : Document). record d { tags = names_of new.tags }) is
 
 pub kept-front : (name : List ℕ) (old new : Tags) (content : Content) → IsKept name old content → IsFront old new → AreTags new → IsKept name new content
@@ -72,12 +71,12 @@ abbrev pub HasSameSlots : Tags → Tags → Type 0
 HasSameSlots old new = (name : List ℕ) → slot_of name new.tags ≡ slot_of name old.tags
 
 -- the document has its tags in another order, and is else the same
-pub lone-reordered : (widget : List ℕ) (old new : Tags) (marks : List Mark) (modified : Modified) (content : Content) (document : Document) → AreTags old → AreTags new → HasSameSlots old new
-    → lone_document widget old.tags marks modified content ≡ document → lone_document widget new.tags marks modified content ≡ record document { tags = names_of new.tags }
-lone-reordered widget old new marks modified content document sound new_sound same is =
+pub lone-reordered : (widget : List ℕ) (old new : Tags) (marks : List Mark) (journal : Journal) (content : Content) (document : Document) → AreTags old → AreTags new → HasSameSlots old new
+    → lone_document widget old.tags marks journal content ≡ document → lone_document widget new.tags marks journal content ≡ record document { tags = names_of new.tags }
+lone-reordered widget old new marks journal content document sound new_sound same is =
     let cells = keyed-reordered widget old.tags new.tags content.cells sound.names_apart new_sound.names_apart same in
-    let made : lone_document widget new.tags marks modified content ≡ record (lone_document widget old.tags marks modified content) { tags = names_of new.tags } =
-    λ i. record (lone_document widget old.tags marks modified content) { tags = names_of new.tags; cells = cells i } in
+    let made : lone_document widget new.tags marks journal content ≡ record (lone_document widget old.tags marks journal content) { tags = names_of new.tags } =
+    λ i. record (lone_document widget old.tags marks journal content) { tags = names_of new.tags; cells = cells i } in
     made ∙ ap (λ (d : Document). record d { tags = names_of new.tags }) is
 
 pub kept-reordered : (name : List ℕ) (old new : Tags) (content : Content) → IsKept name old content → AreTags new → new.limit ≡ old.limit → HasSameSlots old new → IsKept name new content

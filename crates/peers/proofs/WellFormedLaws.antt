@@ -7,17 +7,18 @@ use Rattle.std.specs.List.{IsDistinct, AllByRecursion}
 use Rattle.std.specs.Prelude.{◌||◌, ◌&&◌, not, map, slice_get, if◌then◌else◌, None, Some}
 use Rattle.std.specs.FinMap as finite
 use Rattle.text_model.specs.declared.cells.Cell.{Cell}
+use Rattle.text_model.specs.Content as model
 use Rattle.text_model.specs.Content.{Content}
 use Rattle.text_model.specs.Documents.{IsDocument}
 use Rattle.text_model.specs.LimitTable.{LimitTable}
 use Rattle.name_list.specs.Names.{AreApart}
-use Rattle.mark_table.specs.SharedMarks.{SharedMarks, names_of as names_of_marks}
+use Rattle.mark_table.specs.SharedMarks.{Mark, SharedMarks, names_of as names_of_marks}
 use Rattle.tag_table.specs.Tags.{Tag, Tags, AreTags, names_of}
-use Rattle.undo_stack.specs.Modified.{Modified}
+use Rattle.undo_stack.specs.Fits.{FitsText}
 use Rattle.peers.specs.Keys.{key_named, key_pairs}
 use Rattle.peers.specs.Kept.{AreMarked, IsKept}
 use Rattle.command_parts.specs.Words.{is_same, is_among}
-use Rattle.peers.specs.World.{Document, Widget, keyed, lone_document, lone_widget, sel}
+use Rattle.peers.specs.World.{Document, Widget, keyed, characters, lone_document, lone_widget, sel, Journal}
 use Rattle.peers.specs.WellFormed.{belongs, HasItsKeys, IsWellFormedDocument}
 use Rattle.command_parts.proofs.LeftLaws.{AreApart-head, AreApart-tail}
 use Rattle.peers.proofs.BridgeLaws.{keys_of-belongs}
@@ -65,16 +66,18 @@ sel_among table are = elim (found_tag sel table.tags 0) [
   | inr there ↦ there.among
 ]
 
-pub IsWellFormedDocument-lone : (limits : LimitTable) (name : List ℕ) (table : Tags) (marks : SharedMarks) (modified : Modified) (content : Content) → IsKept name table content → AreMarked marks content.marks
-    → length content.cells ≤ limits.chars
-    → length table.tags ≤ limits.tags + 1 → length marks.marks ≤ limits.marks → IsWellFormedDocument limits (lone_document name table.tags marks.marks modified content)
-IsWellFormedDocument-lone limits name table marks modified content kept marked fits few few_marks =
+pub IsWellFormedDocument-lone : (limits : LimitTable) (name : List ℕ) (table : Tags) (marks : SharedMarks) (journal : Journal) (content : Content) → IsKept name table content → AreMarked marks content.marks
+    → FitsText limits.chars (model.characters content.cells) journal.log.history
+    → length table.tags ≤ limits.tags + 1 → length marks.marks ≤ limits.marks → IsWellFormedDocument limits (lone_document name table.tags marks.marks journal content)
+IsWellFormedDocument-lone limits name table marks journal content kept marked fits few few_marks =
     let pairs = key_pairs name table.tags in
-    let document : Document = lone_document name table.tags marks.marks modified content in
+    let document : Document = lone_document name table.tags marks.marks journal content in
     let long = length-keyed pairs content.cells in
+    let counted : length (model.characters content.cells) ≡ length content.cells = length-map content.cells (λ (cell : Cell). cell.character) in
+    let short = fits.short in
     record {
       text = subst IsDocument (sym (characters-keyed pairs content.cells)) kept.text;
-      fits = omega (arith, long);
+      fits = omega (arith, long, counted, short);
       keys = keys_belong document (lone_widget document) table.tags content.cells refl refl;
       shown = omega arith;
       widgets = (
@@ -96,5 +99,12 @@ IsWellFormedDocument-lone limits name table marks modified content kept marked f
       tag_names = distinct_apart (names_of table.tags) kept.tags.names_apart;
       sel = sel_among table kept.tags;
       tag_count = omega (arith, length-map table.tags (λ (tag : Tag). tag.name), few);
-      history = record { short = rw (characters-keyed pairs content.cells, length-map content.cells (λ (cell : Cell). cell.character)) fits; filled = tt; undone_filled = tt; reverts = refl; repeats = refl };
+      history = subst (λ text. FitsText limits.chars text journal.log.history) (sym (characters-keyed pairs content.cells)) fits;
     }
+
+-- the history of a well-formed one fits its text
+pub fits-lone : (limits : LimitTable) (name : List ℕ) (tags : List Tag) (marks : List Mark) (journal : Journal) (content : Content) (document : Document) → lone_document name tags marks journal content ≡ document
+    → IsWellFormedDocument limits document → FitsText limits.chars (model.characters content.cells) journal.log.history
+fits-lone limits name tags marks journal content document is formed =
+    subst (λ text. FitsText limits.chars text journal.log.history) (characters-keyed (key_pairs name tags) content.cells)
+    (subst (λ (d : Document). FitsText limits.chars (characters d.cells) d.history) (sym is) formed.history)

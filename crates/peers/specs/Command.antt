@@ -3,11 +3,12 @@ use Rattle.std.specs.Prelude.{ℕ, List, take, drop, Result, Ok, Err}
 use Rattle.text_model.specs.LimitTable.{LimitTable}
 use Rattle.command_table.specs.Reading.{reading}
 use Rattle.command_table.specs.declared.commands.Command.{Command}
-use Rattle.command_table.specs.declared.commands.Command.TheVariants.{Insert, Get, Index, Compare, MarkGravity, MarkNames, MarkNext, MarkPrevious, MarkSet, MarkUnset, TagAdd, TagRemove, TagDelete, TagNames, TagRanges, TagNextRange, TagPreviousRange, TagRaise, TagLower}
+use Rattle.command_table.specs.declared.commands.Command.TheVariants.{Insert, Delete, Replace, Get, Index, Compare, MarkGravity, MarkNames, MarkNext, MarkPrevious, MarkSet, MarkUnset, TagAdd, TagRemove, TagDelete, TagNames, TagRanges, TagNextRange, TagPreviousRange, TagRaise, TagLower}
 use Rattle.command_table.specs.declared.shapes.Shape.{Shape}
 use Rattle.command_table.specs.declared.shapes.ShapeFault.{ShapeFault}
 use Rattle.command_parts.specs.declared.answers.Fault.TheVariants.{BadOption}
 use Rattle.command_parts.specs.Faults.{shape_fault}
+use Rattle.peers.specs.Deletions.{delete, replace}
 use Rattle.peers.specs.Indices.{index, compare}
 use Rattle.peers.specs.Marks.{mark_set, mark_unset, mark_gravity, mark_names_of, mark_next, mark_previous}
 use Rattle.peers.specs.Promise.{Change, refused, asked}
@@ -22,6 +23,8 @@ arguments_of shape words = take shape.count (drop shape.arguments words)
 -- a command with its arguments, which stand from a position on; what isn't there yet is no option
 abbrev pub done : Command → LimitTable → Document → Widget → ℕ → List (List ℕ) → Change
 done Insert limits document widget at arguments = insert limits document widget at arguments
+done Delete limits document widget at arguments = delete document widget at arguments
+done Replace limits document widget at arguments = replace limits document widget at arguments
 done Get limits document widget at arguments = asked document (get document widget at arguments)
 done Index limits document widget at arguments = asked document (index document widget at arguments)
 done Compare limits document widget at arguments = asked document (compare document widget at arguments)

@@ -1,15 +1,15 @@
 -- What an edit makes of a document: of its cells, of the places in it, and of what is kept of edits.
-use Rattle.std.specs.Prelude.{ℕ, zero, suc, ◌+◌, ◌==◌, Bool, true, List, [], ◌∷◌, length, map, slice_get, Option, None, Some, option_map, if◌then◌else◌}
+use Rattle.std.specs.Prelude.{ℕ, zero, suc, ◌+◌, ◌==◌, Bool, true, false, List, [], ◌∷◌, length, map, slice_get, slice_range, Option, None, Some, option_map, if◌then◌else◌}
 use Rattle.std.specs.FinSet as set
-use Rattle.text_model.specs.Splices.{inserted, changed, moved}
+use Rattle.text_model.specs.Splices.{inserted, removed, changed, moved, drawn}
 use Rattle.undo_stack.specs.History.{noted, limit_of}
 use Rattle.undo_stack.specs.Modified.{counted_new}
 use Rattle.undo_stack.specs.declared.actions.Action.{Action}
 use Rattle.undo_stack.specs.declared.actions.EditKind.{EditKind}
-use Rattle.edit_ops.specs.Anchors.{anchor_moved}
+use Rattle.edit_ops.specs.Anchors.{anchor_moved, anchors_removed}
 use Rattle.edit_ops.specs.declared.spans.Span.{Span}
 use Rattle.peers.specs.Keys.{Key, Keys, set_key}
-use Rattle.peers.specs.World.{Document, Widget, SharedMark, KeyedCell}
+use Rattle.peers.specs.World.{Document, Widget, SharedMark, KeyedCell, characters}
 
 -- a text to be put in, with the keys of each of its characters where it has a tag list
 pub record KeyedText : Type 0 where
@@ -65,6 +65,43 @@ with_text kind at text document =
 abbrev pub with_texts : EditKind → ℕ → List KeyedText → Document → Document
 with_texts kind at [] document = document
 with_texts kind at (text ∷ texts) document = with_texts kind (at + length text.text) texts (with_text kind at text document)
+
+-- a widget after the cells from one offset to another are taken out of a text: its anchors and its own marks are drawn along
+abbrev pub widget_drawn : List ℕ → ℕ → ℕ → Widget → Widget
+widget_drawn text from to widget =
+    let anchors = anchors_removed text from to (record { start = widget.start; end = widget.end }) in
+    record widget {
+      start = anchors.start;
+      end = anchors.end;
+      insert = drawn from to widget.insert;
+      current = drawn from to widget.current;
+    }
+
+-- the cells from one offset to another are taken out, and the places in the document are drawn along
+abbrev pub without_cells : ℕ → ℕ → Document → Document
+without_cells from to document = record document {
+  cells = removed from to document.cells;
+  widgets = map (widget_drawn (characters document.cells) from to) document.widgets;
+  marks = map (λ (mark : SharedMark). record mark { place = drawn from to mark.place }) document.marks;
+}
+
+-- the cells from one offset to another are taken out, which is one action; no cells are none
+abbrev pub without_span : EditKind → ℕ → ℕ → Document → Document
+without_span kind from to document =
+    if from == to then document
+    else with_action kind (record { inserts = false; at = from; text = slice_range (characters document.cells) from to }) (without_cells from to document)
+
+-- spans are taken out, one after the other
+abbrev pub without_spans : EditKind → List Span → Document → Document
+without_spans kind [] document = document
+without_spans kind (span ∷ spans) document = without_spans kind spans (without_span kind span.from span.to document)
+
+-- the cell at an offset loses all its keys
+abbrev pub bare : KeyedCell → KeyedCell
+bare cell = record cell { keys = set.empty }
+
+abbrev pub with_bare : ℕ → Document → Document
+with_bare at document = record document { cells = changed bare at (at + 1) document.cells }
 
 -- a key is put on the cells of spans, or taken off them
 abbrev pub with_key : Key → Bool → KeyedCell → KeyedCell

@@ -10,9 +10,9 @@ use Rattle.text_model.specs.Content.{Content, Marks, characters}
 use Rattle.text_model.specs.Documents.{IsDocument, MarksStand}
 use Rattle.mark_table.specs.SharedMarks.{AreMarks, Mark, SharedMarks}
 use Rattle.tag_table.specs.Tags.{Tag, Tags, slots_of, AreTags}
-use Rattle.undo_stack.specs.History.{no_history}
-use Rattle.undo_stack.specs.Rings.{Kept}
+use Rattle.undo_stack.specs.History.{limit_of}
 use Rattle.command_parts.specs.Words.{is_own}
+use Rattle.peers.specs.World.{Journal}
 
 -- a dot and at least one more character
 abbrev pub is_window_name : List ℕ → Bool
@@ -48,7 +48,8 @@ pub record AreMarked (table : SharedMarks) (places : Marks) : Type 0 where
   pub roomy : table.limit ≡ MOST_MARKS
   pub each : AllByRecursion (IsMarked places) table.marks
 
--- no history; the text may be modified
-pub record AreNew (kept : Kept) : Type 0 where
-  pub no_history : kept.history ≡ no_history
-  pub no_limit : kept.most ≡ 0
+-- The history is bounded as the option says, and nothing is in it where no action is kept.
+pub record IsOrderly (journal : Journal) : Type 0 where
+  pub most : journal.log.most ≡ limit_of journal.settings.most_undo
+  pub groups : journal.settings.undo ≡ false → journal.log.history.groups ≡ []
+  pub undone : journal.settings.undo ≡ false → journal.log.history.undone ≡ []

@@ -1,4 +1,5 @@
 pub mod Command
+pub mod Deletions
 pub mod Edits
 pub mod Indices
 pub mod Kept

@@ -1,12 +1,14 @@
 -- One command of a script: the new world and an answer, or the first fault and the same world.
-use Rattle.std.specs.Prelude.{ℕ, nat_lt, List, [], ◌∷◌, Option, None, Some, Result, Ok, Err, find, if◌then◌else◌}
+use Rattle.std.specs.Prelude.{ℕ, false, nat_lt, List, [], ◌∷◌, Option, None, Some, Result, Ok, Err, find, if◌then◌else◌}
 use Rattle.std.specs.FinSet as set
 use Rattle.command_parts.specs.declared.answers.Answer.{Answer}
 use Rattle.command_parts.specs.declared.answers.Answer.TheVariants.{Word}
 use Rattle.command_parts.specs.declared.answers.Fault.{Fault}
 use Rattle.command_parts.specs.declared.answers.Fault.TheVariants.{WrongArguments, InvalidCommandName, WindowExists, DocumentExists, TooManyWidgets}
+use Rattle.undo_stack.specs.History.{no_history}
 use Rattle.undo_stack.specs.Modified.{unmodified}
-use Rattle.peers.specs.World.{World, Document, Widget, whole_widget, document_of, sel}
+use Rattle.command_parts.specs.Settings.{first_settings}
+use Rattle.peers.specs.World.{World, Document, Widget, Journal, whole_widget, document_of, sel}
 use Rattle.command_parts.specs.Edits.{new_mark}
 use Rattle.command_parts.specs.Words.{is_same, literal}
 use Rattle.peers.specs.Kept.{is_window_name}
@@ -28,10 +30,14 @@ refuses world fault = record { reply = Err fault; world = world }
 abbrev pub widget_named : List ℕ → Document → Option Widget
 widget_named name document = find (λ (widget : Widget). is_same widget.name name) document.widgets
 
+-- nothing is kept yet, and the options are as they are at first
+abbrev pub new_journal : Journal
+new_journal = record { settings = first_settings; log = record { history = no_history; modified = unmodified; most = 0 } }
+
 -- a document of one newline without keys, shown by one widget, that knows `sel` alone
 abbrev pub new_document : List ℕ → Document
 new_document name =
-    document_of (record { character = 10; keys = set.empty } ∷ []) (whole_widget name new_mark new_mark) [] (sel ∷ []) unmodified
+    document_of (record { character = 10; keys = set.empty } ∷ []) (whole_widget name false new_mark new_mark) [] (sel ∷ []) new_journal
 
 -- the world with one document, where there may be a widget
 abbrev pub create_first : World → List ℕ → Outcome

@@ -27,13 +27,18 @@ keyed_text widget pair = record { text = pair.text; keys = option_map (keys_name
 abbrev pub tags_with : Document → List Pair → List (List ℕ)
 tags_with document pairs = with_names document.tags (all_names pairs)
 
--- Texts go in at an offset of the document, each behind the one before it, and the tags of their lists are made, unless there
--- are too many tags or the document grows too long.
+-- a change, unless there are too many tags then, or the document grows too long
+abbrev pub within_limits : LimitTable → Document → ℕ → ℕ → Change → Change
+within_limits limits document tags chars change =
+    if nat_lt (limits.tags + 1) tags then refused document TooManyTags
+    else (if nat_lt limits.chars chars then refused document TextTooLong
+    else change)
+
+-- Texts go in at an offset of the document, each behind the one before it, and the tags of their lists are made, within the limits.
 abbrev pub insert_at : LimitTable → Document → Widget → ℕ → List Pair → Change
 insert_at limits document widget at pairs =
-    if nat_lt (limits.tags + 1) (length (tags_with document pairs)) then refused document TooManyTags
-    else (if nat_lt limits.chars (length document.cells + total pairs) then refused document TextTooLong
-    else answered (with_texts kind.Insert at (map (keyed_text widget) pairs) (record document { tags = tags_with document pairs })) Empty)
+    within_limits limits document (length (tags_with document pairs)) (length document.cells + total pairs)
+    (answered (with_texts kind.Insert at (map (keyed_text widget) pairs) (record document { tags = tags_with document pairs })) Empty)
 
 -- before a place of the view, or at its end just before its last newline
 abbrev pub insertion_offset : Document → Widget → ℕ → ℕ

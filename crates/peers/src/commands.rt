@@ -24,6 +24,8 @@ impl<S: TextStore> Document<S> {
     {
         match command {
             Command::Insert => self.insert(limits, at, arguments),
+            Command::Delete => self.delete(limits, at, arguments),
+            Command::Replace => self.replace(limits, at, arguments),
             Command::Get => self.get(at, arguments),
             Command::Index => self.index(at, arguments),
             Command::Compare => self.compare(at, arguments),

@@ -10,6 +10,7 @@ ghost use Rattle.peers.specs.WellFormed.{IsWellFormedDocument};
 ghost use Rattle.command_parts.specs.Faults.{at_position};
 ghost use Rattle.peers.specs.Promise.{Gives, Does, answered};
 ghost use Rattle.peers.specs.Indices.{place_at};
+ghost use Rattle.peers.specs.Deletions.{delete_places, replace_span};
 ghost use Rattle.peers.specs.Texts.{insert_at, insertion_offset};
 ghost use Rattle.command_parts.specs.Lists.{total, with_name, with_names, all_names};
 ghost use Rattle.command_parts.specs.Tagging.{IsFront, piece_of};
@@ -33,12 +34,11 @@ ghost use Rattle.command_parts.specs.Marking.{gravity_word as spec_gravity_word}
 ghost use Rattle.peers.specs.Marks.{mark_names, mark_offset, mark_unset, place_named, set_found, usable_marks, with_current, with_insert, with_mark, with_shared};
 
 use command_parts::{
-    Answer, Fault, Pair, clear_slots, delete_names, deleted_slots, gravity_word, is_word,
-    make_mark, new_store, numbers_named, push_mark_names, push_names, push_names_in, push_next,
-    push_previous, push_ranges, put_mark, put_pairs, set_slot, spans_of, tag_spans, take_marks,
-    turn_mark, unset_names,
+    Answer, Fault, Pair, Settings, clear_slots, delete_names, delete_spans, deleted_slots,
+    gravity_word, is_word, make_mark, new_store, numbers_named, push_mark_names, push_names,
+    push_names_in, push_next, push_previous, push_ranges, put_mark, put_pairs, replace_pairs,
+    set_slot, spans_of, tag_spans, take_marks, turn_mark, unset_names,
 };
-use edit_ops::Span;
 use mark_table::{MarkTable, MarkView, Origin, WidgetMark};
 use std::alloc::{AllocError, Global};
 use std::marker::Model;
@@ -47,7 +47,7 @@ use text_index::{IndexFault, Names, View, locate, next_range, previous_range, pu
 use text_model::{Gravity, Limits, MarkNo, Place, TagSlot, Text, TextStore};
 use undo_stack::UndoStack;
 
-/// A document: the text in its store, its tags and its shared marks, its history, and the name of its widget.
+/// A document: the text in its store, its tags and its shared marks, its history, the name of its widget, and the options of both.
 #[derive(Drop)]
 pub struct Document<S: TextStore> {
     alloc: Global,
@@ -56,6 +56,7 @@ pub struct Document<S: TextStore> {
     tags: TagTable,
     marks: MarkTable,
     history: UndoStack,
+    settings: Settings,
 }
 
 impl<S: TextStore> Model for Document<S> {
@@ -64,16 +65,16 @@ impl<S: TextStore> Model for Document<S> {
     ghost use Rattle.std.specs.FinSet as set;
     ghost use Rattle.text_model.specs.contracts.places.Place as place;
     ghost use Rattle.peers.specs.Keys.{key_cmp, key_code};
-    ghost use Rattle.peers.specs.World.{Document as DocumentState, lone_document};
-    ghost use Rattle.peers.specs.Kept.{IsKept, AreMarked, AreNew};
+    ghost use Rattle.peers.specs.World.{Document as DocumentState, journal_of, lone_document};
+    ghost use Rattle.peers.specs.Kept.{IsKept, AreMarked, IsOrderly};
 
     ghost Value = { DocumentState };
 
     ghost coded = { Prim.hlevel (codes, place.the_row.coded, set.code {R = key_cmp} key_code) };
 
-    ghost view = { λ d. lone_document (chars (string_bytes d.name)) d.tags.tags d.marks.marks d.history.modified (S.content d.store) };
+    ghost view = { λ d. lone_document (chars (string_bytes d.name)) d.tags.tags d.marks.marks (journal_of d.settings d.history) (S.content d.store) };
 
-    ghost invariant = { λ d. IsKept (chars (string_bytes d.name)) d.tags (S.content d.store) × AreMarked d.marks (S.content d.store).marks × AreNew d.history };
+    ghost invariant = { λ d. IsKept (chars (string_bytes d.name)) d.tags (S.content d.store) × AreMarked d.marks (S.content d.store).marks × IsOrderly (journal_of d.settings d.history) };
 }
 
 /// A place, or the fault of the index at a position of a command.
@@ -120,6 +121,7 @@ impl<S: TextStore> Document<S> {
             tags: TagTable::new(alloc, &limits)?,
             marks: MarkTable::new(alloc, &limits)?,
             history: UndoStack::new(alloc),
+            settings: Settings::new(),
         })
     }
 
@@ -304,8 +306,62 @@ impl<S: TextStore> Document<S> {
             &mut self.history,
             at,
             pairs,
+            self.settings.recording(),
         );
         match put {
+            Ok(()) => Ok(Answer::Empty),
+            Err(fault) => {
+                self.tags.truncate(front);
+                Err(fault)
+            }
+        }
+    }
+
+    /// Deletes the ranges between pairs of places.
+    pub fn delete_places(&mut self, limits: &Limits, places: &[usize]) -> Result<Answer, Fault>
+        requires { All (λ place. place ≤ length (shown self.old (lone_widget self.old))) places.now }
+        ensures { Does limits.now self.old self.new result (delete_places self.old (lone_widget self.old) places.now) }
+    {
+        let spans = spans_of(self.alloc, 0, self.store.len(), places)?;
+        let deleted = delete_spans(
+            self.alloc,
+            &mut self.store,
+            &mut self.history,
+            &spans,
+            self.settings.recording(),
+        );
+        match deleted {
+            Ok(()) => Ok(Answer::Empty),
+            Err(fault) => Err(fault),
+        }
+    }
+
+    /// Puts texts in the place of the characters between two places, neither behind the last character, and makes the tags of
+    /// their lists.
+    pub fn replace_between(
+        &mut self,
+        limits: &Limits,
+        from: usize,
+        to: usize,
+        pairs: Vec<Pair>,
+    ) -> Result<Answer, Fault>
+        requires { from ≤ to }
+        ensures { Does limits.now self.old self.new result (replace_span limits.now self.old (lone_widget self.old)
+            (insertion_offset self.old (lone_widget self.old) from) (insertion_offset self.old (lone_widget self.old) to) pairs.items) }
+    {
+        let front = self.tags.len();
+        let replaced = replace_pairs(
+            self.alloc,
+            limits,
+            &mut self.tags,
+            &mut self.store,
+            &mut self.history,
+            from,
+            to,
+            pairs,
+            self.settings.recording(),
+        );
+        match replaced {
             Ok(()) => Ok(Answer::Empty),
             Err(fault) => {
                 self.tags.truncate(front);

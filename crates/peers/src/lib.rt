@@ -2,6 +2,7 @@
 #![tactic(auto)]
 
 mod commands;
+mod deletions;
 mod documents;
 mod indices;
 mod marks;

@@ -26,11 +26,10 @@ text .e
 .\xc3\xa9 {}
 .\xc3\xa9 text
 .\xc3\xa9 inserts q
-# What the table of commands knows and isn't there yet.
 .\xc3\xa9 mark
 .\xc3\xa9 mark foo
-.\xc3\xa9 replace 1.0 1.0 a
-.\xc3\xa9 delete 1.0
+.\xc3\xa9 replaces 1.0 1.0 a
+.\xc3\xa9 del 1.0
 .\xc3\xa9 delete
 \xc3\xa9 index end",
         numbers: AMPLE,
@@ -56,8 +55,8 @@ error: bad option \"text\"
 error: bad option \"inserts\"
 error: wrong # args
 error: bad option \"foo\"
-error: bad option \"replace\"
-error: bad option \"delete\"
+error: bad option \"replaces\"
+error: bad option \"del\"
 error: wrong # args
 error: invalid command name \"é\"
 ",

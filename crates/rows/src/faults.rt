@@ -2,7 +2,7 @@ use peers::Fault;
 use std::test::Fail;
 
 // Faults with their texts.
-const FAULTS: [(Fault, &str); 17] = [
+const FAULTS: [(Fault, &str); 18] = [
     (Fault::BadIndex(2), "bad text index"),
     (
         Fault::NoTaggedCharacters(2, 3),
@@ -17,6 +17,7 @@ const FAULTS: [(Fault, &str); 17] = [
     (Fault::WrongArguments, "wrong # args"),
     (Fault::InvalidCommandName(0), "invalid command name"),
     (Fault::WindowExists(1), "window name already exists"),
+    (Fault::IndexOrder(3), "index before another in the text"),
     (Fault::DocumentExists, "a document exists"),
     (Fault::TooManyWidgets, "too many widgets"),
     (Fault::TooManyTags, "too many tags"),

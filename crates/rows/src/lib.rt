@@ -5,6 +5,8 @@
 #[cfg(test)]
 mod command_rows;
 #[cfg(test)]
+mod edit_rows;
+#[cfg(test)]
 mod faults;
 #[cfg(test)]
 mod mark_rows;

@@ -1,4 +1,5 @@
 use crate::command_rows::{PLACES, TEXTS, WIDGETS};
+use crate::edit_rows::{DELETIONS, REPLACEMENTS};
 use crate::mark_rows::{GRAVITIES, MARK_ORDERS, MARKS};
 use crate::readers::Pieces;
 use crate::scripts::SCRIPTS;
@@ -113,4 +114,14 @@ fn gravities_on_the_plain_store(rt: HostRuntime) -> Result<(), AllocError> {
 #[test]
 fn mark_orders_on_the_plain_store(rt: HostRuntime) -> Result<(), AllocError> {
     check_rows::<PlainStore>(&rt, rt.alloc(), &MARK_ORDERS)
+}
+
+#[test]
+fn deletions_on_the_plain_store(rt: HostRuntime) -> Result<(), AllocError> {
+    check_rows::<PlainStore>(&rt, rt.alloc(), &DELETIONS)
+}
+
+#[test]
+fn replacements_on_the_plain_store(rt: HostRuntime) -> Result<(), AllocError> {
+    check_rows::<PlainStore>(&rt, rt.alloc(), &REPLACEMENTS)
 }

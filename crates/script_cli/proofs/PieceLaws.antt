@@ -9,13 +9,14 @@ use Rattle.std.proofs.lemmas.List.{append-nil, get_or-map}
 use Rattle.std.proofs.lemmas.Str.{encodes-append, encodes-chars}
 use Rattle.tcl_words.specs.Unread.{texts_of}
 use Rattle.command_parts.specs.Words.{literal}
-use Rattle.script_cli.specs.Pieces.{Line, line_text, error_line, word_at, is_boundary, front_of}
+use Rattle.script_cli.specs.Pieces.{error_line, word_at, is_boundary, front_of}
 
 -- the bytes of three texts
 pub three_texts : (before word after : List ℕ) → IsUtf8 before → IsUtf8 word → IsUtf8 after
-    → before ++ (word ++ after) ≡ encode_utf8_all (chars before ++ (chars word ++ chars after))
+    → (before ++ word) ++ (([] ++ []) ++ after) ≡ encode_utf8_all (chars before ++ (chars word ++ chars after))
 three_texts before word after first second third =
-    rw (
+    append_assoc before word after
+    ∙ rw (
       encodes-append (chars before) (chars word ++ chars after),
       encodes-append (chars word) (chars after),
       encodes-chars before first,
@@ -23,8 +24,8 @@ three_texts before word after first second third =
       encodes-chars after third,
     ) refl
 
-pub one_text : (text : List ℕ) → IsUtf8 text → text ++ ([] ++ []) ≡ encode_utf8_all (chars text)
-one_text text is = append-nil text ∙ sym (encodes-chars text is)
+pub one_text : (text : List ℕ) → IsUtf8 text → (text ++ []) ++ (([] ++ []) ++ []) ≡ encode_utf8_all (chars text)
+one_text text is = append-nil (text ++ []) ∙ append-nil text ∙ sym (encodes-chars text is)
 
 pub word_characters : {Z : Type 0} (words : List (String Z)) (position : ℕ) (word : String Z) → position < length words
     → word ≡ get_or words position word → chars (string_bytes word) ≡ word_at (texts_of words) position
@@ -100,7 +101,20 @@ front-none word len utf8 cut =
     let bytes : encode_utf8_all (chars word) ≡ word = encodes-chars word utf8 in
     sym (ap (λ b. if b then chars (take len (encode_utf8_all (chars word))) else chars word) (ap (λ bs. is_boundary bs len) bytes ∙ boundary-no word len cut))
 
--- the bytes of a line are those of its three parts
-pub line-bytes : (before word after : List ℕ) (line : Line) → chars before ≡ line.before → chars word ≡ line.word → chars after ≡ line.after
-    → encode_utf8_all (chars before ++ (chars word ++ chars after)) ≡ encode_utf8_all (line_text line)
-line-bytes before word after line first second third = λ i. encode_utf8_all (first i ++ (second i ++ third i))
+-- the bytes of five texts
+pub five_texts : (before word between other after : List ℕ) → IsUtf8 before → IsUtf8 word → IsUtf8 between → IsUtf8 other → IsUtf8 after
+    → (before ++ word) ++ ((between ++ other) ++ after) ≡ encode_utf8_all (chars before ++ (chars word ++ (chars between ++ (chars other ++ chars after))))
+five_texts before word between other after first second third fourth fifth =
+    append_assoc before word ((between ++ other) ++ after)
+    ∙ ap (λ rest. before ++ (word ++ rest)) (append_assoc between other after)
+    ∙ rw (
+      encodes-append (chars before) (chars word ++ (chars between ++ (chars other ++ chars after))),
+      encodes-append (chars word) (chars between ++ (chars other ++ chars after)),
+      encodes-append (chars between) (chars other ++ chars after),
+      encodes-append (chars other) (chars after),
+      encodes-chars before first,
+      encodes-chars word second,
+      encodes-chars between third,
+      encodes-chars other fourth,
+      encodes-chars after fifth,
+    ) refl

@@ -1,9 +1,9 @@
 -- What is printed for a command, as characters.
-use Rattle.std.specs.Prelude.{ℕ, Bool, true, false, ◌&&◌, ◌||◌, nat_le, nat_lt, List, [], ◌∷◌, ◌++◌, length, take, chars, encode_utf8_all, slice_index, slice_index_or, Result, Ok, Err, if◌then◌else◌}
+use Rattle.std.specs.Prelude.{ℕ, ◌-◌, Bool, true, false, ◌&&◌, ◌||◌, nat_le, nat_lt, List, [], ◌∷◌, ◌++◌, length, take, chars, encode_utf8_all, slice_index, slice_index_or, Result, Ok, Err, if◌then◌else◌}
 use Rattle.command_parts.specs.declared.answers.Answer.{Answer}
 use Rattle.command_parts.specs.declared.answers.Answer.TheVariants.{Empty, Word, Flag, Text}
 use Rattle.command_parts.specs.declared.answers.Fault.{Fault}
-use Rattle.command_parts.specs.declared.answers.Fault.TheVariants.{BadIndex, NoTaggedCharacters, NoSuchMark, NoSuchTag, BadOption, WrongArguments, InvalidCommandName, WindowExists, BadComparison, BadGravity, BadList, DocumentExists, TooManyWidgets, TooManyTags, TooManyMarks, TextTooLong, Memory}
+use Rattle.command_parts.specs.declared.answers.Fault.TheVariants.{BadIndex, NoTaggedCharacters, NoSuchMark, NoSuchTag, BadOption, WrongArguments, InvalidCommandName, WindowExists, BadComparison, BadGravity, BadList, IndexOrder, DocumentExists, TooManyWidgets, TooManyTags, TooManyMarks, TextTooLong, Memory}
 use Rattle.tcl_words.specs.declared.fault.ScriptFault.{ScriptFault}
 use Rattle.tcl_words.specs.declared.fault.ScriptFault.TheVariants as script
 use Prim.Native.String.{String}
@@ -31,14 +31,25 @@ answer_text words (Flag true) = literal "1"
 answer_text words (Flag false) = literal "0"
 answer_text words (Text text) = text
 
--- a line that is printed: a word of the command, or a part of one, between two texts of the program
+-- a line that is printed: one or two words of the command, or parts of them, between texts of the program
 pub record Line : Type 0 where
   pub before : List ℕ
   pub word : List ℕ
+  pub between : List ℕ
+  pub other : List ℕ
   pub after : List ℕ
 
+abbrev pub around_two : String → List ℕ → String → List ℕ → String → Line
+around_two before word between other after = record {
+  before = literal before;
+  word = word;
+  between = literal between;
+  other = other;
+  after = literal after;
+}
+
 abbrev pub around : String → List ℕ → String → Line
-around before word after = record { before = literal before; word = word; after = literal after }
+around before word after = around_two before word "" (literal "") after
 
 abbrev pub alone : String → Line
 alone text = around text (literal "") ""
@@ -57,6 +68,8 @@ fault_line words (WindowExists position) = around "error: window name \"" (word_
 fault_line words (BadComparison position) = around "error: bad comparison operator \"" (word_at words position) "\"\n"
 fault_line words (BadGravity position) = around "error: bad mark gravity \"" (word_at words position) "\"\n"
 fault_line words (BadList position) = around "error: bad list \"" (word_at words position) "\"\n"
+fault_line words (IndexOrder position) =
+    around_two "error: index \"" (word_at words position) "\" before \"" (word_at words (position - 1)) "\" in the text\n"
 fault_line words DocumentExists = alone "error: a document exists\n"
 fault_line words TooManyWidgets = alone "error: too many widgets\n"
 fault_line words TooManyTags = alone "error: too many tags\n"
@@ -65,7 +78,7 @@ fault_line words TextTooLong = alone "error: text is too long\n"
 fault_line words Memory = alone "error: out of memory\n"
 
 abbrev pub line_text : Line → List ℕ
-line_text line = line.before ++ (line.word ++ line.after)
+line_text line = line.before ++ (line.word ++ (line.between ++ (line.other ++ line.after)))
 
 abbrev pub script_fault_text : ScriptFault → List ℕ
 script_fault_text script.MissingBrace = literal "missing close-brace"

@@ -10,40 +10,77 @@ use peers::{Answer, Fault};
 use std::marker::Model;
 use tcl_words::ScriptFault;
 
-/// A line that is printed: a word of the command, or a part of one, between two texts of the program.
+/// A line that is printed: one or two words of the command, or parts of them, between texts of the program.
 #[derive(Drop)]
 struct Line<'a> {
     before: &'static str,
     word: &'a str,
+    between: &'static str,
+    other: &'a str,
     after: &'static str,
 }
 
+impl<'a> Model for Line<'a> {
+    ghost use Rattle.std.specs.Prelude.{chars};
+    ghost use Rattle.script_cli.specs.Pieces.{Line as LineText};
+
+    ghost Value = { LineText };
+
+    ghost view = { λ l. record {
+      before = chars l.before.now;
+      word = chars l.word.now;
+      between = chars l.between.now;
+      other = chars l.other.now;
+      after = chars l.after.now;
+    } };
+}
+
 impl<'a> Line<'a> {
-    fn around(before: &'static str, word: &'a str, after: &'static str) -> Line<'a>
-        ensures before { result.before.now ≡ before.now }
-        ensures word { result.word.now ≡ word.now }
-        ensures after { result.after.now ≡ after.now }
+    fn around_two(
+        before: &'static str,
+        word: &'a str,
+        between: &'static str,
+        other: &'a str,
+        after: &'static str,
+    ) -> Line<'a>
+        ensures { result ≡ record {
+          before = chars before.now;
+          word = chars word.now;
+          between = chars between.now;
+          other = chars other.now;
+          after = chars after.now;
+        } }
     {
         Line {
             before,
             word,
+            between,
+            other,
             after,
         }
     }
 
+    fn around(before: &'static str, word: &'a str, after: &'static str) -> Line<'a>
+        ensures { result ≡ record {
+          before = chars before.now;
+          word = chars word.now;
+          between = literal "";
+          other = literal "";
+          after = chars after.now;
+        } }
+    {
+        Line::around_two(before, word, "", "", after)
+    }
+
     fn alone(text: &'static str) -> Line<'a>
-        ensures before { result.before.now ≡ text.now }
-        ensures word { chars result.word.now ≡ literal "" }
-        ensures after { chars result.after.now ≡ literal "" }
+        ensures { result ≡ record { before = chars text.now; word = literal ""; between = literal ""; other = literal ""; after = literal "" } }
     {
         Line::around(text, "", "")
     }
 
     /// The line of a fault.
     fn of_fault(words: &'a [String], fault: Fault) -> Line<'a>
-        ensures before { chars result.before.now ≡ (fault_line (texts_of words.now) fault).before }
-        ensures word { chars result.word.now ≡ (fault_line (texts_of words.now) fault).word }
-        ensures after { chars result.after.now ≡ (fault_line (texts_of words.now) fault).after }
+        ensures { result ≡ fault_line (texts_of words.now) fault }
     {
         match fault {
             Fault::BadIndex(position) => {
@@ -93,6 +130,13 @@ impl<'a> Line<'a> {
             Fault::BadList(position) => {
                 Line::around("error: bad list \"", word_at(words, position), "\"\n")
             }
+            Fault::IndexOrder(position) => Line::around_two(
+                "error: index \"",
+                word_at(words, position),
+                "\" before \"",
+                word_at(words, position.saturating_sub(1)),
+                "\" in the text\n",
+            ),
             Fault::DocumentExists => Line::alone("error: a document exists\n"),
             Fault::TooManyWidgets => Line::alone("error: too many widgets\n"),
             Fault::TooManyTags => Line::alone("error: too many tags\n"),
@@ -103,11 +147,13 @@ impl<'a> Line<'a> {
     }
 }
 
-/// The text that is printed for a command: a word or a text between two texts of the program.
+/// The text that is printed for a command: one or two words, or an answer, between texts of the program.
 #[derive(Drop)]
 pub struct Piece<'a> {
     before: &'static str,
     word: &'a str,
+    between: &'static str,
+    other: &'a str,
     after: &'static str,
 }
 
@@ -116,7 +162,7 @@ impl<'a> Model for Piece<'a> {
 
     ghost Value = { List ℕ };
 
-    ghost view = { λ p. p.before.now ++ (p.word.now ++ p.after.now) };
+    ghost view = { λ p. (p.before.now ++ p.word.now) ++ ((p.between.now ++ p.other.now) ++ p.after.now) };
 }
 
 impl<'a> Piece<'a> {
@@ -140,7 +186,7 @@ impl<'a> Piece<'a> {
         ensures { result ≡ encode_utf8_all (piece (texts_of words.now) (Err fault)) }
     {
         let line = Line::of_fault(words, fault);
-        Piece::around(line.before, line.word, line.after)
+        Piece::around_two(line.before, line.word, line.between, line.other, line.after)
     }
 
     /// The fault of a script.
@@ -169,10 +215,10 @@ impl<'a> Piece<'a> {
         ensures bytes { Gathers (W.log sink.old) output.old (W.log sink.new) output.new self.now result }
         ensures flag { W.is_failed sink.new ≡ not result }
     {
-        if !output.push(sink, self.before.as_bytes()) {
+        if !push_both(output, sink, self.before, self.word) {
             return false;
         }
-        if !output.push(sink, self.word.as_bytes()) {
+        if !push_both(output, sink, self.between, self.other) {
             return false;
         }
         output.push(sink, self.after.as_bytes())
@@ -184,6 +230,27 @@ impl<'a> Piece<'a> {
         Piece {
             before,
             word,
+            between: "",
+            other: "",
+            after,
+        }
+    }
+
+    fn around_two(
+        before: &'static str,
+        word: &'a str,
+        between: &'static str,
+        other: &'a str,
+        after: &'static str,
+    ) -> Piece<'a>
+        ensures { result ≡ encode_utf8_all
+            (chars before.now ++ (chars word.now ++ (chars between.now ++ (chars other.now ++ chars after.now)))) }
+    {
+        Piece {
+            before,
+            word,
+            between,
+            other,
             after,
         }
     }
@@ -194,9 +261,23 @@ impl<'a> Piece<'a> {
         Piece {
             before: text,
             word: "",
+            between: "",
+            other: "",
             after: "",
         }
     }
+}
+
+/// Puts two texts behind the bytes that wait, and answers false where the writer fails.
+fn push_both<W: ByteSink>(output: &mut Output, sink: &mut W, first: &str, second: &str) -> bool
+    requires { W.is_failed sink.old ≡ false }
+    ensures bytes { Gathers (W.log sink.old) output.old (W.log sink.new) output.new (first.now ++ second.now) result }
+    ensures flag { W.is_failed sink.new ≡ not result }
+{
+    if !output.push(sink, first.as_bytes()) {
+        return false;
+    }
+    output.push(sink, second.as_bytes())
 }
 
 fn answer_text<'a>(words: &'a [String], answer: &'a Answer) -> &'a str

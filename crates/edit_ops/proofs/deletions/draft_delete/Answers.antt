@@ -10,8 +10,8 @@ remove_spans-requires g c = record {
 }
 
 pub returns-clause-makes : goal.returns-clause-makes
-returns-clause-makes g c = λ recording log.
+returns-clause-makes g c = λ recording log kept.
     let content = g.S.TextStore.content c.args.store.now in
-    delete-made c.in_ok-draft.draft c.remove_spans.new.self content c.args.anchors.now c.args.start c.args.end c.args.spans.now c.in_ok-runs.runs.items c.spare_shown-takes_last.new.runs.items
+    delete-made c.args.keeps c.in_ok-draft.draft c.remove_spans.new.self content c.args.anchors.now c.args.start c.args.end c.args.spans.now c.in_ok-runs.runs.items c.spare_shown-takes_last.new.runs.items
     c.spare_shown-takes_last.result c.in_ok-steps.steps c.requires.shows c.requires.within c.in_ok-runs.ensures.covers c.spare_shown-takes_last.ensures.takes c.spare_shown-takes_last.ensures.apart
-    c.spare_shown-takes_last.ensures.covers c.in_ok-steps.ensures c.in_ok-draft.ensures (rw c.deref.ensures.value at c.in_ok-remove_spans.ensures.makes) recording log
+    c.spare_shown-takes_last.ensures.covers c.in_ok-steps.ensures c.in_ok-draft.ensures (rw c.deref.ensures.value at c.in_ok-remove_spans.ensures.makes) recording log kept

@@ -9,6 +9,7 @@ use Rattle.peers.proofs.ChangeLaws.{Stands}
 use Rattle.peers.proofs.MarkQueryLaws.{names-lone}
 use Rattle.peers.proofs.QueryLaws.{written}
 use Rattle.peers.proofs.documents.Document.all_marks.Goals as goal
+use Rattle.peers.specs.World.{journal_of}
 
 pub returns : goal.returns
 returns g c =
@@ -16,8 +17,8 @@ returns g c =
     let name = chars (string_bytes old.name) in
     let content = g.S.TextStore.content old.store in
     let document = c.args.self.now in
-    let stands : Stands name old.tags old.marks old.history content document = record { kept = c.self.invariant.0; marked = c.self.invariant.1; fresh = c.self.invariant.2; is = c.self.view_is } in
+    let stands : Stands name old.tags old.marks (journal_of old.settings old.history) content document = record { kept = c.self.invariant.0; marked = c.self.invariant.1; orderly = c.self.invariant.2; is = c.self.view_is } in
     let names = literal "insert" ∷ literal "current" ∷ names_of old.marks.marks in
     let new = c.push_mark_names.new.list in
     c.new.ensures ∙ written (string_bytes new) names (IsUtf8-string_bytes new) (subst (λ bytes. Goes bytes (string_bytes new) names) c.new-list.ensures.bytes c.in_ok-push_mark_names.ensures)
-    ∙ ap list_text (names-lone name old.tags old.marks old.history content document stands)
+    ∙ ap list_text (names-lone name old.tags old.marks (journal_of old.settings old.history) content document stands)

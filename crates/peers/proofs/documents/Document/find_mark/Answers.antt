@@ -7,6 +7,7 @@ use Rattle.text_model.specs.declared.places.MarkNo.{MarkNo}
 use Rattle.peers.proofs.ChangeLaws.{Stands}
 use Rattle.peers.proofs.MarkQueryLaws.{IsShared, number-known, number-none, number-shown, number-there}
 use Rattle.peers.proofs.documents.Document.find_mark.Goals as goal
+use Rattle.peers.specs.World.{journal_of}
 
 pub returns-in_err-number-clause-value : goal.returns-in_err-number-clause-value
 returns-in_err-number-clause-value g c =
@@ -14,11 +15,11 @@ returns-in_err-number-clause-value g c =
     let name = chars (string_bytes old.name) in
     let content = g.S.TextStore.content old.store in
     let document = c.args.self.now in
-    let stands : Stands name old.tags old.marks old.history content document = record { kept = c.self.invariant.0; marked = c.self.invariant.1; fresh = c.self.invariant.2; is = c.self.view_is } in
+    let stands : Stands name old.tags old.marks (journal_of old.settings old.history) content document = record { kept = c.self.invariant.0; marked = c.self.invariant.1; orderly = c.self.invariant.2; is = c.self.view_is } in
     let word = chars c.args.name.now in
     let shared : IsShared word = record { insert = sym c.if-is_word.ensures; current = sym c.if-is_word-2.ensures } in
     let none : number_of word old.marks.marks ≡ None = sym c.find.ensures ∙ ap (option_map (λ (n : MarkNo). n.0)) c.in_err-number.was in
-    ap (option_map rank_of) c.from_residual.ensures ∙ number-none name old.tags old.marks old.history content document stands word shared none
+    ap (option_map rank_of) c.from_residual.ensures ∙ number-none name old.tags old.marks (journal_of old.settings old.history) content document stands word shared none
 
 pub returns-in_err-place-clause-value : goal.returns-in_err-place-clause-value
 returns-in_err-place-clause-value g c =
@@ -26,10 +27,10 @@ returns-in_err-place-clause-value g c =
     let name = chars (string_bytes old.name) in
     let content = g.S.TextStore.content old.store in
     let document = c.args.self.now in
-    let stands : Stands name old.tags old.marks old.history content document = record { kept = c.self.invariant.0; marked = c.self.invariant.1; fresh = c.self.invariant.2; is = c.self.view_is } in
+    let stands : Stands name old.tags old.marks (journal_of old.settings old.history) content document = record { kept = c.self.invariant.0; marked = c.self.invariant.1; orderly = c.self.invariant.2; is = c.self.view_is } in
     let word = chars c.args.name.now in
     let known : number_of word old.marks.marks ≡ Some c.in_ok-number.number.0 = sym c.find.ensures ∙ ap (option_map (λ (n : MarkNo). n.0)) c.in_ok-number.was in
-    absurd (c.in_err-place.ensures (number-there name old.tags old.marks old.history content document stands word c.in_ok-number.number.0 known))
+    absurd (c.in_err-place.ensures (number-there name old.tags old.marks (journal_of old.settings old.history) content document stands word c.in_ok-number.number.0 known))
 
 pub returns-clause-value : goal.returns-clause-value
 returns-clause-value g c =
@@ -37,11 +38,11 @@ returns-clause-value g c =
     let name = chars (string_bytes old.name) in
     let content = g.S.TextStore.content old.store in
     let document = c.args.self.now in
-    let stands : Stands name old.tags old.marks old.history content document = record { kept = c.self.invariant.0; marked = c.self.invariant.1; fresh = c.self.invariant.2; is = c.self.view_is } in
+    let stands : Stands name old.tags old.marks (journal_of old.settings old.history) content document = record { kept = c.self.invariant.0; marked = c.self.invariant.1; orderly = c.self.invariant.2; is = c.self.view_is } in
     let word = chars c.args.name.now in
     let shared : IsShared word = record { insert = sym c.if-is_word.ensures; current = sym c.if-is_word-2.ensures } in
     let known : number_of word old.marks.marks ≡ Some c.in_ok-number.number.0 = sym c.find.ensures ∙ ap (option_map (λ (n : MarkNo). n.0)) c.in_ok-number.was in
-    number-known name old.tags old.marks old.history content document stands word c.in_ok-number.number.0 c.in_ok-place.field-0 shared known c.in_ok-place.ensures
+    number-known name old.tags old.marks (journal_of old.settings old.history) content document stands word c.in_ok-number.number.0 c.in_ok-place.field-0 shared known c.in_ok-place.ensures
 
 pub returns-clause-shown : goal.returns-clause-shown
 returns-clause-shown g c =
@@ -49,7 +50,7 @@ returns-clause-shown g c =
     let name = chars (string_bytes old.name) in
     let content = g.S.TextStore.content old.store in
     let document = c.args.self.now in
-    let stands : Stands name old.tags old.marks old.history content document = record { kept = c.self.invariant.0; marked = c.self.invariant.1; fresh = c.self.invariant.2; is = c.self.view_is } in
+    let stands : Stands name old.tags old.marks (journal_of old.settings old.history) content document = record { kept = c.self.invariant.0; marked = c.self.invariant.1; orderly = c.self.invariant.2; is = c.self.view_is } in
     let word = chars c.args.name.now in
     let known : number_of word old.marks.marks ≡ Some c.in_ok-number.number.0 = sym c.find.ensures ∙ ap (option_map (λ (n : MarkNo). n.0)) c.in_ok-number.was in
-    number-shown name old.tags old.marks old.history content document stands word c.in_ok-number.number.0 c.in_ok-place.field-0 known c.in_ok-place.ensures
+    number-shown name old.tags old.marks (journal_of old.settings old.history) content document stands word c.in_ok-number.number.0 c.in_ok-place.field-0 known c.in_ok-place.ensures

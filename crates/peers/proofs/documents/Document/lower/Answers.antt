@@ -5,7 +5,7 @@ use Rattle.command_parts.specs.declared.answers.Answer.{Answer}
 use Rattle.command_parts.specs.declared.answers.Fault.{Fault}
 use Rattle.peers.specs.Promise.{Does}
 use Rattle.peers.specs.Tags.{lowered, reordered}
-use Rattle.peers.specs.World.{lone_document}
+use Rattle.peers.specs.World.{lone_document, journal_of}
 use Rattle.peers.proofs.ChangeLaws.{Stands}
 use Rattle.peers.proofs.TagLaws.{does-ordered, does-unordered}
 use Rattle.peers.proofs.OrderLaws.{length-lowered, lowered-ordered}
@@ -21,23 +21,23 @@ invariant_of-self g c =
     let content = g.S.TextStore.content old.store in
     let word = chars c.args.name.now in
     let other = option_map (λ w. chars w.now) c.args.below in
-    let stands : Stands name old.tags old.marks old.history content c.args.self.now = record { kept = c.self.invariant.0; marked = c.self.invariant.1; fresh = c.self.invariant.2; is = c.self.view_is } in
+    let stands : Stands name old.tags old.marks (journal_of old.settings old.history) content c.args.self.now = record { kept = c.self.invariant.0; marked = c.self.invariant.1; orderly = c.self.invariant.2; is = c.self.view_is } in
     elim c.match-lower.branch [
       | in-Ok w ↦
           let ordered = lowered-ordered word other old.tags.tags new.tags stands.kept.tags.names_apart w.in-Ok.ensures.ok in (
-            (does-ordered c.args.limits.now name old.tags new old.marks old.history content c.args.self.now c.args.at lowered word other stands ordered w.len-count.ensures.sound w.in-Ok.ensures.limit
+            (does-ordered c.args.limits.now name old.tags new old.marks (journal_of old.settings old.history) content c.args.self.now c.args.at lowered word other stands ordered w.len-count.ensures.sound w.in-Ok.ensures.limit
                 (length-lowered _ word other ordered.known)).0,
             stands.marked,
-            stands.fresh,
+            stands.orderly,
           )
       | in-Err-Moved w ↦
-          let left = (does-unordered c.args.limits.now name old.tags new old.marks old.history content c.args.self.now c.args.at lowered word other Moved stands w.in-Err-Moved.ensures.err
+          let left = (does-unordered c.args.limits.now name old.tags new old.marks (journal_of old.settings old.history) content c.args.self.now c.args.at lowered word other Moved stands w.in-Err-Moved.ensures.err
           (subst (IsUnknown word other old.tags.tags) w.in-Err-Moved.field-0-is (lowered-unknown word other old.tags.tags w.in-Err-Moved.field-0 w.in-Err-Moved.ensures.fault))).0 in
-          (left.kept, left.marked, left.fresh)
+          (left.kept, left.marked, left.orderly)
       | in-Err-Neighbour w ↦
-          let left = (does-unordered c.args.limits.now name old.tags new old.marks old.history content c.args.self.now c.args.at lowered word other Neighbour stands w.in-Err-Neighbour.ensures.err
+          let left = (does-unordered c.args.limits.now name old.tags new old.marks (journal_of old.settings old.history) content c.args.self.now c.args.at lowered word other Neighbour stands w.in-Err-Neighbour.ensures.err
           (subst (IsUnknown word other old.tags.tags) w.in-Err-Neighbour.field-0-is (lowered-unknown word other old.tags.tags w.in-Err-Neighbour.field-0 w.in-Err-Neighbour.ensures.fault))).0 in
-          (left.kept, left.marked, left.fresh)
+          (left.kept, left.marked, left.orderly)
     ]
 
 pub returns : goal.returns
@@ -48,15 +48,15 @@ returns g c =
     let content = g.S.TextStore.content old.store in
     let word = chars c.args.name.now in
     let other = option_map (λ w. chars w.now) c.args.below in
-    let stands : Stands name old.tags old.marks old.history content c.args.self.now = record { kept = c.self.invariant.0; marked = c.self.invariant.1; fresh = c.self.invariant.2; is = c.self.view_is } in
-    let P : Result Answer Fault → Type 0 = λ result. Does c.args.limits.now c.args.self.now (lone_document name new.tags old.marks.marks old.history.modified content) result (reordered c.args.self.now c.args.at lowered (word, other)) in
+    let stands : Stands name old.tags old.marks (journal_of old.settings old.history) content c.args.self.now = record { kept = c.self.invariant.0; marked = c.self.invariant.1; orderly = c.self.invariant.2; is = c.self.view_is } in
+    let P : Result Answer Fault → Type 0 = λ result. Does c.args.limits.now c.args.self.now (lone_document name new.tags old.marks.marks (journal_of old.settings old.history) content) result (reordered c.args.self.now c.args.at lowered (word, other)) in
     elim c.match-lower.branch [
       | in-Ok w ↦
           let ordered = lowered-ordered word other old.tags.tags new.tags stands.kept.tags.names_apart w.in-Ok.ensures.ok in
-          subst P (sym w.result-is) (does-ordered c.args.limits.now name old.tags new old.marks old.history content c.args.self.now c.args.at lowered word other stands ordered w.len-count.ensures.sound
+          subst P (sym w.result-is) (does-ordered c.args.limits.now name old.tags new old.marks (journal_of old.settings old.history) content c.args.self.now c.args.at lowered word other stands ordered w.len-count.ensures.sound
           w.in-Ok.ensures.limit (length-lowered _ word other ordered.known)).1
-      | in-Err-Moved w ↦ subst P (sym w.result-is) (does-unordered c.args.limits.now name old.tags new old.marks old.history content c.args.self.now c.args.at lowered word other Moved stands
+      | in-Err-Moved w ↦ subst P (sym w.result-is) (does-unordered c.args.limits.now name old.tags new old.marks (journal_of old.settings old.history) content c.args.self.now c.args.at lowered word other Moved stands
           w.in-Err-Moved.ensures.err (subst (IsUnknown word other old.tags.tags) w.in-Err-Moved.field-0-is (lowered-unknown word other old.tags.tags w.in-Err-Moved.field-0 w.in-Err-Moved.ensures.fault))).1
-      | in-Err-Neighbour w ↦ subst P (sym w.result-is) (does-unordered c.args.limits.now name old.tags new old.marks old.history content c.args.self.now c.args.at lowered word other Neighbour stands
+      | in-Err-Neighbour w ↦ subst P (sym w.result-is) (does-unordered c.args.limits.now name old.tags new old.marks (journal_of old.settings old.history) content c.args.self.now c.args.at lowered word other Neighbour stands
           w.in-Err-Neighbour.ensures.err (subst (IsUnknown word other old.tags.tags) w.in-Err-Neighbour.field-0-is (lowered-unknown word other old.tags.tags w.in-Err-Neighbour.field-0 w.in-Err-Neighbour.ensures.fault))).1
     ]

@@ -4,7 +4,7 @@ use Rattle.command_parts.specs.declared.answers.Answer.{Answer}
 use Rattle.command_parts.specs.declared.answers.Fault.{Fault}
 use Rattle.peers.specs.Marks.{set_found}
 use Rattle.peers.specs.Promise.{Does}
-use Rattle.peers.specs.World.{lone_document, lone_widget}
+use Rattle.peers.specs.World.{lone_document, lone_widget, journal_of}
 use Rattle.peers.proofs.ChangeLaws.{Stands, does-left}
 use Rattle.peers.proofs.LoneLaws.{cells-lone}
 use Rattle.peers.proofs.MarkLaws.{does-made, stands-unmarked}
@@ -18,9 +18,9 @@ make_mark-requires-clause-new g c =
     let name = chars (string_bytes old.name) in
     let content = g.S.TextStore.content old.store in
     let document = c.args.self.now in
-    let stands : Stands name old.tags old.marks old.history content document = record { kept = c.self.invariant.0; marked = c.self.invariant.1; fresh = c.self.invariant.2; is = c.self.view_is } in
+    let stands : Stands name old.tags old.marks (journal_of old.settings old.history) content document = record { kept = c.self.invariant.0; marked = c.self.invariant.1; orderly = c.self.invariant.2; is = c.self.view_is } in
     let word = chars c.args.name.now in
-    (new-name name old.tags old.marks old.history content document stands word c.requires.new).1
+    (new-name name old.tags old.marks (journal_of old.settings old.history) content document stands word c.requires.new).1
 
 pub invariant_of-self : goal.invariant_of-self
 invariant_of-self g c =
@@ -28,20 +28,20 @@ invariant_of-self g c =
     let name = chars (string_bytes old.name) in
     let content = g.S.TextStore.content old.store in
     let document = c.args.self.now in
-    let stands : Stands name old.tags old.marks old.history content document = record { kept = c.self.invariant.0; marked = c.self.invariant.1; fresh = c.self.invariant.2; is = c.self.view_is } in
+    let stands : Stands name old.tags old.marks (journal_of old.settings old.history) content document = record { kept = c.self.invariant.0; marked = c.self.invariant.1; orderly = c.self.invariant.2; is = c.self.view_is } in
     let word = chars c.args.name.now in
     let changed = g.S.TextStore.content c.make_mark.new.store in
     let new = c.make_mark.new.marks in
-    let within : c.args.offset ≤ length content.cells = omega (arith, c.requires.within, cells-lone name old.tags.tags old.marks.marks old.history.modified content document c.self.view_is) in
+    let within : c.args.offset ≤ length content.cells = omega (arith, c.requires.within, cells-lone name old.tags.tags old.marks.marks (journal_of old.settings old.history) content document c.self.view_is) in
     let few : length old.marks.marks < c.args.limits.now.marks = omega (arith, c.len.ensures.value, c.marks.ensures, c.if-len-marks.false) in
     elim c.match-make_mark.branch [
       | in-Err w ↦
-          let left = stands-unmarked name old.tags old.marks new old.history content changed document stands w.in-Err.ensures.err.1 w.in-Err.ensures.err.0 in
-          (left.kept, left.marked, left.fresh)
+          let left = stands-unmarked name old.tags old.marks new (journal_of old.settings old.history) content changed document stands w.in-Err.ensures.err.1 w.in-Err.ensures.err.0 in
+          (left.kept, left.marked, left.orderly)
       | in-Ok w ↦
-          let done = does-made c.args.limits.now name old.tags old.marks new old.history content changed document word c.args.offset stands within (new-name name old.tags old.marks old.history content document stands word c.requires.new).0 few
+          let done = does-made c.args.limits.now name old.tags old.marks new (journal_of old.settings old.history) content changed document word c.args.offset stands within (new-name name old.tags old.marks (journal_of old.settings old.history) content document stands word c.requires.new).0 few
           w.in-Ok.ensures.made in
-          (done.0, done.1, stands.fresh)
+          (done.0, done.1, stands.orderly)
     ]
 
 pub returns : goal.returns
@@ -50,20 +50,20 @@ returns g c =
     let name = chars (string_bytes old.name) in
     let content = g.S.TextStore.content old.store in
     let document = c.args.self.now in
-    let stands : Stands name old.tags old.marks old.history content document = record { kept = c.self.invariant.0; marked = c.self.invariant.1; fresh = c.self.invariant.2; is = c.self.view_is } in
+    let stands : Stands name old.tags old.marks (journal_of old.settings old.history) content document = record { kept = c.self.invariant.0; marked = c.self.invariant.1; orderly = c.self.invariant.2; is = c.self.view_is } in
     let word = chars c.args.name.now in
     let changed = g.S.TextStore.content c.make_mark.new.store in
     let new = c.make_mark.new.marks in
-    let within : c.args.offset ≤ length content.cells = omega (arith, c.requires.within, cells-lone name old.tags.tags old.marks.marks old.history.modified content document c.self.view_is) in
+    let within : c.args.offset ≤ length content.cells = omega (arith, c.requires.within, cells-lone name old.tags.tags old.marks.marks (journal_of old.settings old.history) content document c.self.view_is) in
     let few : length old.marks.marks < c.args.limits.now.marks = omega (arith, c.len.ensures.value, c.marks.ensures, c.if-len-marks.false) in
-    let made = lone_document name old.tags.tags new.marks old.history.modified changed in
+    let made = lone_document name old.tags.tags new.marks (journal_of old.settings old.history) changed in
     let change = set_found c.args.limits.now document (lone_widget document) word c.args.offset None in
     let P : Result Answer Fault → Type 0 = λ result. Does c.args.limits.now document made result change in
     elim c.match-make_mark.branch [
       | in-Err w ↦
-          let left = stands-unmarked name old.tags old.marks new old.history content changed document stands w.in-Err.ensures.err.1 w.in-Err.ensures.err.0 in
+          let left = stands-unmarked name old.tags old.marks new (journal_of old.settings old.history) content changed document stands w.in-Err.ensures.err.1 w.in-Err.ensures.err.0 in
           subst P (sym w.result-is) (does-left c.args.limits.now document made w.in-Err.fault change left.is
           (λ other. (let full = w.in-Err.ensures.fault other in let most = stands.marked.roomy in let bounds = c.chars-chars.ensures.bounds.marks in absurd (omega (arith, full, most, bounds, few)))))
-      | in-Ok w ↦ subst P (sym w.result-is) (does-made c.args.limits.now name old.tags old.marks new old.history content changed document word c.args.offset stands within
-          (new-name name old.tags old.marks old.history content document stands word c.requires.new).0 few w.in-Ok.ensures.made).2
+      | in-Ok w ↦ subst P (sym w.result-is) (does-made c.args.limits.now name old.tags old.marks new (journal_of old.settings old.history) content changed document word c.args.offset stands within
+          (new-name name old.tags old.marks (journal_of old.settings old.history) content document stands word c.requires.new).0 few w.in-Ok.ensures.made).2
     ]

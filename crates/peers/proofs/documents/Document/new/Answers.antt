@@ -3,11 +3,11 @@ use Rattle.std.specs.Prelude.{chars, string_bytes}
 use Rattle.text_model.specs.Content.{Content}
 use Rattle.mark_table.specs.SharedMarks.{SharedMarks}
 use Rattle.tag_table.specs.Tags.{Tags, AreTags}
-use Rattle.undo_stack.specs.Modified.{unmodified}
 use Rattle.text_model.specs.declared.limits.TheConstants.Limits.{MOST_MARKS, MOST_TAGS}
-use Rattle.peers.specs.Kept.{AreMarked, IsKept, is_window_name}
-use Rattle.peers.specs.World.{lone_document}
-use Rattle.peers.proofs.FirstLaws.{kept-first, lone-first, marked-first, sel_alone, sound-first}
+use Rattle.peers.specs.Kept.{AreMarked, IsKept, IsOrderly, is_window_name}
+use Rattle.peers.specs.World.{journal_of, lone_document}
+use Rattle.peers.specs.Step.{new_journal}
+use Rattle.peers.proofs.FirstLaws.{first-fits, first-journal, kept-first, lone-first, marked-first, orderly-first, sel_alone, sound-first}
 use Rattle.peers.proofs.WellFormedLaws.{IsWellFormedDocument-lone}
 use Rattle.peers.proofs.documents.Document.new.Goals as goal
 
@@ -20,20 +20,17 @@ invariant_of-result g c =
       subst (λ content. IsKept name c.in_ok-new.field-0 content) (sym c.in_ok-new_store.ensures)
           (kept-first name c.in_ok-new.field-0 named (subst AreTags (sym table) sound-first) (ap (λ (t : Tags). t.limit) table)),
       subst (λ table. AreMarked table (g.S.TextStore.content c.in_ok-new_store.field-0).marks) (sym marks) (marked-first (g.S.TextStore.content c.in_ok-new_store.field-0).marks),
-      record {
-        no_history = c.new-3.ensures.history;
-        no_limit = c.new-3.ensures.most;
-      },
+      subst IsOrderly (sym (first-journal c.new-4.result c.new-3.result c.new-4.ensures c.new-3.ensures.history c.new-3.ensures.modified c.new-3.ensures.most)) orderly-first,
     )
 
 pub returns-clause-value : goal.returns-clause-value
 returns-clause-value g c =
     let content = g.S.TextStore.content c.in_ok-new_store.field-0 in
-    ap (λ bytes. lone_document (chars bytes) c.in_ok-new.field-0.tags c.in_ok-new-2.field-0.marks c.new-3.result.modified content) c.in_ok-from_str.ensures.ok
-    ∙ ap (λ (t : Tags). lone_document (chars c.args.name.now) t.tags c.in_ok-new-2.field-0.marks c.new-3.result.modified content) c.in_ok-new.ensures
-    ∙ ap (λ (m : SharedMarks). lone_document (chars c.args.name.now) sel_alone m.marks c.new-3.result.modified content) c.in_ok-new-2.ensures
-    ∙ ap (λ modified. lone_document (chars c.args.name.now) sel_alone [] modified content) c.new-3.ensures.modified
-    ∙ ap (lone_document (chars c.args.name.now) sel_alone [] unmodified) c.in_ok-new_store.ensures ∙ lone-first (chars c.args.name.now)
+    ap (λ bytes. lone_document (chars bytes) c.in_ok-new.field-0.tags c.in_ok-new-2.field-0.marks (journal_of c.new-4.result c.new-3.result) content) c.in_ok-from_str.ensures.ok
+    ∙ ap (λ (t : Tags). lone_document (chars c.args.name.now) t.tags c.in_ok-new-2.field-0.marks (journal_of c.new-4.result c.new-3.result) content) c.in_ok-new.ensures
+    ∙ ap (λ (m : SharedMarks). lone_document (chars c.args.name.now) sel_alone m.marks (journal_of c.new-4.result c.new-3.result) content) c.in_ok-new-2.ensures
+    ∙ ap (λ journal. lone_document (chars c.args.name.now) sel_alone [] journal content) (first-journal c.new-4.result c.new-3.result c.new-4.ensures c.new-3.ensures.history c.new-3.ensures.modified c.new-3.ensures.most)
+    ∙ ap (lone_document (chars c.args.name.now) sel_alone [] new_journal) c.in_ok-new_store.ensures ∙ lone-first (chars c.args.name.now)
 
 pub returns-clause-well_formed : goal.returns-clause-well_formed
 returns-clause-well_formed g c = λ limits are.
@@ -42,5 +39,7 @@ returns-clause-well_formed g c = λ limits are.
     let one : length content.cells ≡ 1 = ap (λ (x : Content). length x.cells) c.in_ok-new_store.ensures in
     let none : length c.in_ok-new-2.field-0.marks ≡ 0 = ap (λ (m : SharedMarks). length m.marks) c.in_ok-new-2.ensures in
     let few : length c.in_ok-new.field-0.tags ≡ 1 = ap (λ (t : Tags). length t.tags) c.in_ok-new.ensures in
-    IsWellFormedDocument-lone limits name c.in_ok-new.field-0 c.in_ok-new-2.field-0 c.new-3.result.modified content (invariant_of-result g c).0 (invariant_of-result g c).1 (omega (arith, are.some, one)) (omega (arith, few))
+    let journal = journal_of c.new-4.result c.new-3.result in
+    IsWellFormedDocument-lone limits name c.in_ok-new.field-0 c.in_ok-new-2.field-0 journal content (invariant_of-result g c).0 (invariant_of-result g c).1
+    (first-fits limits.chars content journal (omega (arith, are.some, one)) (first-journal c.new-4.result c.new-3.result c.new-4.ensures c.new-3.ensures.history c.new-3.ensures.modified c.new-3.ensures.most)) (omega (arith, few))
     (omega (arith, none))

@@ -10,7 +10,7 @@ use Rattle.text_index.specs.Ranges.{next_range}
 use Rattle.tcl_words.specs.ListGrowth.{Goes}
 use Rattle.command_parts.specs.Listing.{range_words, begun}
 use Rattle.peers.specs.View.{shown}
-use Rattle.peers.specs.World.{lone_widget}
+use Rattle.peers.specs.World.{lone_widget, journal_of}
 use Rattle.peers.proofs.EndLaws.{whole-view}
 use Rattle.peers.proofs.QueryLaws.{written, flags-known, flags-unknown}
 use Rattle.peers.proofs.LoneLaws.{shown-is, shown-whole}
@@ -23,7 +23,7 @@ returns-in_default g c =
     let word = chars c.args.name.now in
     let unknown : slot_of word self.tags.tags ≡ None = sym c.find.ensures.value ∙ ap (option_map (λ (slot : TagSlot). slot.0)) c.in_default.is in
     c.new.ensures ∙ ap chars c.new-list.ensures.bytes ∙ chars-nil
-    ∙ ap (λ flags. list_text (range_words (shown document (lone_widget document)) (begun (λ start. nat_lt start c.args.to) (next_range flags c.args.from)))) (flags-unknown (chars (string_bytes self.name)) self.tags.tags self.marks.marks self.history.modified content document word c.self.view_is unknown)
+    ∙ ap (λ flags. list_text (range_words (shown document (lone_widget document)) (begun (λ start. nat_lt start c.args.to) (next_range flags c.args.from)))) (flags-unknown (chars (string_bytes self.name)) self.tags.tags self.marks.marks (journal_of self.settings self.history) content document word c.self.view_is unknown)
 
 pub push_next-requires-clause-view : goal.push_next-requires-clause-view
 push_next-requires-clause-view g c = whole-view (g.S.TextStore.content c.self.inside.store) c.len.result c.self.invariant.0.text c.len.ensures
@@ -35,8 +35,8 @@ returns g c =
     let content = g.S.TextStore.content self.store in
     let word = chars c.args.name.now in
     let known : slot_of word self.tags.tags ≡ Some c.in-Some.slot.0 = sym c.find.ensures.value ∙ ap (option_map (λ (slot : TagSlot). slot.0)) c.in-Some.is in
-    let text = shown-whole content c.len.result c.len.ensures ∙ shown-is name self.tags.tags self.marks.marks self.history.modified content document c.self.view_is in
-    let flags = flags-known name self.tags.tags self.marks.marks self.history.modified content document word c.in-Some.slot.0 c.len.result c.self.invariant.0.tags.names_apart c.self.view_is known c.len.ensures in
+    let text = shown-whole content c.len.result c.len.ensures ∙ shown-is name self.tags.tags self.marks.marks (journal_of self.settings self.history) content document c.self.view_is in
+    let flags = flags-known name self.tags.tags self.marks.marks (journal_of self.settings self.history) content document word c.in-Some.slot.0 c.len.result c.self.invariant.0.tags.names_apart c.self.view_is known c.len.ensures in
     let new = c.push_next.new.list in
     let words = range_words (view.shown content 0 c.len.result) (begun (λ start. nat_lt start c.args.to) (next_range (view.shown_flags c.in-Some.slot.0 content 0 c.len.result) c.args.from)) in
     c.new-2.ensures ∙ written (string_bytes new) words (IsUtf8-string_bytes new) (subst (λ bytes. Goes bytes (string_bytes new) words) c.new-list.ensures.bytes c.in_ok-push_next.ensures)

@@ -7,6 +7,7 @@ use Rattle.peers.proofs.ChangeLaws.{Stands}
 use Rattle.peers.proofs.LoneLaws.{cells-lone}
 use Rattle.peers.proofs.MarkQueryLaws.{usable-lone}
 use Rattle.peers.proofs.documents.Document.next_mark.Goals as goal
+use Rattle.peers.specs.World.{journal_of}
 
 pub returns : goal.returns
 returns g c =
@@ -14,7 +15,7 @@ returns g c =
     let name = chars (string_bytes old.name) in
     let content = g.S.TextStore.content old.store in
     let document = c.args.self.now in
-    let stands : Stands name old.tags old.marks old.history content document = record { kept = c.self.invariant.0; marked = c.self.invariant.1; fresh = c.self.invariant.2; is = c.self.view_is } in
-    let long = cells-lone name old.tags.tags old.marks.marks old.history.modified content document c.self.view_is in
+    let stands : Stands name old.tags old.marks (journal_of old.settings old.history) content document = record { kept = c.self.invariant.0; marked = c.self.invariant.1; orderly = c.self.invariant.2; is = c.self.view_is } in
+    let long = cells-lone name old.tags.tags old.marks.marks (journal_of old.settings old.history) content document c.self.view_is in
     c.next.ensures ∙ ap (λ (view : MarkView). next_mark c.args.origin (usable view content.marks (numbers_of old.marks.marks))) c.mark_view.ensures
-    ∙ ap (next_mark c.args.origin) (usable-lone name old.tags old.marks old.history content document stands (length document.cells) long)
+    ∙ ap (next_mark c.args.origin) (usable-lone name old.tags old.marks (journal_of old.settings old.history) content document stands (length document.cells) long)

@@ -1,7 +1,7 @@
 use Rattle.std.proofs.Common.{◌∙◌}
 use Rattle.std.specs.Prelude.{chars, string_bytes}
 use Rattle.peers.specs.Names.{place_of}
-use Rattle.peers.specs.World.{lone_widget}
+use Rattle.peers.specs.World.{lone_widget, journal_of}
 use Rattle.peers.proofs.EndLaws.{whole-view}
 use Rattle.peers.proofs.LoneLaws.{place-lone, gives-place}
 use Rattle.peers.proofs.documents.Document.place_at.Goals as goal
@@ -14,7 +14,7 @@ returns-clause-value g c =
     let self = c.self.inside in
     let content = g.S.TextStore.content self.store in
     let word = chars c.args.word.now in
-    let defined = place-lone (chars (string_bytes self.name)) self.tags self.marks self.history.modified content c.len.result c.args.self.now word
+    let defined = place-lone (chars (string_bytes self.name)) self.tags self.marks (journal_of self.settings self.history) content c.len.result c.args.self.now word
     c.self.invariant.0 c.self.invariant.1 c.len.ensures c.self.view_is in
     let gives = gives-place c.args.position c.locate.result (place_of c.args.self.now (lone_widget c.args.self.now) word) (λ other. c.locate.ensures.value other ∙ defined) in
     λ other. c.at_position.ensures.value ∙ gives (λ memory. other (c.at_position.ensures.value ∙ memory))

@@ -6,6 +6,7 @@ use Rattle.peers.proofs.EndLaws.{whole-view}
 use Rattle.peers.proofs.LoneLaws.{shown-is, shown-whole}
 use Rattle.std.proofs.lemmas.Str.{chars-nil}
 use Rattle.peers.proofs.documents.Document.position_of.Goals as goal
+use Rattle.peers.specs.World.{journal_of}
 
 pub push_index-requires-clause-view : goal.push_index-requires-clause-view
 push_index-requires-clause-view g c = whole-view (g.S.TextStore.content c.self.inside.store) c.len.result c.self.invariant.0.text c.len.ensures
@@ -13,7 +14,7 @@ push_index-requires-clause-view g c = whole-view (g.S.TextStore.content c.self.i
 pub returns : goal.returns
 returns g c =
     let content = g.S.TextStore.content c.self.inside.store in
-    let text = shown-whole content c.len.result c.len.ensures ∙ shown-is (chars (string_bytes c.self.inside.name)) c.self.inside.tags.tags c.self.inside.marks.marks c.self.inside.history.modified content c.args.self.now c.self.view_is in
+    let text = shown-whole content c.len.result c.len.ensures ∙ shown-is (chars (string_bytes c.self.inside.name)) c.self.inside.tags.tags c.self.inside.marks.marks (journal_of c.self.inside.settings c.self.inside.history) content c.args.self.now c.self.view_is in
     c.new.ensures ∙ c.in_ok-push_index.ensures.ok
     ∙ ap (λ bytes. chars bytes ++ position_text (view.shown content 0 c.len.result) c.args.place) c.new-text.ensures.bytes
     ∙ ap (λ front. front ++ position_text (view.shown content 0 c.len.result) c.args.place) chars-nil

@@ -1,12 +1,6 @@
-use Rattle.std.proofs.Common.{◌∙◌}
-use Rattle.tcl_words.specs.Unread.{texts_of}
-use Rattle.script_cli.specs.Pieces.{fault_line}
-use Rattle.script_cli.proofs.PieceLaws.{line-bytes}
+use Rattle.std.proofs.Common.{encode_utf8_all, ap, ◌∙◌}
+use Rattle.script_cli.specs.Pieces.{line_text}
 use Rattle.script_cli.proofs.pieces.Piece.of_fault.Goals as goal
 
 pub returns : goal.returns
-returns c =
-    let line = c.of_fault-line.result in
-    c.around.ensures
-    ∙ line-bytes line.before.now line.word.now line.after.now (fault_line (texts_of c.args.words.now) c.args.fault)
-    c.of_fault-line.ensures.before c.of_fault-line.ensures.word c.of_fault-line.ensures.after
+returns c = c.around_two.ensures ∙ ap (λ line. encode_utf8_all (line_text line)) (c.line.view_is ∙ c.of_fault-line.ensures)
