@@ -5,9 +5,9 @@
 
 Prints a table and writes it to FILE, so that the next change can be compared with it. Each time is the
 least of several runs of the whole program, from its start to its end. Below stands the greatest resident
-size over scripts of short commands of three lengths. The exit status is 1 if a run didn't answer as it
-has to, if appending 20,000 words takes five seconds or more, or if the greatest resident size grows with
-the script.
+size over scripts of three lengths, of short commands and of edits whose history is bounded. The exit
+status is 1 if a run didn't answer as it has to, if appending 20,000 words takes five seconds or more, or
+if the greatest resident size grows with the script.
 """
 
 import argparse
@@ -22,8 +22,7 @@ from typing import NamedTuple
 GOAL_COMMANDS = 20_000
 GOAL_SECONDS = 5.0
 TIMEOUT_SECONDS = 300
-# Lengths of scripts of short commands, in bytes, and by how many kB the resident size may differ among them.
-SCRIPT_LENGTHS = [1_000_000, 4_000_000, 16_000_000]
+# By how many kB the resident size may differ among scripts of several lengths.
 SIZE_MARGIN = 256
 
 
@@ -85,6 +84,17 @@ def many_ranges(size):
     return text + [f".t delete {ranges}", ".t insert 1.0 " + "b" * RANGES] * (size // RANGES)
 
 
+def undos(size):
+    """A text of `size` characters, into which one is put all over it, taken back and put in again."""
+    text = ["text .t -undo 1", ".t insert end " + "a" * size]
+    return text + [command for place in spread_places(size // 8) for command in (f".t insert 1.{place} x", ".t edit undo", ".t edit redo")]
+
+
+def long_histories(size):
+    """A text of a few characters that is edited in so many groups, which are all undone at last."""
+    return ["text .t -undo 1"] + [".t insert 1.0 x", ".t delete 1.0"] * (size // 4) + [".t edit undo"] * (size // 2)
+
+
 def refused_commands(size):
     """Commands that are refused for a bad index."""
     return ["text .t"] + [".t index zz"] * size
@@ -143,6 +153,8 @@ KINDS = [
     Kind("delete in the middle", middle_deletes),
     Kind("replace in the middle", middle_replaces),
     Kind("delete 1,000 ranges", many_ranges),
+    Kind("insert, undo and redo", undos),
+    Kind("many groups, all undone", long_histories),
     Kind("index by position", index_queries),
     Kind("index by line number", line_queries),
     Kind("get one character", character_queries),
@@ -269,13 +281,12 @@ def resident_size(pid):
     sys.exit("no greatest resident size is told here")
 
 
-def measure_size(program, length):
-    """The greatest resident size, in kB, over a script of short commands, so many bytes long.
+def measure_size(program, first, command, length):
+    """The greatest resident size, in kB, over a script of a first command and then a short one, so many bytes long.
 
     It is looked at when all but what a pipe holds was read, since it is gone with the process.
     """
-    command = b".t index end\n"
-    script = b"text .t\n" + command * (length // len(command))
+    script = first + command * (length // len(command))
     with subprocess.Popen([program], stdin=subprocess.PIPE, stdout=subprocess.DEVNULL) as process:
         process.stdin.write(script)
         process.stdin.flush()
@@ -287,15 +298,25 @@ def measure_size(program, length):
     return size
 
 
+# What a script is made of whose size is measured: its name, its first command, the one that follows, and its lengths in bytes.
+SIZED_SCRIPTS = [
+    ("short commands", b"text .t\n", b".t index end\n", [1_000_000, 4_000_000, 16_000_000]),
+    ("edits of which 1,000 groups are kept", b"text .t -undo 1 -maxundo 1000\n", b".t insert 1.0 x\n.t delete 1.0\n", [300_000, 1_500_000, 6_000_000]),
+]
+
+
 def measure_sizes(program, lines):
     """Adds the lines on the resident size, and tells whether it stays the same."""
-    sizes = [measure_size(program, length) for length in SCRIPT_LENGTHS]
-    is_met = max(sizes) - min(sizes) <= SIZE_MARGIN
-    emit(lines, "")
-    for length, size in zip(SCRIPT_LENGTHS, sizes):
-        emit(lines, f"a script of {length} bytes in short commands: greatest resident size {size} kB")
-    emit(lines, f"(goal: the same within {SIZE_MARGIN} kB, {'met' if is_met else 'MISSED'})")
-    return is_met
+    are_met = True
+    for name, first, command, lengths in SIZED_SCRIPTS:
+        sizes = [measure_size(program, first, command, length) for length in lengths]
+        is_met = max(sizes) - min(sizes) <= SIZE_MARGIN
+        are_met = are_met and is_met
+        emit(lines, "")
+        for length, size in zip(lengths, sizes):
+            emit(lines, f"a script of {length} bytes in {name}: greatest resident size {size} kB")
+        emit(lines, f"(goal: the same within {SIZE_MARGIN} kB, {'met' if is_met else 'MISSED'})")
+    return are_met
 
 
 def sizes_of(text):

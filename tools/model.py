@@ -446,6 +446,14 @@ class History:
     undone: tuple = ()
 
 
+class Action(NamedTuple):
+    """A text that was put in at an offset, or taken out there."""
+
+    is_insertion: bool
+    offset: int
+    text: str
+
+
 class Modified(NamedTuple):
     """The modified flag: a signed count of actions, and whether the flag is fixed."""
 
@@ -540,6 +548,22 @@ def bad_list(word):
 
 def index_order(first, last):
     return Fault(f'index "{last}" before "{first}" in the text')
+
+
+def bad_boolean(word):
+    return Fault(f'expected boolean value but got "{word}"')
+
+
+def bad_integer(word):
+    return Fault(f'expected integer but got "{word}"')
+
+
+def nothing_to_undo():
+    return Fault("nothing to undo")
+
+
+def nothing_to_redo():
+    return Fault("nothing to redo")
 
 
 def bad_option(word):
@@ -1168,6 +1192,11 @@ def widget_named(document, name):
     return next(widget for widget in document.widgets if widget.name == name)
 
 
+def with_widget(document, old, new):
+    """The document with one widget exchanged."""
+    return replace(document, widgets=tuple(new if widget is old else widget for widget in document.widgets))
+
+
 def named_mark(document, widget, name):
     """The mark of a name, the widget's own or a shared one, or None."""
     return getattr(widget, name) if name in OWN_MARKS else dict(document.marks).get(name)
@@ -1176,8 +1205,7 @@ def named_mark(document, widget, name):
 def with_mark(document, widget, name, mark):
     """The document with the mark of a name exchanged; a shared mark that is new comes last."""
     if name in OWN_MARKS:
-        changed = replace(widget, **{name: mark})
-        return replace(document, widgets=tuple(changed if each is widget else each for each in document.widgets))
+        return with_widget(document, widget, replace(widget, **{name: mark}))
     return replace(document, marks=tuple((dict(document.marks) | {name: mark}).items()))
 
 
@@ -1207,8 +1235,174 @@ def mark_walk(word, document, widget):
 
 
 # ---------------------------------------------------------------------------------------------------
+# The history of edits, and whether the text is modified
+
+LEAST_COUNT, GREATEST_COUNT = -(2**63), 2**63 - 1
+
+
+def counted(modified, step):
+    """The modified state after an action was made again, for a step of 1, or reverted, for -1."""
+    count = modified.count + step
+    return modified._replace(count=count) if LEAST_COUNT <= count <= GREATEST_COUNT else modified._replace(fixed=True)
+
+
+def counted_new(modified):
+    """The modified state after a new action: below 0 the text as it was can't come back, so the flag is fixed."""
+    return modified._replace(fixed=True) if modified.count < 0 else counted(modified, 1)
+
+
+def newest(groups, limit):
+    """The groups without the oldest ones past the limit; 0 and less is none."""
+    return groups[-limit:] if limit > 0 else groups
+
+
+def closed(history):
+    """The history whose last group takes no more actions."""
+    return replace(history, is_open=False, kind=None)
+
+
+def history_with(history, kind, actions, document):
+    """The history after the actions of one edit: they join the last group, or make one."""
+    parts = document.auto_separators and history.kind is not None and history.kind != kind
+    if history.is_open and not parts:
+        groups = history.groups[:-1] + (history.groups[-1] + actions,)
+    else:
+        groups = history.groups + (actions,)
+    return History(groups=newest(groups, document.max_undo), is_open=True, kind=kind)
+
+
+def noted(document, kind, actions):
+    """The document after it is noted that an edit of a kind made these actions; an edit that made none leaves no trace."""
+    if not actions:
+        return document
+    for _ in actions:
+        document = replace(document, modified=counted_new(document.modified))
+    if not document.undo:
+        return document
+    return replace(document, history=history_with(document.history, kind, tuple(actions), document))
+
+
+def insertions(offset, pieces):
+    """The actions of pieces that go in, each right behind the one before it; an empty text is none."""
+    actions = []
+    for piece in pieces:
+        if piece.text != "":
+            actions.append(Action(True, offset, piece.text))
+        offset += len(piece.text)
+    return actions
+
+
+def removals(document, spans):
+    """The actions of spans that go, the last one first; an empty span is none."""
+    texts = [(first, "".join(cell.character for cell in document.cells[first:last])) for first, last in reversed(spans)]
+    return [Action(False, first, text) for first, text in texts if text != ""]
+
+
+def reverse(action):
+    """The action that takes another one back."""
+    return action._replace(is_insertion=not action.is_insertion)
+
+
+def made(document, action):
+    """The document after an action; a text comes in as one without a tag list."""
+    if action.is_insertion:
+        return inserted(document, action.offset, action.text, shared_keys(document.cells, action.offset))
+    return removed(document, action.offset, action.offset + len(action.text))
+
+
+def place_behind(action):
+    """Where an action leaves `insert`: behind what it put in, or where it took something out."""
+    return action.offset + (len(action.text) if action.is_insertion else 0)
+
+
+def all_made(document, widget, actions, step):
+    """The document after some actions; each counts, and `insert` of the acting widget stands where the last one was."""
+    for action in actions:
+        document = replace(made(document, action), modified=counted(document.modified, step))
+    acting = widget_named(document, widget.name)
+    return with_mark(document, acting, "insert", acting.insert._replace(offset=place_behind(actions[-1])))
+
+
+def undone(document, widget):
+    """The document after the last group was reverted, its last action first."""
+    *groups, group = document.history.groups
+    changed = all_made(document, widget, [reverse(action) for action in reversed(group)], -1)
+    return replace(changed, history=History(groups=tuple(groups), undone=(group,) + document.history.undone))
+
+
+def redone(document, widget):
+    """The document after the group that was undone last was made again, its first action first."""
+    group, *rest = document.history.undone
+    changed = all_made(document, widget, group, 1)
+    groups = newest(document.history.groups + (group,), document.max_undo)
+    return replace(changed, history=History(groups=groups, undone=tuple(rest)))
+
+
+# ---------------------------------------------------------------------------------------------------
+# Options of a widget and of its document
+
+BOOLEANS = {"1": True, "true": True, "yes": True, "on": True, "0": False, "false": False, "no": False, "off": False}
+INTEGER_FORM = re.compile(r"[+-]?[0-9]{1,9}")
+
+
+def boolean_of(word):
+    """The boolean that a word spells."""
+    if word not in BOOLEANS:
+        raise bad_boolean(word)
+    return BOOLEANS[word]
+
+
+def integer_of(word):
+    """The integer that a word spells: perhaps a sign, and one to nine digits."""
+    if INTEGER_FORM.fullmatch(word) is None:
+        raise bad_integer(word)
+    return int(word)
+
+
+def is_disabled_of(word):
+    """Whether a word for a state says that the widget is disabled."""
+    if word not in ("normal", "disabled"):
+        raise bad_option(word)
+    return word == "disabled"
+
+
+class Option(NamedTuple):
+    """An option: how a word for its value is read, and how its value is printed."""
+
+    read: callable
+    text: callable
+
+
+OPTIONS = {
+    "-undo": Option(boolean_of, lambda document, widget: str(int(document.undo))),
+    "-maxundo": Option(integer_of, lambda document, widget: str(document.max_undo)),
+    "-autoseparators": Option(boolean_of, lambda document, widget: str(int(document.auto_separators))),
+    "-state": Option(is_disabled_of, lambda document, widget: "disabled" if widget.disabled else "normal"),
+}
+
+
+def settings_of(words):
+    """The value of each option that is given, where each word for one is read, and the last one counts."""
+    return {name: OPTIONS[name].read(word) for name, word in zip(words[0::2], words[1::2])}
+
+
+def configured(document, widget, settings):
+    """The document with the values of some options; `-undo` set to false takes the history away."""
+    history = History() if settings.get("-undo") is False else document.history
+    limit = settings.get("-maxundo", document.max_undo)
+    document = replace(
+        document,
+        undo=settings.get("-undo", document.undo),
+        max_undo=limit,
+        auto_separators=settings.get("-autoseparators", document.auto_separators),
+        history=replace(history, groups=newest(history.groups, limit)),
+    )
+    return with_widget(document, widget, replace(widget, disabled=settings.get("-state", widget.disabled)))
+
+
+# ---------------------------------------------------------------------------------------------------
 # One command.  Faults are decided in this order: the first word; the subcommand or option words; the
-# number of words; the arguments from left to right; the order of places; a name that is taken; the limits.
+# number of words; the arguments from left to right; the order of places; an empty history; a name that is taken; the limits.
 
 
 def find_widget(world, name):
@@ -1233,23 +1427,49 @@ def is_window_name(word):
     return len(word) >= 2 and word[0] == "."
 
 
+class Options(NamedTuple):
+    """Where options stand among arguments: behind so many, and whether each has a value and others may follow."""
+
+    behind: int
+    are_valued: bool
+
+    def stands_at(self, place):
+        """Whether an option stands at a place."""
+        return place >= self.behind and (place - self.behind) % 2 == 0 if self.are_valued else place == self.behind
+
+    def are_whole(self, count):
+        """Whether of so many arguments the ones before the options are there, and each option has its value."""
+        return count >= self.behind and (not self.are_valued or (count - self.behind) % 2 == 0)
+
+
+def check_options(options, arguments):
+    """The words in the places of options have to be options.  This comes before the number of words."""
+    for place, word in enumerate(arguments):
+        if options.stands_at(place) and word not in OPTIONS:
+            raise bad_option(word)
+
+
+TEXT_OPTIONS = Options(1, True)
+
+
 def text_command(world, words):
-    """`text W`: a new document with one widget.  The answer is W."""
-    option_words = words[2::2]
-    if option_words:
-        raise bad_option(option_words[0])
-    if len(words) != 2:
+    """`text W ?option value ..?`: a new document with one widget.  The answer is W."""
+    arguments = words[1:]
+    check_options(TEXT_OPTIONS, arguments)
+    if not TEXT_OPTIONS.are_whole(len(arguments)):
         raise wrong_arguments()
-    name = words[1]
+    name = arguments[0]
     if not is_window_name(name):
         raise invalid_command_name(name)
+    settings = settings_of(arguments[1:])
     if find_widget(world, name) is not None:
         raise window_exists(name)
     if world.documents:
         raise document_exists()
     if world.limits.widgets < 1:
         raise too_many_widgets()
-    document = Document(widgets=(Widget(name),))
+    widget = Widget(name)
+    document = configured(Document(widgets=(widget,)), widget, settings)
     return replace(world, documents=world.documents + (document,)), name
 
 
@@ -1278,22 +1498,33 @@ def check_length(world, document, more):
         raise text_too_long()
 
 
+def is_idle(document, widget):
+    """Whether commands that edit through this widget do nothing: it is disabled, or shows nothing."""
+    return widget.disabled or not view(document, widget).cells
+
+
 def insert_command(world, document, widget, arguments):
     """`W insert I chars ?tagList chars ..?`: puts the texts in at I, and makes the new tags.  The answer is empty."""
     shown = view(document, widget)
     place = argument_place(arguments[0], document, widget)
     pieces = texts_of(arguments[1:])
+    if is_idle(document, widget):
+        return world, ""
     named = with_text_tags(world, document, pieces)
     check_length(world, document, sum(len(piece.text) for piece in pieces))
     offset = shown.start + insertion_place(place, shown)
-    return with_document(world, document, inserted_texts(named, widget, offset, pieces)), ""
+    changed = noted(inserted_texts(named, widget, offset, pieces), "insert", insertions(offset, pieces))
+    return with_document(world, document, changed), ""
 
 
 def delete_command(world, document, widget, arguments):
     """`W delete I ?I ..?`: takes out what the ranges hold, as one set of characters.  The answer is empty."""
     shown = view(document, widget)
     spans = offsets_of(pairs_of(arguments, document, widget), shown)
-    return with_document(world, document, deleted(document, spans, shown)), ""
+    if is_idle(document, widget):
+        return world, ""
+    actions = removals(document, runs(delete_set(spans, shown)))
+    return with_document(world, document, noted(deleted(document, spans, shown), "delete", actions)), ""
 
 
 def replace_command(world, document, widget, arguments):
@@ -1306,10 +1537,13 @@ def replace_command(world, document, widget, arguments):
     pieces = texts_of(arguments[2:])
     if places[1] < places[0]:
         raise index_order(*arguments[:2])
+    if is_idle(document, widget):
+        return world, ""
     first, last = (shown.start + insertion_place(place, shown) for place in places)
     named = with_text_tags(world, document, pieces)
     check_length(world, document, sum(len(piece.text) for piece in pieces) - (last - first))
-    return with_document(world, document, replaced(named, widget, first, last, pieces)), ""
+    actions = removals(document, [(first, last)]) + insertions(first, pieces)
+    return with_document(world, document, noted(replaced(named, widget, first, last, pieces), "replace", actions)), ""
 
 
 def pairs_of(words, document, widget):
@@ -1504,12 +1738,62 @@ def compare_command(world, document, widget, arguments):
     return world, "1" if COMPARISONS[arguments[1]](left, right) else "0"
 
 
+def edit_modified_command(world, document, widget, arguments):
+    """`W edit modified ?bool?`: whether the text is modified, or says that it is or isn't."""
+    modified = document.modified
+    if not arguments:
+        return world, str(int(modified.fixed or modified.count != 0))
+    changed = modified._replace(fixed=True) if boolean_of(arguments[0]) else Modified()
+    return with_document(world, document, replace(document, modified=changed)), ""
+
+
+def edit_separator_command(world, document, widget, arguments):
+    """`W edit separator`: the last group takes no more actions."""
+    if not document.undo:
+        return world, ""
+    return with_document(world, document, replace(document, history=closed(document.history))), ""
+
+
+def edit_reset_command(world, document, widget, arguments):
+    """`W edit reset`: takes the history away."""
+    return with_document(world, document, replace(document, history=History())), ""
+
+
+def edit_undo_command(world, document, widget, arguments):
+    """`W edit undo`: reverts the last group, of the whole document."""
+    if not document.undo:
+        return world, ""
+    if not document.history.groups:
+        raise nothing_to_undo()
+    return (world if is_idle(document, widget) else with_document(world, document, undone(document, widget))), ""
+
+
+def edit_redo_command(world, document, widget, arguments):
+    """`W edit redo`: makes the group again that was undone last."""
+    if not document.undo:
+        return world, ""
+    if not document.history.undone:
+        raise nothing_to_redo()
+    return (world if is_idle(document, widget) else with_document(world, document, redone(document, widget))), ""
+
+
+def configure_command(world, document, widget, arguments):
+    """`W configure option value ?option value ..?`: gives options their values, all of which are read first."""
+    return with_document(world, document, configured(document, widget, settings_of(arguments))), ""
+
+
+def cget_command(world, document, widget, arguments):
+    """`W cget option`: the value of an option."""
+    return world, OPTIONS[arguments[0]].text(document, widget)
+
+
 class Subcommand(NamedTuple):
-    """A widget's subcommand: what it does, and the least and greatest number of its arguments."""
+    """A widget's subcommand: what it does, the least and greatest number of its arguments, and where options stand."""
 
     body: callable
     least: int
     greatest: Optional[int]
+    options: Optional[Options] = None
 
 
 # By their words: one, or that of a family and that of its member.  A greatest number of None is no bound.
@@ -1535,6 +1819,13 @@ SUBCOMMANDS = {
     ("mark", "previous"): Subcommand(mark_previous_command, 1, 1),
     ("mark", "set"): Subcommand(mark_set_command, 2, 2),
     ("mark", "unset"): Subcommand(mark_unset_command, 0, None),
+    ("edit", "modified"): Subcommand(edit_modified_command, 0, 1),
+    ("edit", "redo"): Subcommand(edit_redo_command, 0, 0),
+    ("edit", "reset"): Subcommand(edit_reset_command, 0, 0),
+    ("edit", "separator"): Subcommand(edit_separator_command, 0, 0),
+    ("edit", "undo"): Subcommand(edit_undo_command, 0, 0),
+    ("configure",): Subcommand(configure_command, 2, None, Options(0, True)),
+    ("cget",): Subcommand(cget_command, 1, 1, Options(0, False)),
 }
 
 
@@ -1554,9 +1845,13 @@ def widget_command(world, document, widget, words):
         raise wrong_arguments()
     names, subcommand = subcommand_of(words)
     arguments = words[1 + len(names) :]
+    if subcommand.options is not None:
+        check_options(subcommand.options, arguments)
     if len(arguments) < subcommand.least:
         raise wrong_arguments()
     if subcommand.greatest is not None and len(arguments) > subcommand.greatest:
+        raise wrong_arguments()
+    if subcommand.options is not None and not subcommand.options.are_whole(len(arguments)):
         raise wrong_arguments()
     return subcommand.body(world, document, widget, arguments)
 

@@ -241,10 +241,15 @@ NO_COMMANDS = [
     "foo", "puts", "destroy", "pack", "Text", "TEXT", "texts", "tex", "insert", "$", "]", "end", "\x00", "", "#", "text .t",
 ]
 NO_SUBCOMMANDS = [
-    "foo", "ins", "Insert", "inserts", "del", "deletes", "Replace", "ge", "gets", "ind", "indexes", "edit", "peer", "configure", "cget", "search", "count",
-    "dump", "ta", "tags", "-undo", "$", "]", "#", ".t", "text", "é", "", " ", "get ", "{", "\\", "names", "gravity",
+    "foo", "ins", "Insert", "inserts", "del", "deletes", "Replace", "ge", "gets", "ind", "indexes", "edi", "edits", "undo", "peer", "config", "Configure", "cge", "search",
+    "count", "dump", "ta", "tags", "-undo", "$", "]", "#", ".t", "text", "é", "", " ", "get ", "{", "\\", "names", "gravity",
 ]
 NO_GRAVITIES = ["", "Left", "lef", "right ", "up", "l", "é", "1.0", "leftright"]
+# Words in the place of an option that are none, and in the place of its value.
+NO_OPTIONS = ["-startline", "-endline", "-und", "-undos", "-Undo", "undo", "-", "--", "-wrap", "1", "", "é", "insert"]
+NO_BOOLEANS = ["", "True", "NO", "y", "t", "2", "00", "maybe", "é", "1 "]
+NO_INTEGERS = ["", "+", "-", "+-1", "1.0", "1 ", " 1", "0x1", "1e2", "1234567890", "٣", "one"]
+NO_STATES = ["", "Normal", "dis", "disable", "readonly", "1"]
 NO_COMPARISONS = ["", "=", "<>", "< ", "===", "!", "lt", "é", "1.0", "=<"]
 
 
@@ -262,11 +267,50 @@ def text_with_bad_name(chance):
     return ["text", chance.choice(NO_WINDOW_NAMES)]
 
 
+def boolean_word(chance):
+    """A word for a boolean, or now and then one that is none."""
+    return chance.choice(list(model.BOOLEANS) if chance.random() < 0.9 else NO_BOOLEANS)
+
+
+def integer_word(chance):
+    """A word for an integer, or now and then one that is none."""
+    integers = ["0", "1", "1", "2", "3", "5", "+05", "-0", "-1", "100", "000000007", "999999999", "-999999999"]
+    return chance.choice(integers if chance.random() < 0.8 else NO_INTEGERS)
+
+
+def state_word(chance):
+    return chance.choice(["normal", "normal", "disabled"] if chance.random() < 0.9 else NO_STATES)
+
+
+OPTION_WORDS = {"-undo": boolean_word, "-maxundo": integer_word, "-autoseparators": boolean_word, "-state": state_word}
+
+
+def option_name(chance):
+    """The name of an option, or now and then a word that is none."""
+    return chance.choice(list(OPTION_WORDS) if chance.random() < 0.93 else NO_OPTIONS)
+
+
+def option_words(chance):
+    """Options with their values, one of them twice now and then; the last value is missing now and then."""
+    words = []
+    for _ in range(chance.choice([1, 1, 1, 2, 2, 3, 4])):
+        name = option_name(chance)
+        words += [name, OPTION_WORDS.get(name, text)(chance)]
+    return words[:-1] if chance.random() < 0.07 else words
+
+
 def text_with_options(chance):
-    """`text` with words after the name, of any number: each option is a bad one in this stage."""
-    name = chance.choice(WIDGETS + NO_WINDOW_NAMES)
-    options = ["-undo", "1", "-maxundo", "-state", "disabled", "foo", "", "é"]
-    return ["text", name] + [word or "0" for word in chance.choices(options, k=chance.randrange(1, 5))]
+    """`text` with options, of a name that is taken or none now and then."""
+    name = ".t" if chance.random() < 0.6 else chance.choice(WIDGETS + NO_WINDOW_NAMES)
+    return ["text", name] + option_words(chance)
+
+
+def configure_command(chance):
+    return [widget(chance), "configure"] + option_words(chance)
+
+
+def cget_command(chance):
+    return [widget(chance), "cget", option_name(chance)]
 
 
 def tag_words(chance):
@@ -462,6 +506,20 @@ def mark_walk_command(chance):
     return [widget(chance), "mark", chance.choice(["next", "previous"]), word]
 
 
+def edit_step_command(chance):
+    """`edit undo`, `redo`, `separator` or `reset`."""
+    return [widget(chance), "edit", chance.choices(["undo", "redo", "separator", "reset"], [8, 5, 3, 0.5])[0]]
+
+
+def edit_modified_command(chance):
+    return [widget(chance), "edit", "modified"] + ([boolean_word(chance)] if chance.random() < 0.4 else [])
+
+
+def edit_alone(chance):
+    """`edit` without a member of it, with any words after it."""
+    return [widget(chance), "edit"] + chance.choice([[], ["foo"], [""], ["und"], ["Undo"], ["undo", "1"], ["canundo"], ["reset", ""], ["modify", "1"]])
+
+
 def mark_alone(chance):
     """`mark` without a member of it, with any words after it."""
     members = [[], ["foo"], [""], ["nam"], ["Set"], ["m"], ["set", "m"], ["unse", "m"], ["nexts", "1.0"], ["prev", "1.0"]]
@@ -490,6 +548,15 @@ def wrong_count_command(chance):
         (["get"], [0]),
         (["index"], [0, 2, 3]),
         (["compare"], [0, 1, 2, 4]),
+        (["edit", "modified"], [2, 3]),
+        (["edit", "undo"], [1]),
+        (["edit", "redo"], [1]),
+        (["edit", "separator"], [1, 2]),
+        (["configure"], [0]),
+        (["configure", "-undo"], [0]),
+        (["configure", "-undo", "1", "-state"], [0]),
+        (["cget"], [0]),
+        (["cget", "-undo"], [1, 2]),
         (["mark", "set"], [0, 1, 3]),
         (["mark", "gravity"], [0, 3]),
         (["mark", "names"], [1, 2]),
@@ -553,6 +620,11 @@ COMMANDS = [
     (mark_names_command, 1.5),
     (mark_walk_command, 4),
     (mark_alone, 0.4),
+    (edit_step_command, 6),
+    (edit_modified_command, 2.5),
+    (edit_alone, 0.3),
+    (configure_command, 1.5),
+    (cget_command, 1),
     (text_command, 1),
     (text_with_bad_name, 0.4),
     (text_with_options, 0.5),
@@ -595,8 +667,27 @@ class Form(NamedTuple):
     places: list
 
 
+# A world with groups that were made and undone.
+FORM_UNDO_WORLD = [
+    "text .t -undo 1", ".t insert 1.0 abcd", ".t delete 1.0 1.1 1.2 1.3", ".t replace 1.0 1.1 {long text} x y", ".t edit separator",
+    ".t insert end z", ".t edit undo",
+]
+
+# Options with a value of each kind.
+FORM_BOOLEANS = list(model.BOOLEANS)
+FORM_SETTINGS = ["-undo 1", "-undo 0", "-maxundo 0", "-maxundo 1", "-maxundo -5", "-autoseparators no", "-state normal", "-state disabled"]
+
 FORMS = [
     Form([], ["text"], [[".t", ".window"]]),
+    Form([], ["text", ".t"], [FORM_SETTINGS, [None, *FORM_SETTINGS]]),
+    Form(FORM_UNDO_WORLD, [".t", "configure"], [FORM_SETTINGS, [None, *FORM_SETTINGS]]),
+    Form(FORM_UNDO_WORLD, [".t", "configure"], [["-undo", "-autoseparators"], FORM_BOOLEANS]),
+    Form(FORM_UNDO_WORLD, [".t", "cget"], [list(model.OPTIONS)]),
+    Form(FORM_UNDO_WORLD, [".t", "edit"], [["undo", "redo", "reset", "separator", "modified"]]),
+    Form(FORM_UNDO_WORLD, [".t", "edit", "modified"], [FORM_BOOLEANS]),
+    Form(FORM_UNDO_WORLD + [".t edit undo"], [".t", "edit"], [["undo", "redo", "reset", "separator", "modified"]]),
+    Form(FORM_UNDO_WORLD + [".t configure -state disabled"], [".t"], [["edit undo", "edit redo", "insert 1.0 a q", "delete 1.0", "replace 1.0 1.1 b q"]]),
+    Form(FORM_UNDO_WORLD, [".t"], [["insert 1.0 a {x q} b", "delete 1.0 1.1 1.2 1.3", "replace 1.0 1.1 a {x q} b"]]),
     Form(FORM_WORLD, [".t", "insert"], [FORM_INDICES, FORM_TEXTS, [None, "{q r}"]]),
     Form(FORM_WORLD, [".t", "insert"], [["1.1"], ["x", "{}"], FORM_LISTS, FORM_TEXTS, [None, *FORM_LISTS]]),
     Form(FORM_WORLD, [".t", "insert", "1.1", "a", "p", "b", "{}", "c"], [[None, "{p q}"]]),
@@ -731,10 +822,21 @@ def command_end(chance):
     return ending
 
 
-def command(chance):
-    """One command as characters, without its end."""
-    words = pick(chance, COMMANDS)
+def spelled_command(chance, words):
+    """The characters of a command, without its end."""
     return optional_blanks(chance) + blanks(chance).join(spelled(chance, word) for word in words) + optional_blanks(chance)
+
+
+def undo_walk(chance):
+    """Undo and redo some times in a row, and what they leave."""
+    steps = [[widget(chance), "edit", step] for step in chance.choices(["undo", "redo"], k=chance.randrange(2, 7))]
+    return steps + chance.choice([[], [[".t", "get", "1.0", "end"], [".t", "index", "insert"], [".t", "edit", "modified"]]])
+
+
+def next_commands(chance):
+    """The characters of one command, or of some that belong together, without their ends."""
+    words = undo_walk(chance) if chance.random() < 0.04 else [pick(chance, COMMANDS)]
+    return [spelled_command(chance, each) for each in words]
 
 
 # ---------------------------------------------------------------------------------------------------
@@ -834,7 +936,7 @@ def stretched(chance, script_bytes):
 
 def first_commands(chance):
     """The characters of the first commands: the widget that the others name is made, and mostly has a text of a few lines."""
-    words = [["text", ".t"]]
+    words = [["text", ".t"] + (["-undo", "1"] if chance.random() < 0.5 else [])]
     if chance.random() < 0.6:
         first_lines = ["".join(chance.choices(CHARACTERS + "é€ ", k=chance.randrange(0, 9))) for _ in range(chance.randrange(1, 6))]
         words.append([".t", "insert", "end", "\n".join(first_lines)])
@@ -850,7 +952,7 @@ def commands(chance):
     if chance.random() < 0.02:
         beginning = "\ufeff" + beginning
     ending = chance.choice(["", "", command_end(chance), optional_blanks(chance)])
-    parts = [command(chance) for _ in range(count)]
+    parts = [part for _ in range(count) for part in next_commands(chance)]
     return beginning + "".join(part + command_end(chance) for part in parts[:-1]) + "".join(parts[-1:]) + ending
 
 
@@ -880,6 +982,11 @@ def valid_commands(chance):
             lambda: [".t", "mark", "gravity", own_mark_name(chance), chance.choice(["left", "right"])],
             lambda: [".t", "mark", "names"],
             lambda: [".t", "mark", chance.choice(["next", "previous"]), index(chance)],
+            lambda: [".t", "edit", "modified"],
+            lambda: [".t", "edit", "modified", chance.choice(list(model.BOOLEANS))],
+            lambda: [".t", "edit", chance.choice(["undo", "redo", "separator", "reset"])],
+            lambda: [".t", "configure", "-maxundo", "3", "-autoseparators", chance.choice(list(model.BOOLEANS))],
+            lambda: [".t", "cget", chance.choice(list(OPTION_WORDS))],
         ])())
     return "".join(blanks(chance).join(spelled(chance, word) for word in each) + command_end(chance) for each in words)
 

@@ -566,6 +566,235 @@ def replacements():
     ]
 
 
+NOTHING_TO_UNDO = "error: nothing to undo"
+NOTHING_TO_REDO = "error: nothing to redo"
+
+
+def histories():
+    """Undo and redo, and which edits make one group."""
+    return [
+        Row(
+            "undo and redo",
+            b"text .t -undo 1; .t insert end a; .t insert end b; .t delete 1.0; .t edit undo; .t get 1.0 end-1c; .t edit undo; .t get 1.0 end-1c; "
+            b".t edit modified; .t edit undo; .t edit redo; .t get 1.0 end-1c; .t edit modified",
+            lines(".t", "", "", "", "", "ab", "", "", "0", NOTHING_TO_UNDO, "", "ab", "1"),
+            1,
+        ),
+        Row(
+            "one group at most",
+            b"text .t -undo 1 -maxundo 1; .t insert 1.0 a; .t edit separator; .t insert 1.1 b; .t edit separator; .t insert 1.2 c; .t edit undo; "
+            b".t edit undo; .t get 1.0 end-1c; .t insert 1.2 d; .t edit redo",
+            lines(".t", "", "", "", "", "", "", NOTHING_TO_UNDO, "ab", "", NOTHING_TO_REDO),
+            1,
+        ),
+        Row(
+            "a history that is taken away, and edits of one kind",
+            b"text .t -undo 1; .t insert 1.0 a; .t configure -undo 0; .t edit undo; .t configure -undo 1; .t edit undo; .t cget -undo; .t cget -maxundo; "
+            b".t edit separator; .t insert 1.0 b; .t insert 1.1 c; .t replace 1.0 1.1 z; .t edit undo; .t get 1.0 end-1c; .t edit undo; .t get 1.0 end-1c",
+            lines(".t", "", "", "", "", NOTHING_TO_UNDO, "1", "0", "", "", "", "", "", "bca", "", "a"),
+            1,
+        ),
+        Row(
+            "a text comes back without its tags, and insert stands behind it",
+            b"text .t -undo 1; .t insert 1.0 abc; .t tag add x 1.1 1.2; .t delete 1.1; .t edit undo; .t tag ranges x; .t index insert",
+            lines(".t", "", "", "", "", "", "1.2"),
+            0,
+        ),
+        Row(
+            "a group for each kind of edit in a row",
+            b"text .t -undo 1; .t insert 1.0 a; .t insert 1.1 b; .t delete 1.0; .t replace 1.0 1.1 xyz; .t replace 1.1 1.2 {}; .t get 1.0 1.end; .t edit undo; "
+            b".t get 1.0 1.end; .t edit undo; .t get 1.0 1.end; .t edit undo; .t get 1.0 1.end; .t edit undo; .t edit redo; .t get 1.0 1.end; "
+            b".t edit redo; .t get 1.0 1.end; .t edit redo; .t get 1.0 1.end; .t edit redo; .t get 1.0 end",
+            lines(".t", "", "", "", "", "", "xz", "", "b", "", "ab", "", "", NOTHING_TO_UNDO, "", "ab", "", "b", "", "xz", NOTHING_TO_REDO, "xz\n"),
+            1,
+        ),
+        Row(
+            "without separators of their own",
+            b"text .t -undo 1 -autoseparators 0; .t insert 1.0 ab; .t delete 1.0; .t replace 1.0 1.1 cd; .t edit separator; .t insert 1.0 e; .t edit undo; "
+            b".t get 1.0 1.end; .t edit undo; .t get 1.0 1.end; .t edit redo; .t get 1.0 1.end; .t configure -autoseparators 1; .t delete 1.0; .t edit redo; "
+            b".t edit undo; .t get 1.0 1.end; .t edit undo; .t get 1.0 1.end; .t edit redo; .t edit redo; .t get 1.0 1.end",
+            lines(".t", "", "", "", "", "", "", "cd", "", "", "", "cd", "", "", NOTHING_TO_REDO, "", "cd", "", "", "", "", "d"),
+            1,
+        ),
+        Row(
+            "what closes a group, and what doesn't",
+            b"text .t -undo 1; .t insert 1.0 a; .t edit redo; .t insert 1.1 b; .t edit undo; .t get 1.0 end; .t edit undo; .t insert 1.0 c; .t edit separator; "
+            b".t edit separator; .t insert 1.1 d; .t insert 1.2 e; .t edit undo; .t get 1.0 1.end; .t insert 1.1 f; .t edit redo; .t edit undo; .t get 1.0 1.end; "
+            b".t edit redo; .t insert 1.2 g; .t edit undo; .t get 1.0 1.end; .t edit undo; .t get 1.0 1.end; .t edit undo; .t get 1.0 end",
+            lines(".t", "", NOTHING_TO_REDO, "", "", "\n", NOTHING_TO_UNDO, "", "", "", "", "", "", "c", "", NOTHING_TO_REDO, "", "c", "", "", "", "cf",
+                  "", "c", "", "\n"),
+            1,
+        ),
+        Row(
+            "an action for each text and each range, and where insert stands then",
+            b"text .t -undo 1; .t insert 1.0 abcdefgh; .t delete 1.1 1.2 1.4 1.6; .t edit undo; .t get 1.0 1.end; .t index insert; .t edit redo; .t get 1.0 1.end; "
+            b".t index insert; .t edit undo; .t insert 1.2 X p {} q Y {} Z; .t get 1.0 1.end; .t edit undo; .t get 1.0 1.end; .t index insert; .t edit redo; "
+            b".t get 1.0 1.end; .t index insert; .t tag ranges p; .t tag names; .t replace 1.0 1.2 m {} no; .t edit undo; .t get 1.0 1.end; .t index insert; "
+            b".t edit redo; .t index insert; .t mark gravity insert left; .t edit undo; .t index insert; .t mark gravity insert",
+            lines(".t", "", "", "", "abcdefgh", "1.6", "", "acdgh", "1.1", "", "", "abXYZcdefgh", "", "abcdefgh", "1.2", "", "abXYZcdefgh", "1.5", "",
+                  "sel p q", "", "", "abXYZcdefgh", "1.2", "", "1.3", "", "", "1.2", "left"),
+            0,
+        ),
+        Row(
+            "what comes back has the tags of both neighbours, and marks move as with any edit",
+            b"text .t -undo 1; .t insert 1.0 abcdef; .t tag add x 1.1 1.5; .t mark set m 1.3; .t mark set l 1.4; .t mark gravity l left; .t delete 1.2 1.4; "
+            b".t tag remove x 1.1; .t edit undo; .t tag ranges x; .t index m; .t index l; .t edit redo; .t tag add x 1.0 end; .t edit undo; .t tag ranges x; "
+            b".t edit undo; .t get 1.0 end; .t tag ranges x; .t edit redo; .t tag ranges x; .t index m; .t index l; .t mark names; .t tag names",
+            lines(".t", "", "", "", "", "", "", "", "", "1.4 1.5", "1.4", "1.2", "", "", "", "1.0 2.0", "", "\n", "1.0 2.0", "", "1.6 2.0", "1.6", "1.0",
+                  "insert current m l", "sel x"),
+            0,
+        ),
+        Row(
+            "edits that change no character leave no trace",
+            b"text .t -undo 1; .t insert 1.0 a; .t edit undo; .t edit modified; .t insert 1.0 {} q; .t delete 1.0 1.0 end; .t replace 1.0 1.0 {}; .t delete end-1c; "
+            b".t replace end end {} r; .t tag add x 1.0; .t mark set m 1.0; .t edit modified; .t edit redo; .t get 1.0 1.end; .t edit modified; "
+            b".t edit undo; .t insert 1.0 b; .t delete 1.1 1.1; .t replace 1.0 1.0 {}; .t insert 1.1 c; .t edit undo; .t get 1.0 end; .t tag names",
+            lines(".t", "", "", "0", "", "", "", "", "", "", "", "0", "", "a", "1", "", "", "", "", "", "", "\n", "sel q r x"),
+            0,
+        ),
+        Row(
+            "where no action is kept",
+            b"text .t; .t insert 1.0 a; .t edit undo; .t edit redo; .t edit separator; .t edit reset; .t get 1.0 1.end; .t edit modified; .t configure -undo 1; "
+            b".t edit undo; .t insert 1.1 b; .t configure -undo 1; .t insert 1.2 c; .t edit undo; .t get 1.0 1.end; .t configure -undo 0 -undo 1; .t edit redo; "
+            b".t get 1.0 1.end; .t configure -undo 1 -undo 0; .t edit undo; .t get 1.0 1.end; .t configure -undo 1; .t edit undo; .t edit redo; .t insert 1.0 d; "
+            b".t edit reset; .t edit undo; .t edit redo; .t insert 1.0 e; .t edit undo; .t get 1.0 1.end",
+            lines(".t", "", "", "", "", "", "a", "1", "", NOTHING_TO_UNDO, "", "", "", "", "a", "", "", "abc", "", "", "abc", "", NOTHING_TO_UNDO,
+                  NOTHING_TO_REDO, "", "", NOTHING_TO_UNDO, NOTHING_TO_REDO, "", "", "dabc"),
+            1,
+        ),
+        Row(
+            "as many groups as may be kept",
+            b"text .t -undo 1 -maxundo 3; .t insert 1.0 a; .t edit separator; .t insert 1.1 b; .t edit separator; .t insert 1.2 c; .t edit undo; .t edit undo; "
+            b".t edit undo; .t configure -maxundo 1; .t edit redo; .t edit redo; .t edit redo; .t get 1.0 1.end; .t edit undo; .t get 1.0 1.end; .t edit undo; "
+            b".t edit redo; .t edit separator; .t insert 1.0 x; .t configure -maxundo -1; .t edit separator; .t insert 1.0 y; .t edit separator; .t insert 1.0 z; "
+            b".t configure -maxundo 2; .t configure -maxundo 0; .t edit undo; .t edit undo; .t edit undo; .t get 1.0 1.end",
+            lines(".t", *10 * ("",), "", "", "abc", "", "ab", NOTHING_TO_UNDO, *12 * ("",), NOTHING_TO_UNDO, "xabc"),
+            1,
+        ),
+        Row(
+            "undo and redo of the last lines",
+            b'text .t -undo 1; .t insert 1.0 "a\nb\nc"; .t delete 3.0 end 1.0; .t get 1.0 end; .t edit undo; .t get 1.0 end; .t index insert; .t edit redo; '
+            b'.t get 1.0 end; .t index insert; .t edit undo; .t replace 2.0 end {}; .t get 1.0 end; .t edit undo; .t get 1.0 end; .t delete 1.0 end; '
+            b".t edit undo; .t get 1.0 end; .t edit undo; .t get 1.0 end",
+            lines(".t", "", "", "\nb\n", "", "a\nb\nc\n", "3.1", "", "\nb\n", "1.0", "", "", "a\n\n", "", "a\nb\nc\n", "", "", "a\nb\nc\n", "", "\n"),
+            0,
+        ),
+    ]
+
+
+def modified_texts():
+    """Whether a text is modified."""
+    return [
+        Row(
+            "modified by a count that goes below zero",
+            b"text .t -undo 1; .t insert 1.0 a; .t edit modified 0; .t edit undo; .t edit modified; .t edit redo; .t edit modified; .t edit undo; "
+            b".t insert 1.0 b; .t edit undo; .t edit modified",
+            lines(".t", "", "", "", "1", "", "0", "", "", "", "1"),
+            0,
+        ),
+        Row(
+            "each action counts, kept or not",
+            b"text .t; .t edit modified; .t insert 1.0 a; .t edit modified; .t edit modified no; .t edit modified; .t delete 1.0; .t edit modified; "
+            b".t configure -undo 1 -maxundo 1; .t edit modified 0; .t insert 1.0 a {} b {} c; .t edit separator; .t delete 1.0 1.1 1.2; .t edit undo; "
+            b".t edit modified; .t edit modified 0; .t edit redo; .t edit modified; .t edit undo; .t edit modified; .t edit undo; .t edit modified",
+            lines(".t", "0", "", "1", "", "0", "", "1", "", "", "", "", "", "", "1", "", "", "1", "", "0", NOTHING_TO_UNDO, "0"),
+            1,
+        ),
+        Row(
+            "said to be modified, and said not to be",
+            b"text .t -undo 1; .t edit modified 1; .t edit modified; .t insert 1.0 a; .t edit undo; .t edit modified; .t edit modified off; .t edit modified; "
+            b".t edit redo; .t edit modified; .t edit modified yes; .t edit undo; .t edit modified; .t edit modified false; .t edit modified; .t edit redo; "
+            b".t edit undo; .t edit modified; .t edit modified maybe; .t edit modified 1 1; .t edit modified True; .t edit modified",
+            lines(".t", "", "1", "", "", "1", "", "0", "", "1", "", "", "1", "", "0", "", "", "0", bad_boolean("maybe"), "error: wrong # args",
+                  bad_boolean("True"), "0"),
+            1,
+        ),
+        Row(
+            "below zero what is made again goes back, and what is new doesn't",
+            b"text .t -undo 1; .t insert 1.0 a; .t edit separator; .t insert 1.1 b; .t edit modified 0; .t edit undo; .t edit undo; .t edit modified; .t edit redo; "
+            b".t edit modified; .t edit redo; .t edit modified; .t edit undo; .t replace 1.0 1.1 c; .t edit modified; .t edit undo; .t edit modified; "
+            b".t edit redo; .t edit redo; .t edit modified; .t edit modified 0; .t edit undo; .t edit redo; .t edit modified",
+            lines(".t", "", "", "", "", "", "", "1", "", "1", "", "0", "", "", "1", "", "1", "", NOTHING_TO_REDO, "1", "", "", "", "0"),
+            1,
+        ),
+    ]
+
+
+def bad_boolean(word):
+    return f'error: expected boolean value but got "{word}"'
+
+
+def bad_integer(word):
+    return f'error: expected integer but got "{word}"'
+
+
+def bad_option(word):
+    return f'error: bad option "{word}"'
+
+
+def options():
+    """Options, and widgets that are disabled."""
+    return [
+        Row(
+            "options and their values",
+            b"text .t; .t cget -undo; .t cget -maxundo; .t cget -autoseparators; .t cget -state; .t configure -undo yes -maxundo +05 -autoseparators off "
+            b"-state disabled; .t cget -undo; .t cget -maxundo; .t cget -autoseparators; .t cget -state; .t configure -undo no -maxundo -0 "
+            b"-autoseparators true -state normal; .t cget -undo; .t cget -maxundo; .t cget -autoseparators; .t cget -state; .t configure -maxundo -007 "
+            b"-maxundo 000000012 -undo 0 -undo on; .t cget -maxundo; .t cget -undo; .t configure -undo false -maxundo -999999999; .t cget -undo; "
+            b".t cget -maxundo",
+            lines(".t", "0", "0", "1", "normal", "", "1", "5", "0", "disabled", "", "0", "0", "1", "normal", "", "12", "1", "", "0", "-999999999"),
+            0,
+        ),
+        Row(
+            "options of a new widget",
+            b"text .t -undo; text -undo 1; text .t -undo 1 -foo; text t -undo maybe; text .t -undo maybe; text .t -maxundo 1.0; text .t -state up; "
+            b"text .t -undo 2 -state up; text .t -state up -undo 2; text .t -undo 0 -maxundo 3 -undo 1; text .t -undo y; text .u -undo 1; "
+            b"text .t -undo 0; .t cget -undo; .t cget -maxundo; .t insert 1.0 a; .t edit undo; .t get 1.0 end",
+            lines("error: wrong # args", bad_option("1"), bad_option("-foo"), 'error: invalid command name "t"', bad_boolean("maybe"), bad_integer("1.0"),
+                  bad_option("up"), bad_boolean("2"), bad_option("up"), ".t", bad_boolean("y"), "error: a document exists",
+                  'error: window name ".t" already exists', "1", "3", "", "", "\n"),
+            1,
+        ),
+        Row(
+            "words of configure, cget and edit, and values that are none",
+            b"text .t; .t configure; .t configure foo; .t configure -undo; .t configure -undo 1 -foo; .t configure -undo maybe -undo 1; .t configure -UNDO 1; "
+            b".t configure -maxundo 5 -state foo; .t cget -maxundo; .t configure -maxundo {}; .t configure -maxundo 1234567890; .t configure -maxundo +; "
+            b".t configure -state {}; .t configure -autoseparators 01; .t cget; .t cget -foo x; .t cget -undo x; .t cget -und; .t edit; .t edit foo; "
+            b".t edit undo x; .t edit redo 1; .t edit reset x; .t edit separator x; .t edit canundo; .t cget -undo",
+            lines(".t", "error: wrong # args", bad_option("foo"), "error: wrong # args", bad_option("-foo"), bad_boolean("maybe"), bad_option("-UNDO"),
+                  bad_option("foo"), "0", bad_integer(""), bad_integer("1234567890"), bad_integer("+"), bad_option(""), bad_boolean("01"),
+                  "error: wrong # args", bad_option("-foo"), "error: wrong # args", bad_option("-und"), "error: wrong # args", bad_option("foo"),
+                  *["error: wrong # args"] * 4, bad_option("canundo"), "0"),
+            1,
+        ),
+        Row(
+            "a disabled widget",
+            b"text .t -state disabled; .t insert 1.0 a; .t insert zz a; .t get 1.0 end-1c; .t configure -state normal; .t insert 1.0 a; .t cget -state",
+            lines(".t", "", bad_index("zz"), "", "", "", "normal"),
+            1,
+        ),
+        Row(
+            "a disabled widget decides all faults but the limits",
+            b"text .t -undo 1; .t insert 1.0 ab; .t configure -state disabled; .t insert 1.0 xyz {q r}; .t insert 1.0 a \{; .t delete 1.0; .t delete zz; "
+            b".t replace 1.0 1.1 wxyz {r s}; .t replace 1.1 1.0 x; .t replace 1.1 1.0 x \{; .t tag names; .t get 1.0 1.end; .t edit undo; .t edit redo; "
+            b".t get 1.0 1.end; .t edit modified; .t tag add q 1.0; .t mark set m 1.1; .t tag ranges q; .t edit separator; .t edit modified 0; .t edit reset; "
+            b".t edit undo; .t configure -state normal; .t insert 1.0 c q; .t insert 1.0 d; .t get 1.0 1.end",
+            lines(".t", "", "", "", bad_list("{"), "", bad_index("zz"), "", index_order("1.1", "1.0"), bad_list("{"), "sel", "ab", "", NOTHING_TO_REDO, "ab",
+                  "1", "", "", "1.0 1.1", "", "", "", NOTHING_TO_UNDO, "", "", TEXT_TOO_LONG, "cab"),
+            1,
+            Limits(characters=4, tags=1),
+        ),
+        Row(
+            "a disabled widget leaves the last group as it is",
+            b"text .t -undo 1; .t insert 1.0 a; .t configure -state disabled; .t edit undo; .t delete 1.0; .t edit undo; .t configure -state normal; .t insert 1.1 b; "
+            b".t edit undo; .t get 1.0 end; .t configure -state disabled; .t edit redo; .t edit undo; .t configure -state normal; .t edit redo; .t get 1.0 1.end; "
+            b".t configure -undo 0 -state disabled; .t edit undo; .t edit redo; .t get 1.0 1.end",
+            lines(".t", "", "", "", "", "", "", "", "", "\n", "", "", NOTHING_TO_UNDO, "", "", "ab", "", "", "", "ab"),
+            1,
+        ),
+    ]
+
+
 def many_lines():
     """A text of 300 lines, most of which go."""
     appended = 300 * (b'.t insert end "ab\\n"',)
@@ -691,15 +920,15 @@ def command_faults():
         ),
         Row(
             "bad option",
-            b"text .t; .t foo; .t ins 1.0 a; .t del 1.0; .t configure; .t Insert zz; .t replaces 1.0 1.1 a",
+            b"text .t; .t foo; .t ins 1.0 a; .t del 1.0; .t config; .t Insert zz; .t replaces 1.0 1.1 a",
             lines(".t", *(f'error: bad option "{word}"' for word in
-                          ("foo", "ins", "del", "configure", "Insert", "replaces"))),
+                          ("foo", "ins", "del", "config", "Insert", "replaces"))),
             1,
         ),
         Row(
             "bad option of a new widget",
-            b"text .t -undo; text .t -undo 1; text t foo; text .t a b c d; text .t; text .t -wrap 1",
-            lines('error: bad option "-undo"', 'error: bad option "-undo"', 'error: bad option "foo"',
+            b"text .t -und; text .t -undos 1; text t foo; text .t a b c d; text .t; text .t -wrap 1",
+            lines('error: bad option "-und"', 'error: bad option "-undos"', 'error: bad option "foo"',
                   'error: bad option "a"', ".t", 'error: bad option "-wrap"'),
             1,
         ),
@@ -743,9 +972,9 @@ def command_faults():
         ),
         Row(
             "too many widgets",
-            b"text .t; .t; text t; text .t -undo 1",
-            lines("error: too many widgets", 'error: invalid command name ".t"',
-                  'error: invalid command name "t"', 'error: bad option "-undo"'),
+            b"text .t; .t; text t; text .t -wrap 1; text .t -undo maybe; text .t -undo 1",
+            lines("error: too many widgets", 'error: invalid command name ".t"', 'error: invalid command name "t"', bad_option("-wrap"),
+                  bad_boolean("maybe"), "error: too many widgets"),
             1,
             Limits(widgets=0),
         ),
@@ -889,7 +1118,8 @@ def script_faults():
 
 
 ROWS = (
-    whole_runs() + places() + tag_lists() + tags() + marks() + deletions() + replacements() + quoting() + command_faults() + script_faults()
+    whole_runs() + places() + tag_lists() + tags() + marks() + deletions() + replacements() + histories() + modified_texts()
+    + options() + quoting() + command_faults() + script_faults()
 )
 
 # Rows of so many commands that they aren't run once for each growth.
@@ -927,6 +1157,24 @@ def long_scripts():
             b"text .t;.t insert 1.0 abcdefgh;.t mark set insert 1.3;.t replace 1.1 1.5 x;.t index insert;.t replace 1.1 1.2 long p;.t tag names;"
             b".t replace 1.0 1.1 a {q p} b {} c {r s t};.t tag names;.t tag names 1.0;.t get 1.0 end;.t replace 1.0 end {} {u v};.t tag names;"
             b".t index insert;.t get 1.0 end;.t replace 1.0 1.0 {} w;.t tag names",
+        ),
+        (
+            "undo and redo of groups of three actions",
+            b"text .t -undo 1;.t insert 1.0 abcdefgh;.t delete 1.0 1.2 1.4 1.6 1.7;.t edit undo;.t get 1.0 1.end;.t edit redo;.t get 1.0 1.end;.t index insert;"
+            b".t insert 1.0 {some longer text} p {and more} {} x;.t edit undo;.t get 1.0 1.end;.t edit undo;.t edit redo;.t edit redo;.t get 1.0 1.end;"
+            b".t replace 1.0 1.3 y {q r} z;.t edit modified;.t edit undo;.t get 1.0 1.end;.t edit modified;.t edit redo;.t insert end !;.t edit undo;.t edit undo;"
+            b".t edit undo;.t edit undo;.t edit undo;.t get 1.0 end;.t edit modified;.t edit redo;.t edit redo;.t get 1.0 end;.t tag names",
+        ),
+        (
+            "a history that grows and is cut",
+            b"text .t -undo 1 -maxundo 3;" + b"".join(b".t insert end word%d;.t edit separator;" % number for number in range(20))
+            + b".t edit undo;.t edit undo;.t edit undo;.t edit undo;.t get 1.0 end;.t edit redo;.t insert end x;.t edit redo;.t configure -maxundo 0;"
+            + b".t insert end y;.t delete 1.0;" * 12 + b".t edit undo;.t get 1.0 end;.t edit reset;.t edit undo;.t edit modified 0;.t edit modified",
+        ),
+        (
+            "options",
+            b"text .t -undo 1 -maxundo 7 -autoseparators no -state disabled;.t cget -maxundo;.t configure -state normal -maxundo -12;.t cget -maxundo;"
+            b".t cget -state;.t cget -undo;.t insert 1.0 a;.t configure -undo 0;.t edit undo;.t get 1.0 end",
         ),
         (
             "deletions of many ranges",

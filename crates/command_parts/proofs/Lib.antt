@@ -2,6 +2,7 @@ pub mod LeftLaws
 pub mod ListingLaws
 pub mod MadeLaws
 pub mod PairLaws
+pub mod SettingLaws
 pub mod SlotLaws
 pub mod TakeLaws
 pub mod WordLaws

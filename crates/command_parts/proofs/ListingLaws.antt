@@ -1,11 +1,10 @@
 -- Lists of elements as they are written.
 use Rattle.std.proofs.Common.{◌≡◌, ℕ, zero, suc, ◌+◌, Bool, true, false, List, [], ◌∷◌, ◌++◌, chars, length, refl, sym, ap, subst, ◌∙◌, arith}
-use Rattle.std.specs.Prelude.{None, Some, slice_get, take, filter, encode_utf8_all, if◌then◌else◌}
+use Rattle.std.specs.Prelude.{None, Some, slice_get, take, filter, if◌then◌else◌}
 use Rattle.std.proofs.lemmas.Option.{none-some, same_Some}
 use Rattle.std.proofs.lemmas.Str.{chars-nil}
 use Rattle.tag_table.specs.Tags.{Tag, names_of, slots_of}
 use Rattle.std.proofs.lemmas.List.{append_assoc, append-nil, map-append}
-use Rattle.tcl_words.specs.ListText.{list_text}
 use Rattle.text_index.specs.Positions.{position_text}
 use Rattle.text_index.specs.Ranges.{tag_ranges, ranges_from, and_later}
 use Rattle.text_index.specs.declared.ranges.TagRange.{TagRange}

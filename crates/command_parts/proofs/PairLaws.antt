@@ -52,7 +52,7 @@ and_pairs-more : (front : List Pair) (pair : Pair) (pairs : Result (List Pair) F
 and_pairs-more front pair (Err fault) = refl
 and_pairs-more front pair (Ok pairs) = ap Ok (sym (append_assoc front (pair ∷ []) pairs))
 
-abbrev word_or : {Z : Type 0} → List (String Z) → ℕ → List ℕ
+abbrev pub word_or : {Z : Type 0} → List (String Z) → ℕ → List ℕ
 word_or words at = get_or (texts_of words) at []
 
 -- a word that was read

@@ -62,6 +62,18 @@ pub enum Fault {
     /// The word is an index that stands before that of the word before it.
     #[error("index before another in the text")]
     IndexOrder(usize),
+    /// The word is no boolean.
+    #[error("expected boolean value")]
+    BadBoolean(usize),
+    /// The word is no integer.
+    #[error("expected integer")]
+    BadInteger(usize),
+    /// No group of edits can be undone.
+    #[error("nothing to undo")]
+    NothingToUndo,
+    /// No group of edits was undone last.
+    #[error("nothing to redo")]
+    NothingToRedo,
     /// There is a document.
     #[error("a document exists")]
     DocumentExists,

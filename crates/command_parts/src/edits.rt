@@ -86,7 +86,7 @@ pub fn new_store<S: TextStore>(alloc: Global) -> Result<S, AllocError>
 }
 
 /// A widget that shows the whole text.
-const WHOLE: Anchors = Anchors {
+pub const WHOLE: Anchors = Anchors {
     start: None,
     end: None,
 };

@@ -10,6 +10,7 @@ mod listing;
 mod lists;
 mod marking;
 mod ranges;
+mod reversals;
 mod settings;
 mod tagged_edits;
 mod tagging;
@@ -25,7 +26,8 @@ pub use listing::{
 pub use lists::{Pair, pairs_at};
 pub use marking::{gravity_word, make_mark, numbers_named, read_gravity, turn_mark, unset_names};
 pub use ranges::spans_of;
-pub use settings::Settings;
+pub use reversals::{redo_group, undo_group};
+pub use settings::{Settings, boolean_at};
 pub use tagged_edits::{put_pairs, replace_pairs, tag_spans};
 pub use tagging::{delete_names, deleted_slots};
 pub use words::is_word;

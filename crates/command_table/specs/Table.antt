@@ -1,19 +1,45 @@
 -- The commands: the words of each subcommand, and how many words may stand behind it (text(n), "WIDGET COMMAND").
-use Rattle.std.specs.Prelude.{ℕ, List, [], ◌∷◌, true, Option, None, Some}
+use Rattle.std.specs.Prelude.{ℕ, List, [], ◌∷◌, true, false, Option, None, Some}
 use Rattle.command_table.specs.Words.{literal}
 use Rattle.command_table.specs.Rows.{RowRule}
 use Rattle.command_table.specs.declared.commands.Command.{Command}
-use Rattle.command_table.specs.declared.commands.Command.TheVariants.{Text, Insert, Delete, Replace, Get, Index, Compare, MarkGravity, MarkNames, MarkNext, MarkPrevious, MarkSet, MarkUnset, TagAdd, TagRemove, TagDelete, TagNames, TagRanges, TagNextRange, TagPreviousRange, TagRaise, TagLower}
+use Rattle.command_table.specs.declared.commands.Command.TheVariants.{Text, Insert, Delete, Replace, Get, Index, Compare, MarkGravity, MarkNames, MarkNext, MarkPrevious, MarkSet, MarkUnset, TagAdd, TagRemove, TagDelete, TagNames, TagRanges, TagNextRange, TagPreviousRange, TagRaise, TagLower, EditModified, EditUndo, EditRedo, EditReset, EditSeparator, Configure, Cget}
 
--- `text W ?option value ..?`; there are no options yet
+-- the options of a widget and of its document
+abbrev pub option_names : List (List ℕ)
+option_names = literal "-undo" ∷ literal "-maxundo" ∷ literal "-autoseparators" ∷ literal "-state" ∷ []
+
+-- `text W ?option value ..?`
 abbrev pub text_row : RowRule
 text_row = record {
   spelling = [];
   command = Text;
   switches = None;
-  options = Some (record { names = []; after = 1; valued = true });
+  options = Some (record { names = option_names; after = 1; valued = true });
   least = 1;
   greatest = None;
+}
+
+-- `W configure option value ?option value ..?`
+abbrev pub configure_row : RowRule
+configure_row = record {
+  spelling = literal "configure" ∷ [];
+  command = Configure;
+  switches = None;
+  options = Some (record { names = option_names; after = 0; valued = true });
+  least = 2;
+  greatest = None;
+}
+
+-- `W cget option`
+abbrev pub cget_row : RowRule
+cget_row = record {
+  spelling = literal "cget" ∷ [];
+  command = Cget;
+  switches = None;
+  options = Some (record { names = option_names; after = 0; valued = false });
+  least = 1;
+  greatest = Some 1;
 }
 
 -- a subcommand of arguments alone
@@ -56,4 +82,11 @@ table =
     ∷ member (literal "tag") (literal "prevrange") TagPreviousRange 2 (Some 3)
     ∷ member (literal "tag") (literal "raise") TagRaise 1 (Some 2)
     ∷ member (literal "tag") (literal "lower") TagLower 1 (Some 2)
+    ∷ member (literal "edit") (literal "modified") EditModified 0 (Some 1)
+    ∷ member (literal "edit") (literal "undo") EditUndo 0 (Some 0)
+    ∷ member (literal "edit") (literal "redo") EditRedo 0 (Some 0)
+    ∷ member (literal "edit") (literal "reset") EditReset 0 (Some 0)
+    ∷ member (literal "edit") (literal "separator") EditSeparator 0 (Some 0)
+    ∷ configure_row
+    ∷ cget_row
     ∷ []

@@ -45,4 +45,18 @@ pub enum Command {
     TagRaise,
     /// `W tag lower T ?U?`
     TagLower,
+    /// `W edit modified ?bool?`
+    EditModified,
+    /// `W edit undo`
+    EditUndo,
+    /// `W edit redo`
+    EditRedo,
+    /// `W edit reset`
+    EditReset,
+    /// `W edit separator`
+    EditSeparator,
+    /// `W configure option value ?option value ..?`
+    Configure,
+    /// `W cget option`
+    Cget,
 }

@@ -1,6 +1,7 @@
 ghost use Rattle.std.specs.Prelude.{◌≡◌, ◌<◌, ◌≤◌, ◌+◌, length, IfOk};
 ghost use Rattle.command_table.specs.Words.{texts_of};
-ghost use Rattle.command_table.specs.Reading.{unknown, subcommand, reading};
+ghost use Rattle.command_table.specs.Reading.{behind, unknown, subcommand, reading};
+ghost use Rattle.command_table.specs.Table.{text_row};
 
 use crate::rows::{find_row, goes_on, text_row};
 use crate::shapes::{Shape, ShapeFault};
@@ -33,6 +34,15 @@ fn subcommand(words: &[String]) -> Result<Shape, ShapeFault>
     }
 }
 
+/// What the words behind `text` are.
+fn creation(words: &[String]) -> Result<Shape, ShapeFault>
+    requires { 1 + length words.now ≤ usize.MAX }
+    ensures value { result ≡ behind text_row 1 (texts_of words.now) }
+    ensures within { IfOk result (λ shape. shape.arguments + shape.count ≤ 1 + length words.now) }
+{
+    text_row().read(1, words)
+}
+
 /// What the words of a command are, for `text`, `destroy` or the command of a widget, whatever its name is: first the
 /// subcommand is decided, then switches and options from left to right, then how many words there are.
 pub fn shape(words: &[String]) -> Result<Shape, ShapeFault>
@@ -44,7 +54,7 @@ pub fn shape(words: &[String]) -> Result<Shape, ShapeFault>
         unreachable!()
     };
     if is_word(name.as_str(), "text") {
-        text_row().read(1, rest)
+        creation(rest)
     } else {
         subcommand(rest)
     }

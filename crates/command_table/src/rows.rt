@@ -25,13 +25,16 @@ pub struct Row {
     pub greatest: Option<usize>,
 }
 
-/// `text W ?option value ..?`. There are no options yet.
+/// The options of a widget and of its document.
+const OPTIONS: &[&str] = &["-undo", "-maxundo", "-autoseparators", "-state"];
+
+/// `text W ?option value ..?`.
 const TEXT: Row = Row {
     spelling: Spelling::First,
     command: Command::Text,
     switches: None,
     options: Some(Options {
-        names: &[],
+        names: OPTIONS,
         after: 1,
         valued: true,
     }),
@@ -54,7 +57,7 @@ macro_rules! plain {
 }
 
 /// The subcommands of a widget.
-static ROWS: [Row; 21] = [
+static ROWS: [Row; 28] = [
     plain!(Spelling::Alone("insert"), Insert, 2, None),
     plain!(Spelling::Alone("delete"), Delete, 1, None),
     plain!(Spelling::Alone("replace"), Replace, 3, None),
@@ -91,6 +94,45 @@ static ROWS: [Row; 21] = [
     ),
     plain!(Spelling::Member("tag", "raise"), TagRaise, 1, Some(2)),
     plain!(Spelling::Member("tag", "lower"), TagLower, 1, Some(2)),
+    plain!(
+        Spelling::Member("edit", "modified"),
+        EditModified,
+        0,
+        Some(1)
+    ),
+    plain!(Spelling::Member("edit", "undo"), EditUndo, 0, Some(0)),
+    plain!(Spelling::Member("edit", "redo"), EditRedo, 0, Some(0)),
+    plain!(Spelling::Member("edit", "reset"), EditReset, 0, Some(0)),
+    plain!(
+        Spelling::Member("edit", "separator"),
+        EditSeparator,
+        0,
+        Some(0)
+    ),
+    Row {
+        spelling: Spelling::Alone("configure"),
+        command: Command::Configure,
+        switches: None,
+        options: Some(Options {
+            names: OPTIONS,
+            after: 0,
+            valued: true,
+        }),
+        least: 2,
+        greatest: None,
+    },
+    Row {
+        spelling: Spelling::Alone("cget"),
+        command: Command::Cget,
+        switches: None,
+        options: Some(Options {
+            names: OPTIONS,
+            after: 0,
+            valued: false,
+        }),
+        least: 1,
+        greatest: Some(1),
+    },
 ];
 
 impl Row {

@@ -13,8 +13,14 @@ use std::process::Abort;
 use std::test::Fail;
 
 // Each command with too few words, the least number of them, the greatest, and one more; a `-` where any number may stand.
-static COUNTS: [(&str, &str, &str, &str, Command); 22] = [
-    ("text", "text .t", "text .t", "-", Command::Text),
+static COUNTS: [(&str, &str, &str, &str, Command); 29] = [
+    (
+        "text",
+        "text .t",
+        "text .t -undo 1 -state disabled -undo 0",
+        "-",
+        Command::Text,
+    ),
     (
         ".t insert 1.0",
         ".t insert 1.0 a",
@@ -162,10 +168,59 @@ static COUNTS: [(&str, &str, &str, &str, Command); 22] = [
         ".t tag lower x y z",
         Command::TagLower,
     ),
+    (
+        ".t edit",
+        ".t edit modified",
+        ".t edit modified 1",
+        ".t edit modified 1 0",
+        Command::EditModified,
+    ),
+    (
+        ".t edit",
+        ".t edit undo",
+        ".t edit undo",
+        ".t edit undo x",
+        Command::EditUndo,
+    ),
+    (
+        ".t edit",
+        ".t edit redo",
+        ".t edit redo",
+        ".t edit redo x",
+        Command::EditRedo,
+    ),
+    (
+        ".t edit",
+        ".t edit reset",
+        ".t edit reset",
+        ".t edit reset x",
+        Command::EditReset,
+    ),
+    (
+        ".t edit",
+        ".t edit separator",
+        ".t edit separator",
+        ".t edit separator x",
+        Command::EditSeparator,
+    ),
+    (
+        ".t configure -undo",
+        ".t configure -undo 1",
+        ".t configure -undo 1 -maxundo 2 -autoseparators 0",
+        ".t configure",
+        Command::Configure,
+    ),
+    (
+        ".t cget",
+        ".t cget -undo",
+        ".t cget -state",
+        ".t cget -undo x",
+        Command::Cget,
+    ),
 ];
 
 // Commands with the position of the word that is a bad option.
-static BAD_OPTIONS: [(&str, usize); 14] = [
+static BAD_OPTIONS: [(&str, usize); 19] = [
     (".t foo", 1),
     (".t foo bar", 1),
     (".t inser 1.0 a", 1),
@@ -177,9 +232,14 @@ static BAD_OPTIONS: [(&str, usize); 14] = [
     // empty subcommands
     (".t ", 1),
     (".t tag ", 2),
-    ("text .t -undo", 2),
-    ("text .t -undo 1", 2),
+    ("text .t -und", 2),
+    ("text .t -undo 1 -foo", 4),
     ("text .t a b c", 2),
+    ("text -undo 1", 2),
+    (".t configure foo", 2),
+    (".t configure -undo 1 2", 4),
+    (".t cget -foo x", 2),
+    (".t edit foo", 2),
     ("destroy .t", 1),
 ];
 
@@ -252,8 +312,10 @@ fn a_subcommand_has_to_stand_there(rt: HostRuntime) -> Result<(), Fail> {
 }
 
 // Commands, where their arguments begin and how many there are.
-static PARTS: [(&str, usize, usize); 4] = [
+static PARTS: [(&str, usize, usize); 6] = [
     ("text .t", 1, 1),
+    ("text .t -undo 1", 1, 1),
+    (".t configure -undo 1", 2, 0),
     (".t get 1.0 1.1", 2, 2),
     (".t mark names", 3, 0),
     (".t tag add x 1.0 1.1", 3, 3),

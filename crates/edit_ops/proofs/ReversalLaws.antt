@@ -21,7 +21,7 @@ use Rattle.edit_ops.specs.States.{State}
 use Rattle.text_cursor.proofs.AroundLaws.{characters-of}
 
 -- what is there behind a test
-guarded : {A : Type 0} (test : Bool) (x y : A) → (if test then Some x else None) ≡ Some y → x ≡ y
+pub guarded : {A : Type 0} (test : Bool) (x y : A) → (if test then Some x else None) ≡ Some y → x ≡ y
 guarded true x y is = let h : Some x ≡ Some y = is in cc
 guarded false x y is = absurd (let h : None ≡ Some y = is in cc)
 
@@ -46,7 +46,7 @@ redone-text limit action found state is =
       | false ↦ taken-back-text action.at action.text found state
     ] is
 
-undone-text : (limit : ℕ) (action : Action) (found : List ℕ) (state : State) → reverted limit action (characters state.content.cells) ≡ Some found → characters (action_undone action state).content.cells ≡ found
+pub undone-text : (limit : ℕ) (action : Action) (found : List ℕ) (state : State) → reverted limit action (characters state.content.cells) ≡ Some found → characters (action_undone action state).content.cells ≡ found
 undone-text limit action found state is =
     elim action.inserts as (λ b. (if b then take_out action.at action.text (characters state.content.cells) else put_in limit action.at action.text (characters state.content.cells)) ≡ Some found
     → characters (if b then taken_back action.at (action.at + length action.text) state else put_back action.at action.text state).content.cells ≡ found) [
@@ -54,7 +54,7 @@ undone-text limit action found state is =
       | false ↦ put-back-text limit action.at action.text found state
     ] is
 
-group-undone-text : (limit : ℕ) (group : List Action) (found : List ℕ) (state : State) → reverted_group limit group (characters state.content.cells) ≡ Some found
+pub group-undone-text : (limit : ℕ) (group : List Action) (found : List ℕ) (state : State) → reverted_group limit group (characters state.content.cells) ≡ Some found
     → characters (group_undone group state).content.cells ≡ found
 group-undone-text limit [] found state is = let h : Some (characters state.content.cells) ≡ Some found = is in cc
 group-undone-text limit (action ∷ actions) found state is =
@@ -62,7 +62,7 @@ group-undone-text limit (action ∷ actions) found state is =
     let rest = group-undone-text limit actions between state others in
     undone-text limit action found (group_undone actions state) (ap (reverted limit action) rest ∙ one))
 
-group-redone-text : (limit : ℕ) (group : List Action) (found : List ℕ) (state : State) → repeated_group limit group (characters state.content.cells) ≡ Some found
+pub group-redone-text : (limit : ℕ) (group : List Action) (found : List ℕ) (state : State) → repeated_group limit group (characters state.content.cells) ≡ Some found
     → characters (group_redone group state).content.cells ≡ found
 group-redone-text limit [] found state is = let h : Some (characters state.content.cells) ≡ Some found = is in cc
 group-redone-text limit (action ∷ actions) found state is =

@@ -1,24 +1,17 @@
 -- Tags that are deleted: their slots and their keys go.
-use Rattle.std.proofs.Common.{map, ◌≡◌, ℕ, suc, Bool, true, false, cond, not, ◌&&◌, ◌||◌, List, [], ◌∷◌, ◌++◌, Some, filter, slice_get, refl, sym, ap, ap₂, ◌∙◌, true≢false}
+use Rattle.std.proofs.Common.{◌≡◌, ℕ, suc, Bool, true, false, not, ◌&&◌, ◌||◌, List, [], ◌∷◌, Some, slice_get, refl, sym, ap, ap₂, ◌∙◌, true≢false}
 use Rattle.std.specs.Prelude.{bytes_eq, if◌then◌else◌}
 use Rattle.std.specs.FinSet as set
-use Rattle.std.specs.Cmp.{both_ways}
 use Rattle.std.specs.List.{list_any}
-use Rattle.std.proofs.lemmas.Bool.{false_from_ne_true, or_right}
-use Rattle.std.proofs.lemmas.List.Folds.{list_any-append}
 use Rattle.std.proofs.lemmas.Map.Views.{any-filter_same}
 use Rattle.std.proofs.lemmas.Slice.Eq.{bytes_eq-Decides}
-use Rattle.name_list.specs.Moves.{without}
-use Rattle.name_list.specs.Names.{AreApart}
-use Rattle.tag_table.specs.Priority.{deleted}
-use Rattle.tag_table.specs.Tags.{Tag, is_named, names_of, sel}
+use Rattle.tag_table.specs.Tags.{Tag, sel}
 use Rattle.text_model.specs.Content.{Slots}
 use Rattle.peers.specs.Keys.{Key, Keys, keys_of, key_named, key_pairs}
 use Rattle.command_parts.specs.Tagging.{tags_left, stays}
 use Rattle.peers.specs.Tags.{key_stays}
-use Rattle.command_parts.specs.Words.{is_among, is_same}
+use Rattle.command_parts.specs.Words.{is_among}
 use Rattle.peers.proofs.KeyLaws.{key_cmp_exact}
-use Rattle.command_parts.proofs.LeftLaws.{AreApart-head, AreApart-tail}
 use Rattle.peers.proofs.BridgeLaws.{HasNames-keys_of, HasNames-part, and_none, is_named_in, keys_of-any, keys_same, left_true}
 
 -- a key stays where its name does

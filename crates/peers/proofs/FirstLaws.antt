@@ -1,5 +1,5 @@
 -- A new document.
-use Rattle.std.proofs.Common.{◌≡◌, ℕ, true, false, List, [], ◌∷◌, refl, sym, ap, ◌∙◌, arith, zero, suc, ◌≢◌, ◌+◌, ◌<◌, ◌≤◌, cond, true≢false}
+use Rattle.std.proofs.Common.{◌≡◌, ℕ, true, List, [], ◌∷◌, refl, sym, ap, ◌∙◌, arith, zero, suc, ◌≢◌, ◌+◌, ◌<◌, ◌≤◌, cond, true≢false}
 use Rattle.std.specs.Prelude.{Some, None, is_some, unwrap_or, slice_get, option_map}
 use Rattle.std.specs.Cmp.{nat_cmp_total}
 use Rattle.std.specs.Ordering.{nat_cmp}
@@ -27,11 +27,12 @@ use Rattle.peers.specs.Kept.{AreMarked, IsKept, IsOrderly, HasKnownSlots, is_win
 use Rattle.peers.specs.Step.{new_document, new_journal}
 use Rattle.peers.specs.World.{Journal, journal_of, lone_document, document_of, whole_widget, mark_of}
 use Rattle.command_parts.specs.Edits.{new_mark, first_content}
-use Rattle.command_parts.specs.Settings.{first_settings}
 use Rattle.command_parts.specs.declared.settings.Settings.{Settings}
-use Rattle.undo_stack.specs.History.{no_history}
+use Rattle.undo_stack.specs.History.{no_history, limit_of}
 use Rattle.undo_stack.specs.Modified.{unmodified}
 use Rattle.undo_stack.specs.Rings.{Kept}
+use Rattle.command_parts.specs.Settings.{history_under}
+use Rattle.peers.proofs.JournalLaws.{under-none}
 
 insert-first : finite.get first_content.marks 0 ≡ Some new_mark
 insert-first =
@@ -65,22 +66,33 @@ kept-first name table named are roomy = record {
 abbrev pub sel_alone : List Tag
 sel_alone = record { name = sel; slot = 0 } ∷ []
 
-pub lone-first : (name : List ℕ) → lone_document name sel_alone [] new_journal first_content ≡ new_document name
-lone-first name =
+pub lone-first : (name : List ℕ) (settings : Settings) → lone_document name sel_alone [] (new_journal settings) first_content ≡ new_document name settings
+lone-first name settings =
     let insert : mark_of first_content.marks 0 ≡ new_mark = ap (λ found. unwrap_or found new_mark) insert-first in
     let current : mark_of first_content.marks 1 ≡ new_mark = ap (λ found. unwrap_or found new_mark) current-first in
     let keys : keys_of (key_pairs name sel_alone) set.empty ≡ set.empty = keys_of-empty name sel_alone in
-    λ i. document_of (record { character = 10; keys = keys i } ∷ []) (whole_widget name false (insert i) (current i)) [] (sel ∷ []) new_journal
+    λ i. document_of (record { character = 10; keys = keys i } ∷ []) (whole_widget name settings.disabled (insert i) (current i)) [] (sel ∷ []) (new_journal settings)
 
-pub orderly-first : IsOrderly new_journal
-orderly-first = record { most = refl; groups = λ _. refl; undone = λ _. refl }
+pub orderly-first : (settings : Settings) → IsOrderly (new_journal settings)
+orderly-first settings = record { most = refl; groups = λ _. refl; undone = λ _. refl }
 
-pub first-journal : (settings : Settings) (kept : Kept) → settings ≡ first_settings → kept.history ≡ no_history → kept.modified ≡ unmodified → kept.most ≡ 0 → journal_of settings kept ≡ new_journal
-first-journal settings kept first history modified most =
-    λ i. record { settings = first i; log = record { history = history i; modified = modified i; most = most i } }
+-- what is kept of no edits
+pub record IsUnused (settings : Settings) (kept : Kept) : Type 0 where
+  pub history : kept.history ≡ no_history
+  pub modified : kept.modified ≡ unmodified
+  pub most : kept.most ≡ limit_of settings.most_undo
 
-pub first-fits : (limit : ℕ) (content : Content) (journal : Journal) → length content.cells ≤ limit → journal ≡ new_journal → FitsText limit (characters content.cells) journal.log.history
-first-fits limit content journal short is =
+pub unused-under : (settings : Settings) (before kept : Kept) → before.history ≡ no_history → before.modified ≡ unmodified → kept.history ≡ history_under settings before.history → kept.modified ≡ before.modified
+    → kept.most ≡ limit_of settings.most_undo → IsUnused settings kept
+unused-under settings before kept none new is same most =
+    record { history = is ∙ ap (history_under settings) none ∙ under-none settings; modified = same ∙ new; most = most }
+
+pub first-journal : (settings : Settings) (kept : Kept) → IsUnused settings kept → journal_of settings kept ≡ new_journal settings
+first-journal settings kept unused =
+    λ i. record { settings = settings; log = record { history = unused.history i; modified = unused.modified i; most = unused.most i } }
+
+pub first-fits : (limit : ℕ) (content : Content) (settings : Settings) (journal : Journal) → length content.cells ≤ limit → journal ≡ new_journal settings → FitsText limit (characters content.cells) journal.log.history
+first-fits limit content settings journal short is =
     subst (λ (j : Journal). FitsText limit (characters content.cells) j.log.history) (sym is)
     (record { short = (let long = length-map content.cells (λ (cell : Cell). cell.character) in omega (arith, short, long)); filled = tt; undone_filled = tt; reverts = refl; repeats = refl })
 

@@ -87,7 +87,7 @@ known-named tags (name ∷ names) = known-found tags name (slots_named tags name
 no_cell : Cell
 no_cell = record { character = 0; tags = set.empty }
 
-known-shared : (tags : List Tag) (at : ℕ) (cells : List Cell) → All (HasKnownSlots tags) cells → at < length cells → AreKnown tags (shared_slots at cells)
+pub known-shared : (tags : List Tag) (at : ℕ) (cells : List Cell) → All (HasKnownSlots tags) cells → at < length cells → AreKnown tags (shared_slots at cells)
 known-shared tags at cells known within =
     let left = get_or (slot_sets cells) (at - 1) set.empty in
     let right = get_or (slot_sets cells) at set.empty in
@@ -125,7 +125,7 @@ known-changed tags slot on from to cells tag known =
 
 -- ---- texts that are put in
 
-kept-put : (name : List ℕ) (table : Tags) (content : Content) (at : ℕ) (text : List ℕ) (slots : Slots) → IsKept name table content → at < length content.cells
+pub kept-put : (name : List ℕ) (table : Tags) (content : Content) (at : ℕ) (text : List ℕ) (slots : Slots) → IsKept name table content → at < length content.cells
     → length content.cells + length text ≤ MOST_CHARS → All IsScalar text → AreKnown table.tags slots → IsKept name table (after_insertion at text slots content)
 kept-put name table content at text slots kept within short scalars new = record {
   named = kept.named;

@@ -7,6 +7,7 @@ pub mod EndLaws
 pub mod FirstLaws
 pub mod GotLaws
 pub mod InsertionLaws
+pub mod JournalLaws
 pub mod KeptLaws
 pub mod KeyLaws
 pub mod KeyedLaws
@@ -23,6 +24,7 @@ pub mod QueryLaws
 pub mod RemovalLaws
 pub mod ReorderLaws
 pub mod ReplacementLaws
+pub mod ReversalLaws
 pub mod SpanLaws
 pub mod TableLaws
 pub mod TagLaws

@@ -142,7 +142,7 @@ mark_of-put places number place = ap (λ found. unwrap_or found new_mark) (get-p
 mark_of-put_other : (places : Marks) (number : ℕ) (place : Place) (other : ℕ) → other ≢ number → mark_of (finite.insert places number place) other ≡ mark_of places other
 mark_of-put_other places number place other apart = ap (λ found. unwrap_or found new_mark) (get-put_other places number place other apart)
 
-named_so : (name : List ℕ) → is_same name name ≡ true
+pub named_so : (name : List ℕ) → is_same name name ≡ true
 named_so name = (bytes_eq-Decides name name).1 refl
 
 pub lone-insert : (name : List ℕ) (tags : List Tag) (table : SharedMarks) (journal : Journal) (content : Content) (place : Place) → AreMarks table

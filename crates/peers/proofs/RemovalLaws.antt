@@ -13,7 +13,7 @@ use Rattle.text_model.specs.Content as model
 use Rattle.text_model.specs.Content.{Content, map_marks}
 use Rattle.text_model.specs.Documents.{IsDocument, ends_in_newline}
 use Rattle.text_model.specs.LimitTable.{LimitTable}
-use Rattle.text_model.specs.Splices.{changed, drawn, removed}
+use Rattle.text_model.specs.Splices.{changed, drawn}
 use Rattle.text_model.specs.Steps.{after_removal, after_step, without_slots}
 use Rattle.text_model.proofs.CellLaws.{characters-removed, characters-without_slots}
 use Rattle.text_model.proofs.DocumentLaws.{IsDocument-removed}
@@ -44,7 +44,7 @@ use Rattle.peers.specs.Kept.{AreMarked, HasKnownSlots, IsKept, IsMarked, IsOrder
 use Rattle.peers.specs.Keys.{key_pairs}
 use Rattle.peers.specs.Promise.{Does}
 use Rattle.peers.specs.WellFormed.{IsWellFormedDocument}
-use Rattle.peers.specs.World.{Document, Journal, SharedMark, Widget, characters, document_of, keyed, lone_document, lone_widget, mark_of, placed, whole_widget}
+use Rattle.peers.specs.World.{Document, Journal, SharedMark, characters, document_of, keyed, lone_document, lone_widget, mark_of, placed, whole_widget}
 use Rattle.peers.proofs.ChangeLaws.{Stands, does-answered}
 use Rattle.peers.proofs.KeptLaws.{known-empty}
 use Rattle.peers.proofs.KeyedLaws.{keyed-bare, keyed-removed}
@@ -57,14 +57,14 @@ use Rattle.peers.proofs.WellFormedLaws.{IsWellFormedDocument-lone, fits-lone}
 
 -- ---- one span
 
-abbrev taken_out : Recording → EditKind → ℕ → ℕ → State → State
+abbrev pub taken_out : Recording → EditKind → ℕ → ℕ → State → State
 taken_out recording kind from to state = record {
   content = after_removal from to state.content;
   anchors = map (anchors_removed (model.characters state.content.cells) from to) state.anchors;
   log = log_noted recording kind (record { inserts = false; at = from; text = slice_range (model.characters state.content.cells) from to }) state.log;
 }
 
-lone-taken : (widget : List ℕ) (tags : List Tag) (marks : List Mark) (settings : Settings) (kind : EditKind) (from to : ℕ) (state : State) → IsLone marks settings state
+pub lone-taken : (widget : List ℕ) (tags : List Tag) (marks : List Mark) (settings : Settings) (kind : EditKind) (from to : ℕ) (state : State) → IsLone marks settings state
     → let document = lone_state widget tags marks settings state in
     lone_state widget tags marks settings (taken_out (recording_of settings) kind from to state)
     ≡ with_action kind (record { inserts = false; at = from; text = slice_range (characters document.cells) from to }) (without_cells from to document)
@@ -131,7 +131,7 @@ length-out recording kind from to state ordered within =
       | false ↦ λ _. length-removed from to state.content.cells ordered within
     ] refl
 
-kept-taken : (name : List ℕ) (table : Tags) (from to : ℕ) (content : Content) → IsKept name table content → from ≤ to → to < length content.cells → IsKept name table (after_removal from to content)
+pub kept-taken : (name : List ℕ) (table : Tags) (from to : ℕ) (content : Content) → IsKept name table content → from ≤ to → to < length content.cells → IsKept name table (after_removal from to content)
 kept-taken name table from to content kept ordered within =
     let P = HasKnownSlots table.tags in
     let long = length-removed from to content.cells ordered (omega (arith, within)) in

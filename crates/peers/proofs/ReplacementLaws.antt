@@ -39,16 +39,14 @@ use Rattle.peers.specs.Edits.{with_texts, without_span}
 use Rattle.peers.specs.Keys.{key_pairs}
 use Rattle.peers.specs.Kept.{AreMarked, IsKept, IsOrderly}
 use Rattle.peers.specs.Promise.{Change, Does, answered, refused}
-use Rattle.peers.specs.Texts as texts
 use Rattle.peers.specs.Texts.{insertion_offset, tags_with}
-use Rattle.peers.specs.View.{shown}
 use Rattle.peers.specs.WellFormed.{IsWellFormedDocument}
 use Rattle.peers.specs.World.{Document, Journal, Widget, lone_document, lone_widget, mark_of}
 use Rattle.peers.proofs.ChangeLaws.{Stands, does-answered}
 use Rattle.peers.proofs.InsertionLaws.{IsWithin, excess-none, few_enough, limits-made, limits-refused, orderly-noted, unnoted}
 use Rattle.peers.proofs.KeptLaws.{IsKnownPiece, kept-all}
-use Rattle.peers.proofs.LoneLaws.{cells-lone, length-keyed, length-lone}
-use Rattle.peers.proofs.MarkLaws.{lone-insert, own-remade, put_in}
+use Rattle.peers.proofs.LoneLaws.{length-keyed, length-lone}
+use Rattle.peers.proofs.MarkLaws.{lone-insert, own-remade}
 use Rattle.peers.proofs.NamedLaws.{among-made, keyed-pieces, known-pieces, total-pieces}
 use Rattle.peers.proofs.PlacedLaws.{placed-length}
 use Rattle.peers.proofs.RemovalLaws.{IsLone-out, filled, kept-out, length-out, lone-out, unnoted-span}
@@ -75,11 +73,11 @@ pub record IsRemade (name : List ℕ) (table : Tags) (marks : SharedMarks) (sett
   pub marked : AreMarked marks state.content.marks
   pub lone : IsLone marks.marks settings state
 
-there_is : (found : Option Place) → is_some found ≡ true → found ≡ Some (unwrap_or found new_mark)
+pub there_is : (found : Option Place) → is_some found ≡ true → found ≡ Some (unwrap_or found new_mark)
 there_is None none = absurd (false≢true none)
 there_is (Some place) there = refl
 
-clipped-put : (name : List ℕ) (table : Tags) (marks : SharedMarks) (settings : Settings) (state : State) (widget : Widget) (found : Option Place) → widget.name ≡ name
+pub clipped-put : (name : List ℕ) (table : Tags) (marks : SharedMarks) (settings : Settings) (state : State) (widget : Widget) (found : Option Place) → widget.name ≡ name
     → IsKept name table state.content → IsLone marks.marks settings state → AreMarked marks state.content.marks
     → ((place : Place) → found ≡ Some place → place.offset ≤ length state.content.cells)
     → IsRemade name table marks settings (record state { content = with_mark 0 found state.content }) (with_clipped widget found (lone_state name table.tags marks.marks settings state))

@@ -58,7 +58,7 @@ keys_put widget tags at (Some slots) cells apart within = refl
 abbrev cells_with : List ℕ → Keys → List KeyedCell
 cells_with text keys = map (λ character. record { character = character; keys = keys }) text
 
-lone-put : (widget : List ℕ) (tags : List Tag) (marks : List Mark) (settings : Settings) (kind : EditKind) (at : ℕ) (piece : Piece) (log : Log) (content : Content) → AreApart (names_of tags) → at < length content.cells
+pub lone-put : (widget : List ℕ) (tags : List Tag) (marks : List Mark) (settings : Settings) (kind : EditKind) (at : ℕ) (piece : Piece) (log : Log) (content : Content) → AreApart (names_of tags) → at < length content.cells
     → is_some (finite.get content.marks 0) ≡ true → is_some (finite.get content.marks 1) ≡ true → AllByRecursion (IsMarked content.marks) marks → log.most ≡ limit_of settings.most_undo
     → lone_document widget tags marks (journal_with settings (log_noted (recording_of settings) kind (record { inserts = true; at = at; text = piece.text }) log))
     (after_insertion at piece.text (slots_or piece.slots (shared_slots at content.cells)) content)

@@ -1,24 +1,27 @@
 -- One command of a widget, by what stands where in its words.
-use Rattle.std.specs.Prelude.{ℕ, List, take, drop, Result, Ok, Err}
+use Rattle.std.specs.Prelude.{ℕ, Bool, true, false, List, drop, Result, Ok, Err}
 use Rattle.text_model.specs.LimitTable.{LimitTable}
 use Rattle.command_table.specs.Reading.{reading}
 use Rattle.command_table.specs.declared.commands.Command.{Command}
-use Rattle.command_table.specs.declared.commands.Command.TheVariants.{Insert, Delete, Replace, Get, Index, Compare, MarkGravity, MarkNames, MarkNext, MarkPrevious, MarkSet, MarkUnset, TagAdd, TagRemove, TagDelete, TagNames, TagRanges, TagNextRange, TagPreviousRange, TagRaise, TagLower}
+use Rattle.command_table.specs.declared.commands.Command.TheVariants.{Insert, Delete, Replace, Get, Index, Compare, MarkGravity, MarkNames, MarkNext, MarkPrevious, MarkSet, MarkUnset, TagAdd, TagRemove, TagDelete, TagNames, TagRanges, TagNextRange, TagPreviousRange, TagRaise, TagLower, Configure, Cget, EditUndo, EditRedo, EditModified, EditReset, EditSeparator}
 use Rattle.command_table.specs.declared.shapes.Shape.{Shape}
 use Rattle.command_table.specs.declared.shapes.ShapeFault.{ShapeFault}
 use Rattle.command_parts.specs.declared.answers.Fault.TheVariants.{BadOption}
 use Rattle.command_parts.specs.Faults.{shape_fault}
 use Rattle.peers.specs.Deletions.{delete, replace}
+use Rattle.peers.specs.History.{edit_modified, edit_reset, edit_separator}
 use Rattle.peers.specs.Indices.{index, compare}
 use Rattle.peers.specs.Marks.{mark_set, mark_unset, mark_gravity, mark_names_of, mark_next, mark_previous}
+use Rattle.peers.specs.Options.{cget, configure}
 use Rattle.peers.specs.Promise.{Change, refused, asked}
+use Rattle.peers.specs.Reversals.{edit_redo, edit_undo}
 use Rattle.peers.specs.Tags.{tag_add, tag_remove, tag_delete, tag_names, tag_ranges_of, tag_nextrange, tag_prevrange, tag_raise, tag_lower}
 use Rattle.peers.specs.Texts.{insert, get}
 use Rattle.peers.specs.World.{Document, Widget}
 
--- the arguments of a command
+-- the arguments of a command, and its options behind them
 abbrev pub arguments_of : Shape → List (List ℕ) → List (List ℕ)
-arguments_of shape words = take shape.count (drop shape.arguments words)
+arguments_of shape words = drop shape.arguments words
 
 -- a command with its arguments, which stand from a position on; what isn't there yet is no option
 abbrev pub done : Command → LimitTable → Document → Widget → ℕ → List (List ℕ) → Change
@@ -43,7 +46,26 @@ done TagNextRange limits document widget at arguments = asked document (tag_next
 done TagPreviousRange limits document widget at arguments = asked document (tag_prevrange document widget at arguments)
 done TagRaise limits document widget at arguments = tag_raise document at arguments
 done TagLower limits document widget at arguments = tag_lower document at arguments
+done Configure limits document widget at arguments = configure document widget at arguments
+done Cget limits document widget at arguments = asked document (cget document widget arguments)
+done EditUndo limits document widget at arguments = edit_undo document widget
+done EditRedo limits document widget at arguments = edit_redo document widget
+done EditModified limits document widget at arguments = edit_modified document at arguments
+done EditReset limits document widget at arguments = edit_reset document
+done EditSeparator limits document widget at arguments = edit_separator document
 done command limits document widget at arguments = refused document (BadOption 1)
+
+-- commands that take no memory
+abbrev pub is_frugal : Command → Bool
+is_frugal EditModified = true
+is_frugal EditReset = true
+is_frugal EditSeparator = true
+is_frugal command = false
+
+-- words that are such a command, or none
+abbrev pub is_frugal_reading : Result Shape ShapeFault → Bool
+is_frugal_reading (Err fault) = true
+is_frugal_reading (Ok shape) = is_frugal shape.command
 
 abbrev pub shaped : LimitTable → Document → Widget → List (List ℕ) → Result Shape ShapeFault → Change
 shaped limits document widget words (Err fault) = refused document (shape_fault fault)

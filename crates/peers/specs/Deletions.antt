@@ -13,7 +13,7 @@ use Rattle.command_parts.specs.Lists.{Pair, pairs_at, total}
 use Rattle.peers.specs.Edits.{with_bare, with_texts, without_span, without_spans}
 use Rattle.peers.specs.Indices.{place_at}
 use Rattle.peers.specs.Marks.{with_insert}
-use Rattle.peers.specs.Promise.{Change, answered, change_with, refused}
+use Rattle.peers.specs.Promise.{Change, answered, change_with, refused, unless_disabled}
 use Rattle.peers.specs.Ranges.{places_at, spans_shown}
 use Rattle.peers.specs.Texts.{insertion_offset, keyed_text, tags_with, within_limits}
 use Rattle.peers.specs.View.{view_end, view_start}
@@ -40,7 +40,8 @@ delete_places document widget places = delete_spans document widget (spans_shown
 
 -- `W delete I ?I ..?`
 abbrev pub delete : Document → Widget → ℕ → List (List ℕ) → Change
-delete document widget at words = change_with document (places_at document widget at words) (delete_places document widget)
+delete document widget at words =
+    change_with document (places_at document widget at words) (λ places. unless_disabled widget document (delete_places document widget places))
 
 -- ---- replace
 
@@ -67,7 +68,7 @@ replace_span limits document widget from to pairs =
 abbrev pub replace_places : LimitTable → Document → Widget → ℕ → ℕ → ℕ → List Pair → Change
 replace_places limits document widget second from to pairs =
     if nat_lt to from then refused document (IndexOrder second)
-    else replace_span limits document widget (insertion_offset document widget from) (insertion_offset document widget to) pairs
+    else unless_disabled widget document (replace_span limits document widget (insertion_offset document widget from) (insertion_offset document widget to) pairs)
 
 abbrev pub replace_words : LimitTable → Document → Widget → ℕ → List ℕ × List ℕ × List (List ℕ) → Change
 replace_words limits document widget at (first, second, words) =

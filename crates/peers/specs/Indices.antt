@@ -1,17 +1,14 @@
 -- Commands on indices: `index` and `compare`.
-use Rattle.std.specs.Prelude.{ℕ, ◌+◌, nat_lt, nat_le, ◌==◌, Bool, not, List, Option, None, Some, Result, Ok, Err, if◌then◌else◌}
+use Rattle.std.specs.Prelude.{ℕ, ◌+◌, List, Result, Ok}
 use Rattle.text_index.specs.Positions.{position_text}
 use Rattle.command_parts.specs.declared.answers.Answer.{Answer}
 use Rattle.command_parts.specs.declared.answers.Answer.TheVariants.{Text, Flag}
 use Rattle.command_parts.specs.declared.answers.Fault.{Fault}
-use Rattle.command_parts.specs.declared.answers.Fault.TheVariants.{BadComparison}
 use Rattle.command_parts.specs.declared.comparisons.Comparison.{Comparison}
-use Rattle.command_parts.specs.declared.comparisons.Comparison.TheVariants.{Below, UpTo, Same, From, Above, Other}
 use Rattle.command_parts.specs.Arguments.{one_of, three_of}
 use Rattle.command_parts.specs.Faults.{at_position, with_value}
 use Rattle.peers.specs.Names.{place_of}
 use Rattle.peers.specs.View.{shown}
-use Rattle.command_parts.specs.Words.{is_same, literal}
 use Rattle.peers.specs.World.{Document, Widget}
 use Rattle.command_parts.specs.Comparisons.{comparison_at, comparison_of, holds}
 

@@ -1,13 +1,16 @@
 pub mod Command
 pub mod Deletions
 pub mod Edits
+pub mod History
 pub mod Indices
 pub mod Kept
 pub mod Keys
 pub mod Marks
 pub mod Names
+pub mod Options
 pub mod Promise
 pub mod Ranges
+pub mod Reversals
 pub mod Step
 pub mod Tags
 pub mod Texts

@@ -1,5 +1,5 @@
 -- Commands on marks.
-use Rattle.std.specs.Prelude.{ℕ, ◌+◌, ◌-◌, min, nat_le, Bool, not, List, [], ◌∷◌, ◌++◌, length, map, filter, find, slice_index_or, Option, None, Some, option_map, Result, Ok, Err, if◌then◌else◌}
+use Rattle.std.specs.Prelude.{ℕ, ◌+◌, ◌-◌, min, nat_le, List, [], ◌∷◌, ◌++◌, length, map, filter, find, slice_index_or, Option, None, Some, option_map, Result, Ok, Err, if◌then◌else◌}
 use Rattle.mark_table.specs.declared.order.Origin.{Origin}
 use Rattle.mark_table.specs.declared.order.Origin.TheVariants.{Mark, Place as Offset}
 use Rattle.mark_table.specs.declared.order.Shown.{Shown}
@@ -7,7 +7,7 @@ use Rattle.mark_table.specs.declared.order.WidgetMark.{WidgetMark}
 use Rattle.mark_table.specs.Order.{mark_of, next_mark, previous_mark, rank_of}
 use Rattle.text_index.specs.Views.{shared_place}
 use Rattle.text_model.specs.declared.places.Gravity.{Gravity}
-use Rattle.text_model.specs.declared.places.Gravity.TheVariants.{Left, Right}
+use Rattle.text_model.specs.declared.places.Gravity.TheVariants.{Right}
 use Rattle.text_model.specs.declared.places.Place.{Place}
 use Rattle.text_model.specs.LimitTable.{LimitTable}
 use Rattle.command_parts.specs.declared.answers.Answer.{Answer}
@@ -21,7 +21,7 @@ use Rattle.peers.specs.Names.{mark_number, mark_place}
 use Rattle.peers.specs.Promise.{Change, refused, answered, change_with}
 use Rattle.peers.specs.Tags.{listed}
 use Rattle.peers.specs.View.{view_start, view_end, shown}
-use Rattle.command_parts.specs.Words.{is_same, is_among, is_own, literal}
+use Rattle.command_parts.specs.Words.{is_same, is_own, literal}
 use Rattle.peers.specs.World.{Document, Widget, SharedMark}
 use Rattle.command_parts.specs.Marking.{gravity_of, gravity_word, is_left}
 

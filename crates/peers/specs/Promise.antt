@@ -1,11 +1,12 @@
 -- What every command promises.
-use Rattle.std.specs.Prelude.{◌≡◌, ◌≢◌, length, Result, Ok, Err, IfErr}
+use Rattle.std.specs.Prelude.{◌≡◌, ◌≢◌, length, Result, Ok, Err, IfErr, if◌then◌else◌}
 use Rattle.text_model.specs.LimitTable.{LimitTable}
 use Rattle.command_parts.specs.declared.answers.Answer.{Answer}
 use Rattle.command_parts.specs.declared.answers.Fault.{Fault}
 use Rattle.command_parts.specs.declared.answers.Fault.TheVariants.{Memory}
-use Rattle.peers.specs.World.{Document}
+use Rattle.peers.specs.World.{Document, Widget}
 use Rattle.peers.specs.WellFormed.{IsWellFormedDocument}
+use Rattle.command_parts.specs.declared.answers.Answer.TheVariants.{Empty}
 
 -- the answer or the fault, and the document after the command
 pub record Change : Type 0 where
@@ -26,6 +27,10 @@ asked document reply = record { reply = reply; document = document }
 abbrev pub change_with : {A : Type 0} → Document → Result A Fault → (A → Change) → Change
 change_with document (Err fault) next = refused document fault
 change_with document (Ok value) next = next value
+
+-- a command that changes the text leaves it as it is where the widget is disabled
+abbrev pub unless_disabled : Widget → Document → Change → Change
+unless_disabled widget document change = if widget.disabled then answered document Empty else change
 
 -- a command that reads gives what its definition gives, unless memory is wanted
 abbrev pub Gives : {A : Type 0} → Result A Fault → Result A Fault → Type 0

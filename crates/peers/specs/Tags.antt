@@ -5,7 +5,6 @@ use Rattle.name_list.specs.Moves.{without, put_behind, put_before}
 use Rattle.text_model.specs.Changes.{flag_at}
 use Rattle.text_model.specs.LimitTable.{LimitTable}
 use Rattle.tcl_words.specs.ListText.{list_text}
-use Rattle.text_index.specs.Positions.{position_text}
 use Rattle.text_index.specs.Ranges.{tag_ranges, next_range, previous_range}
 use Rattle.text_index.specs.declared.ranges.TagRange.{TagRange}
 use Rattle.command_parts.specs.declared.answers.Answer.{Answer}
@@ -23,7 +22,7 @@ use Rattle.peers.specs.Promise.{Change, refused, answered, change_with}
 use Rattle.peers.specs.Ranges.{places_at, spans_shown}
 use Rattle.peers.specs.View.{shown, shown_flags}
 use Rattle.command_parts.specs.Words.{is_same, is_among}
-use Rattle.peers.specs.World.{Document, Widget, KeyedCell, sel}
+use Rattle.peers.specs.World.{Document, Widget, KeyedCell}
 use Rattle.command_parts.specs.Listing.{begun, range_words}
 use Rattle.command_parts.specs.Tagging.{stays}
 

@@ -1,5 +1,5 @@
 -- Commands on texts: `insert` and `get`.
-use Rattle.std.specs.Prelude.{ℕ, suc, ◌+◌, ◌-◌, min, nat_lt, Bool, not, ◌==◌, List, [], ◌∷◌, length, map, filter, sum_by, slice_range, option_map, Result, Ok, if◌then◌else◌}
+use Rattle.std.specs.Prelude.{ℕ, suc, ◌+◌, ◌-◌, min, nat_lt, List, [], ◌∷◌, length, map, filter, slice_range, option_map, Result, Ok, if◌then◌else◌}
 use Rattle.text_model.specs.LimitTable.{LimitTable}
 use Rattle.undo_stack.specs.declared.actions.EditKind.TheVariants as kind
 use Rattle.tcl_words.specs.ListText.{list_text}
@@ -13,7 +13,7 @@ use Rattle.command_parts.specs.Faults.{with_value}
 use Rattle.peers.specs.Indices.{place_at}
 use Rattle.peers.specs.Keys.{keys_named}
 use Rattle.command_parts.specs.Lists.{Pair, pairs_at, all_names, total, with_names}
-use Rattle.peers.specs.Promise.{Change, refused, answered, change_with}
+use Rattle.peers.specs.Promise.{Change, refused, answered, change_with, unless_disabled}
 use Rattle.peers.specs.Ranges.{places_at}
 use Rattle.peers.specs.View.{view_start, shown}
 use Rattle.peers.specs.World.{Document, Widget}
@@ -46,7 +46,7 @@ insertion_offset document widget place = view_start widget + min place (length (
 
 abbrev pub insert_pairs : LimitTable → Document → Widget → Result (List Pair) Fault → ℕ → Change
 insert_pairs limits document widget pairs place =
-    change_with document pairs (insert_at limits document widget (insertion_offset document widget place))
+    change_with document pairs (λ pairs. unless_disabled widget document (insert_at limits document widget (insertion_offset document widget place) pairs))
 
 abbrev pub insert_words : LimitTable → Document → Widget → ℕ → List ℕ × List (List ℕ) → Change
 insert_words limits document widget at (index, words) =

@@ -1,8 +1,11 @@
-ghost use Rattle.std.specs.Prelude.{◌+◌, ◌<◌, ◌≤◌, length};
+ghost use Rattle.std.specs.Prelude.{◌≡◌, ◌≢◌, ◌+◌, ◌<◌, ◌≤◌, true, length, Err};
 ghost use Rattle.tcl_words.specs.Unread.{texts_of};
 ghost use Rattle.peers.specs.World.{lone_widget};
 ghost use Rattle.peers.specs.Promise.{Does};
-ghost use Rattle.peers.specs.Command.{done, command};
+ghost use Rattle.peers.specs.Command.{done, command, is_frugal, is_frugal_reading};
+ghost use Rattle.command_table.specs.Reading.{reading};
+ghost use Rattle.command_parts.specs.declared.answers.Fault.TheVariants.{Memory};
+ghost use Rattle.peers.specs.WellFormed.{IsWellFormedDocument};
 
 use crate::documents::Document;
 use command_parts::{Answer, Fault};
@@ -10,7 +13,7 @@ use command_table::{Command, shape};
 use text_model::{Limits, TextStore};
 
 impl<S: TextStore> Document<S> {
-    /// A command with its arguments, which stand from a position on. What isn't there yet is no option.
+    /// A command with its arguments and options, which stand from a position on. What isn't there yet is no option.
     fn carry_out(
         &mut self,
         limits: &Limits,
@@ -18,9 +21,11 @@ impl<S: TextStore> Document<S> {
         at: usize,
         arguments: &[String],
     ) -> Result<Answer, Fault>
+        requires formed { IsWellFormedDocument limits.now self.old }
         requires near { at + 2 ≤ usize.MAX }
         requires all { at + length arguments.now ≤ usize.MAX }
-        ensures { Does limits.now self.old self.new result (done command limits.now self.old (lone_widget self.old) at (texts_of arguments.now)) }
+        ensures does { Does limits.now self.old self.new result (done command limits.now self.old (lone_widget self.old) at (texts_of arguments.now)) }
+        ensures sure { is_frugal command ≡ true → result ≢ Err Memory }
     {
         match command {
             Command::Insert => self.insert(limits, at, arguments),
@@ -44,26 +49,32 @@ impl<S: TextStore> Document<S> {
             Command::TagPreviousRange => self.tag_prevrange(at, arguments),
             Command::TagRaise => self.tag_raise(limits, at, arguments),
             Command::TagLower => self.tag_lower(limits, at, arguments),
+            Command::Configure => self.configure(limits, at, arguments),
+            Command::Cget => self.cget(arguments),
+            Command::EditUndo => self.edit_undo(limits),
+            Command::EditRedo => self.edit_redo(limits),
+            Command::EditModified => self.edit_modified(limits, at, arguments),
+            Command::EditReset => Ok(self.edit_reset(limits)),
+            Command::EditSeparator => Ok(self.edit_separator(limits)),
             _ => Err(Fault::BadOption(1)),
         }
     }
 
     /// A command of the widget, of all its words.
     pub fn command(&mut self, limits: &Limits, words: &[String]) -> Result<Answer, Fault>
-        requires { 0 < length words.now }
-        ensures { Does limits.now self.old self.new result (command limits.now self.old (lone_widget self.old) (texts_of words.now)) }
+        requires formed { IsWellFormedDocument limits.now self.old }
+        requires some { 0 < length words.now }
+        ensures does { Does limits.now self.old self.new result (command limits.now self.old (lone_widget self.old) (texts_of words.now)) }
+        ensures sure { is_frugal_reading (reading (texts_of words.now)) ≡ true → result ≢ Err Memory }
     {
         match shape(words) {
             Err(fault) => Err(Fault::of_shape(fault)),
-            Ok(shape) => {
-                let end = shape.arguments + shape.count;
-                self.carry_out(
-                    limits,
-                    shape.command,
-                    shape.arguments,
-                    &words[shape.arguments..end],
-                )
-            }
+            Ok(shape) => self.carry_out(
+                limits,
+                shape.command,
+                shape.arguments,
+                &words[shape.arguments..],
+            ),
         }
     }
 }

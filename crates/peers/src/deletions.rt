@@ -1,8 +1,11 @@
 ghost use Rattle.std.specs.Prelude.{◌≡◌, ◌+◌, ◌≤◌, length, chars};
+ghost use Rattle.std.specs.List.{All};
+ghost use Rattle.peers.specs.View.{shown};
 ghost use Rattle.tcl_words.specs.Unread.{texts_of};
 ghost use Rattle.command_parts.specs.Lists.{pairs_at};
-ghost use Rattle.peers.specs.Deletions.{delete, replace, replace_places, replace_words};
-ghost use Rattle.peers.specs.Promise.{Does, change_with};
+ghost use Rattle.peers.specs.Deletions.{delete, delete_places, replace, replace_places, replace_span, replace_words};
+ghost use Rattle.peers.specs.Texts.{insertion_offset};
+ghost use Rattle.peers.specs.Promise.{Does, change_with, unless_disabled};
 ghost use Rattle.peers.specs.World.{lone_widget};
 
 use crate::documents::Document;
@@ -10,6 +13,18 @@ use command_parts::{Answer, Fault, Pair, first_two, pairs_at};
 use text_model::{Limits, TextStore};
 
 impl<S: TextStore> Document<S> {
+    /// Deletes the ranges between pairs of places, unless the widget is disabled.
+    fn delete_found(&mut self, limits: &Limits, places: &[usize]) -> Result<Answer, Fault>
+        requires { All (λ place. place ≤ length (shown self.old (lone_widget self.old))) places.now }
+        ensures { Does limits.now self.old self.new result
+            (unless_disabled (lone_widget self.old) self.old (delete_places self.old (lone_widget self.old) places.now)) }
+    {
+        if self.is_disabled() {
+            return Ok(Answer::Empty);
+        }
+        self.delete_places(limits, places)
+    }
+
     /// `W delete I ?I ..?` (text(n), "delete"). The arguments stand from a position on.
     pub fn delete(
         &mut self,
@@ -22,8 +37,27 @@ impl<S: TextStore> Document<S> {
     {
         match self.places_at(at, arguments) {
             Err(fault) => Err(fault),
-            Ok(places) => self.delete_places(limits, &places),
+            Ok(places) => self.delete_found(limits, &places),
         }
+    }
+
+    /// Puts texts in the place of the characters between two places, unless the widget is disabled.
+    fn replace_ordered(
+        &mut self,
+        limits: &Limits,
+        from: usize,
+        to: usize,
+        pairs: Vec<Pair>,
+    ) -> Result<Answer, Fault>
+        requires { from ≤ to }
+        ensures { Does limits.now self.old self.new result
+            (unless_disabled (lone_widget self.old) self.old (replace_span limits.now self.old (lone_widget self.old)
+            (insertion_offset self.old (lone_widget self.old) from) (insertion_offset self.old (lone_widget self.old) to) pairs.items)) }
+    {
+        if self.is_disabled() {
+            return Ok(Answer::Empty);
+        }
+        self.replace_between(limits, from, to, pairs)
     }
 
     /// Puts texts in the place of the characters between two places, of which the second is the word at a position.
@@ -40,7 +74,7 @@ impl<S: TextStore> Document<S> {
         if to < from {
             return Err(Fault::IndexOrder(second));
         }
-        self.replace_between(limits, from, to, pairs)
+        self.replace_ordered(limits, from, to, pairs)
     }
 
     fn replace_found(

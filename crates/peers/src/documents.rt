@@ -29,6 +29,10 @@ ghost use Rattle.command_parts.specs.Listing.{range_words, begun};
 ghost use Rattle.command_parts.specs.Words.{is_among};
 ghost use Rattle.mark_table.specs.Order.{next_mark, previous_mark, rank_of};
 ghost use Rattle.command_parts.specs.declared.answers.Answer.TheVariants.{Empty};
+ghost use Rattle.peers.specs.History.{edit_reset, edit_separator, modified_set};
+ghost use Rattle.peers.specs.Options.{settings_of, with_settings};
+ghost use Rattle.peers.specs.Reversals.{edit_redo, edit_undo};
+ghost use Rattle.undo_stack.specs.Modified.{is_modified};
 ghost use Rattle.peers.specs.Names.{mark_number, mark_place};
 ghost use Rattle.command_parts.specs.Marking.{gravity_word as spec_gravity_word};
 ghost use Rattle.peers.specs.Marks.{mark_names, mark_offset, mark_unset, place_named, set_found, usable_marks, with_current, with_insert, with_mark, with_shared};
@@ -36,8 +40,8 @@ ghost use Rattle.peers.specs.Marks.{mark_names, mark_offset, mark_unset, place_n
 use command_parts::{
     Answer, Fault, Pair, Settings, clear_slots, delete_names, delete_spans, deleted_slots,
     gravity_word, is_word, make_mark, new_store, numbers_named, push_mark_names, push_names,
-    push_names_in, push_next, push_previous, push_ranges, put_mark, put_pairs, replace_pairs,
-    set_slot, spans_of, tag_spans, take_marks, turn_mark, unset_names,
+    push_names_in, push_next, push_previous, push_ranges, put_mark, put_pairs, redo_group,
+    replace_pairs, set_slot, spans_of, tag_spans, take_marks, turn_mark, undo_group, unset_names,
 };
 use mark_table::{MarkTable, MarkView, Origin, WidgetMark};
 use std::alloc::{AllocError, Global};
@@ -106,22 +110,24 @@ fn greatest_limits() -> Limits
 }
 
 impl<S: TextStore> Document<S> {
-    /// A document of one newline, whose widget has a name.
-    pub fn new(alloc: Global, name: &str) -> Result<Document<S>, AllocError>
+    /// A document of one newline, whose widget has a name, with these options.
+    pub fn new(alloc: Global, name: &str, settings: Settings) -> Result<Document<S>, AllocError>
         requires { is_window_name (chars name.now) ≡ true }
-        ensures value { IfOk result (λ document. document ≡ new_document (chars name.now)) }
+        ensures value { IfOk result (λ document. document ≡ new_document (chars name.now) settings) }
         ensures well_formed { IfOk result (λ document.
             (limits : LimitTable) → AreLimits limits → IsWellFormedDocument limits document) }
     {
         let limits = greatest_limits();
+        let mut history = UndoStack::new(alloc);
+        settings.bound(&mut history);
         Ok(Document {
             alloc,
             name: String::from_str(alloc, name)?,
             store: new_store(alloc)?,
             tags: TagTable::new(alloc, &limits)?,
             marks: MarkTable::new(alloc, &limits)?,
-            history: UndoStack::new(alloc),
-            settings: Settings::new(),
+            history,
+            settings,
         })
     }
 
@@ -679,5 +685,108 @@ impl<S: TextStore> Document<S> {
                 Ok(Answer::Empty)
             }
         }
+    }
+}
+
+impl<S: TextStore> Document<S> {
+    /// Whether the text is modified.
+    pub fn is_modified(&self) -> bool
+        ensures { result ≡ is_modified self.now.modified }
+    {
+        self.history.modified()
+    }
+
+    /// Says whether the text is modified.
+    pub fn set_modified(&mut self, limits: &Limits, modified: bool) -> Answer
+        ensures { Does limits.now self.old self.new (Ok result) (modified_set self.old modified) }
+    {
+        self.history.set_modified(modified);
+        Answer::Empty
+    }
+
+    /// `W edit separator` (text(n), "edit separator").
+    pub fn edit_separator(&mut self, limits: &Limits) -> Answer
+        ensures { Does limits.now self.old self.new (Ok result) (edit_separator self.old) }
+    {
+        if !self.settings.undo {
+            return Answer::Empty;
+        }
+        self.history.separator();
+        Answer::Empty
+    }
+
+    /// `W edit reset` (text(n), "edit reset").
+    pub fn edit_reset(&mut self, limits: &Limits) -> Answer
+        ensures { Does limits.now self.old self.new (Ok result) (edit_reset self.old) }
+    {
+        self.history.reset();
+        Answer::Empty
+    }
+}
+
+impl<S: TextStore> Document<S> {
+    /// `W edit undo` (text(n), "edit undo").
+    pub fn edit_undo(&mut self, limits: &Limits) -> Result<Answer, Fault>
+        requires { IsWellFormedDocument limits.now self.old }
+        ensures { Does limits.now self.old self.new result (edit_undo self.old (lone_widget self.old)) }
+    {
+        if !self.settings.undo {
+            return Ok(Answer::Empty);
+        }
+        let Some(_) = self.history.last_undo() else {
+            return Err(Fault::NothingToUndo);
+        };
+        if self.settings.disabled {
+            return Ok(Answer::Empty);
+        }
+        match undo_group(self.alloc, limits, &mut self.store, &mut self.history) {
+            Ok(()) => Ok(Answer::Empty),
+            Err(fault) => Err(fault),
+        }
+    }
+
+    /// `W edit redo` (text(n), "edit redo").
+    pub fn edit_redo(&mut self, limits: &Limits) -> Result<Answer, Fault>
+        requires { IsWellFormedDocument limits.now self.old }
+        ensures { Does limits.now self.old self.new result (edit_redo self.old (lone_widget self.old)) }
+    {
+        if !self.settings.undo {
+            return Ok(Answer::Empty);
+        }
+        let Some(_) = self.history.last_redo() else {
+            return Err(Fault::NothingToRedo);
+        };
+        if self.settings.disabled {
+            return Ok(Answer::Empty);
+        }
+        match redo_group(self.alloc, limits, &mut self.store, &mut self.history) {
+            Ok(()) => Ok(Answer::Empty),
+            Err(fault) => Err(fault),
+        }
+    }
+}
+
+impl<S: TextStore> Document<S> {
+    /// The options of the document and its widget.
+    pub fn settings(&self) -> Settings
+        ensures { result ≡ settings_of self.now (lone_widget self.now) }
+    {
+        self.settings
+    }
+
+    /// Whether its widget is disabled.
+    pub fn is_disabled(&self) -> bool
+        ensures { result ≡ (lone_widget self.now).disabled }
+    {
+        self.settings.disabled
+    }
+
+    /// Gives the document and its widget options.
+    pub fn put_settings(&mut self, limits: &Limits, settings: Settings) -> Answer
+        ensures { Does limits.now self.old self.new (Ok result) (answered (with_settings (lone_widget self.old) settings self.old) Empty) }
+    {
+        settings.bound(&mut self.history);
+        self.settings = settings;
+        Answer::Empty
     }
 }

@@ -4,8 +4,10 @@
 mod commands;
 mod deletions;
 mod documents;
+mod history;
 mod indices;
 mod marks;
+mod options;
 mod ranges;
 mod tags;
 mod texts;

@@ -4,17 +4,34 @@ ghost use Rattle.std.specs.List.{All};
 ghost use Rattle.tcl_words.specs.Unread.{texts_of};
 ghost use Rattle.peers.specs.World.{lone_widget};
 ghost use Rattle.peers.specs.View.{shown};
-ghost use Rattle.peers.specs.Promise.{Gives, Does, change_with};
+ghost use Rattle.peers.specs.Promise.{Gives, Does, change_with, unless_disabled};
 ghost use Rattle.command_parts.specs.Lists.{pairs_at};
-ghost use Rattle.peers.specs.Texts.{insert_pairs, insert_words, insert, texts_of_places, got, get};
+ghost use Rattle.peers.specs.Texts.{insert_at, insertion_offset, insert_pairs, insert_words, insert, texts_of_places, got, get};
 ghost use Rattle.command_parts.specs.Listing.{is_filled};
 
 use crate::documents::Document;
-use command_parts::{Answer, Fault, first, pairs_at, push_filled};
+use command_parts::{Answer, Fault, Pair, first, pairs_at, push_filled};
 use std::alloc::AllocError;
 use text_model::{Limits, Text, TextStore};
 
 impl<S: TextStore> Document<S> {
+    /// Puts texts in at a place, or just before the last newline where that is the end, unless the widget is disabled.
+    fn insert_pairs(
+        &mut self,
+        limits: &Limits,
+        place: usize,
+        pairs: Vec<Pair>,
+    ) -> Result<Answer, Fault>
+        ensures { Does limits.now self.old self.new result
+            (unless_disabled (lone_widget self.old) self.old (insert_at limits.now self.old (lone_widget self.old)
+            (insertion_offset self.old (lone_widget self.old) place) pairs.items)) }
+    {
+        if self.is_disabled() {
+            return Ok(Answer::Empty);
+        }
+        self.insert_at(limits, self.insertion_offset(place), pairs)
+    }
+
     /// Puts texts in at a place, or just before the last newline where that is the end.
     fn insert_place(
         &mut self,
@@ -33,7 +50,7 @@ impl<S: TextStore> Document<S> {
         };
         match pairs_at(self.allocator(), at, words) {
             Err(fault) => Err(fault),
-            Ok(pairs) => self.insert_at(limits, self.insertion_offset(place), pairs),
+            Ok(pairs) => self.insert_pairs(limits, place, pairs),
         }
     }
 

@@ -1,13 +1,14 @@
-ghost use Rattle.std.specs.Prelude.{◌≡◌, ◌≢◌, ◌<◌, [], true, length, chars, string_bytes, IfErr};
+ghost use Rattle.std.specs.Prelude.{◌≡◌, ◌≢◌, ◌<◌, [], true, length, chars, string_bytes, IfErr, ◌+◌, ◌≤◌};
 ghost use Rattle.tcl_words.specs.Unread.{texts_of};
 ghost use Rattle.command_table.specs.Reading.{reading};
-ghost use Rattle.peers.specs.Step.{create_first, create, create_shaped, on_widget, step};
+ghost use Rattle.peers.specs.Step.{create_first, create_named, create, create_shaped, on_widget, step, takes_none};
+ghost use Rattle.peers.specs.Command.{is_frugal_reading};
 ghost use Rattle.peers.specs.Kept.{is_window_name};
 ghost use Rattle.peers.specs.WellFormed.{IsWellFormed};
 
 use crate::documents::Document;
 use crate::words::is_window_name;
-use command_parts::{Answer, Fault, is_word};
+use command_parts::{Answer, Fault, Settings, is_word};
 use command_table::shape;
 use std::alloc::Global;
 use std::marker::Model;
@@ -52,46 +53,62 @@ impl<S: TextStore> World<S> {
         }
     }
 
-    /// Makes the first document, with a widget of a name.
-    fn create_first(&mut self, name: &str) -> Result<Answer, Fault>
+    /// Makes the first document, with a widget of a name, and options.
+    fn create_first(&mut self, name: &str, settings: Settings) -> Result<Answer, Fault>
         requires named { is_window_name (chars name.now) ≡ true }
         requires empty { self.old.documents ≡ [] }
-        ensures reply { result ≢ Err Fault.Memory → result ≡ (create_first self.old (chars name.now)).reply }
-        ensures world { result ≢ Err Fault.Memory → self.new ≡ (create_first self.old (chars name.now)).world }
+        ensures reply { result ≢ Err Fault.Memory → result ≡ (create_first self.old (chars name.now) settings).reply }
+        ensures world { result ≢ Err Fault.Memory → self.new ≡ (create_first self.old (chars name.now) settings).world }
         ensures refused { IfErr result (λ _. self.new ≡ self.old) }
         ensures well_formed { IsWellFormed self.new }
     {
         if self.limits.widgets() == 0 {
             return Err(Fault::TooManyWidgets);
         }
-        let document = Document::new(self.alloc, name)?;
+        let document = Document::new(self.alloc, name, settings)?;
         self.document = Some(document);
         Ok(Answer::Word(1))
     }
 
-    /// `text W`.
+    /// Makes a widget of a name on a document of its own, with options.
+    fn create_named(&mut self, name: &str, settings: Settings) -> Result<Answer, Fault>
+        requires { is_window_name (chars name.now) ≡ true }
+        ensures reply { result ≢ Err Fault.Memory → result ≡ (create_named self.old (chars name.now) settings self.old.documents).reply }
+        ensures world { result ≢ Err Fault.Memory → self.new ≡ (create_named self.old (chars name.now) settings self.old.documents).world }
+        ensures refused { IfErr result (λ _. self.new ≡ self.old) }
+        ensures well_formed { IsWellFormed self.new }
+    {
+        // Read first, so that every return knows that the world is well formed.
+        match &self.document {
+            None => self.create_first(name, settings),
+            Some(document) if document.is_named(name) => Err(Fault::WindowExists(1)),
+            Some(_) => Err(Fault::DocumentExists),
+        }
+    }
+
+    /// `text W ?option value ..?` (text(n), "text").
     fn create(&mut self, arguments: &[String]) -> Result<Answer, Fault>
+        requires { 2 + length arguments.now ≤ usize.MAX }
         ensures reply { result ≢ Err Fault.Memory → result ≡ (create self.old (texts_of arguments.now)).reply }
         ensures world { result ≢ Err Fault.Memory → self.new ≡ (create self.old (texts_of arguments.now)).world }
         ensures refused { IfErr result (λ _. self.new ≡ self.old) }
         ensures well_formed { IsWellFormed self.new }
     {
         // Read first, so that every return knows that the world is well formed.
-        let document = &self.document;
-        let [name] = arguments else {
+        let _document = &self.document;
+        let [name, options @ ..] = arguments else {
             return Err(Fault::WrongArguments);
         };
         if !is_window_name(name.as_str()) {
             return Err(Fault::InvalidCommandName(1));
         }
-        match document {
-            None => self.create_first(name.as_str()),
-            Some(document) if document.is_named(name.as_str()) => Err(Fault::WindowExists(1)),
-            Some(_) => Err(Fault::DocumentExists),
+        match Settings::new().read(2, options) {
+            Err(fault) => Err(fault),
+            Ok(settings) => self.create_named(name.as_str(), settings),
         }
     }
 
-    /// `text W`, of all its words.
+    /// `text W ?option value ..?`, of all its words.
     fn create_shaped(&mut self, words: &[String]) -> Result<Answer, Fault>
         requires { 0 < length words.now }
         ensures reply { result ≢ Err Fault.Memory → result ≡ (create_shaped self.old (texts_of words.now) (reading (texts_of words.now))).reply }
@@ -103,10 +120,7 @@ impl<S: TextStore> World<S> {
         let _document = &self.document;
         match shape(words) {
             Err(fault) => Err(Fault::of_shape(fault)),
-            Ok(shape) => {
-                let end = shape.arguments + shape.count;
-                self.create(&words[shape.arguments..end])
-            }
+            Ok(shape) => self.create(&words[shape.arguments..]),
         }
     }
 
@@ -118,6 +132,7 @@ impl<S: TextStore> World<S> {
         ensures world { result ≢ Err Fault.Memory →
             self.new ≡ (on_widget self.old (chars name.now) (texts_of words.now) self.old.documents).world }
         ensures refused { IfErr result (λ _. self.new ≡ self.old) }
+        ensures sure { is_frugal_reading (reading (texts_of words.now)) ≡ true → result ≢ Err Fault.Memory }
         ensures well_formed { IsWellFormed self.new }
     {
         let Some(document) = &mut self.document else {
@@ -135,6 +150,7 @@ impl<S: TextStore> World<S> {
         ensures reply { result ≢ Err Fault.Memory → result ≡ (step self.old (texts_of words.now)).reply }
         ensures world { result ≢ Err Fault.Memory → self.new ≡ (step self.old (texts_of words.now)).world }
         ensures refused { IfErr result (λ _. self.new ≡ self.old) }
+        ensures sure { takes_none (texts_of words.now) ≡ true → result ≢ Err Fault.Memory }
         ensures well_formed { IsWellFormed self.new }
     {
         let [name, ..] = words else { unreachable!() };

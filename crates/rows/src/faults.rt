@@ -2,7 +2,7 @@ use peers::Fault;
 use std::test::Fail;
 
 // Faults with their texts.
-const FAULTS: [(Fault, &str); 18] = [
+const FAULTS: [(Fault, &str); 22] = [
     (Fault::BadIndex(2), "bad text index"),
     (
         Fault::NoTaggedCharacters(2, 3),
@@ -13,6 +13,10 @@ const FAULTS: [(Fault, &str); 18] = [
     (Fault::BadComparison(3), "bad comparison operator"),
     (Fault::BadGravity(4), "bad mark gravity"),
     (Fault::BadList(4), "bad list"),
+    (Fault::BadBoolean(3), "expected boolean value"),
+    (Fault::BadInteger(3), "expected integer"),
+    (Fault::NothingToUndo, "nothing to undo"),
+    (Fault::NothingToRedo, "nothing to redo"),
     (Fault::BadOption(1), "bad option"),
     (Fault::WrongArguments, "wrong # args"),
     (Fault::InvalidCommandName(0), "invalid command name"),

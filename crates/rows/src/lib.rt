@@ -19,5 +19,7 @@ mod table;
 mod tag_rows;
 #[cfg(test)]
 mod tests;
+#[cfg(test)]
+mod undo_rows;
 
 pub use readers::Pieces;

@@ -32,9 +32,9 @@ pub static SCRIPTS: [Row; 40] = [
     },
     Row {
         name: "bad option",
-        script: b"text .t -undo 1; text .t; .t foo; .t del 1.0",
+        script: b"text .t -wrap 1; text .t; .t foo; .t del 1.0",
         numbers: AMPLE,
-        output: "error: bad option \"-undo\"\n.t\nerror: bad option \"foo\"\nerror: bad option \"del\"\n",
+        output: "error: bad option \"-wrap\"\n.t\nerror: bad option \"foo\"\nerror: bad option \"del\"\n",
         status: 1,
     },
     Row {

@@ -5,6 +5,7 @@ use crate::readers::Pieces;
 use crate::scripts::SCRIPTS;
 use crate::table::{AMPLE, Row};
 use crate::tag_rows::{LISTS, TAG_COMMANDS, TAGS};
+use crate::undo_rows::{HISTORIES, MODIFIED_TEXTS, OPTIONS};
 use script_cli::{Watched, outcome, run};
 use std::alloc::{AllocError, Global};
 use std::process::Abort;
@@ -124,4 +125,19 @@ fn deletions_on_the_plain_store(rt: HostRuntime) -> Result<(), AllocError> {
 #[test]
 fn replacements_on_the_plain_store(rt: HostRuntime) -> Result<(), AllocError> {
     check_rows::<PlainStore>(&rt, rt.alloc(), &REPLACEMENTS)
+}
+
+#[test]
+fn histories_on_the_plain_store(rt: HostRuntime) -> Result<(), AllocError> {
+    check_rows::<PlainStore>(&rt, rt.alloc(), &HISTORIES)
+}
+
+#[test]
+fn modified_texts_on_the_plain_store(rt: HostRuntime) -> Result<(), AllocError> {
+    check_rows::<PlainStore>(&rt, rt.alloc(), &MODIFIED_TEXTS)
+}
+
+#[test]
+fn options_on_the_plain_store(rt: HostRuntime) -> Result<(), AllocError> {
+    check_rows::<PlainStore>(&rt, rt.alloc(), &OPTIONS)
 }

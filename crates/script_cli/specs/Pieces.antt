@@ -3,7 +3,7 @@ use Rattle.std.specs.Prelude.{ℕ, ◌-◌, Bool, true, false, ◌&&◌, ◌||�
 use Rattle.command_parts.specs.declared.answers.Answer.{Answer}
 use Rattle.command_parts.specs.declared.answers.Answer.TheVariants.{Empty, Word, Flag, Text}
 use Rattle.command_parts.specs.declared.answers.Fault.{Fault}
-use Rattle.command_parts.specs.declared.answers.Fault.TheVariants.{BadIndex, NoTaggedCharacters, NoSuchMark, NoSuchTag, BadOption, WrongArguments, InvalidCommandName, WindowExists, BadComparison, BadGravity, BadList, IndexOrder, DocumentExists, TooManyWidgets, TooManyTags, TooManyMarks, TextTooLong, Memory}
+use Rattle.command_parts.specs.declared.answers.Fault.TheVariants.{BadIndex, NoTaggedCharacters, NoSuchMark, NoSuchTag, BadOption, WrongArguments, InvalidCommandName, WindowExists, BadComparison, BadGravity, BadList, IndexOrder, BadBoolean, BadInteger, NothingToUndo, NothingToRedo, DocumentExists, TooManyWidgets, TooManyTags, TooManyMarks, TextTooLong, Memory}
 use Rattle.tcl_words.specs.declared.fault.ScriptFault.{ScriptFault}
 use Rattle.tcl_words.specs.declared.fault.ScriptFault.TheVariants as script
 use Prim.Native.String.{String}
@@ -70,6 +70,10 @@ fault_line words (BadGravity position) = around "error: bad mark gravity \"" (wo
 fault_line words (BadList position) = around "error: bad list \"" (word_at words position) "\"\n"
 fault_line words (IndexOrder position) =
     around_two "error: index \"" (word_at words position) "\" before \"" (word_at words (position - 1)) "\" in the text\n"
+fault_line words (BadBoolean position) = around "error: expected boolean value but got \"" (word_at words position) "\"\n"
+fault_line words (BadInteger position) = around "error: expected integer but got \"" (word_at words position) "\"\n"
+fault_line words NothingToUndo = alone "error: nothing to undo\n"
+fault_line words NothingToRedo = alone "error: nothing to redo\n"
 fault_line words DocumentExists = alone "error: a document exists\n"
 fault_line words TooManyWidgets = alone "error: too many widgets\n"
 fault_line words TooManyTags = alone "error: too many tags\n"

@@ -137,6 +137,18 @@ impl<'a> Line<'a> {
                 word_at(words, position.saturating_sub(1)),
                 "\" in the text\n",
             ),
+            Fault::BadBoolean(position) => Line::around(
+                "error: expected boolean value but got \"",
+                word_at(words, position),
+                "\"\n",
+            ),
+            Fault::BadInteger(position) => Line::around(
+                "error: expected integer but got \"",
+                word_at(words, position),
+                "\"\n",
+            ),
+            Fault::NothingToUndo => Line::alone("error: nothing to undo\n"),
+            Fault::NothingToRedo => Line::alone("error: nothing to redo\n"),
             Fault::DocumentExists => Line::alone("error: a document exists\n"),
             Fault::TooManyWidgets => Line::alone("error: too many widgets\n"),
             Fault::TooManyTags => Line::alone("error: too many tags\n"),

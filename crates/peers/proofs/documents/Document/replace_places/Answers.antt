@@ -3,7 +3,7 @@ use Rattle.std.specs.Prelude.{if◌then◌else◌, nat_lt}
 use Rattle.std.proofs.lemmas.Bool.Decides.{nat_tests}
 use Rattle.command_parts.specs.declared.answers.Fault.TheVariants.{IndexOrder}
 use Rattle.peers.specs.Deletions.{replace_places, replace_span}
-use Rattle.peers.specs.Promise.{refused}
+use Rattle.peers.specs.Promise.{refused, unless_disabled}
 use Rattle.peers.specs.Texts.{insertion_offset}
 use Rattle.peers.specs.World.{lone_widget}
 use Rattle.peers.proofs.PromiseLaws.{does-same}
@@ -14,6 +14,6 @@ returns g c =
     let limits = c.args.limits.now in let document = c.args.self.now in let widget = lone_widget document in
     let ordered = c.if-to-from.false in
     let in_order : nat_lt c.args.to c.args.from ≡ false = grind (arith, nat_tests) in
-    let change = replace_span limits document widget (insertion_offset document widget c.args.from) (insertion_offset document widget c.args.to) c.args.pairs.items in
-    does-same limits document c.replace_between.new.self c.replace_between.result change (replace_places limits document widget c.args.second c.args.from c.args.to c.args.pairs.items)
-    (λ _. ap (λ b. if b then refused document (IndexOrder c.args.second) else change) (sym in_order)) c.replace_between.ensures
+    let change = unless_disabled widget document (replace_span limits document widget (insertion_offset document widget c.args.from) (insertion_offset document widget c.args.to) c.args.pairs.items) in
+    does-same limits document c.replace_ordered.new.self c.replace_ordered.result change (replace_places limits document widget c.args.second c.args.from c.args.to c.args.pairs.items)
+    (λ _. ap (λ b. if b then refused document (IndexOrder c.args.second) else change) (sym in_order)) c.replace_ordered.ensures

@@ -1,0 +1,13 @@
+use Rattle.std.proofs.Common.{◌≡◌, ◌≤◌, ◌+◌, length}
+use Rattle.tcl_words.specs.Unread.{texts_of}
+use Rattle.command_parts.specs.Settings.{settings_read}
+use Rattle.command_parts.proofs.settings.Settings.read.Given as goal
+
+abbrev pub invariant-loop-rest : goal.invariant-loop-rest
+invariant-loop-rest l = record {
+  value : settings_read l.at (texts_of l.fn.words) l.fn.self ≡ settings_read l.position (texts_of l.rest) l.settings;
+  room : l.position + length l.rest ≤ l.at + length l.fn.words;
+}
+
+abbrev pub decreases-loop-rest : goal.decreases-loop-rest
+decreases-loop-rest l = length l.rest

@@ -1,0 +1,180 @@
+use crate::table::{AMPLE, Numbers, Row};
+
+/// Undo and redo, and which edits make one group.
+pub static HISTORIES: [Row; 13] = [
+    Row {
+        name: "undo and redo",
+        script: b"text .t -undo 1; .t insert end a; .t insert end b; .t delete 1.0; .t edit undo; .t get 1.0 end-1c; .t edit undo; .t get 1.0 end-1c; .t edit modified; .t edit undo; .t edit redo; .t get 1.0 end-1c; .t edit modified",
+        numbers: AMPLE,
+        output: ".t\n\n\n\n\nab\n\n\n0\nerror: nothing to undo\n\nab\n1\n",
+        status: 1,
+    },
+    Row {
+        name: "one group at most",
+        script: b"text .t -undo 1 -maxundo 1; .t insert 1.0 a; .t edit separator; .t insert 1.1 b; .t edit separator; .t insert 1.2 c; .t edit undo; .t edit undo; .t get 1.0 end-1c; .t insert 1.2 d; .t edit redo",
+        numbers: AMPLE,
+        output: ".t\n\n\n\n\n\n\nerror: nothing to undo\nab\n\nerror: nothing to redo\n",
+        status: 1,
+    },
+    Row {
+        name: "a history that is taken away, and edits of one kind",
+        script: b"text .t -undo 1; .t insert 1.0 a; .t configure -undo 0; .t edit undo; .t configure -undo 1; .t edit undo; .t cget -undo; .t cget -maxundo; .t edit separator; .t insert 1.0 b; .t insert 1.1 c; .t replace 1.0 1.1 z; .t edit undo; .t get 1.0 end-1c; .t edit undo; .t get 1.0 end-1c",
+        numbers: AMPLE,
+        output: ".t\n\n\n\n\nerror: nothing to undo\n1\n0\n\n\n\n\n\nbca\n\na\n",
+        status: 1,
+    },
+    Row {
+        name: "a text comes back without its tags, and insert stands behind it",
+        script: b"text .t -undo 1; .t insert 1.0 abc; .t tag add x 1.1 1.2; .t delete 1.1; .t edit undo; .t tag ranges x; .t index insert",
+        numbers: AMPLE,
+        output: ".t\n\n\n\n\n\n1.2\n",
+        status: 0,
+    },
+    Row {
+        name: "a group for each kind of edit in a row",
+        script: b"text .t -undo 1; .t insert 1.0 a; .t insert 1.1 b; .t delete 1.0; .t replace 1.0 1.1 xyz; .t replace 1.1 1.2 {}; .t get 1.0 1.end; .t edit undo; .t get 1.0 1.end; .t edit undo; .t get 1.0 1.end; .t edit undo; .t get 1.0 1.end; .t edit undo; .t edit redo; .t get 1.0 1.end; .t edit redo; .t get 1.0 1.end; .t edit redo; .t get 1.0 1.end; .t edit redo; .t get 1.0 end",
+        numbers: AMPLE,
+        output: ".t\n\n\n\n\n\nxz\n\nb\n\nab\n\n\nerror: nothing to undo\n\nab\n\nb\n\nxz\nerror: nothing to redo\nxz\n\n",
+        status: 1,
+    },
+    Row {
+        name: "without separators of their own",
+        script: b"text .t -undo 1 -autoseparators 0; .t insert 1.0 ab; .t delete 1.0; .t replace 1.0 1.1 cd; .t edit separator; .t insert 1.0 e; .t edit undo; .t get 1.0 1.end; .t edit undo; .t get 1.0 1.end; .t edit redo; .t get 1.0 1.end; .t configure -autoseparators 1; .t delete 1.0; .t edit redo; .t edit undo; .t get 1.0 1.end; .t edit undo; .t get 1.0 1.end; .t edit redo; .t edit redo; .t get 1.0 1.end",
+        numbers: AMPLE,
+        output: ".t\n\n\n\n\n\n\ncd\n\n\n\ncd\n\n\nerror: nothing to redo\n\ncd\n\n\n\n\nd\n",
+        status: 1,
+    },
+    Row {
+        name: "what closes a group, and what doesn't",
+        script: b"text .t -undo 1; .t insert 1.0 a; .t edit redo; .t insert 1.1 b; .t edit undo; .t get 1.0 end; .t edit undo; .t insert 1.0 c; .t edit separator; .t edit separator; .t insert 1.1 d; .t insert 1.2 e; .t edit undo; .t get 1.0 1.end; .t insert 1.1 f; .t edit redo; .t edit undo; .t get 1.0 1.end; .t edit redo; .t insert 1.2 g; .t edit undo; .t get 1.0 1.end; .t edit undo; .t get 1.0 1.end; .t edit undo; .t get 1.0 end",
+        numbers: AMPLE,
+        output: ".t\n\nerror: nothing to redo\n\n\n\n\nerror: nothing to undo\n\n\n\n\n\n\nc\n\nerror: nothing to redo\n\nc\n\n\n\ncf\n\nc\n\n\n\n",
+        status: 1,
+    },
+    Row {
+        name: "an action for each text and each range, and where insert stands then",
+        script: b"text .t -undo 1; .t insert 1.0 abcdefgh; .t delete 1.1 1.2 1.4 1.6; .t edit undo; .t get 1.0 1.end; .t index insert; .t edit redo; .t get 1.0 1.end; .t index insert; .t edit undo; .t insert 1.2 X p {} q Y {} Z; .t get 1.0 1.end; .t edit undo; .t get 1.0 1.end; .t index insert; .t edit redo; .t get 1.0 1.end; .t index insert; .t tag ranges p; .t tag names; .t replace 1.0 1.2 m {} no; .t edit undo; .t get 1.0 1.end; .t index insert; .t edit redo; .t index insert; .t mark gravity insert left; .t edit undo; .t index insert; .t mark gravity insert",
+        numbers: AMPLE,
+        output: ".t\n\n\n\nabcdefgh\n1.6\n\nacdgh\n1.1\n\n\nabXYZcdefgh\n\nabcdefgh\n1.2\n\nabXYZcdefgh\n1.5\n\nsel p q\n\n\nabXYZcdefgh\n1.2\n\n1.3\n\n\n1.2\nleft\n",
+        status: 0,
+    },
+    Row {
+        name: "what comes back has the tags of both neighbours, and marks move as with any edit",
+        script: b"text .t -undo 1; .t insert 1.0 abcdef; .t tag add x 1.1 1.5; .t mark set m 1.3; .t mark set l 1.4; .t mark gravity l left; .t delete 1.2 1.4; .t tag remove x 1.1; .t edit undo; .t tag ranges x; .t index m; .t index l; .t edit redo; .t tag add x 1.0 end; .t edit undo; .t tag ranges x; .t edit undo; .t get 1.0 end; .t tag ranges x; .t edit redo; .t tag ranges x; .t index m; .t index l; .t mark names; .t tag names",
+        numbers: AMPLE,
+        output: ".t\n\n\n\n\n\n\n\n\n1.4 1.5\n1.4\n1.2\n\n\n\n1.0 2.0\n\n\n\n1.0 2.0\n\n1.6 2.0\n1.6\n1.0\ninsert current m l\nsel x\n",
+        status: 0,
+    },
+    Row {
+        name: "edits that change no character leave no trace",
+        script: b"text .t -undo 1; .t insert 1.0 a; .t edit undo; .t edit modified; .t insert 1.0 {} q; .t delete 1.0 1.0 end; .t replace 1.0 1.0 {}; .t delete end-1c; .t replace end end {} r; .t tag add x 1.0; .t mark set m 1.0; .t edit modified; .t edit redo; .t get 1.0 1.end; .t edit modified; .t edit undo; .t insert 1.0 b; .t delete 1.1 1.1; .t replace 1.0 1.0 {}; .t insert 1.1 c; .t edit undo; .t get 1.0 end; .t tag names",
+        numbers: AMPLE,
+        output: ".t\n\n\n0\n\n\n\n\n\n\n\n0\n\na\n1\n\n\n\n\n\n\n\n\nsel q r x\n",
+        status: 0,
+    },
+    Row {
+        name: "where no action is kept",
+        script: b"text .t; .t insert 1.0 a; .t edit undo; .t edit redo; .t edit separator; .t edit reset; .t get 1.0 1.end; .t edit modified; .t configure -undo 1; .t edit undo; .t insert 1.1 b; .t configure -undo 1; .t insert 1.2 c; .t edit undo; .t get 1.0 1.end; .t configure -undo 0 -undo 1; .t edit redo; .t get 1.0 1.end; .t configure -undo 1 -undo 0; .t edit undo; .t get 1.0 1.end; .t configure -undo 1; .t edit undo; .t edit redo; .t insert 1.0 d; .t edit reset; .t edit undo; .t edit redo; .t insert 1.0 e; .t edit undo; .t get 1.0 1.end",
+        numbers: AMPLE,
+        output: ".t\n\n\n\n\n\na\n1\n\nerror: nothing to undo\n\n\n\n\na\n\n\nabc\n\n\nabc\n\nerror: nothing to undo\nerror: nothing to redo\n\n\nerror: nothing to undo\nerror: nothing to redo\n\n\ndabc\n",
+        status: 1,
+    },
+    Row {
+        name: "as many groups as may be kept",
+        script: b"text .t -undo 1 -maxundo 3; .t insert 1.0 a; .t edit separator; .t insert 1.1 b; .t edit separator; .t insert 1.2 c; .t edit undo; .t edit undo; .t edit undo; .t configure -maxundo 1; .t edit redo; .t edit redo; .t edit redo; .t get 1.0 1.end; .t edit undo; .t get 1.0 1.end; .t edit undo; .t edit redo; .t edit separator; .t insert 1.0 x; .t configure -maxundo -1; .t edit separator; .t insert 1.0 y; .t edit separator; .t insert 1.0 z; .t configure -maxundo 2; .t configure -maxundo 0; .t edit undo; .t edit undo; .t edit undo; .t get 1.0 1.end",
+        numbers: AMPLE,
+        output: ".t\n\n\n\n\n\n\n\n\n\n\n\n\nabc\n\nab\nerror: nothing to undo\n\n\n\n\n\n\n\n\n\n\n\n\nerror: nothing to undo\nxabc\n",
+        status: 1,
+    },
+    Row {
+        name: "undo and redo of the last lines",
+        script: b"text .t -undo 1; .t insert 1.0 \"a\nb\nc\"; .t delete 3.0 end 1.0; .t get 1.0 end; .t edit undo; .t get 1.0 end; .t index insert; .t edit redo; .t get 1.0 end; .t index insert; .t edit undo; .t replace 2.0 end {}; .t get 1.0 end; .t edit undo; .t get 1.0 end; .t delete 1.0 end; .t edit undo; .t get 1.0 end; .t edit undo; .t get 1.0 end",
+        numbers: AMPLE,
+        output: ".t\n\n\n\nb\n\n\na\nb\nc\n\n3.1\n\n\nb\n\n1.0\n\n\na\n\n\n\na\nb\nc\n\n\n\na\nb\nc\n\n\n\n\n",
+        status: 0,
+    },
+];
+
+/// Whether a text is modified.
+pub static MODIFIED_TEXTS: [Row; 4] = [
+    Row {
+        name: "modified by a count that goes below zero",
+        script: b"text .t -undo 1; .t insert 1.0 a; .t edit modified 0; .t edit undo; .t edit modified; .t edit redo; .t edit modified; .t edit undo; .t insert 1.0 b; .t edit undo; .t edit modified",
+        numbers: AMPLE,
+        output: ".t\n\n\n\n1\n\n0\n\n\n\n1\n",
+        status: 0,
+    },
+    Row {
+        name: "each action counts, kept or not",
+        script: b"text .t; .t edit modified; .t insert 1.0 a; .t edit modified; .t edit modified no; .t edit modified; .t delete 1.0; .t edit modified; .t configure -undo 1 -maxundo 1; .t edit modified 0; .t insert 1.0 a {} b {} c; .t edit separator; .t delete 1.0 1.1 1.2; .t edit undo; .t edit modified; .t edit modified 0; .t edit redo; .t edit modified; .t edit undo; .t edit modified; .t edit undo; .t edit modified",
+        numbers: AMPLE,
+        output: ".t\n0\n\n1\n\n0\n\n1\n\n\n\n\n\n\n1\n\n\n1\n\n0\nerror: nothing to undo\n0\n",
+        status: 1,
+    },
+    Row {
+        name: "said to be modified, and said not to be",
+        script: b"text .t -undo 1; .t edit modified 1; .t edit modified; .t insert 1.0 a; .t edit undo; .t edit modified; .t edit modified off; .t edit modified; .t edit redo; .t edit modified; .t edit modified yes; .t edit undo; .t edit modified; .t edit modified false; .t edit modified; .t edit redo; .t edit undo; .t edit modified; .t edit modified maybe; .t edit modified 1 1; .t edit modified True; .t edit modified",
+        numbers: AMPLE,
+        output: ".t\n\n1\n\n\n1\n\n0\n\n1\n\n\n1\n\n0\n\n\n0\nerror: expected boolean value but got \"maybe\"\nerror: wrong # args\nerror: expected boolean value but got \"True\"\n0\n",
+        status: 1,
+    },
+    Row {
+        name: "below zero what is made again goes back, and what is new doesn't",
+        script: b"text .t -undo 1; .t insert 1.0 a; .t edit separator; .t insert 1.1 b; .t edit modified 0; .t edit undo; .t edit undo; .t edit modified; .t edit redo; .t edit modified; .t edit redo; .t edit modified; .t edit undo; .t replace 1.0 1.1 c; .t edit modified; .t edit undo; .t edit modified; .t edit redo; .t edit redo; .t edit modified; .t edit modified 0; .t edit undo; .t edit redo; .t edit modified",
+        numbers: AMPLE,
+        output: ".t\n\n\n\n\n\n\n1\n\n1\n\n0\n\n\n1\n\n1\n\nerror: nothing to redo\n1\n\n\n\n0\n",
+        status: 1,
+    },
+];
+
+/// Options, and widgets that are disabled.
+pub static OPTIONS: [Row; 6] = [
+    Row {
+        name: "options and their values",
+        script: b"text .t; .t cget -undo; .t cget -maxundo; .t cget -autoseparators; .t cget -state; .t configure -undo yes -maxundo +05 -autoseparators off -state disabled; .t cget -undo; .t cget -maxundo; .t cget -autoseparators; .t cget -state; .t configure -undo no -maxundo -0 -autoseparators true -state normal; .t cget -undo; .t cget -maxundo; .t cget -autoseparators; .t cget -state; .t configure -maxundo -007 -maxundo 000000012 -undo 0 -undo on; .t cget -maxundo; .t cget -undo; .t configure -undo false -maxundo -999999999; .t cget -undo; .t cget -maxundo",
+        numbers: AMPLE,
+        output: ".t\n0\n0\n1\nnormal\n\n1\n5\n0\ndisabled\n\n0\n0\n1\nnormal\n\n12\n1\n\n0\n-999999999\n",
+        status: 0,
+    },
+    Row {
+        name: "options of a new widget",
+        script: b"text .t -undo; text -undo 1; text .t -undo 1 -foo; text t -undo maybe; text .t -undo maybe; text .t -maxundo 1.0; text .t -state up; text .t -undo 2 -state up; text .t -state up -undo 2; text .t -undo 0 -maxundo 3 -undo 1; text .t -undo y; text .u -undo 1; text .t -undo 0; .t cget -undo; .t cget -maxundo; .t insert 1.0 a; .t edit undo; .t get 1.0 end",
+        numbers: AMPLE,
+        output: "error: wrong # args\nerror: bad option \"1\"\nerror: bad option \"-foo\"\nerror: invalid command name \"t\"\nerror: expected boolean value but got \"maybe\"\nerror: expected integer but got \"1.0\"\nerror: bad option \"up\"\nerror: expected boolean value but got \"2\"\nerror: bad option \"up\"\n.t\nerror: expected boolean value but got \"y\"\nerror: a document exists\nerror: window name \".t\" already exists\n1\n3\n\n\n\n\n",
+        status: 1,
+    },
+    Row {
+        name: "words of configure, cget and edit, and values that are none",
+        script: b"text .t; .t configure; .t configure foo; .t configure -undo; .t configure -undo 1 -foo; .t configure -undo maybe -undo 1; .t configure -UNDO 1; .t configure -maxundo 5 -state foo; .t cget -maxundo; .t configure -maxundo {}; .t configure -maxundo 1234567890; .t configure -maxundo +; .t configure -state {}; .t configure -autoseparators 01; .t cget; .t cget -foo x; .t cget -undo x; .t cget -und; .t edit; .t edit foo; .t edit undo x; .t edit redo 1; .t edit reset x; .t edit separator x; .t edit canundo; .t cget -undo",
+        numbers: AMPLE,
+        output: ".t\nerror: wrong # args\nerror: bad option \"foo\"\nerror: wrong # args\nerror: bad option \"-foo\"\nerror: expected boolean value but got \"maybe\"\nerror: bad option \"-UNDO\"\nerror: bad option \"foo\"\n0\nerror: expected integer but got \"\"\nerror: expected integer but got \"1234567890\"\nerror: expected integer but got \"+\"\nerror: bad option \"\"\nerror: expected boolean value but got \"01\"\nerror: wrong # args\nerror: bad option \"-foo\"\nerror: wrong # args\nerror: bad option \"-und\"\nerror: wrong # args\nerror: bad option \"foo\"\nerror: wrong # args\nerror: wrong # args\nerror: wrong # args\nerror: wrong # args\nerror: bad option \"canundo\"\n0\n",
+        status: 1,
+    },
+    Row {
+        name: "a disabled widget",
+        script: b"text .t -state disabled; .t insert 1.0 a; .t insert zz a; .t get 1.0 end-1c; .t configure -state normal; .t insert 1.0 a; .t cget -state",
+        numbers: AMPLE,
+        output: ".t\n\nerror: bad text index \"zz\"\n\n\n\nnormal\n",
+        status: 1,
+    },
+    Row {
+        name: "a disabled widget decides all faults but the limits",
+        script: b"text .t -undo 1; .t insert 1.0 ab; .t configure -state disabled; .t insert 1.0 xyz {q r}; .t insert 1.0 a \\{; .t delete 1.0; .t delete zz; .t replace 1.0 1.1 wxyz {r s}; .t replace 1.1 1.0 x; .t replace 1.1 1.0 x \\{; .t tag names; .t get 1.0 1.end; .t edit undo; .t edit redo; .t get 1.0 1.end; .t edit modified; .t tag add q 1.0; .t mark set m 1.1; .t tag ranges q; .t edit separator; .t edit modified 0; .t edit reset; .t edit undo; .t configure -state normal; .t insert 1.0 c q; .t insert 1.0 d; .t get 1.0 1.end",
+        numbers: Numbers {
+            chars: 4,
+            tags: 1,
+            marks: 4_096,
+            widgets: 64,
+            reads: 1_073_741_824,
+        },
+        output: ".t\n\n\n\nerror: bad list \"{\"\n\nerror: bad text index \"zz\"\n\nerror: index \"1.0\" before \"1.1\" in the text\nerror: bad list \"{\"\nsel\nab\n\nerror: nothing to redo\nab\n1\n\n\n1.0 1.1\n\n\n\nerror: nothing to undo\n\n\nerror: text is too long\ncab\n",
+        status: 1,
+    },
+    Row {
+        name: "a disabled widget leaves the last group as it is",
+        script: b"text .t -undo 1; .t insert 1.0 a; .t configure -state disabled; .t edit undo; .t delete 1.0; .t edit undo; .t configure -state normal; .t insert 1.1 b; .t edit undo; .t get 1.0 end; .t configure -state disabled; .t edit redo; .t edit undo; .t configure -state normal; .t edit redo; .t get 1.0 1.end; .t configure -undo 0 -state disabled; .t edit undo; .t edit redo; .t get 1.0 1.end",
+        numbers: AMPLE,
+        output: ".t\n\n\n\n\n\n\n\n\n\n\n\n\nerror: nothing to undo\n\n\nab\n\n\n\nab\n",
+        status: 1,
+    },
+];
