@@ -1,0 +1,125 @@
+-- Where the tags of a view change next.
+use Rattle.std.proofs.Common.{◌≡◌, ℕ, zero, suc, inl, inr, ◌+◌, ◌-◌, ◌<◌, ◌≤◌, ◌&&◌, ◌||◌, ◌==◌, min, Bool, true, false, List, [], ◌∷◌, length, drop, refl, sym, ap, ap₂, ◌∙◌, arith}
+use Rattle.std.specs.Prelude.{not, replicate, slice_index_or}
+use Rattle.std.specs.List.{list_any, prefix_len}
+use Rattle.std.proofs.lemmas.Bool.{cases_Bool, cases_eq, cases_lt, cond-false, cond-true, false≢true, lt-ltb, true≢false}
+use Rattle.std.proofs.lemmas.List.{drop-drop, drop_more, get_or-replicate}
+use Rattle.text_model.specs.Changes.{flag_at, is_alike, next_change}
+use Rattle.text_model.specs.Content.{Content}
+use Rattle.text_model.specs.TagBits.{slot_count}
+use Rattle.text_index.specs.Ranges.{tag_ranges}
+use Rattle.text_index.specs.Views.{shown_flags}
+use Rattle.text_index.specs.declared.ranges.TagRange.{TagRange}
+use Rattle.text_index.proofs.FlagLaws.{next-alike, next-other}
+use Rattle.search_dump.specs.Ahead.{AreAhead, IsNearest, slot_of_row}
+use Rattle.search_dump.specs.Dump.{flag_before}
+use Rattle.search_dump.proofs.DumpLaws.{begins-is, ends-is}
+
+-- one row more
+pub nearest-more : (next : List ℕ) (widget : ℕ) (slots : List ℕ) (rows place nearest later slot : ℕ) → IsNearest next widget slots rows place nearest → slot ≡ slot_of_row widget slots rows
+    → later ≡ min nearest (slice_index_or next slot 0) → IsNearest next widget slots (rows + 1) place later
+nearest-more next widget slots rows place nearest later slot before is is_later =
+    let value : slice_index_or next slot 0 ≡ slice_index_or next (slot_of_row widget slots rows) 0 = ap (λ s. slice_index_or next s 0) is in
+    record {
+      within = omega (arith, before.within);
+      each = λ at below.
+          elim (cases_eq at rows) [
+            | inl same ↦ omega (arith, ap (λ n. slice_index_or next (slot_of_row widget slots n) 0) same)
+            | inr other ↦ omega (arith, before.each at (omega arith))
+          ];
+      reached = elim (cases_lt (slice_index_or next slot 0) nearest) [
+        | inl less ↦ inr (rows, (omega arith), sym value ∙ omega arith)
+        | inr more ↦ elim before.reached [
+          | inl at-place ↦ inl (omega arith)
+          | inr row ↦ inr (row.0, (omega (arith, row.1)), row.2 ∙ omega arith)
+        ]
+      ];
+    }
+
+-- ---- the flags between two changes
+
+same-flags : (a b : Bool) → is_alike a b ≡ true → b ≡ a
+same-flags true b is = is
+same-flags false true is = absurd (false≢true is)
+same-flags false false is = refl
+
+other-flag : (a b : Bool) → is_alike a b ≡ false → b ≡ not a
+other-flag true b is = is
+other-flag false true is = refl
+other-flag false false is = absurd (true≢false is)
+
+prefix-drop : {A : Type 0} (test : A → Bool) (n : ℕ) (xs : List A) → n ≤ prefix_len test xs → prefix_len test xs ≡ n + prefix_len test (drop n xs)
+prefix-drop test zero xs within = let e : prefix_len test xs ≡ 0 + prefix_len test xs = omega arith in e
+prefix-drop test (suc n) [] within = absurd (omega arith)
+prefix-drop test (suc n) (x ∷ xs) within =
+    elim (cases_Bool (test x)) [
+      | inl is-it ↦
+          let on : prefix_len test (x ∷ xs) ≡ 1 + prefix_len test xs = cond-true (test x) (1 + prefix_len test xs) 0 is-it in
+          omega (arith, on, prefix-drop test n xs (omega (arith, on, within)))
+      | inr is-not ↦ absurd (omega (arith, cond-false (test x) (1 + prefix_len test xs) 0 is-not, within))
+    ]
+
+flag-same : (flags : List Bool) (at k : ℕ) → at ≤ k → k < next_change flags at → flag_at flags k ≡ flag_at flags at
+flag-same flags at k from below = same-flags (flag_at flags at) (flag_at flags k) (next-alike flags at k from below)
+
+-- the next change is one for all places up to it
+pub next-same : (flags : List Bool) (at k : ℕ) → at ≤ k → k < next_change flags at → next_change flags k ≡ next_change flags at
+next-same flags at k from below =
+    let test = is_alike (flag_at flags at) in
+    ap (λ b. k + prefix_len (is_alike b) (drop k flags)) (flag-same flags at k from below)
+    ∙ ap (λ xs. k + prefix_len test xs) (sym (drop-drop (k - at) at flags ∙ ap (λ n. drop n flags) (let e : at + (k - at) ≡ k = omega arith in e)))
+    ∙ omega (arith, prefix-drop test (k - at) (drop at flags) (omega arith))
+
+-- whether a tag begins or ends at a place
+abbrev pub turns : List Bool → ℕ → Bool
+turns flags place = list_any (λ (range : TagRange). range.start == place) (tag_ranges flags) || list_any (λ (range : TagRange). range.end == place) (tag_ranges flags)
+
+turns-is : (flags : List Bool) (place : ℕ) → turns flags place ≡ ((flag_at flags place && not (flag_before flags place)) || (flag_before flags place && not (flag_at flags place)))
+turns-is flags place = ap₂ (λ a b. a || b) (begins-is flags place) (ends-is flags place)
+
+before-at : (flags : List Bool) (place : ℕ) → 0 < place → flag_before flags place ≡ flag_at flags (place - 1)
+before-at flags place some = ap (λ b. b && flag_at flags (place - 1)) (lt-ltb 0 place some)
+
+no-turn : (flag : Bool) → ((flag && not flag) || (flag && not flag)) ≡ false
+no-turn true = refl
+no-turn false = refl
+
+a-turn : (flag : Bool) → ((not flag && not flag) || (flag && not (not flag))) ≡ true
+a-turn true = refl
+a-turn false = refl
+
+pub quiet-between : (flags : List Bool) (at k : ℕ) → at < k → k < next_change flags at → turns flags k ≡ false
+quiet-between flags at k from below =
+    turns-is flags k
+    ∙ ap₂ (λ a b. (a && not b) || (b && not a)) (flag-same flags at k (omega arith) below) (before-at flags k (omega arith) ∙ flag-same flags at (k - 1) (omega arith) (omega arith))
+    ∙ no-turn (flag_at flags at)
+
+pub turns-there : (flags : List Bool) (at : ℕ) → at < next_change flags at → next_change flags at < length flags → turns flags (next_change flags at) ≡ true
+turns-there flags at above within =
+    let there = next_change flags at in
+    turns-is flags there
+    ∙ ap₂ (λ a b. (a && not b) || (b && not a)) (other-flag (flag_at flags at) (flag_at flags there) (next-other flags at within))
+    (before-at flags there (omega arith) ∙ flag-same flags at (there - 1) (omega arith) (omega arith))
+    ∙ a-turn (flag_at flags at)
+
+-- what is known at a place is known behind it
+pub ahead-on : (content : Content) (start end place later : ℕ) (next : List ℕ) → AreAhead content start end place next → place ≤ later → AreAhead content start end later next
+ahead-on content start end place later next ahead from slot within above =
+    let known = ahead slot within (omega arith) in
+    known ∙ sym (next-same (shown_flags slot content start end) place later from (omega (arith, known)))
+
+pub ahead-begun : (content : Content) (start end place : ℕ) (next : List ℕ) → next ≡ replicate slot_count place → AreAhead content start end place next
+ahead-begun content start end place next is slot within above =
+    absurd (omega (arith, ap (λ xs. slice_index_or xs slot 0) is, get_or-replicate slot_count slot place 0 within))
+
+alike-itself : (flag : Bool) → is_alike flag flag ≡ true
+alike-itself true = refl
+alike-itself false = refl
+
+-- a change stands behind its place
+pub next-above : (flags : List Bool) (at : ℕ) → at < length flags → at < next_change flags at
+next-above flags at within =
+    let test = is_alike (flag_at flags at) in
+    let run : prefix_len test (drop at flags) ≡ 1 + prefix_len test (drop (at + 1) flags) =
+    ap (prefix_len test) (drop_more flags at false within) ∙ cond-true (test (flag_at flags at)) (1 + prefix_len test (drop (at + 1) flags)) 0 (alike-itself (flag_at flags at)) in
+    omega (arith, run)

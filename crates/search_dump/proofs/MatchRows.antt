@@ -1,0 +1,49 @@
+-- The searches for `aba` that were worked out by hand, in the text `ababa`.
+use Rattle.std.proofs.Common.{◌≡◌, ℕ, Bool, true, false, List, [], ◌∷◌, Some, None, refl}
+use Rattle.std.specs.Prelude.{codes, Option}
+use Rattle.index_grammar.specs.declared.indices.Direction.{Direction}
+use Rattle.index_grammar.specs.declared.indices.Direction.TheVariants.{Forward, Back}
+use Rattle.search_dump.specs.Matches.{found_places}
+use Rattle.search_dump.specs.declared.searching.SearchSwitches.{SearchSwitches}
+use Rattle.search_dump.specs.declared.searching.Wanted.{Wanted}
+use Rattle.search_dump.specs.declared.searching.Wanted.TheVariants.{First, Apart, All}
+
+abbrev how : Direction → Wanted → Bool → SearchSwitches
+how direction wanted strict = record { direction = direction; wanted = wanted; ignores_case = false; is_strict = strict }
+
+abbrev found : Direction → Wanted → Bool → ℕ → Option ℕ → List ℕ
+found direction wanted strict from stop = found_places (how direction wanted strict) (codes "aba") (codes "ababa\n") from stop
+
+all-apart : found Forward Apart false 0 None ≡ 0 ∷ []
+all-apart = refl
+
+all : found Forward All false 0 None ≡ 0 ∷ 2 ∷ []
+all = refl
+
+backwards : found Back First false 0 None ≡ 2 ∷ []
+backwards = refl
+
+stop-before : found Forward First false 2 (Some 0) ≡ []
+stop-before = refl
+
+strict : found Forward First true 0 (Some 2) ≡ []
+strict = refl
+
+begins-before-stop : found Forward First false 0 (Some 1) ≡ 0 ∷ []
+begins-before-stop = refl
+
+round-the-end : found Forward Apart false 1 None ≡ 2 ∷ []
+round-the-end = refl
+
+all-round-the-end : found Forward All false 1 None ≡ 2 ∷ 0 ∷ []
+all-round-the-end = refl
+
+apart-backwards-round : found Back Apart false 1 None ≡ 0 ∷ []
+apart-backwards-round = refl
+
+-- an empty pattern stands at each place, in the order of the search
+empty : found_places (how Back All false) [] (codes "ab\n") 1 None ≡ 0 ∷ 2 ∷ 1 ∷ []
+empty = refl
+
+empty-apart : found_places (how Forward Apart false) [] (codes "ab\n") 1 None ≡ 1 ∷ 2 ∷ 0 ∷ []
+empty-apart = refl

@@ -1,0 +1,10 @@
+use Rattle.std.specs.Prelude.{map, string_bytes, take}
+use Rattle.text_index.specs.Views.{shown}
+use Rattle.search_dump.specs.Counts.{distance}
+use Rattle.tcl_words.specs.ListGrowth.{Goes}
+use Rattle.search_dump.proofs.counting.push_counts.Given as goal
+
+abbrev pub invariant-loop-option : goal.invariant-loop-option
+invariant-loop-option g l =
+    Goes (string_bytes l.fn.list) (string_bytes l.list)
+    (map (distance (shown (g.S.TextStore.content l.view.store.now) l.view.s l.view.e) l.from l.to) (take l.option-index l.options))

@@ -1,0 +1,12 @@
+use Rattle.std.proofs.Common.{string_bytes}
+use Rattle.tcl_words.proofs.ListGrowth.{goes_all}
+use Rattle.search_dump.specs.Dump.{dump_elements, seen_by}
+use Rattle.search_dump.proofs.dumping.dump.Goals as goal
+
+pub returns : goal.returns
+returns g c =
+    let view = c.args.view.now in
+    let names = c.args.names.now in
+    goes_all (string_bytes c.new-list.result) (string_bytes c.push_dump.new.list)
+    (dump_elements c.args.listed (seen_by (g.S.TextStore.content view.store.now) view.s view.e names.tags.now.tags names.marks.now.marks names.widget.0) c.args.from c.args.to)
+    c.new-list.ensures.bytes c.in_ok-push_dump.ensures

@@ -1,0 +1,25 @@
+use Rattle.std.proofs.Common.{arith}
+use Rattle.search_dump.proofs.ChangeLaws.{ahead-on}
+use Rattle.search_dump.proofs.StopLaws.{mark-stays, stop-is}
+use Rattle.search_dump.proofs.dumping.next_stop.Goals as goal
+
+pub returns-clause-ahead : goal.returns-clause-ahead
+returns-clause-ahead g c =
+    let view = c.args.view.now in
+    ahead-on (g.S.TextStore.content view.store.now) view.s view.e c.args.place c.stop_at_line.result c.stop_at_tag-tag.new.changes.next c.stop_at_tag-tag.ensures.ahead (omega arith)
+
+pub returns-clause-mark : goal.returns-clause-mark
+returns-clause-mark g c =
+    let view = c.args.view.now in
+    let names = c.args.names.now in
+    mark-stays (g.S.TextStore.content view.store.now) view.s view.e names.tags.now.tags names.marks.now.marks names.widget.0 c.args.listed c.args.mark c.args.place c.args.to
+    c.stop_at_tag-tag.result c.stop_at_mark.result c.stop_at_line.result c.requires.view.ordered c.stop_at_tag-tag.ensures.stop c.requires.mark c.stop_at_mark.ensures
+    c.stop_at_line.ensures.stop c.stop_at_line.ensures.above c.stop_at_line.ensures.below c.stop_at_tag-tag.ensures.below
+
+pub returns-clause-stop : goal.returns-clause-stop
+returns-clause-stop g c =
+    let view = c.args.view.now in
+    let names = c.args.names.now in
+    stop-is (g.S.TextStore.content view.store.now) view.s view.e names.tags.now.tags names.marks.now.marks names.widget.0 c.args.listed c.args.mark c.args.place c.args.to
+    c.stop_at_tag-tag.result c.stop_at_mark.result c.stop_at_line.result c.requires.view.ordered c.stop_at_tag-tag.ensures.stop c.requires.mark c.stop_at_mark.ensures
+    c.stop_at_line.ensures.stop c.stop_at_line.ensures.above c.stop_at_line.ensures.below c.stop_at_tag-tag.ensures.below

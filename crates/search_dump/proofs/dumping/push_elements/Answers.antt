@@ -1,0 +1,42 @@
+use Rattle.std.proofs.Common.{◌||◌, ◌==◌, arith, inr, refl, string_bytes}
+use Rattle.std.proofs.lemmas.Bool.{eq-eqb, or_left}
+use Rattle.search_dump.specs.Dump.{elements_at, is_cut, seen_by}
+use Rattle.search_dump.proofs.ChangeLaws.{ahead-begun}
+use Rattle.search_dump.proofs.StopLaws.{cut-next, cut-there, dump-begun, dump-on}
+use Rattle.search_dump.proofs.dumping.push_elements.Goals as goal
+
+pub loop-place-init : goal.loop-place-init
+loop-place-init g c =
+    let view = c.args.view.now in
+    let names = c.args.names.now in
+    let content = g.S.TextStore.content view.store.now in
+    let seen = seen_by content view.s view.e names.tags.now.tags names.marks.now.marks names.widget.0 in
+    record {
+      goes = dump-begun (elements_at c.args.listed seen c.args.from c.args.to) c.args.from (string_bytes c.args.list.now);
+      begun = omega arith;
+      within = c.requires.ordered;
+      ahead = ahead-begun content view.s view.e c.args.from c.new-changes.result.next c.new-changes.ensures;
+      mark = λ _. c.mark_from-mark.ensures;
+      cut = λ _. inr (or_left (c.args.from == c.args.from) (is_cut seen c.args.from) (eq-eqb c.args.from c.args.from refl));
+    }
+
+pub loop-place-preserved : goal.loop-place-preserved
+loop-place-preserved g c =
+    let view = c.args.view.now in
+    let names = c.args.names.now in
+    let content = g.S.TextStore.content view.store.now in
+    let seen = seen_by content view.s view.e names.tags.now.tags names.marks.now.marks names.widget.0 in
+    let before = c.loop-place.invariant in
+    let stop = c.next_stop-next.ensures.stop in
+    let next = c.next_stop-next.result in
+    record {
+      goes = dump-on c.args.listed seen c.args.from c.args.to c.loop-place.place next (string_bytes c.args.list.now) (string_bytes c.loop-place.list) (string_bytes c.push_listed_tags.new.list)
+          (string_bytes c.push_listed_marks.new.list) (string_bytes c.push_listed_text.new.list) before.begun stop
+          (λ text. cut-there c.loop-place.place c.args.to (c.loop-place.place == c.args.from || is_cut seen c.loop-place.place) c.loop-place-test.true (before.cut text))
+          before.goes c.in_ok-push_listed_tags.ensures c.in_ok-mark.ensures.goes c.in_ok-push_listed_text.ensures;
+      begun = omega (arith, stop.above, before.begun);
+      within = stop.below;
+      ahead = c.next_stop-next.ensures.ahead;
+      mark = c.next_stop-next.ensures.mark;
+      cut = λ text. cut-next seen c.args.from c.args.to next (stop.cut text).reached;
+    }

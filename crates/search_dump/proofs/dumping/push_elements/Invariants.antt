@@ -1,0 +1,27 @@
+use Rattle.std.proofs.Common.{◌≡◌, ◌+◌, ◌-◌, ◌≤◌, ◌⊎◌, ◌||◌, ◌==◌, string_bytes, true}
+use Rattle.std.specs.List.{flat_map}
+use Rattle.std.specs.Option.{option_map}
+use Rattle.tcl_words.specs.ListGrowth.{Goes}
+use Rattle.search_dump.specs.Ahead.{AreAhead}
+use Rattle.search_dump.specs.Dump.{elements_at, is_cut, seen_by}
+use Rattle.search_dump.specs.MarksAhead.{IsMarkFrom, shown_of, usable_by}
+use Rattle.search_dump.specs.Matches.{places}
+use Rattle.search_dump.specs.Stops.{stops_at_marks}
+use Rattle.search_dump.proofs.dumping.push_elements.Given as goal
+
+abbrev pub invariant-loop-place : goal.invariant-loop-place
+invariant-loop-place g l =
+    let content = g.S.TextStore.content l.view.store.now in
+    let marks = l.names.marks.now.marks in
+    let seen = seen_by content l.view.s l.view.e l.names.tags.now.tags marks l.names.widget.0 in
+    record {
+      goes : Goes (string_bytes l.fn.list) (string_bytes l.list) (flat_map (elements_at l.listed seen l.from l.to) (places l.from l.place));
+      begun : l.from ≤ l.place;
+      within : l.place ≤ l.to;
+      ahead : AreAhead content l.view.s l.view.e l.place l.changes.next;
+      mark : stops_at_marks l.listed ≡ true → IsMarkFrom (usable_by content l.view.s l.view.e marks l.names.widget.0) (l.view.s + l.place) (option_map (shown_of l.view.s) l.mark);
+      cut : l.listed.text ≡ true → (l.place ≡ l.to) ⊎ ((l.place == l.from || is_cut seen l.place) ≡ true);
+    }
+
+abbrev pub decreases-loop-place : goal.decreases-loop-place
+decreases-loop-place g l = l.to - l.place

@@ -1,0 +1,28 @@
+use Rattle.std.proofs.Common.{ap, ap₂, arith, string_bytes, subst, sym, ◌∙◌}
+use Rattle.std.specs.Prelude.{OnOk}
+use Rattle.std.proofs.lemmas.List.{length-map}
+use Rattle.mark_table.specs.SharedMarks.{Mark, names_of}
+use Rattle.tcl_words.specs.ListGrowth.{Goes}
+use Rattle.text_index.specs.Views.{shown}
+use Rattle.search_dump.specs.Dump.{element, if_listed}
+use Rattle.search_dump.specs.MarksAhead.{mark_element, shown_of}
+use Rattle.search_dump.proofs.MarkOrderLaws.{usable-placed}
+use Rattle.search_dump.proofs.SeenLaws.{mark-characters}
+use Rattle.search_dump.proofs.dumping.push_mark.Goals as goal
+
+pub name-requires : goal.name-requires
+name-requires g c =
+    let view = c.args.view.now in
+    let names = c.args.names.now in
+    let placed = usable-placed (g.S.TextStore.content view.store.now) view.s view.e names.marks.now.marks names.widget.0 (shown_of view.s c.args.mark) c.requires.view.ordered c.requires.usable in
+    omega (arith, placed.known, length-map names.marks.now.marks (λ (mark : Mark). mark.number))
+
+pub returns : goal.returns
+returns g c =
+    let view = c.args.view.now in
+    let names = names_of c.args.names.now.marks.now.marks in
+    let text = shown (g.S.TextStore.content view.store.now) view.s view.e in
+    subst (λ xs. OnOk c.push_dumped.result (Goes (string_bytes c.args.list.now) (string_bytes c.push_dumped.new.list) xs))
+    (ap₂ (λ key name. element key text c.args.place name) mark-characters c.name.ensures
+    ∙ sym (ap (λ b. if_listed b (mark_element text names c.args.place (shown_of view.s c.args.mark))) c.if-not-is_listed.false))
+    c.push_dumped.ensures

@@ -1,0 +1,24 @@
+use Rattle.std.proofs.Common.{◌+◌, string_bytes}
+use Rattle.std.specs.Option.{option_map}
+use Rattle.mark_table.specs.SharedMarks.{names_of}
+use Rattle.tcl_words.specs.ListGrowth.{Goes}
+use Rattle.text_index.specs.Views.{shown}
+use Rattle.search_dump.specs.Dump.{if_listed}
+use Rattle.search_dump.specs.MarksAhead.{mark_element, passed, shown_of, usable_by}
+use Rattle.search_dump.proofs.MarkOrderLaws.{IsMarkOn, marks_left}
+use Rattle.search_dump.proofs.dumping.push_marks_at.Given as goal
+
+abbrev pub invariant-loop-next : goal.invariant-loop-next
+invariant-loop-next g l =
+    let content = g.S.TextStore.content l.view.store.now in
+    let marks = l.names.marks.now.marks in
+    let all = usable_by content l.view.s l.view.e marks l.names.widget.0 in
+    record {
+      goes : Goes (string_bytes l.fn.list) (string_bytes l.list)
+          (if_listed l.is_listed (passed (l.view.s + l.place) (mark_element (shown content l.view.s l.view.e) (names_of marks) l.place) (option_map (shown_of l.view.s) l.next) all));
+      on : IsMarkOn all (l.view.s + l.place) (option_map (shown_of l.view.s) l.next);
+    }
+
+abbrev pub decreases-loop-next : goal.decreases-loop-next
+decreases-loop-next g l =
+    marks_left (usable_by (g.S.TextStore.content l.view.store.now) l.view.s l.view.e l.names.marks.now.marks l.names.widget.0) (option_map (shown_of l.view.s) l.next)

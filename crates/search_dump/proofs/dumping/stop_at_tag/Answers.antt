@@ -1,0 +1,21 @@
+use Rattle.std.proofs.Common.{ℕ, arith}
+use Rattle.tag_table.specs.Tags.{slots_of}
+use Rattle.text_model.specs.Content.{flags}
+use Rattle.text_index.specs.Views.{shown_flags}
+use Rattle.text_index.proofs.FlagLaws.{flags-within, length-part}
+use Rattle.search_dump.specs.Ahead.{slot_of_row}
+use Rattle.search_dump.proofs.ChangeLaws.{next-above}
+use Rattle.search_dump.proofs.TagStops.{tag-stop}
+use Rattle.search_dump.proofs.dumping.stop_at_tag.Goals as goal
+
+pub returns-clause-stop : goal.returns-clause-stop
+returns-clause-stop g c = λ stops.
+    let view = c.args.view.now in
+    let names = c.args.names.now in
+    let content = g.S.TextStore.content view.store.now in
+    let tags = names.tags.now.tags in
+    let long = λ (slot : ℕ). length-part (flags slot content.cells) view.s view.e (flags-within content slot view.s view.e c.requires.view) c.requires.view.ordered in
+    (tag-stop content view.s view.e tags names.marks.now.marks names.widget.0 c.args.place c.args.to c.nearest.result c.pass.new.self.next c.requires.some (omega arith)
+    (λ slot is. long slot) c.pass.ensures.known
+    (λ at within. next-above (shown_flags (slot_of_row names.widget.0 (slots_of tags) at) content view.s view.e) c.args.place (omega (arith, long (slot_of_row names.widget.0 (slots_of tags) at))))
+    c.nearest.ensures).1

@@ -1,0 +1,35 @@
+use Rattle.std.proofs.Common.{◌≡◌, ◌+◌, ◌-◌, ◌<◌, ◌≤◌, ◌^◌, Some, ap, chars, length, subst, sym, ◌∙◌}
+use Rattle.std.specs.Prelude.{IfSome}
+use Rattle.text_index.specs.Views.{shown}
+use Rattle.search_dump.specs.Matches.{compared}
+use Rattle.search_dump.specs.Stretches.{IsPeriod, beside}
+use Rattle.search_dump.proofs.RepeatLaws.{has-within, nearest-beside, some-given}
+use Rattle.search_dump.proofs.WindowLaws.{IsWithin}
+use Rattle.search_dump.proofs.matching.match_beside.Goals as goal
+use Rattle.search_dump.proofs.matching.match_beside.Goals.{in-Forward, in-Back}
+
+pub returns-in-Some-beside : goal.returns-in-Some-beside
+returns-in-Some-beside g c =
+    let view = c.args.view.now in
+    let pattern = c.args.pattern.now in
+    let characters = chars pattern.text.now in
+    let text = compared pattern.ignores_case (shown (g.S.TextStore.content view.store.now) view.s view.e) in
+    let place = c.args.place in
+    let distance = c.in-Some.period.len in
+    let at = c.in-Some-beside.beside in
+    let is : at ≡ beside c.args.direction place distance =
+    elim c.match-direction.branch [
+      | in-Forward w ↦
+          some-given w.checked_add-beside.result (place + distance < 2 ^ 64) (place + distance) at w.checked_add-beside.ensures (sym w.beside-is ∙ c.in-Some-beside.is)
+          ∙ sym (ap (λ d. beside d place distance) w.in-Forward.is)
+      | in-Back w ↦
+          some-given w.checked_sub-beside.result (distance ≤ place) (place - distance) at w.checked_sub-beside.ensures (sym w.beside-is ∙ c.in-Some-beside.is)
+          ∙ sym (ap (λ d. beside d place distance) w.in-Back.is)
+    ] in
+    let period : IsPeriod characters distance (chars c.in-Some.period.front.now) (chars c.in-Some.period.tail.now) =
+    subst (λ o. IfSome o (λ p. IsPeriod characters p.len (chars p.front.now) (chars p.tail.now))) c.in-Some.is c.requires.period in
+    let within = has-within c.args.stretch at pattern.len c.has.result c.has.ensures c.if-has.true in
+    ap Some is
+    ∙ nearest-beside characters text distance (chars c.in-Some.period.front.now) (chars c.in-Some.period.tail.now) period c.args.direction c.args.stretch place
+    c.requires.matches c.requires.behind (subst (IsWithin c.args.stretch (length characters)) is (subst (λ n. IsWithin c.args.stretch n at) c.requires.len within))
+    (c.in_ok-goes_on.ensures c.if-branch.true)

@@ -1,0 +1,14 @@
+use Rattle.std.proofs.Common.{◌-◌, ◌<◌, chars}
+use Rattle.text_index.specs.Views.{shown}
+use Rattle.search_dump.specs.Matches.{compared}
+use Rattle.search_dump.proofs.WindowLaws.{IsLeft}
+use Rattle.search_dump.proofs.matching.nearest_match.Given as goal
+
+abbrev pub invariant-loop-rest : goal.invariant-loop-rest
+invariant-loop-rest g l = record {
+  left : IsLeft l.direction (chars l.pattern.text.now) (compared l.pattern.ignores_case (shown (g.S.TextStore.content l.view.store.now) l.view.s l.view.e)) l.fn.stretch l.rest;
+  some : 0 < l.most;
+}
+
+abbrev pub decreases-loop-rest : goal.decreases-loop-rest
+decreases-loop-rest g l = l.rest.high - l.rest.low

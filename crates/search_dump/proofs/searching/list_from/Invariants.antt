@@ -1,0 +1,18 @@
+use Rattle.std.proofs.Common.{◌-◌, chars, length, string_bytes}
+use Rattle.text_index.specs.Positions.{position_text}
+use Rattle.text_index.specs.Views.{shown}
+use Rattle.search_dump.specs.Matches.{compared, wanted_of}
+use Rattle.search_dump.specs.Stretches.{matches_in}
+use Rattle.search_dump.proofs.ListedLaws.{IsListing}
+use Rattle.search_dump.proofs.searching.list_from.Given as goal
+
+abbrev pub invariant-loop-next : goal.invariant-loop-next
+invariant-loop-next g l =
+    let all = shown (g.S.TextStore.content l.view.store.now) l.view.s l.view.e in
+    let pattern = chars l.pattern.text.now in
+    let text = compared l.pattern.ignores_case all in
+    IsListing l.search.wanted l.search.direction pattern text (position_text all)
+    (wanted_of l.search.wanted (length pattern) (matches_in l.search.direction pattern text l.fn.stretch)) (string_bytes l.fn.list) (string_bytes l.list) l.rest l.next (length all)
+
+abbrev pub decreases-loop-next : goal.decreases-loop-next
+decreases-loop-next g l = l.rest.high - l.rest.low

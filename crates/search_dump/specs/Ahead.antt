@@ -1,0 +1,25 @@
+-- Where the tags of a view change behind a place.
+use Rattle.std.specs.Prelude.{◌≡◌, ℕ, ◌<◌, ◌≤◌, ◌⊎◌, List, slice_index_or}
+use Rattle.text_model.specs.Changes.{next_change}
+use Rattle.text_model.specs.Content.{Content}
+use Rattle.text_model.specs.TagBits.{slot_count}
+use Rattle.text_index.specs.Views.{shown_flags}
+use Rattle.search_dump.specs.Dump.{own_slot}
+
+-- the next change that is kept for a slot is the one behind a place
+abbrev pub IsKnown : Content → ℕ → ℕ → ℕ → List ℕ → ℕ → Type 0
+IsKnown content start end place next slot = slice_index_or next slot 0 ≡ next_change (shown_flags slot content start end) place
+
+-- what is kept of a slot stands at the place or before it, or is the next change behind it
+abbrev pub AreAhead : Content → ℕ → ℕ → ℕ → List ℕ → Type 0
+AreAhead content start end place next = (slot : ℕ) → slot < slot_count → place < slice_index_or next slot 0 → IsKnown content start end place next slot
+
+-- the slot of the tag at a place of the table
+abbrev pub slot_of_row : ℕ → List ℕ → ℕ → ℕ
+slot_of_row widget slots at = own_slot widget (slice_index_or slots at 0)
+
+-- the first of the changes that are kept for some rows of the table, or a place before all of them
+pub record IsNearest (next : List ℕ) (widget : ℕ) (slots : List ℕ) (rows place nearest : ℕ) : Type 0 where
+  pub within : nearest ≤ place
+  pub each : (at : ℕ) → at < rows → nearest ≤ slice_index_or next (slot_of_row widget slots at) 0
+  pub reached : (nearest ≡ place) ⊎ ((at : ℕ) × (at < rows) × (slice_index_or next (slot_of_row widget slots at) 0 ≡ nearest))

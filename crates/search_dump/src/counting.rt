@@ -1,0 +1,148 @@
+ghost use Rattle.std.specs.Prelude.{◌≡◌, ◌≤◌, ◌+◌, ◌++◌, ◌∷◌, [], decimal, map, string_bytes, encode_utf8_all, IfOk, IsAscii, OnOk};
+ghost use Rattle.tcl_words.specs.ListText.{list_text};
+ghost use Rattle.text_index.specs.Views.{shown, IsView};
+ghost use Rattle.search_dump.specs.Counts.{counted, difference, distance, number_at};
+ghost use Rattle.tcl_words.specs.ListGrowth.{Goes};
+
+use itoa::Buffer;
+use std::alloc::{AllocError, Global};
+use tcl_words::push_element;
+use text_index::View;
+use text_model::TextStore;
+
+/// What `count` counts: characters, which are what indices count too, or lines.
+#[derive(Clone, Copy, Debug, PartialEq, Eq)]
+pub enum Counted {
+    Characters,
+    Lines,
+}
+
+/// How many characters or newlines stand before a place of the view.
+fn number_at<S: TextStore>(view: &View<'_, S>, counted: Counted, place: usize) -> usize
+    requires view { IsView (S.content view.now.store.now) view.now.s view.now.e }
+    requires within { view.now.s + place ≤ view.now.e }
+    ensures { result ≡ number_at counted (shown (S.content view.now.store.now) view.now.s view.now.e) place }
+{
+    match counted {
+        Counted::Characters => place,
+        Counted::Lines => view.line_of(place),
+    }
+}
+
+/// Appends a number in decimals.
+fn push_number(word: &mut String, number: usize) -> Result<(), AllocError>
+    ensures ok { OnOk result (string_bytes word.new ≡ string_bytes word.old ++ decimal number) }
+    ensures ascii { IsAscii (decimal number) }
+{
+    let mut digits = Buffer::new();
+    let digits = digits.format(number);
+    word.push_str(digits)
+}
+
+/// Writes by how much a number is above another one, whatever stood there.
+fn write_difference(word: &mut String, from: usize, to: usize) -> Result<(), AllocError>
+    ensures ok { OnOk result (string_bytes word.new ≡ difference from to) }
+    ensures ascii { OnOk result (IsAscii (difference from to)) }
+{
+    word.clear();
+    if to < from {
+        word.push_str("-")?;
+        return push_number(word, from - to);
+    }
+    push_number(word, to - from)
+}
+
+/// Appends by how much a number is above another one as an element of a list; its text is made in `word`.
+fn push_difference(
+    list: &mut String,
+    word: &mut String,
+    from: usize,
+    to: usize,
+) -> Result<(), AllocError>
+    ensures { OnOk result (Goes (string_bytes list.old) (string_bytes list.new) (difference from to ∷ [])) }
+{
+    write_difference(word, from, to)?;
+    push_element(list, word.as_str())
+}
+
+/// Appends how much further one place is than another, as one option counts.
+fn push_count<S: TextStore>(
+    list: &mut String,
+    word: &mut String,
+    view: &View<'_, S>,
+    option: Counted,
+    from: usize,
+    to: usize,
+) -> Result<(), AllocError>
+    requires view { IsView (S.content view.now.store.now) view.now.s view.now.e }
+    requires from { view.now.s + from ≤ view.now.e }
+    requires to { view.now.s + to ≤ view.now.e }
+    ensures { OnOk result (Goes (string_bytes list.old) (string_bytes list.new)
+        (distance (shown (S.content view.now.store.now) view.now.s view.now.e) from to option ∷ [])) }
+{
+    let first = number_at(view, option, from);
+    let second = number_at(view, option, to);
+    push_difference(list, word, first, second)
+}
+
+/// Appends how much further one place is than another, as each of the options counts.
+fn push_counts<S: TextStore>(
+    list: &mut String,
+    view: &View<'_, S>,
+    options: &[Counted],
+    from: usize,
+    to: usize,
+) -> Result<(), AllocError>
+    requires view { IsView (S.content view.now.store.now) view.now.s view.now.e }
+    requires from { view.now.s + from ≤ view.now.e }
+    requires to { view.now.s + to ≤ view.now.e }
+    ensures { OnOk result (Goes (string_bytes list.old) (string_bytes list.new)
+        (map (distance (shown (S.content view.now.store.now) view.now.s view.now.e) from to) options.now)) }
+{
+    let mut word = String::new(*list.allocator());
+    for option in options {
+        push_count(list, &mut word, view, *option, from, to)?;
+    }
+    Ok(())
+}
+
+/// How much further one place is than another, as each of the options counts.
+fn list_counts<S: TextStore>(
+    alloc: Global,
+    view: &View<'_, S>,
+    options: &[Counted],
+    from: usize,
+    to: usize,
+) -> Result<String, AllocError>
+    requires view { IsView (S.content view.now.store.now) view.now.s view.now.e }
+    requires from { view.now.s + from ≤ view.now.e }
+    requires to { view.now.s + to ≤ view.now.e }
+    ensures { IfOk result (λ answer. string_bytes answer ≡ encode_utf8_all (list_text
+        (map (distance (shown (S.content view.now.store.now) view.now.s view.now.e) from to) options.now))) }
+{
+    let mut list = String::new(alloc);
+    push_counts(&mut list, view, options, from, to)?;
+    Ok(list)
+}
+
+/// How much further one place of the view is than another (text(n), "count"): a number for each of the options, and that of
+/// the characters where there is none. The number is below 0 where the second place stands before the first. As the text of
+/// a list.
+pub fn count<S: TextStore>(
+    alloc: Global,
+    view: &View<'_, S>,
+    options: &[Counted],
+    from: usize,
+    to: usize,
+) -> Result<String, AllocError>
+    requires view { IsView (S.content view.now.store.now) view.now.s view.now.e }
+    requires from { view.now.s + from ≤ view.now.e }
+    requires to { view.now.s + to ≤ view.now.e }
+    ensures { IfOk result (λ answer. string_bytes answer
+        ≡ encode_utf8_all (list_text (counted options.now (shown (S.content view.now.store.now) view.now.s view.now.e) from to))) }
+{
+    if options.is_empty() {
+        return list_counts(alloc, view, &[Counted::Characters], from, to);
+    }
+    list_counts(alloc, view, options, from, to)
+}

@@ -1,0 +1,440 @@
+ghost use Rattle.std.specs.Prelude.{◌≡◌, ◌≤◌, ◌<◌, ◌+◌, ◌++◌, ◌&&◌, ◌==◌, [], chars, length, not, slice_index_or, string_bytes, encode_utf8_all, codes, slice_range, IfOk, IfSome, IsTrue, OnOk};
+ghost use Rattle.std.specs.FinSet as set;
+ghost use Rattle.std.specs.List.{flat_map};
+ghost use Rattle.std.specs.Option.{option_map};
+ghost use Rattle.mark_table.specs.SharedMarks as marks;
+ghost use Rattle.tag_table.specs.Tags.{names_of};
+ghost use Rattle.text_model.specs.TagBits.{slot_count};
+ghost use Rattle.tcl_words.specs.ListText.{list_text};
+ghost use Rattle.text_model.specs.declared.limits.TheConstants.Limits.{MOST_WIDGETS};
+ghost use Rattle.text_model.specs.Lines.{line_of, line_start, lines};
+ghost use Rattle.text_index.specs.Values.{column_of};
+ghost use Rattle.text_index.specs.Views.{shown, IsView};
+ghost use Rattle.search_dump.specs.Ahead.{AreAhead};
+ghost use Rattle.search_dump.specs.Stops.{has_tag_at, stop_at_mark, stops_at_marks, stops_at_tags, tags_at, IsNextStop, IsStop};
+ghost use Rattle.search_dump.specs.Matches.{places};
+ghost use Rattle.search_dump.specs.MarksAhead.{mark_element, shown_of, usable_by, Has, IsMarkFrom};
+ghost use Rattle.search_dump.specs.Dump.{dump_elements, elements_at, element, if_listed, mark_elements, only_in, seen_by, tagoff_elements, tagon_elements};
+ghost use Rattle.tcl_words.specs.ListGrowth.{Goes};
+
+use crate::dumped_marks::{Marked, mark_from};
+use crate::listing::push_place;
+use crate::tag_changes::{TagChanges, own_slot, tags_before, tags_behind};
+use std::alloc::{AllocError, Global};
+use tcl_words::push_element;
+use text_index::{Names, View};
+use text_model::{TagSet, TagSlot, TextStore};
+
+/// What a dump lists.
+#[derive(Clone, Copy, Debug, PartialEq, Eq)]
+pub struct Listed {
+    pub tags: bool,
+    pub marks: bool,
+    pub text: bool,
+}
+
+impl Listed {
+    /// Whether a dump stops where tags begin and end.
+    fn stops_at_tags(self) -> bool
+        ensures { result ≡ stops_at_tags self }
+    {
+        self.tags || self.text
+    }
+
+    /// Whether a dump stops where marks stand.
+    fn stops_at_marks(self) -> bool
+        ensures { result ≡ stops_at_marks self }
+    {
+        self.marks || self.text
+    }
+}
+
+/// Appends what it is, its name or characters, and where, as elements of a list.
+fn push_dumped<S: TextStore>(
+    list: &mut String,
+    view: &View<'_, S>,
+    key: &str,
+    value: &str,
+    place: usize,
+) -> Result<(), AllocError>
+    requires view { IsView (S.content view.now.store.now) view.now.s view.now.e }
+    requires within { view.now.s + place ≤ view.now.e }
+    ensures { OnOk result (Goes (string_bytes list.old) (string_bytes list.new)
+        (element (chars key.now) (shown (S.content view.now.store.now) view.now.s view.now.e) place (chars value.now))) }
+{
+    let mut word = String::new(*list.allocator());
+    push_element(list, key)?;
+    push_element(list, value)?;
+    push_place(list, &mut word, view, place)
+}
+
+/// Appends the tag at a place of the table as one that begins or ends, if it is one.
+fn push_tag<S: TextStore>(
+    list: &mut String,
+    view: &View<'_, S>,
+    names: &Names<'_>,
+    key: &str,
+    place: usize,
+    at: usize,
+    is_listed: bool,
+) -> Result<(), AllocError>
+    requires view { IsView (S.content view.now.store.now) view.now.s view.now.e }
+    requires within { view.now.s + place ≤ view.now.e }
+    requires tag { at < length names.now.tags.now.tags }
+    ensures { OnOk result (Goes (string_bytes list.old) (string_bytes list.new) (if_listed is_listed
+        (element (chars key.now) (shown (S.content view.now.store.now) view.now.s view.now.e) place (slice_index_or (names_of names.now.tags.now.tags) at [])))) }
+{
+    if !is_listed {
+        return Ok(());
+    }
+    push_dumped(list, view, key, names.tags.name(at), place)
+}
+
+/// Whether a slot is on in one set and not in another.
+fn is_only_in(on: TagSet, off: TagSet, slot: TagSlot) -> bool
+    requires { slot.0 < slot_count }
+    ensures { result ≡ (set.contains on slot.0 && not (set.contains off slot.0)) }
+{
+    on.has(slot) && !off.has(slot)
+}
+
+/// Appends the tags at a place that stand in one set and not in another, from the lowest.
+fn push_tags<S: TextStore>(
+    list: &mut String,
+    view: &View<'_, S>,
+    names: &Names<'_>,
+    key: &str,
+    place: usize,
+    on: TagSet,
+    off: TagSet,
+) -> Result<(), AllocError>
+    requires view { IsView (S.content view.now.store.now) view.now.s view.now.e }
+    requires widget { names.now.widget.0 < MOST_WIDGETS }
+    requires within { view.now.s + place ≤ view.now.e }
+    ensures { OnOk result (Goes (string_bytes list.old) (string_bytes list.new) (flat_map
+        (only_in on off names.now.widget.0 (chars key.now) (shown (S.content view.now.store.now) view.now.s view.now.e) place) names.now.tags.now.tags)) }
+{
+    for at in 0..names.tags.len() {
+        let slot = own_slot(names, at);
+        push_tag(list, view, names, key, place, at, is_only_in(on, off, slot))?;
+    }
+    Ok(())
+}
+
+/// Appends the tags that end at a place, and those that begin there.
+fn push_tags_at<S: TextStore>(
+    list: &mut String,
+    view: &View<'_, S>,
+    names: &Names<'_>,
+    place: usize,
+) -> Result<(), AllocError>
+    requires view { IsView (S.content view.now.store.now) view.now.s view.now.e }
+    requires widget { names.now.widget.0 < MOST_WIDGETS }
+    requires within { view.now.s + place ≤ view.now.e }
+    ensures { OnOk result (Goes (string_bytes list.old) (string_bytes list.new)
+        (tagoff_elements (seen_by (S.content view.now.store.now) view.now.s view.now.e names.now.tags.now.tags names.now.marks.now.marks names.now.widget.0) place
+        ++ tagon_elements (seen_by (S.content view.now.store.now) view.now.s view.now.e names.now.tags.now.tags names.now.marks.now.marks names.now.widget.0) place)) }
+{
+    let before = tags_before(view, place);
+    let behind = tags_behind(view, place);
+    push_tags(list, view, names, "tagoff", place, before, behind)?;
+    push_tags(list, view, names, "tagon", place, behind, before)
+}
+
+/// Appends a mark that stands at a place, if it is listed.
+fn push_mark<S: TextStore>(
+    list: &mut String,
+    view: &View<'_, S>,
+    names: &Names<'_>,
+    is_listed: bool,
+    place: usize,
+    mark: Marked,
+) -> Result<(), AllocError>
+    requires view { IsView (S.content view.now.store.now) view.now.s view.now.e }
+    requires within { view.now.s + place ≤ view.now.e }
+    requires usable { Has (usable_by (S.content view.now.store.now) view.now.s view.now.e names.now.marks.now.marks names.now.widget.0) (shown_of view.now.s mark) }
+    ensures { OnOk result (Goes (string_bytes list.old) (string_bytes list.new) (if_listed is_listed
+        (mark_element (shown (S.content view.now.store.now) view.now.s view.now.e) (marks.names_of names.now.marks.now.marks) place (shown_of view.now.s mark)))) }
+{
+    if !is_listed {
+        return Ok(());
+    }
+    push_dumped(list, view, "mark", mark.name(names), place)
+}
+
+/// Appends the marks at a place from the first one on, if they are listed, and answers the first mark behind the place.
+fn push_marks_at<S: TextStore>(
+    list: &mut String,
+    view: &View<'_, S>,
+    names: &Names<'_>,
+    is_listed: bool,
+    place: usize,
+    first: Option<Marked>,
+) -> Result<Option<Marked>, AllocError>
+    requires view { IsView (S.content view.now.store.now) view.now.s view.now.e }
+    requires widget { names.now.widget.0 < MOST_WIDGETS }
+    requires within { view.now.s + place ≤ view.now.e }
+    requires first { IsMarkFrom (usable_by (S.content view.now.store.now) view.now.s view.now.e names.now.marks.now.marks names.now.widget.0) (view.now.s + place) (option_map (shown_of view.now.s) first) }
+    ensures goes { OnOk result (Goes (string_bytes list.old) (string_bytes list.new) (if_listed is_listed (mark_elements (seen_by (S.content view.now.store.now) view.now.s view.now.e names.now.tags.now.tags names.now.marks.now.marks names.now.widget.0) place))) }
+    ensures next { IfOk result (λ next. IsMarkFrom (usable_by (S.content view.now.store.now) view.now.s view.now.e names.now.marks.now.marks names.now.widget.0) (view.now.s + place + 1) (option_map (shown_of view.now.s) next)) }
+{
+    let mut next = first;
+    while let Some(mark) = next {
+        if mark.place != place {
+            return Ok(next);
+        }
+        push_mark(list, view, names, is_listed, place, mark)?;
+        next = mark.next(view, names);
+    }
+    Ok(None)
+}
+
+/// Appends the tags that end at a place, and those that begin there, if tags are listed.
+fn push_listed_tags<S: TextStore>(
+    list: &mut String,
+    view: &View<'_, S>,
+    names: &Names<'_>,
+    listed: Listed,
+    place: usize,
+) -> Result<(), AllocError>
+    requires view { IsView (S.content view.now.store.now) view.now.s view.now.e }
+    requires widget { names.now.widget.0 < MOST_WIDGETS }
+    requires within { view.now.s + place ≤ view.now.e }
+    ensures { OnOk result (Goes (string_bytes list.old) (string_bytes list.new) (tags_at listed (seen_by (S.content view.now.store.now) view.now.s view.now.e names.now.tags.now.tags names.now.marks.now.marks names.now.widget.0) place)) }
+{
+    if !listed.tags {
+        return Ok(());
+    }
+    push_tags_at(list, view, names, place)
+}
+
+/// Appends the marks at a place, if marks are listed, and answers the first mark behind the place, if a dump stops at marks.
+fn push_listed_marks<S: TextStore>(
+    list: &mut String,
+    view: &View<'_, S>,
+    names: &Names<'_>,
+    listed: Listed,
+    place: usize,
+    first: Option<Marked>,
+) -> Result<Option<Marked>, AllocError>
+    requires view { IsView (S.content view.now.store.now) view.now.s view.now.e }
+    requires widget { names.now.widget.0 < MOST_WIDGETS }
+    requires within { view.now.s + place ≤ view.now.e }
+    requires first { IsTrue (stops_at_marks listed) → IsMarkFrom (usable_by (S.content view.now.store.now) view.now.s view.now.e names.now.marks.now.marks names.now.widget.0) (view.now.s + place) (option_map (shown_of view.now.s) first) }
+    ensures goes { OnOk result (Goes (string_bytes list.old) (string_bytes list.new) (if_listed listed.marks (mark_elements (seen_by (S.content view.now.store.now) view.now.s view.now.e names.now.tags.now.tags names.now.marks.now.marks names.now.widget.0) place))) }
+    ensures next { IfOk result (λ next. IsTrue (stops_at_marks listed) → IsMarkFrom (usable_by (S.content view.now.store.now) view.now.s view.now.e names.now.marks.now.marks names.now.widget.0) (view.now.s + place + 1) (option_map (shown_of view.now.s) next)) }
+    ensures behind { IfOk result (λ next. IfSome next (λ mark. place < mark.place)) }
+{
+    if !listed.stops_at_marks() {
+        return Ok(None);
+    }
+    push_marks_at(list, view, names, listed.marks, place, first)
+}
+
+/// Appends the text from one place to another, if text is listed.
+fn push_listed_text<S: TextStore>(
+    list: &mut String,
+    view: &View<'_, S>,
+    listed: Listed,
+    from: usize,
+    to: usize,
+) -> Result<(), AllocError>
+    requires view { IsView (S.content view.now.store.now) view.now.s view.now.e }
+    requires ordered { from ≤ to }
+    requires within { view.now.s + to ≤ view.now.e }
+    ensures { OnOk result (Goes (string_bytes list.old) (string_bytes list.new) (if_listed listed.text (element (codes "text")
+        (shown (S.content view.now.store.now) view.now.s view.now.e) from (slice_range (shown (S.content view.now.store.now) view.now.s view.now.e) from to)))) }
+{
+    let _end = view.e;
+    if !listed.text {
+        return Ok(());
+    }
+    let text = view.store.copy_text(view.s + from, view.s + to)?;
+    push_dumped(list, view, "text", text.as_str(), from)
+}
+
+/// Where the line behind that of a place begins.
+fn next_line<S: TextStore>(view: &View<'_, S>, place: usize) -> usize
+    requires view { IsView (S.content view.now.store.now) view.now.s view.now.e }
+    requires within { view.now.s + place < view.now.e }
+    ensures value { result ≡ line_start (line_of (shown (S.content view.now.store.now) view.now.s view.now.e) place + 1) (shown (S.content view.now.store.now) view.now.s view.now.e) }
+    ensures bound { line_of (shown (S.content view.now.store.now) view.now.s view.now.e) place + 1 ≤ lines (shown (S.content view.now.store.now) view.now.s view.now.e) }
+{
+    let _end = view.e;
+    view.line_start(view.line_of(place) + 1)
+}
+
+/// The next place behind one at which a tag begins or ends, or another place, if that stands before it or a dump doesn't
+/// stop at tags.
+fn stop_at_tag<S: TextStore>(
+    changes: &mut TagChanges,
+    view: &View<'_, S>,
+    names: &Names<'_>,
+    listed: Listed,
+    place: usize,
+    to: usize,
+) -> usize
+    requires view { IsView (S.content view.now.store.now) view.now.s view.now.e }
+    requires widget { names.now.widget.0 < MOST_WIDGETS }
+    requires some { place < to }
+    requires within { view.now.s + to ≤ view.now.e }
+    requires ahead { AreAhead (S.content view.now.store.now) view.now.s view.now.e place changes.old.next }
+    ensures ahead { AreAhead (S.content view.now.store.now) view.now.s view.now.e place changes.new.next }
+    ensures above { place < result }
+    ensures below { result ≤ to }
+    ensures stop { IsTrue (stops_at_tags listed) → IsNextStop (has_tag_at (seen_by (S.content view.now.store.now) view.now.s view.now.e names.now.tags.now.tags names.now.marks.now.marks names.now.widget.0)) place to result }
+{
+    if !listed.stops_at_tags() {
+        return to;
+    }
+    changes.pass(view, names, place);
+    changes.nearest(names, to)
+}
+
+/// The place of a mark, or another place, if that stands before it.
+fn stop_at_mark(mark: Option<Marked>, to: usize) -> usize
+    ensures { result ≡ stop_at_mark to mark }
+{
+    match mark {
+        Some(mark) => to.min(mark.place),
+        None => to,
+    }
+}
+
+/// Where the line behind that of a place begins, or another place, if that stands before it or text isn't listed.
+fn stop_at_line<S: TextStore>(view: &View<'_, S>, listed: Listed, place: usize, to: usize) -> usize
+    requires view { IsView (S.content view.now.store.now) view.now.s view.now.e }
+    requires some { place < to }
+    requires within { view.now.s + to ≤ view.now.e }
+    ensures above { place < result }
+    ensures below { result ≤ to }
+    ensures stop { IsTrue listed.text → IsNextStop (λ k. column_of (shown (S.content view.now.store.now) view.now.s view.now.e) k == 0) place to result }
+{
+    if !listed.text {
+        return to;
+    }
+    to.min(next_line(view, place))
+}
+
+/// The next stop of a dump behind a place, or another place, if that stands before it.
+fn next_stop<S: TextStore>(
+    changes: &mut TagChanges,
+    view: &View<'_, S>,
+    names: &Names<'_>,
+    listed: Listed,
+    mark: Option<Marked>,
+    place: usize,
+    to: usize,
+) -> usize
+    requires view { IsView (S.content view.now.store.now) view.now.s view.now.e }
+    requires widget { names.now.widget.0 < MOST_WIDGETS }
+    requires some { place < to }
+    requires within { view.now.s + to ≤ view.now.e }
+    requires ahead { AreAhead (S.content view.now.store.now) view.now.s view.now.e place changes.old.next }
+    requires mark { IsTrue (stops_at_marks listed) → IsMarkFrom (usable_by (S.content view.now.store.now) view.now.s view.now.e names.now.marks.now.marks names.now.widget.0) (view.now.s + place + 1) (option_map (shown_of view.now.s) mark) }
+    requires behind { IfSome mark (λ next. place < next.place) }
+    ensures ahead { AreAhead (S.content view.now.store.now) view.now.s view.now.e result changes.new.next }
+    ensures mark { IsTrue (stops_at_marks listed) → IsMarkFrom (usable_by (S.content view.now.store.now) view.now.s view.now.e names.now.marks.now.marks names.now.widget.0) (view.now.s + result) (option_map (shown_of view.now.s) mark) }
+    ensures stop { IsStop listed (seen_by (S.content view.now.store.now) view.now.s view.now.e names.now.tags.now.tags names.now.marks.now.marks names.now.widget.0) place to result }
+{
+    let tag = stop_at_tag(changes, view, names, listed, place, to);
+    stop_at_line(view, listed, place, stop_at_mark(mark, tag))
+}
+
+/// Appends the elements of the places from one to before another, and answers the first mark that isn't passed.
+fn push_elements<S: TextStore>(
+    list: &mut String,
+    view: &View<'_, S>,
+    names: &Names<'_>,
+    listed: Listed,
+    from: usize,
+    to: usize,
+) -> Result<Option<Marked>, AllocError>
+    requires view { IsView (S.content view.now.store.now) view.now.s view.now.e }
+    requires widget { names.now.widget.0 < MOST_WIDGETS }
+    requires ordered { from ≤ to }
+    requires within { view.now.s + to ≤ view.now.e }
+    ensures goes { OnOk result (Goes (string_bytes list.old) (string_bytes list.new) (flat_map (elements_at listed (seen_by (S.content view.now.store.now) view.now.s view.now.e names.now.tags.now.tags names.now.marks.now.marks names.now.widget.0) from to) (places from to))) }
+    ensures mark { IfOk result (λ mark. IsTrue (stops_at_marks listed) → IsMarkFrom (usable_by (S.content view.now.store.now) view.now.s view.now.e names.now.marks.now.marks names.now.widget.0) (view.now.s + to) (option_map (shown_of view.now.s) mark)) }
+{
+    let mut changes = TagChanges::new(from);
+    let mut mark = mark_from(view, names, from);
+    let mut place = from;
+    while place < to {
+        push_listed_tags(list, view, names, listed, place)?;
+        mark = push_listed_marks(list, view, names, listed, place, mark)?;
+        let next = next_stop(&mut changes, view, names, listed, mark, place, to);
+        push_listed_text(list, view, listed, place, next)?;
+        place = next;
+    }
+    Ok(mark)
+}
+
+/// Appends what is listed at the end of the view, where the first mark there may be given.
+fn push_end<S: TextStore>(
+    list: &mut String,
+    view: &View<'_, S>,
+    names: &Names<'_>,
+    listed: Listed,
+    end: usize,
+    mark: Option<Marked>,
+) -> Result<(), AllocError>
+    requires view { IsView (S.content view.now.store.now) view.now.s view.now.e }
+    requires widget { names.now.widget.0 < MOST_WIDGETS }
+    requires end { end ≡ length (shown (S.content view.now.store.now) view.now.s view.now.e) }
+    requires mark { IsTrue (stops_at_marks listed) → IsMarkFrom (usable_by (S.content view.now.store.now) view.now.s view.now.e names.now.marks.now.marks names.now.widget.0) (view.now.s + end) (option_map (shown_of view.now.s) mark) }
+    ensures { OnOk result (Goes (string_bytes list.old) (string_bytes list.new)
+        (if_listed listed.tags (tagoff_elements (seen_by (S.content view.now.store.now) view.now.s view.now.e names.now.tags.now.tags names.now.marks.now.marks names.now.widget.0) end) ++ if_listed listed.marks (mark_elements (seen_by (S.content view.now.store.now) view.now.s view.now.e names.now.tags.now.tags names.now.marks.now.marks names.now.widget.0) end))) }
+{
+    push_listed_tags(list, view, names, listed, end)?;
+    push_listed_marks(list, view, names, listed, end, mark)?;
+    Ok(())
+}
+
+/// Appends what stands in the view from one place to before another.
+fn push_dump<S: TextStore>(
+    list: &mut String,
+    view: &View<'_, S>,
+    names: &Names<'_>,
+    listed: Listed,
+    from: usize,
+    to: usize,
+) -> Result<(), AllocError>
+    requires view { IsView (S.content view.now.store.now) view.now.s view.now.e }
+    requires widget { names.now.widget.0 < MOST_WIDGETS }
+    requires from { view.now.s + from ≤ view.now.e }
+    requires to { view.now.s + to ≤ view.now.e }
+    ensures { OnOk result (Goes (string_bytes list.old) (string_bytes list.new) (dump_elements listed (seen_by (S.content view.now.store.now) view.now.s view.now.e names.now.tags.now.tags names.now.marks.now.marks names.now.widget.0) from to)) }
+{
+    if to < from {
+        return Ok(());
+    }
+    let mark = push_elements(list, view, names, listed, from, to)?;
+    if to != view.len() {
+        return Ok(());
+    }
+    push_end(list, view, names, listed, to, mark)
+}
+
+/// What stands in the view from one place to before another (text(n), "dump"), as the text of a list: at each place the tags that
+/// end there and those that begin there, from the lowest, the marks, and the text up to where the next line begins, a mark stands
+/// or a tag begins or ends. Where the second place is the end of the view, the tags that end there and its marks come last.
+pub fn dump<S: TextStore>(
+    alloc: Global,
+    view: &View<'_, S>,
+    names: &Names<'_>,
+    listed: Listed,
+    from: usize,
+    to: usize,
+) -> Result<String, AllocError>
+    requires view { IsView (S.content view.now.store.now) view.now.s view.now.e }
+    requires widget { names.now.widget.0 < MOST_WIDGETS }
+    requires from { view.now.s + from ≤ view.now.e }
+    requires to { view.now.s + to ≤ view.now.e }
+    ensures { IfOk result (λ answer. string_bytes answer ≡ encode_utf8_all (list_text (dump_elements listed
+        (seen_by (S.content view.now.store.now) view.now.s view.now.e names.now.tags.now.tags names.now.marks.now.marks names.now.widget.0) from to))) }
+{
+    let mut list = String::new(alloc);
+    push_dump(&mut list, view, names, listed, from, to)?;
+    Ok(list)
+}
