@@ -27,10 +27,11 @@ SIZE_MARGIN = 256
 
 
 class Kind(NamedTuple):
-    """A kind of script: its name in the table, and the commands of a size."""
+    """A kind of script: its name in the table, the commands of a size, and how many newlines stand inside its answers."""
 
     name: str
     commands: callable
+    newlines: callable = lambda size: 0
 
 
 def appends(size):
@@ -142,6 +143,40 @@ def spelled_words(before, after, piece):
     return lambda size: ["text .t"] + [".u " + before + piece * (20 * size // len(piece)) + after] * 20
 
 
+LINE = "a lazy dog, and\n"
+NEEDLE = "haystack"
+
+
+def with_lines(commands):
+    """These commands behind those that make a text of `size` short lines, of which one near the end has a rare word."""
+    return lambda size: (
+        ["text .t", ".t insert end {" + LINE * size + "}", f".t insert {size - 2}.4 {NEEDLE}", ".t mark set insert 1.0", ".t mark set current 1.0"]
+        + commands(size)
+    )
+
+
+def searches(*words):
+    """Some searches from the text's beginning."""
+    return with_lines(lambda size: [".t search " + " ".join(words) + " 1.0"] * 10)
+
+
+def hostile_search(size):
+    """A line of so many characters, all alike, and a pattern that differs from it in its last character alone."""
+    pattern = "a" * 1_000 + "b"
+    return ["text .t", ".t insert end " + "a" * (50 * size)] + [f".t search {pattern} 1.0", f".t search -backwards -nocase {pattern} end"]
+
+
+def with_tagged_lines(commands):
+    """The text of many lines, of which each tenth has a tagged word."""
+    words = lambda size: " ".join(f"{line}.2 {line}.6" for line in range(1, size, 10))
+    return with_lines(lambda size: [".t tag add x " + words(size)] + commands(size))
+
+
+def line_dumps(size):
+    """A dump of each tenth line, without its newline."""
+    return [f".t dump {line}.0 {line}.end" for line in range(1, size, 10)]
+
+
 def spread_places(size):
     """`size` places from 0 to `size`, not in order."""
     return [number * 7_919 % size for number in range(size)]
@@ -162,6 +197,14 @@ KINDS = [
     Kind("4,000 marks: next, previous", with_marks(mark_walks)),
     Kind("4,000 marks: index", with_marks(mark_places)),
     Kind("4,000 marks: insert before", with_marks(inserts_before_marks)),
+    Kind("search a rare word", searches(NEEDLE)),
+    Kind("the same with -nocase", searches("-nocase", NEEDLE.upper())),
+    Kind("search -all a common word", searches("-all", "dog")),
+    Kind("the same with -nocase", searches("-all", "-nocase", "Dog")),
+    Kind("search a long run, 50 x", hostile_search),
+    Kind("dump all of many lines", with_tagged_lines(lambda size: [".t dump 1.0 end-1c"] * 3), lambda size: 3 * size),
+    Kind("dump their tags", with_tagged_lines(lambda size: [".t dump -tag 1.0 end"] * 3)),
+    Kind("dump each tenth line", with_tagged_lines(line_dumps)),
     Kind("a refused command", refused_commands),
     Kind("20 words of that length", long_words),
     Kind("20 bare words, 20 x", spelled_words("", "", PROSE.replace(" ", "_"))),
@@ -198,10 +241,10 @@ def count_pieces(path):
         return file.read().count(b"\n")
 
 
-def time_script(program, commands, repeat, folder):
+def time_script(program, commands, repeat, folder, newlines=0):
     """The least time of several runs of these commands. Each has to answer every command.
 
-    Answers without newlines in them are asked for alone, so there is one line for each command.
+    There is one line for each command, and one more for each newline inside an answer.
     """
     script_path = os.path.join(folder, "script.tcl")
     output_path = os.path.join(folder, "output")
@@ -211,7 +254,7 @@ def time_script(program, commands, repeat, folder):
     for _ in range(repeat):
         seconds, status = run_once(program, script_path, output_path)
         lines = count_pieces(output_path)
-        if status not in (0, 1) or lines != len(commands):
+        if status not in (0, 1) or lines != len(commands) + newlines:
             sys.exit(f"status {status} and {lines} lines for {len(commands)} commands: this isn't timed")
         times.append(seconds)
     return Timing(len(commands), min(times))
@@ -258,7 +301,7 @@ def measure(program, sizes, repeat, folder):
     for kind in KINDS:
         before = None
         for size in sizes:
-            timing = time_script(program, kind.commands(size), repeat, folder)
+            timing = time_script(program, kind.commands(size), repeat, folder, kind.newlines(size))
             emit(lines, table_row(kind.name, size, timing, before))
             before = timing
     goal = time_script(program, appends(GOAL_COMMANDS), repeat, folder)

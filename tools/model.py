@@ -918,9 +918,8 @@ def index_value(index, shown, document, widget):
 
 def position_text(place, shown):
     """A place of a view as `line.char`: 1 more than the newlines before it, and the cells since."""
-    before = newlines(shown.characters[:place])
-    line_begin = before[-1] + 1 if before else 0
-    return f"{len(before) + 1}.{place - line_begin}"
+    before = "".join(shown.characters[:place])
+    return f"{before.count(chr(10)) + 1}.{place - (before.rfind(chr(10)) + 1)}"
 
 
 def mark_names(document):
@@ -1339,6 +1338,119 @@ def redone(document, widget):
 
 
 # ---------------------------------------------------------------------------------------------------
+# Search: which places are looked at, in which order, and where the pattern stands
+
+# What maps by itself to one character by newer rules, and to several by those that Python knows.
+NEWER_FOLDS = {"\u1fd3": "\u0390", "\u1fe3": "\u03b0", "\ufb05": "\ufb06"}
+
+
+def simple_fold(character):
+    """The one character that stands for a character where case doesn't matter."""
+    if character in NEWER_FOLDS:
+        return NEWER_FOLDS[character]
+    return next((fold for fold in (character.casefold(), character.lower()) if len(fold) == 1), character)
+
+
+class Search(NamedTuple):
+    """A search: the pattern, where it begins, where it stops (None: it goes round the end), and how it goes."""
+
+    pattern: str
+    begin: int
+    stop: Optional[int]
+    is_backward: bool = False
+    ignores_case: bool = False
+    is_strict: bool = False
+
+
+def candidates(search, length):
+    """The places at which a match may begin, in the order in which they are looked at."""
+    if search.is_backward:
+        before, behind = range(search.begin - 1, -1, -1), range(length - 1, search.begin - 1, -1)
+        return [*before, *behind] if search.stop is None else list(range(search.begin - 1, search.stop - 1, -1))
+    behind, before = range(search.begin, length), range(search.begin)
+    return [*behind, *before] if search.stop is None else list(range(search.begin, search.stop))
+
+
+def match_limit(search, length):
+    """The place behind which no match may end."""
+    if search.stop is None or not search.is_strict:
+        return length
+    return search.begin if search.is_backward else search.stop
+
+
+def matches(search, characters):
+    """The places at which the pattern stands, in the order of the search."""
+    fold = simple_fold if search.ignores_case else str
+    wanted, text = [fold(c) for c in search.pattern], [fold(c) for c in characters]
+    limit = match_limit(search, len(text))
+    return [
+        place for place in candidates(search, len(text))
+        if place + len(wanted) <= limit and text[place : place + len(wanted)] == wanted
+    ]
+
+
+def apart(places, length):
+    """The places without each whose match shares a character with one that is listed before it."""
+    listed, taken = [], set()
+    for place in places:
+        covered = set(range(place, place + length))
+        if not covered & taken:
+            listed.append(place)
+            taken |= covered
+    return listed
+
+
+# ---------------------------------------------------------------------------------------------------
+# Dump: what stands at each place
+
+
+class Element(NamedTuple):
+    """What a dump says of a place: that a tag begins or ends there, that a mark or a text stands there."""
+
+    key: str
+    value: str
+    place: int
+
+
+def seen_ranges(document, widget):
+    """The ranges that the widget shows, each with its tag, from the lowest tag to the highest."""
+    shown = view(document, widget)
+    return [(tag, each) for tag in document.tags for each in shown_ranges(tag, shown, widget)]
+
+
+def elements_between(ranges, marks, place):
+    """What stands at a place before its character: ends of ranges, their beginnings, and marks."""
+    return (
+        [Element("tagoff", tag, place) for tag, (_, end) in ranges if end == place]
+        + [Element("tagon", tag, place) for tag, (begin, _) in ranges if begin == place]
+        + [Element("mark", name, place) for name, at in marks if at == place]
+    )
+
+
+def texts_between(first, last, cuts, characters):
+    """The texts from one place to another, cut at some places: each by where it begins."""
+    begins = sorted({first} | {cut for cut in cuts if first < cut < last})
+    return {begin: "".join(characters[begin:end]) for begin, end in zip(begins, begins[1:] + [last])}
+
+
+def dumped(document, widget, first, last):
+    """All elements from one place to another; at the view's end, what stands there before no character.
+
+    A text is cut where a line or a range begins, where a range ends, and where a mark stands.
+    """
+    characters = view(document, widget).characters
+    ranges, marks = seen_ranges(document, widget), usable_marks(document, widget)
+    cuts = [place + 1 for place in newlines(characters)] + [place for _, each in ranges for place in each] + [place for _, place in marks]
+    texts = texts_between(first, last, cuts, characters)
+    elements = []
+    for place in range(first, last + 1 if last == len(characters) else last):
+        elements += elements_between(ranges, marks, place)
+        if place < last and place in texts:
+            elements.append(Element("text", texts[place], place))
+    return elements
+
+
+# ---------------------------------------------------------------------------------------------------
 # Options of a widget and of its document
 
 BOOLEANS = {"1": True, "true": True, "yes": True, "on": True, "0": False, "false": False, "no": False, "off": False}
@@ -1447,6 +1559,30 @@ def check_options(options, arguments):
     for place, word in enumerate(arguments):
         if options.stands_at(place) and word not in OPTIONS:
             raise bad_option(word)
+
+
+class Switches(NamedTuple):
+    """The names of switches, in front of all arguments: whether a name may be abbreviated.  `--` ends them where it is one."""
+
+    names: tuple
+    are_abbreviated: bool
+
+    def whole(self, word):
+        """The switch that a word names, or the fault that it is none."""
+        found = [name for name in self.names if name == word or self.are_abbreviated and name.startswith(word)]
+        if len(found) != 1:
+            raise bad_option(word)
+        return found[0]
+
+
+def split_switches(switches, words):
+    """The switches at the front of some words, each by its whole name, and the words behind them."""
+    count = 0
+    while count < len(words) and words[count].startswith("-"):
+        count += 1
+        if words[count - 1] == "--" and "--" in switches.names:
+            break
+    return [switches.whole(word) for word in words[:count]], words[count:]
 
 
 TEXT_OPTIONS = Options(1, True)
@@ -1664,6 +1800,52 @@ def tag_lower_command(world, document, widget, arguments):
     return moved_tag(world, document, arguments, 0, 0)
 
 
+SEARCH_SWITCHES = Switches(("-all", "-backwards", "-exact", "-forwards", "-nocase", "-overlap", "-strictlimits", "--"), True)
+COUNT_SWITCHES = Switches(("-chars", "-indices", "-lines"), False)
+DUMP_SWITCHES = Switches(("-all", "-mark", "-tag", "-text"), True)
+
+# What the switches of `dump` list.
+DUMPED_KEYS = {"-mark": {"mark"}, "-tag": {"tagon", "tagoff"}, "-text": {"text"}, "-all": {"mark", "tagon", "tagoff", "text"}}
+
+
+def search_command(world, document, widget, switches, arguments):
+    """`W search ?switch ..? pattern I ?J?`: where the pattern stands, or the list of all places with `-all`."""
+    shown = view(document, widget)
+    pattern, *places = arguments[0], *(argument_place(word, document, widget) for word in arguments[1:])
+    ways = [switch for switch in switches if switch in ("-forwards", "-backwards")]
+    search = Search(
+        pattern,
+        begin=places[0],
+        stop=places[1] if len(places) == 2 else None,
+        is_backward=ways[-1:] == ["-backwards"],
+        ignores_case="-nocase" in switches,
+        is_strict="-strictlimits" in switches,
+    )
+    found = matches(search, shown.characters)
+    if "-all" in switches:
+        listed = found if "-overlap" in switches else apart(found, len(pattern))
+        return world, list_text([position_text(place, shown) for place in listed])
+    return world, position_text(found[0], shown) if found else ""
+
+
+def count_command(world, document, widget, switches, arguments):
+    """`W count ?option ..? A B`: for each option how much greater B's number is than A's."""
+    characters = view(document, widget).characters
+    first, last = (argument_place(word, document, widget) for word in arguments)
+    lines = len(newlines(characters[:last])) - len(newlines(characters[:first]))
+    numbers = [lines if switch == "-lines" else last - first for switch in switches or ["-chars"]]
+    return world, " ".join(str(number) for number in numbers)
+
+
+def dump_command(world, document, widget, switches, arguments):
+    """`W dump ?switch ..? A ?B?`: the texts, marks and tags from A to before B, of the kinds that the switches name."""
+    shown = view(document, widget)
+    ((first, last),) = pairs_of(arguments, document, widget)
+    keys = set().union(*(DUMPED_KEYS[switch] for switch in switches or ["-all"]))
+    elements = [element for element in dumped(document, widget, first, last) if element.key in keys] if first <= last else []
+    return world, list_text([word for key, value, place in elements for word in (key, value, position_text(place, shown))])
+
+
 def mark_set_command(world, document, widget, arguments):
     """`W mark set M I`: puts the mark at I, and makes it where it is new; the widget's own stay before the view's end."""
     name, word = arguments
@@ -1788,12 +1970,13 @@ def cget_command(world, document, widget, arguments):
 
 
 class Subcommand(NamedTuple):
-    """A widget's subcommand: what it does, the least and greatest number of its arguments, and where options stand."""
+    """A widget's subcommand: what it does, the least and greatest number of its arguments, where options stand, its switches."""
 
     body: callable
     least: int
     greatest: Optional[int]
     options: Optional[Options] = None
+    switches: Optional[Switches] = None
 
 
 # By their words: one, or that of a family and that of its member.  A greatest number of None is no bound.
@@ -1826,6 +2009,9 @@ SUBCOMMANDS = {
     ("edit", "undo"): Subcommand(edit_undo_command, 0, 0),
     ("configure",): Subcommand(configure_command, 2, None, Options(0, True)),
     ("cget",): Subcommand(cget_command, 1, 1, Options(0, False)),
+    ("search",): Subcommand(search_command, 2, 3, None, SEARCH_SWITCHES),
+    ("count",): Subcommand(count_command, 2, 2, None, COUNT_SWITCHES),
+    ("dump",): Subcommand(dump_command, 1, 2, None, DUMP_SWITCHES),
 }
 
 
@@ -1839,20 +2025,27 @@ def subcommand_of(words):
     raise wrong_arguments() if len(words) == 2 else bad_option(words[2])
 
 
+def check_count(subcommand, count):
+    """So many arguments may stand behind the subcommand and its switches."""
+    is_few = subcommand.greatest is None or count <= subcommand.greatest
+    are_whole = subcommand.options is None or subcommand.options.are_whole(count)
+    if count < subcommand.least or not is_few or not are_whole:
+        raise wrong_arguments()
+
+
 def widget_command(world, document, widget, words):
-    """`W subcommand ?argument ..?`."""
+    """`W subcommand ?switch ..? ?argument ..?`."""
     if len(words) == 1:
         raise wrong_arguments()
     names, subcommand = subcommand_of(words)
     arguments = words[1 + len(names) :]
+    if subcommand.switches is not None:
+        switches, arguments = split_switches(subcommand.switches, arguments)
+        check_count(subcommand, len(arguments))
+        return subcommand.body(world, document, widget, switches, arguments)
     if subcommand.options is not None:
         check_options(subcommand.options, arguments)
-    if len(arguments) < subcommand.least:
-        raise wrong_arguments()
-    if subcommand.greatest is not None and len(arguments) > subcommand.greatest:
-        raise wrong_arguments()
-    if subcommand.options is not None and not subcommand.options.are_whole(len(arguments)):
-        raise wrong_arguments()
+    check_count(subcommand, len(arguments))
     return subcommand.body(world, document, widget, arguments)
 
 

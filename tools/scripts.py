@@ -88,6 +88,16 @@ def empty_text(chance):
     return ""
 
 
+def repeated_text(chance):
+    """A few letters again and again, in both cases, so that patterns stand in it, at several places and over one another."""
+    return "".join(chance.choices(chance.choice(["aabbAB\n", "aaab", "ab\n"]), k=chance.randrange(2, 12)))
+
+
+def folded_text(chance):
+    """Letters whose cases differ in their bytes, or that have no other case of one character."""
+    return "".join(chance.choices("kK\u212asSſßẞẤấΣσςİiıǅǆéÉ", k=chance.randrange(1, 6)))
+
+
 def lone_dollar_text(chance):
     """A dollar sign that stands for itself, at a word's beginning, inside or at its end."""
     after = chance.choice([
@@ -109,6 +119,8 @@ TEXTS = [
     (inner_text, 2),
     (spaced_text, 3),
     (lines_text, 3),
+    (repeated_text, 5),
+    (folded_text, 1),
     (empty_text, 1),
     (lone_dollar_text, 2),
     (long_text, 0.3),
@@ -241,12 +253,13 @@ NO_COMMANDS = [
     "foo", "puts", "destroy", "pack", "Text", "TEXT", "texts", "tex", "insert", "$", "]", "end", "\x00", "", "#", "text .t",
 ]
 NO_SUBCOMMANDS = [
-    "foo", "ins", "Insert", "inserts", "del", "deletes", "Replace", "ge", "gets", "ind", "indexes", "edi", "edits", "undo", "peer", "config", "Configure", "cge", "search",
-    "count", "dump", "ta", "tags", "-undo", "$", "]", "#", ".t", "text", "é", "", " ", "get ", "{", "\\", "names", "gravity",
+    "foo", "ins", "Insert", "inserts", "del", "deletes", "Replace", "ge", "gets", "ind", "indexes", "edi", "edits", "undo", "peer", "config", "Configure", "cge", "sear",
+    "searches", "Count", "dumps", "ta", "tags", "-undo", "$", "]", "#", ".t", "text", "é", "", " ", "get ", "{", "\\", "names", "gravity",
 ]
 NO_GRAVITIES = ["", "Left", "lef", "right ", "up", "l", "é", "1.0", "leftright"]
 # Words in the place of an option that are none, and in the place of its value.
 NO_OPTIONS = ["-startline", "-endline", "-und", "-undos", "-Undo", "undo", "-", "--", "-wrap", "1", "", "é", "insert"]
+NO_SWITCHES = ["-", "--", "-x", "-regexp", "-ALL", "-char", "-charss", "-t", "-1", "-é", "-all ", "--all"]
 NO_BOOLEANS = ["", "True", "NO", "y", "t", "2", "00", "maybe", "é", "1 "]
 NO_INTEGERS = ["", "+", "-", "+-1", "1.0", "1 ", " 1", "0x1", "1e2", "1234567890", "٣", "one"]
 NO_STATES = ["", "Normal", "dis", "disable", "readonly", "1"]
@@ -520,6 +533,55 @@ def edit_alone(chance):
     return [widget(chance), "edit"] + chance.choice([[], ["foo"], [""], ["und"], ["Undo"], ["undo", "1"], ["canundo"], ["reset", ""], ["modify", "1"]])
 
 
+def shortened(chance, word):
+    """A switch, or the front of it: one letter, which is often enough, or more."""
+    return word if chance.random() < 0.6 else word[: chance.randrange(2, len(word) + 1)]
+
+
+def abbreviated_switches(chance, names, counts):
+    """Some switches, spelled out or abbreviated, or now and then a word that is none."""
+    words = [shortened(chance, chance.choice(names)) for _ in range(chance.choice(counts))]
+    return words + [chance.choice(NO_SWITCHES)] if chance.random() < 0.05 else words
+
+
+def pattern(chance):
+    """A pattern that mostly stands in a text: a few letters, with newlines, none now and then."""
+    if chance.random() < 0.8:
+        return chance.choice(["", "a", "b", "A", "aa", "ab", "aA", "aba", "aab", "bb", "bab", "\n", "a\n", "\n\n", "b\na"])
+    return pick(chance, [(folded_text, 1), (text, 1), (plain_text, 1)])
+
+
+def search_place(chance):
+    """A word for where a search begins or stops: mostly an end of the text, or near its beginning."""
+    kind = chance.random()
+    return chance.choice(["1.0", "end", "2.0"]) if kind < 0.4 else near_begin(chance) if kind < 0.8 else span_index(chance)
+
+
+def search_command(chance):
+    """`search`, from a place, to another one now and then."""
+    names = list(model.SEARCH_SWITCHES.names[:-1]) + ["-all", "-all"]
+    words = abbreviated_switches(chance, names, [0, 0, 1, 1, 2, 2, 3, 4])
+    ending = ["--"] if chance.random() < 0.2 else []
+    places = [search_place(chance) for _ in range(chance.choice([1, 1, 2]))]
+    if len(places) == 2 and chance.random() < 0.7:
+        places.sort(reverse=any(word.startswith("-b") for word in words))
+    return [widget(chance), "search"] + words + ending + [pattern(chance)] + places
+
+
+def count_command(chance):
+    """`count` of some numbers."""
+    words = chance.choices(["-chars", "-indices", "-lines", "-lines"], k=chance.choice([0, 1, 1, 2, 4]))
+    words += [chance.choice(NO_SWITCHES)] if chance.random() < 0.05 else []
+    return [widget(chance), "count"] + words + [range_index(chance), span_index(chance)]
+
+
+def dump_command(chance):
+    """`dump` of some kinds, of a character, a range or all."""
+    words = abbreviated_switches(chance, list(model.DUMP_SWITCHES.names), [0, 0, 0, 1, 1, 2])
+    places = chance.choice([["1.0", "end"], [span_index(chance)], span(chance), span(chance)])
+    return [widget(chance), "dump"] + words + places
+
+
 def mark_alone(chance):
     """`mark` without a member of it, with any words after it."""
     members = [[], ["foo"], [""], ["nam"], ["Set"], ["m"], ["set", "m"], ["unse", "m"], ["nexts", "1.0"], ["prev", "1.0"]]
@@ -557,6 +619,13 @@ def wrong_count_command(chance):
         (["configure", "-undo", "1", "-state"], [0]),
         (["cget"], [0]),
         (["cget", "-undo"], [1, 2]),
+        (["search"], [0, 1, 4]),
+        (["search", "-all"], [0, 1, 4]),
+        (["search", "--"], [0, 1]),
+        (["count"], [0, 1, 3]),
+        (["count", "-lines"], [0, 1, 3]),
+        (["dump"], [0, 3]),
+        (["dump", "-all", "-text"], [0, 3]),
         (["mark", "set"], [0, 1, 3]),
         (["mark", "gravity"], [0, 3]),
         (["mark", "names"], [1, 2]),
@@ -625,6 +694,9 @@ COMMANDS = [
     (edit_alone, 0.3),
     (configure_command, 1.5),
     (cget_command, 1),
+    (search_command, 7),
+    (count_command, 3),
+    (dump_command, 5),
     (text_command, 1),
     (text_with_bad_name, 0.4),
     (text_with_options, 0.5),
@@ -677,6 +749,13 @@ FORM_UNDO_WORLD = [
 FORM_BOOLEANS = list(model.BOOLEANS)
 FORM_SETTINGS = ["-undo 1", "-undo 0", "-maxundo 0", "-maxundo 1", "-maxundo -5", "-autoseparators no", "-state normal", "-state disabled"]
 
+# A world with texts to be found, over several lines, and tags of which some range over them.
+FORM_FOUND_WORLD = [
+    "text .t", r'.t insert 1.0 "abab\nABab\nk\u212a\u00e9"', ".t tag add x 1.1 2.1 2.2 2.3", ".t tag add sel 1.2 1.3",
+    ".t tag add {a b} 1.0 end", ".t mark set m 1.2", ".t mark set {n o} end",
+]
+FORM_SWITCHES = [name for name in model.SEARCH_SWITCHES.names if name != "--"]
+
 FORMS = [
     Form([], ["text"], [[".t", ".window"]]),
     Form([], ["text", ".t"], [FORM_SETTINGS, [None, *FORM_SETTINGS]]),
@@ -721,6 +800,16 @@ FORMS = [
     Form(FORM_WORLD, [".t", "mark", "set"], [FORM_MARKS, FORM_INDICES]),
     Form(FORM_WORLD, [".t", "mark", "unset"], [[None, *FORM_MARKS], [None, *FORM_MARKS], [None, "m"]]),
     Form(FORM_WORLD, [".t", "mark", "gravity"], [FORM_MARKS, [None, "left", "right", "up"]]),
+    Form(FORM_FOUND_WORLD, [".t", "search"], [[None, *FORM_SWITCHES], [None, *FORM_SWITCHES], [None, "--"], ["ab", "{}", "\\u212a"], ["1.1"], [None, "2.2"]]),
+    Form(FORM_FOUND_WORLD, [".t", "search"], [["-al", "-b", "-e", "-f", "-n", "-o", "-s"], ["a"], ["end"]]),
+    Form(FORM_FOUND_WORLD, [".t", "search", "-all", "-nocase", "-overlap"], [["aB", "b\\na", "q"], FORM_INDICES, [None, "end"]]),
+    Form(FORM_FOUND_WORLD, [".t", "search", "ab"], [indices.PLACES, FORM_INDICES]),
+    Form(FORM_FOUND_WORLD, [".t", "count"], [[None, "-chars", "-indices", "-lines"], [None, "-chars", "-lines"], ["1.1"], indices.PLACES]),
+    Form(FORM_FOUND_WORLD, [".t", "count", "-lines"], [["2.1"], FORM_INDICES]),
+    Form(FORM_FOUND_WORLD, [".t", "count"], [FORM_INDICES, indices.PLACES]),
+    Form(FORM_FOUND_WORLD, [".t", "dump"], [[None, "-all", "-mark", "-tag", "-text", "-a", "-m", "-ta", "-te"], [None, "-mark", "-tag", "-text"], ["1.0", "end"], [None, "end"]]),
+    Form(FORM_FOUND_WORLD, [".t", "dump"], [FORM_INDICES, [None, *indices.PLACES]]),
+    Form(FORM_FOUND_WORLD, [".t", "dump"], [["1.0"], FORM_INDICES]),
     Form(FORM_WORLD, [".t", "mark", "names"], []),
     Form(FORM_WORLD, [".t", "mark"], [["next", "previous"], FORM_INDICES + FORM_MARKS]),
 ]
@@ -938,7 +1027,8 @@ def first_commands(chance):
     """The characters of the first commands: the widget that the others name is made, and mostly has a text of a few lines."""
     words = [["text", ".t"] + (["-undo", "1"] if chance.random() < 0.5 else [])]
     if chance.random() < 0.6:
-        first_lines = ["".join(chance.choices(CHARACTERS + "é€ ", k=chance.randrange(0, 9))) for _ in range(chance.randrange(1, 6))]
+        letters = chance.choice([CHARACTERS + "é€ ", "aabbAB", "ab"])
+        first_lines = ["".join(chance.choices(letters, k=chance.randrange(0, 9))) for _ in range(chance.randrange(1, 6))]
         words.append([".t", "insert", "end", "\n".join(first_lines)])
     return "".join(" ".join(spelled(chance, word) for word in each) + command_end(chance) for each in words)
 
@@ -982,6 +1072,10 @@ def valid_commands(chance):
             lambda: [".t", "mark", "gravity", own_mark_name(chance), chance.choice(["left", "right"])],
             lambda: [".t", "mark", "names"],
             lambda: [".t", "mark", chance.choice(["next", "previous"]), index(chance)],
+            lambda: [".t", "search", "-nocase", "-all", "--", pattern(chance), near_begin(chance)],
+            lambda: [".t", "search", "-backwards", pattern(chance), index(chance), near_begin(chance)],
+            lambda: [".t", "count", "-lines", "-chars", index(chance), index(chance)],
+            lambda: [".t", "dump", near_begin(chance), index(chance)],
             lambda: [".t", "edit", "modified"],
             lambda: [".t", "edit", "modified", chance.choice(list(model.BOOLEANS))],
             lambda: [".t", "edit", chance.choice(["undo", "redo", "separator", "reset"])],
@@ -991,11 +1085,21 @@ def valid_commands(chance):
     return "".join(blanks(chance).join(spelled(chance, word) for word in each) + command_end(chance) for each in words)
 
 
+def reading_commands(chance):
+    """The characters of a script that makes one text with a few tags and marks, and then asks for what stands in it."""
+    words = [["text", ".t"], [".t", "insert", "end", "".join(repeated_text(chance) for _ in range(chance.randrange(1, 5)))]]
+    words += [pick(chance, [(tag_add_command, 1), (mark_set_command, 1)]) for _ in range(chance.randrange(0, 5))]
+    words += [pick(chance, [(search_command, 6), (dump_command, 2), (count_command, 1)]) for _ in range(chance.randrange(1, 15))]
+    return "".join(" ".join(spelled(chance, word) for word in each) + command_end(chance) for each in words)
+
+
 def script(seed):
     """The script of a seed, as bytes."""
     chance = random.Random(seed)
     if chance.random() < 0.15:
         return valid_commands(chance).encode("utf-8")
+    if chance.random() < 0.1:
+        return reading_commands(chance).encode("utf-8")
     made = commands(chance).encode("utf-8")
     kind = chance.random()
     if kind < 0.4:

@@ -187,6 +187,16 @@ VALUES = {
 # Characters with whether each makes words.
 WORD_CHARACTERS = [("aZ0_éß漢٣ªǅ", True), (" -.\n²½Ⅷ\u0301€😀‿", False)]
 
+# Characters with the one that stands for each where case doesn't matter.
+FOLDS = [("A", "a"), ("a", "a"), ("ẞ", "ß"), ("ß", "ß"), ("İ", "İ"), ("ı", "ı"), ("ς", "σ"), ("Σ", "σ"), ("\u212a", "k"), ("ſ", "s"), ("ﬅ", "ﬆ"),
+         ("ᾈ", "ᾀ"), ("ꭰ", "Ꭰ"), ("Ꭰ", "Ꭰ"), ("ǅ", "ǆ"), ("ΐ", "ΐ"), ("\u1fd3", "ΐ"), ("\n", "\n")]
+
+
+def check_folds(tally):
+    """Each character has its simple fold, also where its whole fold would be several characters."""
+    for character, fold in FOLDS:
+        tally.check(model.simple_fold(character) == fold, f"the fold of {character!r} is {model.simple_fold(character)!r}")
+
 
 def check_indices(tally):
     """Words are read as the indices that they are, and no word near an index is one."""
@@ -254,6 +264,7 @@ def main():
     check_lists(tally)
     check_indices(tally)
     check_values(tally)
+    check_folds(tally)
     check_refused_command(tally)
     check_generator(tally)
     return tally.close()

@@ -795,6 +795,153 @@ def options():
     ]
 
 
+def searches():
+    """Where patterns are found, and in which order."""
+    return [
+        Row(
+            "matches in a row, over one another, backwards and up to a place",
+            b"text .t; .t insert 1.0 ababa; .t search -all aba 1.0; .t search -all -overlap aba 1.0; .t search -backwards aba 1.0; .t search aba 1.2 1.0; "
+            b".t search -nocase ABA 1.1; .t search -strictlimits aba 1.0 1.2; .t search aba 1.0 1.1; .t search -all aba 1.1",
+            lines(".t", "", "1.0", "1.0 1.2", "1.2", "", "1.2", "", "1.0", "1.2"),
+            0,
+        ),
+        Row(
+            "patterns over lines and of no character, and switches that are abbreviated",
+            b'text .t; .t insert 1.0 "ab\ncd"; .t search "b\nc" 1.0; .t search {} 2.0; .t search -backwards -all a 2.0 1.0; .t dump -te 1.0; .t dump -t 1.0; '
+            b".t search -a a 1.0; .t search -x a 1.0",
+            lines(".t", "", "1.1", "2.0", "1.0", "text a 1.0", bad_option("-t"), "1.0", bad_option("-x")),
+            1,
+        ),
+        Row(
+            "forwards round the end, and backwards round the start",
+            b"text .t; .t insert 1.0 abcabc; .t search b 1.1; .t search b 1.2; .t search b 1.5; .t search b end; .t search -backwards b 1.1; .t search -backwards b 1.2; "
+            b".t search -backwards b 1.0; .t search -backwards b end; .t search -all b 1.2; .t search -all -backwards b 1.2; .t search -all -backwards c end; "
+            b".t search -forwards -backwards b 1.2; .t search -backwards -forwards b 1.2; .t search q 1.0; .t search -all q 1.0",
+            lines(".t", "", "1.1", "1.4", "1.1", "1.1", "1.4", "1.1", "1.4", "1.4", "1.4 1.1", "1.1 1.4", "1.5 1.2", "1.1", "1.4", "", ""),
+            0,
+        ),
+        Row(
+            "matches that share a character with one that was listed before",
+            b"text .t; .t insert 1.0 aaaa; .t search -all aa 1.1; .t search -all -overlap aa 1.1; .t search -all aa 1.0; .t search -all -backwards aa end; "
+            b".t search -backwards -all aa 1.2; .t search -backwards -all -overlap aa 1.2; .t search -all aaa 1.2; .t search -backwards -all -overlap aaa 1.0; "
+            b".t search -overlap aa 1.1; .t search -all a 1.2; .t search -all aaaaa 1.0",
+            lines(".t", "", "1.1", "1.1 1.2 1.0", "1.0 1.2", "1.2 1.0", "1.1", "1.1 1.0 1.2", "1.0", "1.1 1.0", "1.1", "1.2 1.3 1.0 1.1", ""),
+            0,
+        ),
+        Row(
+            "up to a place, and strictly so",
+            b"text .t; .t insert 1.0 abcabc; .t search b 1.0 1.1; .t search b 1.0 1.2; .t search b 1.2 1.4; .t search b 1.2 1.5; .t search b 1.4 1.2; "
+            b".t search b 1.5 end; .t search -backwards b 1.5 1.4; .t search -backwards b 1.4 1.2; .t search -backwards b 1.4 1.1; .t search -backwards b 1.0 1.4; "
+            b".t search -all b 1.0 end; .t search -all -backwards b end 1.0; .t search bca 1.0 1.2; .t search -strictlimits bca 1.0 1.2; "
+            b".t search -strictlimits bca 1.0 1.4; .t search -backwards bca 1.2 1.0; .t search -strictlimits -backwards bca 1.2 1.0; "
+            b".t search -strictlimits -backwards bca 1.4 1.0; .t search -strictlimits bca 1.0; .t search -strictlimits bca 1.2; .t search -strictlimits -backwards bca 1.2",
+            lines(".t", "", "", "1.1", "", "1.4", "", "", "1.4", "", "1.1", "", "1.1 1.4", "1.4 1.1", "1.1", "", "1.1", "1.1", "", "1.1", "1.1", "1.1", "1.1"),
+            0,
+        ),
+        Row(
+            "patterns at the end, over newlines, and of no character",
+            b'text .t; .t insert 1.0 ab; .t search "b\n" 1.0; .t search "\n" 1.0; .t search "b\n\n" 1.0; .t search abc 1.0; .t search {} end; .t search -backwards {} 1.0; '
+            b".t search -all {} 1.1; .t search -all {} 1.0 1.2; .t search -backwards {} end; .t search {} 1.1 1.1; .t search -strictlimits {} 1.0 1.1; "
+            b'.t insert end "\nab\n\nb"; .t search -all "b\na" 1.0; .t search "\n\n" 1.0; .t search -all "\n" 2.0; .t search -backwards -all "b\n" 2.2; .t search {b\\n} 1.0',
+            lines(".t", "", "1.1", "1.2", "", "", "1.0", "1.2", "1.1 1.2 1.0", "1.0 1.1", "1.2", "", "1.0", "", "1.1", "2.2", "2.2 3.0 4.1 1.2", "2.1 1.1 4.0", ""),
+            0,
+        ),
+        Row(
+            "whatever the case of the letters",
+            "text .t; .t insert 1.0 aBÉéßẞKk\u212aΣς; .t search -nocase éÉ 1.0; .t search éÉ 1.0; .t search -nocase -all k 1.0; .t search -all k 1.0; "
+            ".t search -nocase -all ß 1.0; .t search -nocase ss 1.0; .t search -nocase Ab 1.0; .t search -exact aB 1.0; .t search -exact ab 1.0; "
+            ".t search -nocase \u212a 1.0; .t search -nocase -all σ 1.0; .t search -nocase -backwards -all B\u00c9 end".encode("utf-8"),
+            lines(".t", "", "1.2", "", "1.6 1.7 1.8", "1.7", "1.4 1.5", "", "1.0", "1.0", "", "1.6", "1.9 1.10", "1.1"),
+            0,
+        ),
+        Row(
+            "switches, and where they end",
+            b"text .t; .t insert 1.0 {a -- -a --}; .t search -al a 1.0; .t search -b a 1.0; .t search -e -f -n -o -s A 1.1; .t search -- -a 1.0; .t search -all -- -- 1.0; "
+            b".t search -- -- end; .t search -a -a 1.0; .t search - 1.0; .t search -regexp a 1.0; .t search -allx a 1.0; .t search -ALL a; .t search -all -x; "
+            b".t search; .t search a; .t search -- a; .t search -all; .t search a 1.0 end end; .t search a q r; .t search a 1.0 r; .t search -- -all 1.0; "
+            b".t search a -all 1.0",
+            lines(".t", "", "1.0 1.6", "1.6", "1.6", "1.5", "1.2 1.8", "1.2", "error: wrong # args", bad_option("-"), bad_option("-regexp"), bad_option("-allx"),
+                  bad_option("-ALL"), bad_option("-x"), *["error: wrong # args"] * 5, bad_index("q"), bad_index("r"), "", bad_index("-all")),
+            1,
+        ),
+    ]
+
+
+def counts():
+    """How many characters and lines stand between two places."""
+    return [
+        Row(
+            "a new document, counted",
+            b"text .t; .t get 1.0 end; .t index end; .t count 1.0 end; .t mark names",
+            lines(".t", "\n", "2.0", "1", "insert current"),
+            0,
+        ),
+        Row(
+            "texts of several lines, counted and listed",
+            b'text .t; .t insert 1.0 "ab\ncd\n\nef"; .t count -lines -chars 1.0 4.1; .t count 4.1 1.0; .t get 1.0 1.1 1.1 1.1 2.0; .t compare 1.end < 2.0; '
+            b".t tag add x 1.0 1.1 2.0 3.0; .t tag nextrange x 1.1; .t tag prevrange x 2.1; .t tag ranges x; .t index x.last; .t get 1.0 2.0 3.0",
+            lines(".t", "", "3 8", "-8", "a c", "1", "", "2.0 3.0", "2.0 3.0", "1.0 1.1 2.0 3.0", "3.0", "{ab\n} {\n}"),
+            0,
+        ),
+        Row(
+            "numbers of every kind, forwards and back",
+            b'text .t; .t insert 1.0 "ab\ncd"; .t count 1.0 end; .t count -chars 1.1 2.1; .t count -indices 2.1 1.1; .t count -lines 1.0 end; .t count -lines end 1.0; '
+            b".t count -lines 1.2 2.0; .t count -lines 1.0 1.2; .t count -lines -lines -chars -indices 1.1 2.1; .t count end end; .t count -char 1.0 end; "
+            b".t count -- 1.0 end; .t count - 1.0 end; .t count -x; .t count 1.0; .t count -lines 1.0; .t count 1.0 1.0 1.0; .t count; .t count q r; .t count -lines 1.0 r; "
+            b".t count 1.0 -lines end",
+            lines(".t", "", "6", "3", "-3", "2", "-2", "1", "0", "1 1 3 3", "0", bad_option("-char"), bad_option("--"), bad_option("-"), bad_option("-x"),
+                  *["error: wrong # args"] * 4, bad_index("q"), bad_index("r"), "error: wrong # args"),
+            1,
+        ),
+    ]
+
+
+def dumps():
+    """All that stands in a text."""
+    return [
+        Row(
+            "tags in their order, and what a dump lists of them",
+            b'text .t; .t tag add a 1.0; .t tag add {b c} 1.0; .t tag add "d\{" 1.0; .t tag names; .t tag raise a; .t tag lower "d\{" sel; .t tag names; '
+            b".t tag delete {b c} sel; .t tag names 1.0; .t dump -tag 1.0 end",
+            lines(".t", "", "", "", "sel a {b c} d\{", "", "", "d\{ sel {b c} a", "", "d\{ a", "tagon d\{ 1.0 tagon a 1.0 tagoff d\{ 2.0 tagoff a 2.0"),
+            0,
+        ),
+        Row(
+            "what stands at each place, in its order",
+            b"text .t; .t insert 1.0 abc; .t tag add x 1.0 1.2; .t tag add y 1.1 end; .t tag add z 1.2; .t mark set m 1.2; .t mark set n 1.1; .t mark set current 1.2; "
+            b".t dump 1.0 end; .t dump -text 1.0 end; .t dump -mark 1.0 end; .t dump -tag 1.1 1.3; .t dump 1.1; .t dump 1.2 1.2; .t dump 1.2 1.0; .t dump end; "
+            b".t dump end-1c; .t dump -text end; .t dump -mark -text 1.2; .t dump -all -tag 1.0; .t tag raise x; .t tag remove y 1.2 end; .t dump -tag 1.0 9.9; .t dump 1.2 1.3",
+            lines(".t", *7 * ("",), "tagon x 1.0 text a 1.0 tagon y 1.1 mark n 1.1 text b 1.1 tagoff x 1.2 tagon z 1.2 mark current 1.2 mark m 1.2 text c 1.2 tagoff z 1.3 "
+                  "mark insert 1.3 text {\n} 1.3 tagoff y 2.0", "text a 1.0 text b 1.1 text c 1.2 text {\n} 1.3", "mark n 1.1 mark current 1.2 mark m 1.2 mark insert 1.3",
+                  "tagon y 1.1 tagoff x 1.2 tagon z 1.2", "tagon y 1.1 mark n 1.1 text b 1.1", "", "", "tagoff y 2.0",
+                  "tagoff z 1.3 mark insert 1.3 text {\n} 1.3 tagoff y 2.0", "", "mark current 1.2 mark m 1.2 text c 1.2", "tagon x 1.0 text a 1.0", "", "",
+                  "tagon x 1.0 tagon y 1.1 tagoff y 1.2 tagoff x 1.2 tagon z 1.2 tagoff z 1.3", "tagoff y 1.2 tagoff x 1.2 tagon z 1.2 mark current 1.2 mark m 1.2 text c 1.2"),
+            0,
+        ),
+        Row(
+            "texts are cut at lines, marks and tags, whatever is listed",
+            b'text .t; .t insert 1.0 "ab\n\ncdef"; .t mark set insert 1.0; .t mark set current 1.0; .t dump -text 1.0 end; .t dump 1.1 3.1; .t tag add x 3.1 3.3; .t mark set m 3.2; '
+            b".t dump -text 3.0 end; .t dump -tag 3.2 end; .t dump -tag 3.3 end; .t dump -text 3.2 3.2+9c; .t mark unset m; .t tag delete x; .t dump -te 3.0 3.end; "
+            b".t tag add q 3.0 3.0; .t tag add sel 3.1; .t dump -m -ta 3.0 end",
+            lines(".t", "", "", "", "text {ab\n} 1.0 text {\n} 2.0 text {cdef\n} 3.0", "text {b\n} 1.1 text {\n} 2.0 text c 3.0", "", "",
+                  "text c 3.0 text d 3.1 text e 3.2 text {f\n} 3.3", "tagoff x 3.3", "tagoff x 3.3", "text e 3.2 text {f\n} 3.3", "", "", "text cdef 3.0", "", "",
+                  "tagon sel 3.1 tagoff sel 3.2"),
+            0,
+        ),
+        Row(
+            "names and texts as elements of a list, and words that are wrong",
+            b'text .t; .t insert 1.0 "a{b c\\\\"; .t mark set {two words} 1.2; .t mark set {} 1.2; .t mark set z end; .t tag add {t u} 1.4; .t dump 1.0 1.6; .t dump -mark 1.0 end; '
+            b".t dump -mark end; .t dump; .t dump -m; .t dump -- 1.0; .t dump -t; .t dump -x 1.0; .t dump - 1.0; .t dump -mark -command 1.0; .t dump 1.0 end end; .t dump q; "
+            b".t dump 1.0 q; .t dump 1.0 -text; .t dump -al 1.0",
+            lines(".t", "", "", "", "", "", "text a\\{ 1.0 mark {two words} 1.2 mark {} 1.2 text {b } 1.2 tagon {t u} 1.4 text c 1.4 tagoff {t u} 1.5 text \\\\ 1.5",
+                  "mark {two words} 1.2 mark {} 1.2 mark insert 1.6 mark current 1.6 mark z 2.0", "mark z 2.0", "error: wrong # args", "error: wrong # args",
+                  bad_option("--"), bad_option("-t"), bad_option("-x"), bad_option("-"), bad_option("-command"), "error: wrong # args", bad_index("q"), bad_index("q"),
+                  bad_index("-text"), "text a 1.0"),
+            1,
+        ),
+    ]
+
+
 def many_lines():
     """A text of 300 lines, most of which go."""
     appended = 300 * (b'.t insert end "ab\\n"',)
@@ -1119,7 +1266,7 @@ def script_faults():
 
 ROWS = (
     whole_runs() + places() + tag_lists() + tags() + marks() + deletions() + replacements() + histories() + modified_texts()
-    + options() + quoting() + command_faults() + script_faults()
+    + options() + searches() + counts() + dumps() + quoting() + command_faults() + script_faults()
 )
 
 # Rows of so many commands that they aren't run once for each growth.
@@ -1157,6 +1304,27 @@ def long_scripts():
             b"text .t;.t insert 1.0 abcdefgh;.t mark set insert 1.3;.t replace 1.1 1.5 x;.t index insert;.t replace 1.1 1.2 long p;.t tag names;"
             b".t replace 1.0 1.1 a {q p} b {} c {r s t};.t tag names;.t tag names 1.0;.t get 1.0 end;.t replace 1.0 end {} {u v};.t tag names;"
             b".t index insert;.t get 1.0 end;.t replace 1.0 1.0 {} w;.t tag names",
+        ),
+        (
+            "overlapping ranges, dumped",
+            b"text .t; .t insert 1.0 abcdefgh; .t delete 1.0 1.4 1.2 1.6 1.0 1.1; .t get 1.0 end-1c; .t dump 1.0 end; .t delete 1.0 1.1 1.0 zz; .t get 1.0 end-1c; "
+            b".t dump 1.0 end",
+        ),
+        (
+            "a replacement, dumped",
+            b'text .t; .t insert 1.0 "hello world"; .t mark set insert 1.3; .t replace 1.0 1.5 hi; .t dump 1.0 end; .t get 1.0 end-1c; .t index insert; '
+            b".t replace 1.2 1.0 x; .t dump 1.0 end",
+        ),
+        (
+            "undo and redo, dumped",
+            b"text .t -undo 1; .t insert end a; .t insert end b; .t delete 1.0; .t dump 1.0 end; .t edit undo; .t dump 1.0 end; .t edit undo; .t dump 1.0 end; "
+            b".t edit modified; .t edit undo; .t edit redo; .t dump 1.0 end; .t edit modified",
+        ),
+        (
+            "long answers of searches and dumps",
+            b"text .t;.t insert 1.0 " + b"ab" * 120 + b" {tag one};.t insert 1.20 {a longer text of several words} {two {tag three}};.t mark set {a mark} 1.30;"
+            b".t search -all ab 1.0;.t search -all -overlap -nocase -backwards BA end;.t search -all {} 1.5;.t search longer 1.0;.t dump 1.0 end;.t dump -tag 1.0 end;"
+            b".t dump -text 1.0 1.40;.t dump -mark 1.0 end;.t count -lines -chars -indices 1.0 end",
         ),
         (
             "undo and redo of groups of three actions",

@@ -1,9 +1,11 @@
 -- How a run of switches goes on, and when words are too many to begin a subcommand.
 use Rattle.std.proofs.Common.{◌≡◌, ℕ, ◌+◌, ◌<◌, Bool, true, false, ◌&&◌, List, [], ◌∷◌, ◌++◌, length, take, drop, get_or, refl, sym, ap, ◌∙◌, arith, append_assoc, add-one}
-use Rattle.std.specs.Prelude.{String, chars, string_bytes, if◌then◌else◌}
+use Rattle.std.specs.Prelude.{Err, String, chars, string_bytes, if◌then◌else◌}
 use Rattle.std.proofs.lemmas.List.{length-map, drop_more, get_or-map}
 use Rattle.std.proofs.Math.Seq.{take-suc}
+use Rattle.command_table.specs.Reading.{go_on, unknown}
 use Rattle.command_table.specs.Words.{Word, texts_of, is_same, is_dashed}
+use Rattle.command_table.specs.declared.shapes.ShapeFault.TheVariants.{BadOption, WrongArguments}
 use Rattle.command_table.specs.Rows.{SwitchRule, begins, ends_switches, dashed_words}
 
 and_false : (b : Bool) → (b && false) ≡ false
@@ -63,3 +65,9 @@ pub begins-too_many : {Z : Type 0} (words : List (String Z)) (list : List Word) 
     → false ≡ begins (texts_of words) list
 begins-too_many words list count is more =
     sym (begins-longer (texts_of words) list (rw (is, length-map words (λ w. text w)) more))
+
+-- a word alone that begins no subcommand, and no word
+pub unknown-short : (words : List Word) → length words < 2 → go_on words ≡ false → unknown words ≡ Err (BadOption 1)
+unknown-short [] short none = ap (λ b. if b then Err WrongArguments else (if b then Err (BadOption 2) else Err (BadOption 1))) none
+unknown-short (word ∷ []) short none = ap (λ b. if b then Err WrongArguments else (if b then Err (BadOption 2) else Err (BadOption 1))) none
+unknown-short (word ∷ next ∷ words) short none = absurd (omega (arith, short))

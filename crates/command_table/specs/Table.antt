@@ -1,9 +1,9 @@
 -- The commands: the words of each subcommand, and how many words may stand behind it (text(n), "WIDGET COMMAND").
 use Rattle.std.specs.Prelude.{ℕ, List, [], ◌∷◌, true, false, Option, None, Some}
 use Rattle.command_table.specs.Words.{literal}
-use Rattle.command_table.specs.Rows.{RowRule}
+use Rattle.command_table.specs.Rows.{RowRule, SwitchRule}
 use Rattle.command_table.specs.declared.commands.Command.{Command}
-use Rattle.command_table.specs.declared.commands.Command.TheVariants.{Text, Insert, Delete, Replace, Get, Index, Compare, MarkGravity, MarkNames, MarkNext, MarkPrevious, MarkSet, MarkUnset, TagAdd, TagRemove, TagDelete, TagNames, TagRanges, TagNextRange, TagPreviousRange, TagRaise, TagLower, EditModified, EditUndo, EditRedo, EditReset, EditSeparator, Configure, Cget}
+use Rattle.command_table.specs.declared.commands.Command.TheVariants.{Text, Insert, Delete, Replace, Get, Index, Compare, MarkGravity, MarkNames, MarkNext, MarkPrevious, MarkSet, MarkUnset, TagAdd, TagRemove, TagDelete, TagNames, TagRanges, TagNextRange, TagPreviousRange, TagRaise, TagLower, EditModified, EditUndo, EditRedo, EditReset, EditSeparator, Configure, Cget, Search, Count, Dump}
 
 -- the options of a widget and of its document
 abbrev pub option_names : List (List ℕ)
@@ -53,6 +53,31 @@ plain spelling command least greatest = record {
   greatest = greatest;
 }
 
+-- a subcommand with switches before its arguments
+abbrev pub switched : List ℕ → Command → SwitchRule → ℕ → ℕ → RowRule
+switched name command switches least greatest = record {
+  spelling = name ∷ [];
+  command = command;
+  switches = Some switches;
+  options = None;
+  least = least;
+  greatest = Some greatest;
+}
+
+-- the switches of `search`, of `count` and of `dump`
+abbrev pub search_switches : SwitchRule
+search_switches = record {
+  names = literal "-all" ∷ literal "-backwards" ∷ literal "-exact" ∷ literal "-forwards" ∷ literal "-nocase" ∷ literal "-overlap" ∷ literal "-strictlimits"
+      ∷ literal "--" ∷ [];
+  abbreviated = true;
+}
+
+abbrev pub count_switches : SwitchRule
+count_switches = record { names = literal "-chars" ∷ literal "-indices" ∷ literal "-lines" ∷ []; abbreviated = false }
+
+abbrev pub dump_switches : SwitchRule
+dump_switches = record { names = literal "-all" ∷ literal "-mark" ∷ literal "-tag" ∷ literal "-text" ∷ []; abbreviated = true }
+
 abbrev pub alone : List ℕ → Command → ℕ → Option ℕ → RowRule
 alone name command least greatest = plain (name ∷ []) command least greatest
 
@@ -89,4 +114,7 @@ table =
     ∷ member (literal "edit") (literal "separator") EditSeparator 0 (Some 0)
     ∷ configure_row
     ∷ cget_row
+    ∷ switched (literal "search") Search search_switches 2 3
+    ∷ switched (literal "count") Count count_switches 2 2
+    ∷ switched (literal "dump") Dump dump_switches 1 2
     ∷ []

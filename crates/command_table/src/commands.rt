@@ -59,4 +59,10 @@ pub enum Command {
     Configure,
     /// `W cget option`
     Cget,
+    /// `W search ?switch ..? pattern I ?J?`
+    Search,
+    /// `W count ?option ..? A B`
+    Count,
+    /// `W dump ?switch ..? A ?B?`
+    Dump,
 }

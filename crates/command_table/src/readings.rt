@@ -24,6 +24,7 @@ fn unknown(words: &[String]) -> ShapeFault
 fn subcommand(words: &[String]) -> Result<Shape, ShapeFault>
     ensures value { result ≡ subcommand (texts_of words.now) }
     ensures within { IfOk result (λ shape. shape.arguments + shape.count ≤ 1 + length words.now) }
+    ensures ordered { IfOk result (λ shape. shape.switches ≤ shape.arguments) }
 {
     match find_row(words) {
         None => Err(unknown(words)),
@@ -39,6 +40,7 @@ fn creation(words: &[String]) -> Result<Shape, ShapeFault>
     requires { 1 + length words.now ≤ usize.MAX }
     ensures value { result ≡ behind text_row 1 (texts_of words.now) }
     ensures within { IfOk result (λ shape. shape.arguments + shape.count ≤ 1 + length words.now) }
+    ensures ordered { IfOk result (λ shape. shape.switches ≤ shape.arguments) }
 {
     text_row().read(1, words)
 }
@@ -49,6 +51,7 @@ pub fn shape(words: &[String]) -> Result<Shape, ShapeFault>
     requires { 0 < length words.now }
     ensures value { result ≡ reading (texts_of words.now) }
     ensures within { IfOk result (λ shape. shape.arguments + shape.count ≤ length words.now) }
+    ensures ordered { IfOk result (λ shape. shape.switches ≤ shape.arguments) }
 {
     let [name, rest @ ..] = words else {
         unreachable!()

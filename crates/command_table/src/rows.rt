@@ -57,7 +57,7 @@ macro_rules! plain {
 }
 
 /// The subcommands of a widget.
-static ROWS: [Row; 28] = [
+static ROWS: [Row; 31] = [
     plain!(Spelling::Alone("insert"), Insert, 2, None),
     plain!(Spelling::Alone("delete"), Delete, 1, None),
     plain!(Spelling::Alone("replace"), Replace, 3, None),
@@ -133,6 +133,48 @@ static ROWS: [Row; 28] = [
         least: 1,
         greatest: Some(1),
     },
+    Row {
+        spelling: Spelling::Alone("search"),
+        command: Command::Search,
+        switches: Some(Switches {
+            names: &[
+                "-all",
+                "-backwards",
+                "-exact",
+                "-forwards",
+                "-nocase",
+                "-overlap",
+                "-strictlimits",
+                "--",
+            ],
+            abbreviated: true,
+        }),
+        options: None,
+        least: 2,
+        greatest: Some(3),
+    },
+    Row {
+        spelling: Spelling::Alone("count"),
+        command: Command::Count,
+        switches: Some(Switches {
+            names: &["-chars", "-indices", "-lines"],
+            abbreviated: false,
+        }),
+        options: None,
+        least: 2,
+        greatest: Some(2),
+    },
+    Row {
+        spelling: Spelling::Alone("dump"),
+        command: Command::Dump,
+        switches: Some(Switches {
+            names: &["-all", "-mark", "-tag", "-text"],
+            abbreviated: true,
+        }),
+        options: None,
+        least: 1,
+        greatest: Some(2),
+    },
 ];
 
 impl Row {
@@ -207,6 +249,7 @@ impl Row {
         requires { at + length switches.now + length arguments.now ≤ usize.MAX }
         ensures value { result ≡ decided (row_rule self) at (texts_of switches.now) (texts_of arguments.now) }
         ensures within { IfOk result (λ shape. shape.arguments + shape.count ≤ at + length switches.now + length arguments.now) }
+        ensures ordered { IfOk result (λ shape. shape.switches ≤ shape.arguments) }
     {
         let from = at + switches.len();
         if let Some(position) = self.first_bad_switch(at, switches) {
@@ -231,6 +274,7 @@ impl Row {
         requires { at + length words.now ≤ usize.MAX }
         ensures value { result ≡ behind (row_rule self) at (texts_of words.now) }
         ensures within { IfOk result (λ shape. shape.arguments + shape.count ≤ at + length words.now) }
+        ensures ordered { IfOk result (λ shape. shape.switches ≤ shape.arguments) }
     {
         let count = self.count_switches(words);
         self.decide(at, &words[..count], &words[count..])

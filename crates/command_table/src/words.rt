@@ -21,7 +21,7 @@ pub fn is_among(names: &[&str], word: &str) -> bool
     false
 }
 
-/// Whether a word is the front of one that the table knows, or the whole of it.
+/// Whether a word is the front of one that the program knows, or the whole of it.
 pub fn abbreviates(word: &str, known: &str) -> bool
     ensures { result ≡ starts_with is_character (chars known.now) (chars word.now) }
 {

@@ -25,7 +25,9 @@ pub mod RemovalLaws
 pub mod ReorderLaws
 pub mod ReplacementLaws
 pub mod ReversalLaws
+pub mod SeenLaws
 pub mod SpanLaws
+pub mod SwitchLaws
 pub mod TableLaws
 pub mod TagLaws
 pub mod TextLaws

@@ -81,11 +81,11 @@ marks-lone name tags marks journal content document is = ap (λ (d : Document). 
 
 -- ---- names mean the same to it as to its tables
 
-insert_bytes : literal "insert" ≡ codes "insert"
+pub insert_bytes : literal "insert" ≡ codes "insert"
 unfolding chars
 insert_bytes = refl
 
-current_bytes : literal "current" ≡ codes "current"
+pub current_bytes : literal "current" ≡ codes "current"
 unfolding chars
 current_bytes = refl
 
@@ -147,7 +147,7 @@ marks-same name tags table journal content end word is insert current marked =
     twice (Some k) f = refl
 
 -- a slot that isn't that of `sel` is meant as it is
-own_slot : (slot : ℕ) → (if slot == 0 then 0 else slot) ≡ slot
+pub own_slot : (slot : ℕ) → (if slot == 0 then 0 else slot) ≡ slot
 own_slot slot = elim (slot == 0) as (λ b. (slot == 0) ≡ b → (if b then 0 else slot) ≡ slot) [
   | true ↦ λ none. sym ((Decides-eqb slot 0).0 none)
   | false ↦ λ _. refl

@@ -1,10 +1,10 @@
 -- What the queries of a document's tables and store say of the document.
 use Rattle.std.proofs.Common.{◌≡◌, ℕ, zero, suc, ◌-◌, ◌≤◌, Bool, true, false, cond, List, [], ◌∷◌, length, drop, refl, sym, ap, ◌∙◌, arith}
-use Rattle.std.specs.Prelude.{None, Some, slice_get, slice_range, filter, chars, IsUtf8, if◌then◌else◌}
+use Rattle.std.specs.Prelude.{None, Some, String, slice_get, slice_range, filter, chars, encode_utf8_all, string_bytes, IsUtf8, if◌then◌else◌}
 use Rattle.std.specs.FinSet as set
 use Rattle.std.proofs.lemmas.List.{length-map, length-take, length-drop}
 use Rattle.std.proofs.lemmas.Option.{none-some, get_or_from_slice_get}
-use Rattle.std.proofs.lemmas.Str.{chars_from_encodes}
+use Rattle.std.proofs.lemmas.Str.{IsUtf8-string_bytes, chars_from_encodes}
 use Rattle.name_list.specs.Names.{AreApart}
 use Rattle.mark_table.specs.SharedMarks.{Mark}
 use Rattle.tag_table.specs.Tags.{Tag, names_of, slot_of}
@@ -26,6 +26,10 @@ use Rattle.command_parts.proofs.MadeLaws.{among_slot, absent_slot}
 -- the text of a list that was begun with nothing
 pub written : (bytes : List ℕ) (elements : List (List ℕ)) → IsUtf8 bytes → Goes [] bytes elements → chars bytes ≡ list_text elements
 written bytes elements text goes = sym (chars_from_encodes (list_text elements) bytes text (sym (goes [] refl)))
+
+-- a text that spells a list
+pub spelled : {Z : Type 0} (text : String Z) (elements : List (List ℕ)) → string_bytes text ≡ encode_utf8_all (list_text elements) → chars (string_bytes text) ≡ list_text elements
+spelled text elements is = sym (chars_from_encodes (list_text elements) (string_bytes text) (IsUtf8-string_bytes text) (sym is))
 
 -- the flags of a tag by its slot, and of an unknown one
 pub flags-known : (name : List ℕ) (tags : List Tag) (marks : List Mark) (journal : Journal) (content : Content) (document : Document) (word : List ℕ) (slot end : ℕ) → AreApart (names_of tags)

@@ -1,9 +1,9 @@
 -- One command of a widget, by what stands where in its words.
-use Rattle.std.specs.Prelude.{ℕ, Bool, true, false, List, drop, Result, Ok, Err}
+use Rattle.std.specs.Prelude.{ℕ, ◌-◌, Bool, true, false, List, drop, Result, Ok, Err, take}
 use Rattle.text_model.specs.LimitTable.{LimitTable}
 use Rattle.command_table.specs.Reading.{reading}
 use Rattle.command_table.specs.declared.commands.Command.{Command}
-use Rattle.command_table.specs.declared.commands.Command.TheVariants.{Insert, Delete, Replace, Get, Index, Compare, MarkGravity, MarkNames, MarkNext, MarkPrevious, MarkSet, MarkUnset, TagAdd, TagRemove, TagDelete, TagNames, TagRanges, TagNextRange, TagPreviousRange, TagRaise, TagLower, Configure, Cget, EditUndo, EditRedo, EditModified, EditReset, EditSeparator}
+use Rattle.command_table.specs.declared.commands.Command.TheVariants.{Insert, Delete, Replace, Get, Index, Compare, MarkGravity, MarkNames, MarkNext, MarkPrevious, MarkSet, MarkUnset, TagAdd, TagRemove, TagDelete, TagNames, TagRanges, TagNextRange, TagPreviousRange, TagRaise, TagLower, Configure, Cget, EditUndo, EditRedo, EditModified, EditReset, EditSeparator, Search, Count, Dump}
 use Rattle.command_table.specs.declared.shapes.Shape.{Shape}
 use Rattle.command_table.specs.declared.shapes.ShapeFault.{ShapeFault}
 use Rattle.command_parts.specs.declared.answers.Fault.TheVariants.{BadOption}
@@ -14,46 +14,54 @@ use Rattle.peers.specs.Indices.{index, compare}
 use Rattle.peers.specs.Marks.{mark_set, mark_unset, mark_gravity, mark_names_of, mark_next, mark_previous}
 use Rattle.peers.specs.Options.{cget, configure}
 use Rattle.peers.specs.Promise.{Change, refused, asked}
+use Rattle.peers.specs.Queries.{count, dump, search}
 use Rattle.peers.specs.Reversals.{edit_redo, edit_undo}
 use Rattle.peers.specs.Tags.{tag_add, tag_remove, tag_delete, tag_names, tag_ranges_of, tag_nextrange, tag_prevrange, tag_raise, tag_lower}
 use Rattle.peers.specs.Texts.{insert, get}
 use Rattle.peers.specs.World.{Document, Widget}
+
+-- the switches of a command
+abbrev pub switches_of : Shape → List (List ℕ) → List (List ℕ)
+switches_of shape words = take (shape.arguments - shape.switches) (drop shape.switches words)
 
 -- the arguments of a command, and its options behind them
 abbrev pub arguments_of : Shape → List (List ℕ) → List (List ℕ)
 arguments_of shape words = drop shape.arguments words
 
 -- a command with its arguments, which stand from a position on; what isn't there yet is no option
-abbrev pub done : Command → LimitTable → Document → Widget → ℕ → List (List ℕ) → Change
-done Insert limits document widget at arguments = insert limits document widget at arguments
-done Delete limits document widget at arguments = delete document widget at arguments
-done Replace limits document widget at arguments = replace limits document widget at arguments
-done Get limits document widget at arguments = asked document (get document widget at arguments)
-done Index limits document widget at arguments = asked document (index document widget at arguments)
-done Compare limits document widget at arguments = asked document (compare document widget at arguments)
-done MarkGravity limits document widget at arguments = mark_gravity document widget at arguments
-done MarkNames limits document widget at arguments = asked document (mark_names_of document)
-done MarkNext limits document widget at arguments = asked document (mark_next document widget at arguments)
-done MarkPrevious limits document widget at arguments = asked document (mark_previous document widget at arguments)
-done MarkSet limits document widget at arguments = mark_set limits document widget at arguments
-done MarkUnset limits document widget at arguments = mark_unset document arguments
-done TagAdd limits document widget at arguments = tag_add limits document widget at arguments
-done TagRemove limits document widget at arguments = tag_remove document widget at arguments
-done TagDelete limits document widget at arguments = tag_delete document arguments
-done TagNames limits document widget at arguments = asked document (tag_names document widget at arguments)
-done TagRanges limits document widget at arguments = asked document (tag_ranges_of document widget arguments)
-done TagNextRange limits document widget at arguments = asked document (tag_nextrange document widget at arguments)
-done TagPreviousRange limits document widget at arguments = asked document (tag_prevrange document widget at arguments)
-done TagRaise limits document widget at arguments = tag_raise document at arguments
-done TagLower limits document widget at arguments = tag_lower document at arguments
-done Configure limits document widget at arguments = configure document widget at arguments
-done Cget limits document widget at arguments = asked document (cget document widget arguments)
-done EditUndo limits document widget at arguments = edit_undo document widget
-done EditRedo limits document widget at arguments = edit_redo document widget
-done EditModified limits document widget at arguments = edit_modified document at arguments
-done EditReset limits document widget at arguments = edit_reset document
-done EditSeparator limits document widget at arguments = edit_separator document
-done command limits document widget at arguments = refused document (BadOption 1)
+abbrev pub done : Command → LimitTable → Document → Widget → List (List ℕ) → ℕ → List (List ℕ) → Change
+done Insert limits document widget switches at arguments = insert limits document widget at arguments
+done Delete limits document widget switches at arguments = delete document widget at arguments
+done Replace limits document widget switches at arguments = replace limits document widget at arguments
+done Get limits document widget switches at arguments = asked document (get document widget at arguments)
+done Index limits document widget switches at arguments = asked document (index document widget at arguments)
+done Compare limits document widget switches at arguments = asked document (compare document widget at arguments)
+done MarkGravity limits document widget switches at arguments = mark_gravity document widget at arguments
+done MarkNames limits document widget switches at arguments = asked document (mark_names_of document)
+done MarkNext limits document widget switches at arguments = asked document (mark_next document widget at arguments)
+done MarkPrevious limits document widget switches at arguments = asked document (mark_previous document widget at arguments)
+done MarkSet limits document widget switches at arguments = mark_set limits document widget at arguments
+done MarkUnset limits document widget switches at arguments = mark_unset document arguments
+done TagAdd limits document widget switches at arguments = tag_add limits document widget at arguments
+done TagRemove limits document widget switches at arguments = tag_remove document widget at arguments
+done TagDelete limits document widget switches at arguments = tag_delete document arguments
+done TagNames limits document widget switches at arguments = asked document (tag_names document widget at arguments)
+done TagRanges limits document widget switches at arguments = asked document (tag_ranges_of document widget arguments)
+done TagNextRange limits document widget switches at arguments = asked document (tag_nextrange document widget at arguments)
+done TagPreviousRange limits document widget switches at arguments = asked document (tag_prevrange document widget at arguments)
+done TagRaise limits document widget switches at arguments = tag_raise document at arguments
+done TagLower limits document widget switches at arguments = tag_lower document at arguments
+done Configure limits document widget switches at arguments = configure document widget at arguments
+done Cget limits document widget switches at arguments = asked document (cget document widget arguments)
+done EditUndo limits document widget switches at arguments = edit_undo document widget
+done EditRedo limits document widget switches at arguments = edit_redo document widget
+done EditModified limits document widget switches at arguments = edit_modified document at arguments
+done EditReset limits document widget switches at arguments = edit_reset document
+done EditSeparator limits document widget switches at arguments = edit_separator document
+done Search limits document widget switches at arguments = asked document (search document widget switches at arguments)
+done Count limits document widget switches at arguments = asked document (count document widget switches at arguments)
+done Dump limits document widget switches at arguments = asked document (dump document widget switches at arguments)
+done command limits document widget switches at arguments = refused document (BadOption 1)
 
 -- commands that take no memory
 abbrev pub is_frugal : Command → Bool
@@ -69,7 +77,7 @@ is_frugal_reading (Ok shape) = is_frugal shape.command
 
 abbrev pub shaped : LimitTable → Document → Widget → List (List ℕ) → Result Shape ShapeFault → Change
 shaped limits document widget words (Err fault) = refused document (shape_fault fault)
-shaped limits document widget words (Ok shape) = done shape.command limits document widget shape.arguments (arguments_of shape words)
+shaped limits document widget words (Ok shape) = done shape.command limits document widget (switches_of shape words) shape.arguments (arguments_of shape words)
 
 -- a command of a widget: all its words, of which the first names the widget
 abbrev pub command : LimitTable → Document → Widget → List (List ℕ) → Change

@@ -9,6 +9,7 @@ pub mod Marks
 pub mod Names
 pub mod Options
 pub mod Promise
+pub mod Queries
 pub mod Ranges
 pub mod Reversals
 pub mod Step

@@ -13,18 +13,19 @@ use command_table::{Command, shape};
 use text_model::{Limits, TextStore};
 
 impl<S: TextStore> Document<S> {
-    /// A command with its arguments and options, which stand from a position on. What isn't there yet is no option.
+    /// A command with its switches, and its arguments and options, which stand from a position on. What isn't there yet is no option.
     fn carry_out(
         &mut self,
         limits: &Limits,
         command: Command,
+        switches: &[String],
         at: usize,
         arguments: &[String],
     ) -> Result<Answer, Fault>
         requires formed { IsWellFormedDocument limits.now self.old }
         requires near { at + 2 ≤ usize.MAX }
         requires all { at + length arguments.now ≤ usize.MAX }
-        ensures does { Does limits.now self.old self.new result (done command limits.now self.old (lone_widget self.old) at (texts_of arguments.now)) }
+        ensures does { Does limits.now self.old self.new result (done command limits.now self.old (lone_widget self.old) (texts_of switches.now) at (texts_of arguments.now)) }
         ensures sure { is_frugal command ≡ true → result ≢ Err Memory }
     {
         match command {
@@ -56,6 +57,9 @@ impl<S: TextStore> Document<S> {
             Command::EditModified => self.edit_modified(limits, at, arguments),
             Command::EditReset => Ok(self.edit_reset(limits)),
             Command::EditSeparator => Ok(self.edit_separator(limits)),
+            Command::Search => self.search(switches, at, arguments),
+            Command::Count => self.count(switches, at, arguments),
+            Command::Dump => self.dump(switches, at, arguments),
             _ => Err(Fault::BadOption(1)),
         }
     }
@@ -72,6 +76,7 @@ impl<S: TextStore> Document<S> {
             Ok(shape) => self.carry_out(
                 limits,
                 shape.command,
+                &words[shape.switches..shape.arguments],
                 shape.arguments,
                 &words[shape.arguments..],
             ),

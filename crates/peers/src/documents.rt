@@ -11,6 +11,10 @@ ghost use Rattle.command_parts.specs.Faults.{at_position};
 ghost use Rattle.peers.specs.Promise.{Gives, Does, answered};
 ghost use Rattle.peers.specs.Indices.{place_at};
 ghost use Rattle.peers.specs.Deletions.{delete_places, replace_span};
+ghost use Rattle.search_dump.specs.Counts.{counted};
+ghost use Rattle.search_dump.specs.Dump.{dump_elements};
+ghost use Rattle.search_dump.specs.Matches.{search_result};
+ghost use Rattle.peers.specs.Queries.{seen};
 ghost use Rattle.peers.specs.Texts.{insert_at, insertion_offset};
 ghost use Rattle.command_parts.specs.Lists.{total, with_name, with_names, all_names};
 ghost use Rattle.command_parts.specs.Tagging.{IsFront, piece_of};
@@ -44,6 +48,7 @@ use command_parts::{
     replace_pairs, set_slot, spans_of, tag_spans, take_marks, turn_mark, undo_group, unset_names,
 };
 use mark_table::{MarkTable, MarkView, Origin, WidgetMark};
+use search_dump::{Counted, Listed, SearchSwitches, count, dump, search};
 use std::alloc::{AllocError, Global};
 use std::marker::Model;
 use tag_table::{NoSuchTag, TagTable};
@@ -493,6 +498,61 @@ impl<S: TextStore> Document<S> {
             Err(NoSuchTag::Moved) => Err(Fault::NoSuchTag(at)),
             Err(NoSuchTag::Neighbour) => Err(Fault::NoSuchTag(at + 1)),
         }
+    }
+}
+
+impl<S: TextStore> Document<S> {
+    /// Where a pattern stands, from a place on and up to a stop, as a list of places.
+    pub fn matches_of(
+        &self,
+        switches: SearchSwitches,
+        pattern: &str,
+        from: usize,
+        stop: Option<usize>,
+    ) -> Result<Text, AllocError>
+        requires from { from ≤ length (shown self.now (lone_widget self.now)) }
+        requires stop { IfSome stop (λ place. place ≤ length (shown self.now (lone_widget self.now))) }
+        ensures { IfOk result (λ list. list ≡ list_text (search_result switches (chars pattern.now) (shown self.now (lone_widget self.now)) from stop)) }
+    {
+        let view = View {
+            store: &self.store,
+            s: 0,
+            e: self.store.len(),
+        };
+        Ok(Text::new(search(self.alloc, &view, switches, pattern, from, stop)?))
+    }
+
+    /// How much further one place is than another, as a list of numbers.
+    pub fn counts_of(&self, options: &[Counted], from: usize, to: usize) -> Result<Text, AllocError>
+        requires from { from ≤ length (shown self.now (lone_widget self.now)) }
+        requires to { to ≤ length (shown self.now (lone_widget self.now)) }
+        ensures { IfOk result (λ list. list ≡ list_text (counted options.now (shown self.now (lone_widget self.now)) from to)) }
+    {
+        let view = View {
+            store: &self.store,
+            s: 0,
+            e: self.store.len(),
+        };
+        Ok(Text::new(count(self.alloc, &view, options, from, to)?))
+    }
+
+    /// The tags, marks and texts from one place to another, as a list.
+    pub fn elements_of(&self, listed: Listed, from: usize, to: usize) -> Result<Text, AllocError>
+        requires from { from ≤ length (shown self.now (lone_widget self.now)) }
+        requires to { to ≤ length (shown self.now (lone_widget self.now)) }
+        ensures { IfOk result (λ list. list ≡ list_text (dump_elements listed (seen self.now (lone_widget self.now)) from to)) }
+    {
+        let names = Names {
+            tags: &self.tags,
+            marks: &self.marks,
+            widget: TagSlot(0),
+        };
+        let view = View {
+            store: &self.store,
+            s: 0,
+            e: self.store.len(),
+        };
+        Ok(Text::new(dump(self.alloc, &view, &names, listed, from, to)?))
     }
 }
 

@@ -8,6 +8,7 @@ mod history;
 mod indices;
 mod marks;
 mod options;
+mod queries;
 mod ranges;
 mod tags;
 mod texts;

@@ -122,7 +122,7 @@ impl<S: TextStore> Document<S> {
     }
 
     /// The place of a last index, or another one where it is left out.
-    fn place_or(&self, place: usize, at: usize, word: Option<&str>) -> Result<usize, Fault>
+    pub fn place_or(&self, place: usize, at: usize, word: Option<&str>) -> Result<usize, Fault>
         requires { place ≤ length (shown self.now (lone_widget self.now)) }
         ensures value { Gives result (place_or self.now (lone_widget self.now) place at (option_map (λ word. chars word.now) word.entry)) }
         ensures within { IfOk result (λ place. place ≤ length (shown self.now (lone_widget self.now))) }

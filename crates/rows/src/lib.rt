@@ -14,6 +14,8 @@ mod readers;
 #[cfg(test)]
 mod scripts;
 #[cfg(test)]
+mod search_rows;
+#[cfg(test)]
 mod table;
 #[cfg(test)]
 mod tag_rows;

@@ -3,6 +3,7 @@ use crate::edit_rows::{DELETIONS, REPLACEMENTS};
 use crate::mark_rows::{GRAVITIES, MARK_ORDERS, MARKS};
 use crate::readers::Pieces;
 use crate::scripts::SCRIPTS;
+use crate::search_rows::{COUNTS, DUMPS, SEARCHES};
 use crate::table::{AMPLE, Row};
 use crate::tag_rows::{LISTS, TAG_COMMANDS, TAGS};
 use crate::undo_rows::{HISTORIES, MODIFIED_TEXTS, OPTIONS};
@@ -140,4 +141,19 @@ fn modified_texts_on_the_plain_store(rt: HostRuntime) -> Result<(), AllocError> 
 #[test]
 fn options_on_the_plain_store(rt: HostRuntime) -> Result<(), AllocError> {
     check_rows::<PlainStore>(&rt, rt.alloc(), &OPTIONS)
+}
+
+#[test]
+fn searches_on_the_plain_store(rt: HostRuntime) -> Result<(), AllocError> {
+    check_rows::<PlainStore>(&rt, rt.alloc(), &SEARCHES)
+}
+
+#[test]
+fn counts_on_the_plain_store(rt: HostRuntime) -> Result<(), AllocError> {
+    check_rows::<PlainStore>(&rt, rt.alloc(), &COUNTS)
+}
+
+#[test]
+fn dumps_on_the_plain_store(rt: HostRuntime) -> Result<(), AllocError> {
+    check_rows::<PlainStore>(&rt, rt.alloc(), &DUMPS)
 }

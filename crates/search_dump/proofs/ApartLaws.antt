@@ -64,7 +64,3 @@ kept_by-any len test kept (x ∷ xs) all =
 pub kept_by-first : (len x : ℕ) (xs : List ℕ) → kept_by len [] (x ∷ xs) ≡ kept_by len (x ∷ []) xs
 unfolding kept_by
 kept_by-first len x xs = refl
-
-pub kept_by-none : (len : ℕ) → kept_by len [] [] ≡ []
-unfolding kept_by
-kept_by-none len = refl

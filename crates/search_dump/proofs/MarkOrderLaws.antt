@@ -470,10 +470,6 @@ on-step marks place mark None here behind = λ other has.
 on-step marks place mark (Some next) here behind =
     (behind.0, omega (arith, not-behind mark next behind.1), λ other has above. behind.2 other has (earlier-place mark other (omega arith)))
 
-pub on-done : (marks : List Shown) (place : ℕ) (next : Option Shown) → IsMarkOn marks place next → MatchOption next (Unit {0}) (λ m. m.place ≢ place) → IsMarkFrom marks (place + 1) next
-on-done marks place None on end = λ mark has. omega (arith, on mark has)
-on-done marks place (Some next) on end = (on.0, elim (cases_eq next.place place) [ inl same ↦ absurd (end same) | inr other ↦ omega (arith, on.1) ], on.2)
-
 pub on-above : (marks : List Shown) (place : ℕ) (next : Option Shown) → IsMarkOn marks place next → MatchOption next (Unit {0}) (λ m. m.place ≢ place) → MatchOption next (Unit {0}) (λ m. place < m.place)
 on-above marks place None on end = tt
 on-above marks place (Some next) on end = elim (cases_eq next.place place) [ inl same ↦ absurd (end same) | inr other ↦ omega (arith, on.1) ]

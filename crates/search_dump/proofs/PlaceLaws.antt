@@ -26,9 +26,6 @@ pub record IsGreatest (test : ℕ → Bool) (low high at : ℕ) : Type 0 where
 abbrev pub NonePasses : (ℕ → Bool) → ℕ → ℕ → Type 0
 NonePasses test low high = (k : ℕ) → low ≤ k → k < high → test k ≡ false
 
-pub least-wider : (test : ℕ → Bool) (low high wide at : ℕ) → high ≤ wide → IsLeast test low high at → IsLeast test low wide at
-least-wider test low high wide at wider least = record { above = least.above; below = omega (arith, least.below); passes = least.passes; none = least.none }
-
 -- ---- from the least
 
 range-least : (test : ℕ → Bool) (n low high at : ℕ) → low + n ≡ high → IsLeast test low high at → find test (range_with_len low n) ≡ Some at

@@ -1,0 +1,12 @@
+use Rattle.std.proofs.Common.{sym, ◌∙◌, arith}
+use Rattle.std.proofs.lemmas.List.{length-map}
+use Rattle.std.specs.Prelude.{chars, string_bytes}
+use Rattle.command_table.specs.Words.{texts_of}
+use Rattle.command_table.proofs.RowLaws.{unknown-short}
+use Rattle.command_table.proofs.readings.unknown.Goals as goal
+
+pub returns-in_default : goal.returns-in_default
+returns-in_default c =
+    let few = c.in_default.len_below in
+    let counted = length-map c.args.words.now (λ word. chars (string_bytes word)) in
+    sym (unknown-short (texts_of c.args.words.now) (omega (arith, few, counted)) (sym c.goes_on.ensures ∙ c.if-goes_on.false))
