@@ -2,7 +2,7 @@
 use Rattle.std.specs.Prelude.{option_and_then, ◌≡◌, ℕ, ◌≤◌, nat_lt, nat_le, min, ◌-◌, Bool, ◌&&◌, List, slice_range, length, Option, None, Some, if◌then◌else◌}
 use Rattle.std.specs.FinMap as finite
 use Rattle.text_model.specs.Content.{Content, characters, flags}
-use Rattle.text_model.specs.Lines.{line_of, line_start}
+use Rattle.text_model.specs.Lines.{IsLineStart}
 use Rattle.text_model.specs.declared.places.Place.{Place}
 use Rattle.mark_table.specs.SharedMarks.{first_number}
 
@@ -13,11 +13,6 @@ shown content start end = slice_range (characters content.cells) start end
 -- which of them have the tag of a slot
 abbrev pub shown_flags : ℕ → Content → ℕ → ℕ → List Bool
 shown_flags slot content start end = slice_range (flags slot content.cells) start end
-
--- a line begins there, or the text ends there
-pub record IsLineStart (text : List ℕ) (at : ℕ) : Type 0 where
-  pub within : at ≤ length text
-  pub begins : line_start (line_of text at) text ≡ at
 
 -- whole lines of the text
 pub record IsView (content : Content) (start end : ℕ) : Type 0 where

@@ -1,5 +1,5 @@
 -- The lines of a text, which is a list of characters: each ends with its newline.
-use Rattle.std.specs.Prelude.{ℕ, zero, suc, ◌+◌, Bool, List, [], ◌∷◌, ◌==◌, take, count_by, if◌then◌else◌}
+use Rattle.std.specs.Prelude.{◌≡◌, ℕ, zero, suc, ◌+◌, ◌≤◌, Bool, List, [], ◌∷◌, ◌==◌, length, take, count_by, if◌then◌else◌}
 
 abbrev pub is_newline : ℕ → Bool
 is_newline character = character == 10
@@ -18,3 +18,8 @@ line_start zero text = 0
 line_start (suc line) [] = 0
 line_start (suc line) (character ∷ text) =
     1 + line_start (if is_newline character then line else suc line) text
+
+-- a line begins there, or the text ends there
+pub record IsLineStart (text : List ℕ) (at : ℕ) : Type 0 where
+  pub within : at ≤ length text
+  pub begins : line_start (line_of text at) text ≡ at
