@@ -1,7 +1,6 @@
 ghost use Rattle.std.specs.Prelude.{◌≡◌, ◌≤◌, ◌<◌, ◌+◌, ◌-◌, length, slice_index, IsTrue};
 ghost use Rattle.text_model.specs.Content.{characters};
-ghost use Rattle.text_model.specs.Lines.{lines, line_of, line_start};
-ghost use Rattle.text_model.specs.Lines.{IsLineStart};
+ghost use Rattle.text_model.specs.Lines.{IsLineStart, lines, line_of, line_start};
 ghost use Rattle.text_index.specs.Views.{shown, IsView};
 
 use text_model::TextStore;
