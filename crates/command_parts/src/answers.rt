@@ -68,6 +68,9 @@ pub enum Fault {
     /// The word is no integer.
     #[error("expected integer")]
     BadInteger(usize),
+    /// A view would begin behind its end.
+    #[error("-startline must be less than or equal to -endline")]
+    StartLineAfterEndLine,
     /// No group of edits can be undone.
     #[error("nothing to undo")]
     NothingToUndo,

@@ -27,7 +27,7 @@ pub use lists::{Pair, pairs_at};
 pub use marking::{gravity_word, make_mark, numbers_named, read_gravity, turn_mark, unset_names};
 pub use ranges::spans_of;
 pub use reversals::{redo_group, undo_group};
-pub use settings::{Settings, boolean_at};
+pub use settings::{DocumentSettings, Settings, boolean_at};
 pub use tagged_edits::{put_pairs, replace_pairs, tag_spans};
 pub use tagging::{delete_names, deleted_slots};
 pub use words::is_word;

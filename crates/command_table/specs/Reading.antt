@@ -3,7 +3,7 @@ use Rattle.std.specs.Prelude.{ℕ, ◌+◌, Bool, List, [], ◌∷◌, length, t
 use Rattle.std.specs.List.{find, list_any}
 use Rattle.command_table.specs.Words.{Word, is_same, literal}
 use Rattle.command_table.specs.Rows.{RowRule, begins, switch_words, bad_switch, bad_option, fits, before_options}
-use Rattle.command_table.specs.Table.{text_row, table}
+use Rattle.command_table.specs.Table.{text_row, destroy_row, table}
 use Rattle.command_table.specs.declared.shapes.Shape.{Shape}
 use Rattle.command_table.specs.declared.shapes.ShapeFault.{ShapeFault}
 use Rattle.command_table.specs.declared.shapes.ShapeFault.TheVariants.{BadOption, WrongArguments}
@@ -59,4 +59,7 @@ subcommand words = found words (find (λ row. begins row.spelling words) table)
 -- the words of a command
 abbrev pub reading : List Word → Result Shape ShapeFault
 reading [] = Err WrongArguments
-reading (name ∷ words) = if is_same name (literal "text") then behind text_row 1 words else subcommand words
+reading (name ∷ words) =
+    if is_same name (literal "text") then behind text_row 1 words
+    else (if is_same name (literal "destroy") then behind destroy_row 1 words
+    else subcommand words)

@@ -3,11 +3,11 @@ use Rattle.std.specs.Prelude.{ℕ, List, [], ◌∷◌, true, false, Option, Non
 use Rattle.command_table.specs.Words.{literal}
 use Rattle.command_table.specs.Rows.{RowRule, SwitchRule}
 use Rattle.command_table.specs.declared.commands.Command.{Command}
-use Rattle.command_table.specs.declared.commands.Command.TheVariants.{Text, Insert, Delete, Replace, Get, Index, Compare, MarkGravity, MarkNames, MarkNext, MarkPrevious, MarkSet, MarkUnset, TagAdd, TagRemove, TagDelete, TagNames, TagRanges, TagNextRange, TagPreviousRange, TagRaise, TagLower, EditModified, EditUndo, EditRedo, EditReset, EditSeparator, Configure, Cget, Search, Count, Dump}
+use Rattle.command_table.specs.declared.commands.Command.TheVariants.{Text, Insert, Delete, Replace, Get, Index, Compare, MarkGravity, MarkNames, MarkNext, MarkPrevious, MarkSet, MarkUnset, TagAdd, TagRemove, TagDelete, TagNames, TagRanges, TagNextRange, TagPreviousRange, TagRaise, TagLower, EditModified, EditUndo, EditRedo, EditReset, EditSeparator, Configure, Cget, Search, Count, Dump, Destroy, PeerCreate, PeerNames}
 
 -- the options of a widget and of its document
 abbrev pub option_names : List (List ℕ)
-option_names = literal "-undo" ∷ literal "-maxundo" ∷ literal "-autoseparators" ∷ literal "-state" ∷ []
+option_names = literal "-undo" ∷ literal "-maxundo" ∷ literal "-autoseparators" ∷ literal "-state" ∷ literal "-startline" ∷ literal "-endline" ∷ []
 
 -- `text W ?option value ..?`
 abbrev pub text_row : RowRule
@@ -42,6 +42,17 @@ cget_row = record {
   greatest = Some 1;
 }
 
+-- `W peer create V ?option value ..?`
+abbrev pub peer_create_row : RowRule
+peer_create_row = record {
+  spelling = literal "peer" ∷ literal "create" ∷ [];
+  command = PeerCreate;
+  switches = None;
+  options = Some (record { names = option_names; after = 1; valued = true });
+  least = 1;
+  greatest = None;
+}
+
 -- a subcommand of arguments alone
 abbrev pub plain : List (List ℕ) → Command → ℕ → Option ℕ → RowRule
 plain spelling command least greatest = record {
@@ -52,6 +63,10 @@ plain spelling command least greatest = record {
   least = least;
   greatest = greatest;
 }
+
+-- `destroy ?W ..?`
+abbrev pub destroy_row : RowRule
+destroy_row = plain [] Destroy 0 None
 
 -- a subcommand with switches before its arguments
 abbrev pub switched : List ℕ → Command → SwitchRule → ℕ → ℕ → RowRule
@@ -117,4 +132,6 @@ table =
     ∷ switched (literal "search") Search search_switches 2 3
     ∷ switched (literal "count") Count count_switches 2 2
     ∷ switched (literal "dump") Dump dump_switches 1 2
+    ∷ peer_create_row
+    ∷ member (literal "peer") (literal "names") PeerNames 0 (Some 0)
     ∷ []

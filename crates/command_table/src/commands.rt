@@ -3,6 +3,8 @@
 pub enum Command {
     /// `text W ?option value ..?`
     Text,
+    /// `destroy ?W ..?`
+    Destroy,
     /// `W insert I chars ?tagList chars ..?`
     Insert,
     /// `W delete I ?I ..?`
@@ -65,4 +67,8 @@ pub enum Command {
     Count,
     /// `W dump ?switch ..? A ?B?`
     Dump,
+    /// `W peer create V ?option value ..?`
+    PeerCreate,
+    /// `W peer names`
+    PeerNames,
 }

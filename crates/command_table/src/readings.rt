@@ -1,9 +1,9 @@
 ghost use Rattle.std.specs.Prelude.{◌≡◌, ◌<◌, ◌≤◌, ◌+◌, length, IfOk};
 ghost use Rattle.command_table.specs.Words.{texts_of};
 ghost use Rattle.command_table.specs.Reading.{behind, unknown, subcommand, reading};
-ghost use Rattle.command_table.specs.Table.{text_row};
+ghost use Rattle.command_table.specs.Table.{destroy_row, text_row};
 
-use crate::rows::{find_row, goes_on, text_row};
+use crate::rows::{destroy_row, find_row, goes_on, text_row};
 use crate::shapes::{Shape, ShapeFault};
 use crate::words::is_word;
 
@@ -45,6 +45,16 @@ fn creation(words: &[String]) -> Result<Shape, ShapeFault>
     text_row().read(1, words)
 }
 
+/// What the words behind `destroy` are.
+fn destruction(words: &[String]) -> Result<Shape, ShapeFault>
+    requires { 1 + length words.now ≤ usize.MAX }
+    ensures value { result ≡ behind destroy_row 1 (texts_of words.now) }
+    ensures within { IfOk result (λ shape. shape.arguments + shape.count ≤ 1 + length words.now) }
+    ensures ordered { IfOk result (λ shape. shape.switches ≤ shape.arguments) }
+{
+    destroy_row().read(1, words)
+}
+
 /// What the words of a command are, for `text`, `destroy` or the command of a widget, whatever its name is: first the
 /// subcommand is decided, then switches and options from left to right, then how many words there are.
 pub fn shape(words: &[String]) -> Result<Shape, ShapeFault>
@@ -58,6 +68,8 @@ pub fn shape(words: &[String]) -> Result<Shape, ShapeFault>
     };
     if is_word(name.as_str(), "text") {
         creation(rest)
+    } else if is_word(name.as_str(), "destroy") {
+        destruction(rest)
     } else {
         subcommand(rest)
     }

@@ -3,7 +3,7 @@ ghost use Rattle.std.specs.List.{find};
 ghost use Rattle.command_table.specs.Words.{texts_of};
 ghost use Rattle.command_table.specs.Rows.{begins, switch_words, bad_switch, bad_option, fits, before_options};
 ghost use Rattle.command_table.specs.Reading.{decided, behind, go_on};
-ghost use Rattle.command_table.specs.Table.{table, text_row};
+ghost use Rattle.command_table.specs.Table.{destroy_row, table, text_row};
 ghost use Rattle.command_table.specs.Spelled.{spelled, row_rule};
 
 use crate::commands::Command;
@@ -26,7 +26,14 @@ pub struct Row {
 }
 
 /// The options of a widget and of its document.
-const OPTIONS: &[&str] = &["-undo", "-maxundo", "-autoseparators", "-state"];
+const OPTIONS: &[&str] = &[
+    "-undo",
+    "-maxundo",
+    "-autoseparators",
+    "-state",
+    "-startline",
+    "-endline",
+];
 
 /// `text W ?option value ..?`.
 const TEXT: Row = Row {
@@ -56,8 +63,11 @@ macro_rules! plain {
     };
 }
 
+/// `destroy ?W ..?`.
+const DESTROY: Row = plain!(Spelling::First, Destroy, 0, None);
+
 /// The subcommands of a widget.
-static ROWS: [Row; 31] = [
+static ROWS: [Row; 33] = [
     plain!(Spelling::Alone("insert"), Insert, 2, None),
     plain!(Spelling::Alone("delete"), Delete, 1, None),
     plain!(Spelling::Alone("replace"), Replace, 3, None),
@@ -175,6 +185,19 @@ static ROWS: [Row; 31] = [
         least: 1,
         greatest: Some(2),
     },
+    Row {
+        spelling: Spelling::Member("peer", "create"),
+        command: Command::PeerCreate,
+        switches: None,
+        options: Some(Options {
+            names: OPTIONS,
+            after: 1,
+            valued: true,
+        }),
+        least: 1,
+        greatest: None,
+    },
+    plain!(Spelling::Member("peer", "names"), PeerNames, 0, Some(0)),
 ];
 
 impl Row {
@@ -293,6 +316,13 @@ pub fn text_row() -> Row
     ensures { row_rule result ≡ text_row }
 {
     TEXT
+}
+
+/// The row of `destroy`, which is that of the definition.
+pub fn destroy_row() -> Row
+    ensures { row_rule result ≡ destroy_row }
+{
+    DESTROY
 }
 
 /// The first row whose subcommand begins the words.

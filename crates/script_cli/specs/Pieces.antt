@@ -3,7 +3,7 @@ use Rattle.std.specs.Prelude.{ℕ, ◌-◌, Bool, true, false, ◌&&◌, ◌||�
 use Rattle.command_parts.specs.declared.answers.Answer.{Answer}
 use Rattle.command_parts.specs.declared.answers.Answer.TheVariants.{Empty, Word, Flag, Text}
 use Rattle.command_parts.specs.declared.answers.Fault.{Fault}
-use Rattle.command_parts.specs.declared.answers.Fault.TheVariants.{BadIndex, NoTaggedCharacters, NoSuchMark, NoSuchTag, BadOption, WrongArguments, InvalidCommandName, WindowExists, BadComparison, BadGravity, BadList, IndexOrder, BadBoolean, BadInteger, NothingToUndo, NothingToRedo, DocumentExists, TooManyWidgets, TooManyTags, TooManyMarks, TextTooLong, Memory}
+use Rattle.command_parts.specs.declared.answers.Fault.TheVariants.{BadIndex, NoTaggedCharacters, NoSuchMark, NoSuchTag, BadOption, WrongArguments, InvalidCommandName, WindowExists, BadComparison, BadGravity, BadList, IndexOrder, BadBoolean, BadInteger, StartLineAfterEndLine, NothingToUndo, NothingToRedo, DocumentExists, TooManyWidgets, TooManyTags, TooManyMarks, TextTooLong, Memory}
 use Rattle.tcl_words.specs.declared.fault.ScriptFault.{ScriptFault}
 use Rattle.tcl_words.specs.declared.fault.ScriptFault.TheVariants as script
 use Prim.Native.String.{String}
@@ -72,6 +72,7 @@ fault_line words (IndexOrder position) =
     around_two "error: index \"" (word_at words position) "\" before \"" (word_at words (position - 1)) "\" in the text\n"
 fault_line words (BadBoolean position) = around "error: expected boolean value but got \"" (word_at words position) "\"\n"
 fault_line words (BadInteger position) = around "error: expected integer but got \"" (word_at words position) "\"\n"
+fault_line words StartLineAfterEndLine = alone "error: -startline must be less than or equal to -endline\n"
 fault_line words NothingToUndo = alone "error: nothing to undo\n"
 fault_line words NothingToRedo = alone "error: nothing to redo\n"
 fault_line words DocumentExists = alone "error: a document exists\n"

@@ -147,6 +147,9 @@ impl<'a> Line<'a> {
                 word_at(words, position),
                 "\"\n",
             ),
+            Fault::StartLineAfterEndLine => {
+                Line::alone("error: -startline must be less than or equal to -endline\n")
+            }
             Fault::NothingToUndo => Line::alone("error: nothing to undo\n"),
             Fault::NothingToRedo => Line::alone("error: nothing to redo\n"),
             Fault::DocumentExists => Line::alone("error: a document exists\n"),
