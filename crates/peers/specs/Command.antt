@@ -3,22 +3,26 @@ use Rattle.std.specs.Prelude.{ℕ, ◌-◌, Bool, true, false, List, drop, Resul
 use Rattle.text_model.specs.LimitTable.{LimitTable}
 use Rattle.command_table.specs.Reading.{reading}
 use Rattle.command_table.specs.declared.commands.Command.{Command}
-use Rattle.command_table.specs.declared.commands.Command.TheVariants.{Insert, Delete, Replace, Get, Index, Compare, MarkGravity, MarkNames, MarkNext, MarkPrevious, MarkSet, MarkUnset, TagAdd, TagRemove, TagDelete, TagNames, TagRanges, TagNextRange, TagPreviousRange, TagRaise, TagLower, Configure, Cget, EditUndo, EditRedo, EditModified, EditReset, EditSeparator, Search, Count, Dump}
+use Rattle.command_table.specs.declared.commands.Command.TheVariants.{Insert, Delete, Replace, Get, Index, Compare, MarkGravity, MarkNames, MarkNext, MarkPrevious, MarkSet, MarkUnset, TagAdd, TagRemove, TagDelete, TagNames, TagRanges, TagNextRange, TagPreviousRange, TagRaise, TagLower, Configure, Cget, EditUndo, EditRedo, EditModified, EditReset, EditSeparator, Search, Count, Dump, PeerCreate, PeerNames}
 use Rattle.command_table.specs.declared.shapes.Shape.{Shape}
 use Rattle.command_table.specs.declared.shapes.ShapeFault.{ShapeFault}
 use Rattle.command_parts.specs.declared.answers.Fault.TheVariants.{BadOption}
 use Rattle.command_parts.specs.Faults.{shape_fault}
 use Rattle.peers.specs.Deletions.{delete, replace}
-use Rattle.peers.specs.History.{edit_modified, edit_reset, edit_separator}
+use Rattle.documents.specs.History.{edit_reset, edit_separator}
+use Rattle.peers.specs.History.{edit_modified}
 use Rattle.peers.specs.Indices.{index, compare}
-use Rattle.peers.specs.Marks.{mark_set, mark_unset, mark_gravity, mark_names_of, mark_next, mark_previous}
+use Rattle.documents.specs.Marks.{mark_unset}
+use Rattle.peers.specs.Marks.{mark_set, mark_gravity, mark_names_of, mark_next, mark_previous}
 use Rattle.peers.specs.Options.{cget, configure}
-use Rattle.peers.specs.Promise.{Change, refused, asked}
+use Rattle.documents.specs.Promise.{Change, refused, asked}
 use Rattle.peers.specs.Queries.{count, dump, search}
-use Rattle.peers.specs.Reversals.{edit_redo, edit_undo}
-use Rattle.peers.specs.Tags.{tag_add, tag_remove, tag_delete, tag_names, tag_ranges_of, tag_nextrange, tag_prevrange, tag_raise, tag_lower}
+use Rattle.documents.specs.Reversals.{edit_redo, edit_undo}
+use Rattle.documents.specs.Tags.{tag_delete}
+use Rattle.peers.specs.Tags.{tag_add, tag_remove, tag_names, tag_ranges_of, tag_nextrange, tag_prevrange, tag_raise, tag_lower}
 use Rattle.peers.specs.Texts.{insert, get}
-use Rattle.peers.specs.World.{Document, Widget}
+use Rattle.documents.specs.Documents.{Document, Widget}
+use Rattle.peers.specs.Peers.{peer_create, peer_names}
 
 -- the switches of a command
 abbrev pub switches_of : Shape → List (List ℕ) → List (List ℕ)
@@ -28,40 +32,42 @@ switches_of shape words = take (shape.arguments - shape.switches) (drop shape.sw
 abbrev pub arguments_of : Shape → List (List ℕ) → List (List ℕ)
 arguments_of shape words = drop shape.arguments words
 
--- a command with its arguments, which stand from a position on; what isn't there yet is no option
-abbrev pub done : Command → LimitTable → Document → Widget → List (List ℕ) → ℕ → List (List ℕ) → Change
-done Insert limits document widget switches at arguments = insert limits document widget at arguments
-done Delete limits document widget switches at arguments = delete document widget at arguments
-done Replace limits document widget switches at arguments = replace limits document widget at arguments
-done Get limits document widget switches at arguments = asked document (get document widget at arguments)
-done Index limits document widget switches at arguments = asked document (index document widget at arguments)
-done Compare limits document widget switches at arguments = asked document (compare document widget at arguments)
-done MarkGravity limits document widget switches at arguments = mark_gravity document widget at arguments
-done MarkNames limits document widget switches at arguments = asked document (mark_names_of document)
-done MarkNext limits document widget switches at arguments = asked document (mark_next document widget at arguments)
-done MarkPrevious limits document widget switches at arguments = asked document (mark_previous document widget at arguments)
-done MarkSet limits document widget switches at arguments = mark_set limits document widget at arguments
-done MarkUnset limits document widget switches at arguments = mark_unset document arguments
-done TagAdd limits document widget switches at arguments = tag_add limits document widget at arguments
-done TagRemove limits document widget switches at arguments = tag_remove document widget at arguments
-done TagDelete limits document widget switches at arguments = tag_delete document arguments
-done TagNames limits document widget switches at arguments = asked document (tag_names document widget at arguments)
-done TagRanges limits document widget switches at arguments = asked document (tag_ranges_of document widget arguments)
-done TagNextRange limits document widget switches at arguments = asked document (tag_nextrange document widget at arguments)
-done TagPreviousRange limits document widget switches at arguments = asked document (tag_prevrange document widget at arguments)
-done TagRaise limits document widget switches at arguments = tag_raise document at arguments
-done TagLower limits document widget switches at arguments = tag_lower document at arguments
-done Configure limits document widget switches at arguments = configure document widget at arguments
-done Cget limits document widget switches at arguments = asked document (cget document widget arguments)
-done EditUndo limits document widget switches at arguments = edit_undo document widget
-done EditRedo limits document widget switches at arguments = edit_redo document widget
-done EditModified limits document widget switches at arguments = edit_modified document at arguments
-done EditReset limits document widget switches at arguments = edit_reset document
-done EditSeparator limits document widget switches at arguments = edit_separator document
-done Search limits document widget switches at arguments = asked document (search document widget switches at arguments)
-done Count limits document widget switches at arguments = asked document (count document widget switches at arguments)
-done Dump limits document widget switches at arguments = asked document (dump document widget switches at arguments)
-done command limits document widget switches at arguments = refused document (BadOption 1)
+-- a command with its arguments, which stand from a position on, where the names of all windows are known
+abbrev pub done : Command → LimitTable → List (List ℕ) → Document → Widget → List (List ℕ) → ℕ → List (List ℕ) → Change
+done Insert limits windows document widget switches at arguments = insert limits document widget at arguments
+done Delete limits windows document widget switches at arguments = delete document widget at arguments
+done Replace limits windows document widget switches at arguments = replace limits document widget at arguments
+done Get limits windows document widget switches at arguments = asked document (get document widget at arguments)
+done Index limits windows document widget switches at arguments = asked document (index document widget at arguments)
+done Compare limits windows document widget switches at arguments = asked document (compare document widget at arguments)
+done MarkGravity limits windows document widget switches at arguments = mark_gravity document widget at arguments
+done MarkNames limits windows document widget switches at arguments = asked document (mark_names_of document)
+done MarkNext limits windows document widget switches at arguments = asked document (mark_next document widget at arguments)
+done MarkPrevious limits windows document widget switches at arguments = asked document (mark_previous document widget at arguments)
+done MarkSet limits windows document widget switches at arguments = mark_set limits document widget at arguments
+done MarkUnset limits windows document widget switches at arguments = mark_unset document arguments
+done TagAdd limits windows document widget switches at arguments = tag_add limits document widget at arguments
+done TagRemove limits windows document widget switches at arguments = tag_remove document widget at arguments
+done TagDelete limits windows document widget switches at arguments = tag_delete document arguments
+done TagNames limits windows document widget switches at arguments = asked document (tag_names document widget at arguments)
+done TagRanges limits windows document widget switches at arguments = asked document (tag_ranges_of document widget arguments)
+done TagNextRange limits windows document widget switches at arguments = asked document (tag_nextrange document widget at arguments)
+done TagPreviousRange limits windows document widget switches at arguments = asked document (tag_prevrange document widget at arguments)
+done TagRaise limits windows document widget switches at arguments = tag_raise document at arguments
+done TagLower limits windows document widget switches at arguments = tag_lower document at arguments
+done Configure limits windows document widget switches at arguments = configure document widget at arguments
+done Cget limits windows document widget switches at arguments = asked document (cget document widget arguments)
+done EditUndo limits windows document widget switches at arguments = edit_undo document widget
+done EditRedo limits windows document widget switches at arguments = edit_redo document widget
+done EditModified limits windows document widget switches at arguments = edit_modified document at arguments
+done EditReset limits windows document widget switches at arguments = edit_reset document
+done EditSeparator limits windows document widget switches at arguments = edit_separator document
+done Search limits windows document widget switches at arguments = asked document (search document widget switches at arguments)
+done Count limits windows document widget switches at arguments = asked document (count document widget switches at arguments)
+done Dump limits windows document widget switches at arguments = asked document (dump document widget switches at arguments)
+done PeerCreate limits windows document widget switches at arguments = peer_create limits windows document widget at arguments
+done PeerNames limits windows document widget switches at arguments = asked document (peer_names document widget)
+done command limits windows document widget switches at arguments = refused document (BadOption 1)
 
 -- commands that take no memory
 abbrev pub is_frugal : Command → Bool
@@ -75,10 +81,10 @@ abbrev pub is_frugal_reading : Result Shape ShapeFault → Bool
 is_frugal_reading (Err fault) = true
 is_frugal_reading (Ok shape) = is_frugal shape.command
 
-abbrev pub shaped : LimitTable → Document → Widget → List (List ℕ) → Result Shape ShapeFault → Change
-shaped limits document widget words (Err fault) = refused document (shape_fault fault)
-shaped limits document widget words (Ok shape) = done shape.command limits document widget (switches_of shape words) shape.arguments (arguments_of shape words)
+abbrev pub shaped : LimitTable → List (List ℕ) → Document → Widget → List (List ℕ) → Result Shape ShapeFault → Change
+shaped limits windows document widget words (Err fault) = refused document (shape_fault fault)
+shaped limits windows document widget words (Ok shape) = done shape.command limits windows document widget (switches_of shape words) shape.arguments (arguments_of shape words)
 
 -- a command of a widget: all its words, of which the first names the widget
-abbrev pub command : LimitTable → Document → Widget → List (List ℕ) → Change
-command limits document widget words = shaped limits document widget words (reading words)
+abbrev pub command : LimitTable → List (List ℕ) → Document → Widget → List (List ℕ) → Change
+command limits windows document widget words = shaped limits windows document widget words (reading words)

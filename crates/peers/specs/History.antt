@@ -6,19 +6,9 @@ use Rattle.undo_stack.specs.Modified.{is_modified, set_to}
 use Rattle.command_parts.specs.declared.answers.Answer.TheVariants.{Empty, Flag}
 use Rattle.command_parts.specs.declared.answers.Fault.TheVariants.{BadBoolean}
 use Rattle.command_parts.specs.Arguments.{none_or_one_of}
-use Rattle.peers.specs.Promise.{Change, answered, change_with}
-use Rattle.peers.specs.World.{Document}
-
--- `W edit separator`: where actions are kept, the last group takes no more
-abbrev pub edit_separator : Document → Change
-edit_separator document = answered (if document.undo then record document { history = separated document.history } else document) Empty
-
--- `W edit reset`: no group is left
-abbrev pub edit_reset : Document → Change
-edit_reset document = answered (record document { history = no_history }) Empty
-
-abbrev pub modified_set : Document → Bool → Change
-modified_set document modified = answered (record document { modified = set_to modified document.modified }) Empty
+use Rattle.documents.specs.Promise.{Change, answered, change_with}
+use Rattle.documents.specs.Documents.{Document}
+use Rattle.documents.specs.History.{edit_separator, edit_reset, modified_set}
 
 abbrev pub modified_word : Document → ℕ → Option (List ℕ) → Change
 modified_word document at None = answered document (Flag (is_modified document.modified))

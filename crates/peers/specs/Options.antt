@@ -1,37 +1,26 @@
--- The options of a document and of its widgets: `configure` and `cget`.
+-- `configure` and `cget`.
 use Rattle.std.specs.Prelude.{ℕ, List, Result, Ok}
+use Rattle.text_model.specs.Lines.{lines}
 use Rattle.command_parts.specs.declared.answers.Answer.{Answer}
 use Rattle.command_parts.specs.declared.answers.Answer.TheVariants.{Empty}
 use Rattle.command_parts.specs.declared.answers.Fault.{Fault}
 use Rattle.command_parts.specs.declared.settings.Settings.{Settings}
 use Rattle.command_parts.specs.Arguments.{one_of}
 use Rattle.command_parts.specs.Faults.{with_value}
-use Rattle.command_parts.specs.Settings.{history_under, setting_answer, settings_read}
-use Rattle.peers.specs.Marks.{with_widget}
-use Rattle.peers.specs.Promise.{Change, answered, change_with}
-use Rattle.peers.specs.World.{Document, Widget}
+use Rattle.command_parts.specs.Settings.{setting_answer, settings_checked, settings_read}
+use Rattle.documents.specs.Options.{settings_of, with_settings}
+use Rattle.documents.specs.Promise.{Change, answered, change_with}
+use Rattle.documents.specs.Documents.{Document, Widget, characters}
 
-abbrev pub settings_of : Document → Widget → Settings
-settings_of document widget = record {
-  undo = document.undo;
-  separators = document.separators;
-  most_undo = document.most_undo;
-  disabled = widget.disabled;
-}
-
--- the document and a widget of it with options
-abbrev pub with_settings : Widget → Settings → Document → Document
-with_settings widget settings document = record (with_widget document widget (λ (other : Widget). record other { disabled = settings.disabled })) {
-  history = history_under settings document.history;
-  undo = settings.undo;
-  most_undo = settings.most_undo;
-  separators = settings.separators;
-}
+-- the settings with the values of options, of which the first stands at a position: each value is decided, and then the lines
+abbrev pub settings_given : Document → ℕ → List (List ℕ) → Settings → Result Settings Fault
+settings_given document at words settings =
+    with_value (settings_read (lines (characters document.cells)) at words settings) settings_checked
 
 -- `W configure option value ?option value ..?`: all values are decided before anything changes
 abbrev pub configure : Document → Widget → ℕ → List (List ℕ) → Change
 configure document widget at words =
-    change_with document (settings_read at words (settings_of document widget)) (λ settings. answered (with_settings widget settings document) Empty)
+    change_with document (settings_given document at words (settings_of document widget)) (λ settings. answered (with_settings widget settings document) Empty)
 
 -- `W cget option`
 abbrev pub cget : Document → Widget → List (List ℕ) → Result Answer Fault

@@ -19,12 +19,13 @@ use Rattle.command_parts.specs.declared.answers.Fault.{Fault}
 use Rattle.command_parts.specs.Arguments.{one_or_two_of, two_of, two_or_three_of}
 use Rattle.command_parts.specs.Faults.{with_value}
 use Rattle.command_parts.specs.Words.{is_same, literal}
-use Rattle.peers.specs.Indices.{place_at}
-use Rattle.peers.specs.Marks.{mark_names, usable_marks}
-use Rattle.peers.specs.Names.{key_of}
+use Rattle.documents.specs.Indices.{place_at}
+use Rattle.documents.specs.Marks.{mark_names, usable_marks}
+use Rattle.documents.specs.Names.{key_of}
 use Rattle.peers.specs.Tags.{listed, place_or}
-use Rattle.peers.specs.View.{shown, shown_flags}
-use Rattle.peers.specs.World.{Document, Widget}
+use Rattle.documents.specs.View.{shown, shown_flags}
+use Rattle.documents.specs.Documents.{Document, Widget}
+use Rattle.documents.specs.Queries.{tag_seen, mark_seen, seen}
 
 -- ---- switches, each the front of its name
 
@@ -106,21 +107,6 @@ listed_by (switch ∷ switches) =
       marks = all || has_switch (literal "-mark") words;
       text = all || has_switch (literal "-text") words;
     }
-
--- a tag with its ranges in the view, and a mark with its place there
-abbrev pub tag_seen : Document → Widget → List ℕ → Tagged
-tag_seen document widget name = record { name = name; ranges = tag_ranges (shown_flags document widget (key_of widget name)) }
-
-abbrev pub mark_seen : Document → Shown → Marked
-mark_seen document mark = record { name = slice_index_or (mark_names document) mark.rank []; place = mark.place }
-
--- what the widget sees
-abbrev pub seen : Document → Widget → Seen
-seen document widget = record {
-  text = shown document widget;
-  tags = map (tag_seen document widget) document.tags;
-  marks = map (mark_seen document) (usable_marks document widget);
-}
 
 abbrev pub dumped : Document → Widget → Listed → ℕ → ℕ → Result Answer Fault
 dumped document widget elements from to = listed (dump_elements elements (seen document widget) from to)

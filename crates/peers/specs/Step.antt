@@ -1,24 +1,23 @@
 -- One command of a script: the new world and an answer, or the first fault and the same world.
-use Rattle.std.specs.Prelude.{ℕ, Bool, false, nat_lt, List, [], ◌∷◌, Option, None, Some, Result, Ok, Err, find, if◌then◌else◌}
-use Rattle.std.specs.FinSet as set
+use Rattle.std.specs.Prelude.{ℕ, Bool, false, nat_lt, List, [], ◌∷◌, filter, length, map, Option, None, Some, Result, Ok, Err, if◌then◌else◌}
 use Rattle.command_parts.specs.declared.answers.Answer.{Answer}
-use Rattle.command_parts.specs.declared.answers.Answer.TheVariants.{Word}
+use Rattle.command_parts.specs.declared.answers.Answer.TheVariants.{Empty, Word}
 use Rattle.command_parts.specs.declared.answers.Fault.{Fault}
 use Rattle.command_parts.specs.declared.answers.Fault.TheVariants.{WrongArguments, InvalidCommandName, WindowExists, DocumentExists, TooManyWidgets}
-use Rattle.undo_stack.specs.History.{limit_of, no_history}
-use Rattle.undo_stack.specs.Modified.{unmodified}
-use Rattle.command_parts.specs.Settings.{first_settings, settings_read}
+use Rattle.command_parts.specs.Faults.{shape_fault}
+use Rattle.command_parts.specs.Settings.{first_settings}
 use Rattle.command_parts.specs.declared.settings.Settings.{Settings}
-use Rattle.peers.specs.World.{World, Document, Widget, Journal, whole_widget, document_of, sel}
-use Rattle.command_parts.specs.Edits.{new_mark}
-use Rattle.command_parts.specs.Words.{is_same, literal}
-use Rattle.peers.specs.Kept.{is_window_name}
+use Rattle.command_parts.specs.Words.{is_among, is_same, literal}
 use Rattle.command_table.specs.Reading.{reading}
 use Rattle.command_table.specs.declared.shapes.Shape.{Shape}
 use Rattle.command_table.specs.declared.shapes.ShapeFault.{ShapeFault}
-use Rattle.command_parts.specs.Faults.{shape_fault}
-use Rattle.peers.specs.Promise.{Change}
+use Rattle.documents.specs.Documents.{Document, Widget}
+use Rattle.documents.specs.Kept.{is_window_name}
+use Rattle.documents.specs.Promise.{Change}
+use Rattle.documents.specs.Widgets.{bare_document, new_document, widget_named, without_widgets}
+use Rattle.peers.specs.World.{World, all_windows}
 use Rattle.peers.specs.Command.{command, arguments_of, is_frugal_reading}
+use Rattle.peers.specs.Options.{settings_given}
 
 -- the answer or the fault, and the world after the command
 pub record Outcome : Type 0 where
@@ -28,17 +27,7 @@ pub record Outcome : Type 0 where
 abbrev pub refuses : World → Fault → Outcome
 refuses world fault = record { reply = Err fault; world = world }
 
-abbrev pub widget_named : List ℕ → Document → Option Widget
-widget_named name document = find (λ (widget : Widget). is_same widget.name name) document.widgets
-
--- nothing is kept yet
-abbrev pub new_journal : Settings → Journal
-new_journal settings = record { settings = settings; log = record { history = no_history; modified = unmodified; most = limit_of settings.most_undo } }
-
--- a document of one newline without keys, shown by one widget, that knows `sel` alone
-abbrev pub new_document : List ℕ → Settings → Document
-new_document name settings =
-    document_of (record { character = 10; keys = set.empty } ∷ []) (whole_widget name settings.disabled new_mark new_mark) [] (sel ∷ []) (new_journal settings)
+-- ---- text
 
 -- the world with one document, where there may be a widget
 abbrev pub create_first : World → List ℕ → Settings → Outcome
@@ -46,28 +35,43 @@ create_first world name settings =
     if nat_lt 0 world.limits.widgets then record { reply = Ok (Word 1); world = record world { documents = new_document name settings ∷ [] } }
     else refuses world TooManyWidgets
 
--- a widget of that name is there, or another document is
-abbrev pub create_beside : World → Option Widget → Outcome
-create_beside world (Some widget) = refuses world (WindowExists 1)
-create_beside world None = refuses world DocumentExists
+-- where no document is there
+abbrev pub create_alone : World → List ℕ → Settings → List Document → Outcome
+create_alone world name settings [] = create_first world name settings
+create_alone world name settings (document ∷ others) = refuses world DocumentExists
 
-abbrev pub create_named : World → List ℕ → Settings → List Document → Outcome
-create_named world name settings [] = create_first world name settings
-create_named world name settings (document ∷ others) = create_beside world (widget_named name document)
+abbrev pub create_named : World → List ℕ → Settings → Outcome
+create_named world name settings =
+    if is_among name (all_windows world) then refuses world (WindowExists 1) else create_alone world name settings world.documents
 
 abbrev pub create_with : World → List ℕ → Result Settings Fault → Outcome
 create_with world name (Err fault) = refuses world fault
-create_with world name (Ok settings) = create_named world name settings world.documents
+create_with world name (Ok settings) = create_named world name settings
 
 -- `text W ?option value ..?`
 abbrev pub create : World → List (List ℕ) → Outcome
 create world [] = refuses world WrongArguments
 create world (name ∷ options) =
-    if is_window_name name then create_with world name (settings_read 2 options first_settings) else refuses world (InvalidCommandName 1)
+    if is_window_name name then create_with world name (settings_given bare_document 2 options first_settings) else refuses world (InvalidCommandName 1)
 
 abbrev pub create_shaped : World → List (List ℕ) → Result Shape ShapeFault → Outcome
 create_shaped world words (Err fault) = refuses world (shape_fault fault)
 create_shaped world words (Ok shape) = create world (arguments_of shape words)
+
+-- ---- destroy
+
+abbrev pub has_widgets : Document → Bool
+has_widgets document = nat_lt 0 (length document.widgets)
+
+-- `destroy ?W ..?`: the widgets of these names go, and each document goes with its last widget
+abbrev pub destroy : World → List (List ℕ) → Outcome
+destroy world names = record { reply = Ok Empty; world = record world { documents = filter has_widgets (map (without_widgets names) world.documents) } }
+
+abbrev pub destroy_shaped : World → List (List ℕ) → Result Shape ShapeFault → Outcome
+destroy_shaped world words (Err fault) = refuses world (shape_fault fault)
+destroy_shaped world words (Ok shape) = destroy world (arguments_of shape words)
+
+-- ---- a widget's command
 
 -- the world with a document changed
 abbrev pub changed : World → List Document → Change → Outcome
@@ -75,21 +79,27 @@ changed world others change = record { reply = change.reply; world = record worl
 
 abbrev pub on_found : World → Document → List Document → List (List ℕ) → Option Widget → Outcome
 on_found world document others words None = refuses world (InvalidCommandName 0)
-on_found world document others words (Some widget) = changed world others (command world.limits document widget words)
+on_found world document others words (Some widget) = changed world others (command world.limits (all_windows world) document widget words)
 
 -- a command of the widget of that name
 abbrev pub on_widget : World → List ℕ → List (List ℕ) → List Document → Outcome
 on_widget world name words [] = refuses world (InvalidCommandName 0)
 on_widget world name words (document ∷ others) = on_found world document others words (widget_named name document)
 
+-- ---- any command
+
 -- a command of a widget that takes no memory: `edit modified`, `edit reset` or `edit separator`, or words that are no command
 abbrev pub takes_none : List (List ℕ) → Bool
 takes_none [] = false
-takes_none (name ∷ others) = if is_same name (literal "text") then false else is_frugal_reading (reading (name ∷ others))
+takes_none (name ∷ others) =
+    if is_same name (literal "text") then false
+    else (if is_same name (literal "destroy") then false
+    else is_frugal_reading (reading (name ∷ others)))
 
 -- a command, of one word at least
 abbrev pub step : World → List (List ℕ) → Outcome
 step world [] = refuses world WrongArguments
 step world (name ∷ others) =
     if is_same name (literal "text") then create_shaped world (name ∷ others) (reading (name ∷ others))
-    else on_widget world name (name ∷ others) world.documents
+    else (if is_same name (literal "destroy") then destroy_shaped world (name ∷ others) (reading (name ∷ others))
+    else on_widget world name (name ∷ others) world.documents)

@@ -12,30 +12,23 @@ use Rattle.command_parts.specs.declared.answers.Answer.TheVariants.{Empty, Text}
 use Rattle.command_parts.specs.declared.answers.Fault.{Fault}
 use Rattle.command_parts.specs.declared.answers.Fault.TheVariants.{NoSuchTag, TooManyTags}
 use Rattle.command_parts.specs.Arguments.{first_of, none_or_one_of, one_of, one_or_two_of, two_or_three_of}
-use Rattle.peers.specs.Edits.{with_tag}
+use Rattle.documents.specs.Edits.{with_tag}
 use Rattle.command_parts.specs.Faults.{with_value}
-use Rattle.peers.specs.Indices.{place_at}
-use Rattle.peers.specs.Keys.{Key}
+use Rattle.documents.specs.Indices.{place_at}
+use Rattle.documents.specs.Keys.{Key}
 use Rattle.command_parts.specs.Lists.{with_name}
-use Rattle.peers.specs.Names.{key_of}
-use Rattle.peers.specs.Promise.{Change, refused, answered, change_with}
-use Rattle.peers.specs.Ranges.{places_at, spans_shown}
-use Rattle.peers.specs.View.{shown, shown_flags}
+use Rattle.documents.specs.Names.{key_of}
+use Rattle.documents.specs.Promise.{Change, refused, answered, change_with}
+use Rattle.documents.specs.Ranges.{spans_shown}
+use Rattle.peers.specs.Ranges.{places_at}
+use Rattle.documents.specs.View.{shown, shown_flags}
 use Rattle.command_parts.specs.Words.{is_same, is_among}
-use Rattle.peers.specs.World.{Document, Widget, KeyedCell}
+use Rattle.documents.specs.Documents.{Document, Widget, KeyedCell}
 use Rattle.command_parts.specs.Listing.{begun, range_words}
 use Rattle.command_parts.specs.Tagging.{stays}
+use Rattle.documents.specs.Tags.{add_spans, remove_spans, key_stays, without_tags, tag_delete, tags_on, flags_of, raised, lowered, known_or, reordered}
 
 -- ---- on characters
-
--- a tag, which is made if it is new, is put on spans, unless there are too many tags
-abbrev pub add_spans : LimitTable → Document → Widget → List ℕ → List ℕ → Change
-add_spans limits document widget name places =
-    if nat_lt (limits.tags + 1) (length (with_name document.tags name)) then refused document TooManyTags
-    else answered (record document {
-      tags = with_name document.tags name;
-      cells = with_tag (key_of widget name) true (spans_shown document widget places) document.cells;
-    }) Empty
 
 abbrev pub add_words : LimitTable → Document → Widget → ℕ → List ℕ × List (List ℕ) → Change
 add_words limits document widget at (name, words) =
@@ -45,13 +38,6 @@ add_words limits document widget at (name, words) =
 abbrev pub tag_add : LimitTable → Document → Widget → ℕ → List (List ℕ) → Change
 tag_add limits document widget at words = change_with document (first_of words) (add_words limits document widget at)
 
--- a tag is taken off spans, if there is one of that name
-abbrev pub remove_spans : Document → Widget → List ℕ → List ℕ → Change
-remove_spans document widget name places =
-    answered (if is_among name document.tags then record document {
-      cells = with_tag (key_of widget name) false (spans_shown document widget places) document.cells;
-    } else document) Empty
-
 abbrev pub remove_words : Document → Widget → ℕ → List ℕ × List (List ℕ) → Change
 remove_words document widget at (name, words) =
     change_with document (places_at document widget (at + 1) words) (remove_spans document widget name)
@@ -60,25 +46,10 @@ remove_words document widget at (name, words) =
 abbrev pub tag_remove : Document → Widget → ℕ → List (List ℕ) → Change
 tag_remove document widget at words = change_with document (first_of words) (remove_words document widget at)
 
-abbrev pub key_stays : List (List ℕ) → Key → Bool
-key_stays names key = key.selects || not (is_among key.name names)
-
-abbrev pub without_tags : List (List ℕ) → KeyedCell → KeyedCell
-without_tags names cell = record cell { keys = set.retain cell.keys (key_stays names) }
-
--- `W tag delete T ?T ..?`
-abbrev pub tag_delete : Document → List (List ℕ) → Change
-tag_delete document names =
-    answered (record document { tags = filter (stays names) document.tags; cells = map (without_tags names) document.cells }) Empty
-
 -- ---- names and ranges
 
 abbrev pub listed : List (List ℕ) → Result Answer Fault
 listed elements = Ok (Text (list_text elements))
-
--- the tags of the character at a place, from the lowest; none at the end of the view
-abbrev pub tags_on : Document → Widget → ℕ → List (List ℕ)
-tags_on document widget place = filter (λ name. flag_at (shown_flags document widget (key_of widget name)) place) document.tags
 
 abbrev pub names_on : Document → Widget → ℕ → Result Answer Fault
 names_on document widget place = listed (tags_on document widget place)
@@ -90,10 +61,6 @@ names_at_word document widget at (Some word) = with_value (place_at document wid
 -- `W tag names ?I?`
 abbrev pub tag_names : Document → Widget → ℕ → List (List ℕ) → Result Answer Fault
 tag_names document widget at words = with_value (none_or_one_of words) (names_at_word document widget at)
-
--- which characters of the view have a tag; none have an unknown one
-abbrev pub flags_of : Document → Widget → List ℕ → List Bool
-flags_of document widget name = if is_among name document.tags then shown_flags document widget (key_of widget name) else []
 
 abbrev pub listed_ranges : Document → Widget → List TagRange → Result Answer Fault
 listed_ranges document widget ranges = listed (range_words (shown document widget) ranges)
@@ -139,27 +106,6 @@ abbrev pub tag_prevrange : Document → Widget → ℕ → List (List ℕ) → R
 tag_prevrange document widget at words = with_value (two_or_three_of words) (previous_words document widget at)
 
 -- ---- priority
-
--- the tags with one highest, or just above another
-abbrev pub raised : List (List ℕ) → List ℕ → Option (List ℕ) → List (List ℕ)
-raised tags name None = without (is_same name) tags ++ name ∷ []
-raised tags name (Some other) = if is_same name other then tags else put_behind (is_same other) name (without (is_same name) tags)
-
--- the tags with one lowest, or just below another
-abbrev pub lowered : List (List ℕ) → List ℕ → Option (List ℕ) → List (List ℕ)
-lowered tags name None = name ∷ without (is_same name) tags
-lowered tags name (Some other) = if is_same name other then tags else put_before (is_same other) name (without (is_same name) tags)
-
--- a tag, and another where there is one, have to be known
-abbrev pub known_or : Document → ℕ → List ℕ → Change → Change
-known_or document position name change = if is_among name document.tags then change else refused document (NoSuchTag position)
-
-abbrev pub reordered : Document → ℕ → (List (List ℕ) → List ℕ → Option (List ℕ) → List (List ℕ)) → List ℕ × Option (List ℕ) → Change
-reordered document at order (name, None) =
-    known_or document at name (answered (record document { tags = order document.tags name None }) Empty)
-reordered document at order (name, Some other) =
-    known_or document at name (known_or document (at + 1) other
-    (answered (record document { tags = order document.tags name (Some other) }) Empty))
 
 -- `W tag raise T ?U?`
 abbrev pub tag_raise : Document → ℕ → List (List ℕ) → Change

@@ -1,59 +1,15 @@
--- When a world is well formed: what every command can rely on, and keeps.
-use Rattle.std.specs.Prelude.{◌≡◌, ℕ, ◌+◌, ◌<◌, ◌≤◌, Bool, true, false, ◌&&◌, not, List, length, map, sum_by, if◌then◌else◌}
-use Rattle.std.specs.List.{AllByRecursion, IsDistinct}
-use Rattle.std.specs.Option.{ForSome}
-use Rattle.std.specs.FinSet as set
-use Rattle.text_model.specs.Documents.{IsDocument}
-use Rattle.text_model.specs.Lines.{line_of, line_start}
-use Rattle.text_model.specs.LimitTable.{LimitTable, AreLimits}
-use Rattle.peers.specs.Keys.{Key}
-use Rattle.peers.specs.World.{World, Document, Widget, SharedMark, KeyedCell, characters, sel}
-use Rattle.peers.specs.View.{view_start, view_end}
-use Rattle.command_parts.specs.Words.{is_same, is_among, is_own}
-use Rattle.peers.specs.Kept.{is_window_name}
-use Rattle.undo_stack.specs.Fits.{FitsText}
+-- When a world is well formed.
+use Rattle.std.specs.Prelude.{ℕ, ◌<◌, ◌≤◌, List, length}
+use Rattle.std.specs.List.{AllByRecursion}
+use Rattle.text_model.specs.LimitTable.{AreLimits}
+use Rattle.documents.specs.WellFormed.{IsWellFormedDocument}
+use Rattle.documents.specs.Documents.{Document}
+use Rattle.peers.specs.World.{World, all_windows}
 
--- a tag of the document, or one of its widgets
-abbrev pub belongs : Document → Key → Bool
-belongs document key =
-    if key.selects then is_among key.name (map (λ (widget : Widget). widget.name) document.widgets)
-    else is_among key.name document.tags && not (is_same key.name sel)
-
-abbrev pub HasItsKeys : Document → KeyedCell → Type 0
-HasItsKeys document cell = (key : Key) → set.contains cell.keys key ≡ true → belongs document key ≡ true
-
--- a line begins there, or the text ends there
-abbrev pub IsLineStart : List ℕ → ℕ → Type 0
-IsLineStart text at = (at ≤ length text) × (line_start (line_of text at) text ≡ at)
-
--- a widget's view is of whole lines of the document, and its marks stand in the document
-pub record IsPlaced (document : Document) (widget : Widget) : Type 0 where
-  pub name : is_window_name widget.name ≡ true
-  pub start : ForSome widget.start (IsLineStart (characters document.cells))
-  pub end : ForSome widget.end (IsLineStart (characters document.cells))
-  pub ordered : view_start widget ≤ view_end document widget
-  pub insert : widget.insert.offset ≤ length document.cells
-  pub current : widget.current.offset ≤ length document.cells
-
-pub record IsWellFormedDocument (limits : LimitTable) (document : Document) : Type 0 where
-  pub text : IsDocument (characters document.cells)
-  pub fits : length document.cells ≤ limits.chars
-  pub keys : AllByRecursion (HasItsKeys document) document.cells
-  pub shown : 0 < length document.widgets
-  pub widgets : AllByRecursion (IsPlaced document) document.widgets
-  pub widget_names : IsDistinct is_same (map (λ (widget : Widget). widget.name) document.widgets)
-  pub marks : AllByRecursion (λ (mark : SharedMark). mark.place.offset ≤ length document.cells) document.marks
-  pub mark_names : IsDistinct is_same (map (λ (mark : SharedMark). mark.name) document.marks)
-  pub mark_words : AllByRecursion (λ (mark : SharedMark). is_own mark.name ≡ false) document.marks
-  pub mark_count : length document.marks ≤ limits.marks
-  pub tag_names : IsDistinct is_same document.tags
-  pub sel : is_among sel document.tags ≡ true
-  pub tag_count : length document.tags ≤ limits.tags + 1
-  pub history : FitsText limits.chars (characters document.cells) document.history
-
--- one document or none, each part in order, and no more widgets than there may be
+-- one document or none, with a widget and each part in order, and no more widgets than there may be
 pub record IsWellFormed (world : World) : Type 0 where
   pub limits : AreLimits world.limits
   pub lone : length world.documents ≤ 1
+  pub shown : AllByRecursion (λ (document : Document). 0 < length document.widgets) world.documents
   pub documents : AllByRecursion (IsWellFormedDocument world.limits) world.documents
-  pub widget_count : sum_by (λ (document : Document). length document.widgets) world.documents ≤ world.limits.widgets
+  pub widget_count : length (all_windows world) ≤ world.limits.widgets

@@ -1,7 +1,7 @@
 ghost use Rattle.std.specs.Prelude.{◌≡◌, ◌≢◌, ◌+◌, ◌≤◌, length, map, chars, option_map, Ok, IfOk, IfSome};
 ghost use Rattle.tcl_words.specs.Unread.{texts_of};
 ghost use Rattle.command_parts.specs.Faults.{with_value};
-ghost use Rattle.peers.specs.Promise.{Gives};
+ghost use Rattle.documents.specs.Promise.{Gives};
 ghost use Rattle.peers.specs.Queries.{
   count,
   count_between,
@@ -22,15 +22,16 @@ ghost use Rattle.peers.specs.Queries.{
   turned,
 };
 ghost use Rattle.peers.specs.Tags.{place_or};
-ghost use Rattle.peers.specs.View.{shown};
-ghost use Rattle.peers.specs.World.{lone_widget};
+ghost use Rattle.documents.specs.View.{shown};
+ghost use Rattle.documents.specs.Documents.{widget_at};
 
-use crate::documents::Document;
+use crate::tags::{place_or};
 use command_parts::{Answer, Fault, is_word, one_or_two, two, two_or_three};
 use command_table::abbreviates;
 use index_grammar::Direction;
 use search_dump::{Counted, Listed, SearchSwitches, Wanted};
 use std::alloc::{AllocError, Global};
+use documents::Document;
 use text_model::TextStore;
 
 /// Whether one of some words stands for a switch.
@@ -126,199 +127,189 @@ fn listed_by(words: &[String]) -> Listed
     }
 }
 
-impl<S: TextStore> Document<S> {
-    /// The place of a stop, if there is one.
-    fn stop_at(&self, at: usize, word: Option<&str>) -> Result<Option<usize>, Fault>
-        ensures value { Gives result (stop_at self.now (lone_widget self.now) at (option_map (λ word. chars word.now) word.entry)) }
-        ensures within { IfOk result (λ stop. IfSome stop (λ place. place ≤ length (shown self.now (lone_widget self.now)))) }
-    {
-        match word {
-            None => Ok(None),
-            Some(word) => match self.place_at(at, word) {
-                Err(fault) => Err(fault),
-                Ok(place) => Ok(Some(place)),
-            },
-        }
-    }
-
-    /// The matches of a pattern from a place on, up to a stop.
-    fn searched(
-        &self,
-        switches: SearchSwitches,
-        pattern: &str,
-        from: Result<usize, Fault>,
-        stop: Result<Option<usize>, Fault>,
-    ) -> Result<Answer, Fault>
-        requires from { IfOk from (λ from. from ≤ length (shown self.now (lone_widget self.now))) }
-        requires stop { IfOk stop (λ stop. IfSome stop (λ place. place ≤ length (shown self.now (lone_widget self.now)))) }
-        ensures { Gives result (with_value from (λ from. with_value stop (searched self.now (lone_widget self.now) switches (chars pattern.now) from))) }
-    {
-        match (from, stop) {
-            (Err(fault), _) => Err(fault),
-            (Ok(_), Err(fault)) => Err(fault),
-            (Ok(from), Ok(stop)) => Ok(Answer::Text(self.matches_of(
-                switches, pattern, from, stop,
-            )?)),
-        }
-    }
-
-    fn search_words(
-        &self,
-        switches: SearchSwitches,
-        at: usize,
-        pattern: &str,
-        first: &str,
-        last: Option<&str>,
-    ) -> Result<Answer, Fault>
-        requires { at + 2 ≤ usize.MAX }
-        ensures { Gives result (search_words self.now (lone_widget self.now) switches at
-            (chars pattern.now, chars first.now, option_map (λ word. chars word.now) last.entry)) }
-    {
-        let from = self.place_at(at + 1, first);
-        let stop = self.stop_at(at + 2, last);
-        self.searched(switches, pattern, from, stop)
-    }
-
-    /// `W search ?switch ..? pattern I ?J?` (text(n), "search"). The arguments stand from a position on.
-    pub fn search(
-        &self,
-        switches: &[String],
-        at: usize,
-        arguments: &[String],
-    ) -> Result<Answer, Fault>
-        requires { at + 2 ≤ usize.MAX }
-        ensures { Gives result (search self.now (lone_widget self.now) (texts_of switches.now) at (texts_of arguments.now)) }
-    {
-        match two_or_three(arguments) {
+/// The place of a stop, if there is one.
+fn stop_at<S: TextStore>(document: &Document<S>, widget: usize, at: usize, word: Option<&str>) -> Result<Option<usize>, Fault>
+    requires shown { widget < length document.now.widgets }
+    ensures value { Gives result (stop_at document.now (widget_at document.now widget) at (option_map (λ word. chars word.now) word.entry)) }
+    ensures within { IfOk result (λ stop. IfSome stop (λ place. place ≤ length (shown document.now (widget_at document.now widget)))) }
+{
+    match word {
+        None => Ok(None),
+        Some(word) => match document.place_at(widget, at, word) {
             Err(fault) => Err(fault),
-            Ok((pattern, first, last)) => {
-                self.search_words(search_switches(switches), at, pattern, first, last)
-            }
+            Ok(place) => Ok(Some(place)),
+        },
+    }
+}
+
+/// The matches of a pattern from a place on, up to a stop.
+fn searched<S: TextStore>(document: &Document<S>, widget: usize, switches: SearchSwitches,
+    pattern: &str,
+    from: Result<usize, Fault>,
+    stop: Result<Option<usize>, Fault>,
+) -> Result<Answer, Fault>
+    requires shown { widget < length document.now.widgets }
+    requires from { IfOk from (λ from. from ≤ length (shown document.now (widget_at document.now widget))) }
+    requires stop { IfOk stop (λ stop. IfSome stop (λ place. place ≤ length (shown document.now (widget_at document.now widget)))) }
+    ensures { Gives result (with_value from (λ from. with_value stop (searched document.now (widget_at document.now widget) switches (chars pattern.now) from))) }
+{
+    match (from, stop) {
+        (Err(fault), _) => Err(fault),
+        (Ok(_), Err(fault)) => Err(fault),
+        (Ok(from), Ok(stop)) => Ok(Answer::Text(document.matches_of(widget, switches, pattern, from, stop)?)),
+    }
+}
+
+fn search_words<S: TextStore>(document: &Document<S>, widget: usize, switches: SearchSwitches,
+    at: usize,
+    pattern: &str,
+    first: &str,
+    last: Option<&str>,
+) -> Result<Answer, Fault>
+    requires shown { widget < length document.now.widgets }
+    requires { at + 2 ≤ usize.MAX }
+    ensures { Gives result (search_words document.now (widget_at document.now widget) switches at
+        (chars pattern.now, chars first.now, option_map (λ word. chars word.now) last.entry)) }
+{
+    let from = document.place_at(widget, at + 1, first);
+    let stop = stop_at(document, widget, at + 2, last);
+    searched(document, widget, switches, pattern, from, stop)
+}
+
+/// `W search ?switch ..? pattern I ?J?` (text(n), "search"). The arguments stand from a position on.
+pub fn search<S: TextStore>(document: &Document<S>, widget: usize, switches: &[String],
+    at: usize,
+    arguments: &[String],
+) -> Result<Answer, Fault>
+    requires shown { widget < length document.now.widgets }
+    requires { at + 2 ≤ usize.MAX }
+    ensures { Gives result (search document.now (widget_at document.now widget) (texts_of switches.now) at (texts_of arguments.now)) }
+{
+    match two_or_three(arguments) {
+        Err(fault) => Err(fault),
+        Ok((pattern, first, last)) => {
+            search_words(document, widget, search_switches(switches), at, pattern, first, last)
         }
     }
+}
 
-    /// How much further one place is than another.
-    fn count_between(
-        &self,
-        options: &[Counted],
-        from: Result<usize, Fault>,
-        to: Result<usize, Fault>,
-    ) -> Result<Answer, Fault>
-        requires from { IfOk from (λ from. from ≤ length (shown self.now (lone_widget self.now))) }
-        requires to { IfOk to (λ to. to ≤ length (shown self.now (lone_widget self.now))) }
-        ensures { Gives result (with_value from (λ from. with_value to (count_between self.now (lone_widget self.now) options.now from))) }
-    {
-        match (from, to) {
-            (Err(fault), _) => Err(fault),
-            (Ok(_), Err(fault)) => Err(fault),
-            (Ok(from), Ok(to)) => Ok(Answer::Text(self.counts_of(options, from, to)?)),
+/// How much further one place is than another.
+fn count_between<S: TextStore>(document: &Document<S>, widget: usize, options: &[Counted],
+    from: Result<usize, Fault>,
+    to: Result<usize, Fault>,
+) -> Result<Answer, Fault>
+    requires shown { widget < length document.now.widgets }
+    requires from { IfOk from (λ from. from ≤ length (shown document.now (widget_at document.now widget))) }
+    requires to { IfOk to (λ to. to ≤ length (shown document.now (widget_at document.now widget))) }
+    ensures { Gives result (with_value from (λ from. with_value to (count_between document.now (widget_at document.now widget) options.now from))) }
+{
+    match (from, to) {
+        (Err(fault), _) => Err(fault),
+        (Ok(_), Err(fault)) => Err(fault),
+        (Ok(from), Ok(to)) => Ok(Answer::Text(document.counts_of(widget, options, from, to)?)),
+    }
+}
+
+fn count_words<S: TextStore>(document: &Document<S>, widget: usize, options: &[Counted],
+    at: usize,
+    first: &str,
+    second: &str,
+) -> Result<Answer, Fault>
+    requires shown { widget < length document.now.widgets }
+    requires { at + 1 ≤ usize.MAX }
+    ensures { Gives result (count_words document.now (widget_at document.now widget) options.now at (chars first.now, chars second.now)) }
+{
+    let from = document.place_at(widget, at, first);
+    let to = document.place_at(widget, at + 1, second);
+    count_between(document, widget, options, from, to)
+}
+
+/// `W count ?option ..? A B` (text(n), "count"). The arguments stand from a position on.
+pub fn count<S: TextStore>(document: &Document<S>, widget: usize, options: &[String],
+    at: usize,
+    arguments: &[String],
+) -> Result<Answer, Fault>
+    requires shown { widget < length document.now.widgets }
+    requires { at + 1 ≤ usize.MAX }
+    ensures { Gives result (count document.now (widget_at document.now widget) (texts_of options.now) at (texts_of arguments.now)) }
+{
+    match two(arguments) {
+        Err(fault) => Err(fault),
+        Ok((first, second)) => {
+            let options = counted_options(document.allocator(), options)?;
+            count_words(document, widget, &options, at, first, second)
         }
     }
+}
 
-    fn count_words(
-        &self,
-        options: &[Counted],
-        at: usize,
-        first: &str,
-        second: &str,
-    ) -> Result<Answer, Fault>
-        requires { at + 1 ≤ usize.MAX }
-        ensures { Gives result (count_words self.now (lone_widget self.now) options.now at (chars first.now, chars second.now)) }
-    {
-        let from = self.place_at(at, first);
-        let to = self.place_at(at + 1, second);
-        self.count_between(options, from, to)
-    }
+/// The place behind that of a character, or the end.
+fn place_behind<S: TextStore>(document: &Document<S>, widget: usize, place: usize) -> usize
+    requires shown { widget < length document.now.widgets }
+    requires { place ≤ length (shown document.now (widget_at document.now widget)) }
+    ensures value { result ≡ place_behind document.now (widget_at document.now widget) place }
+    ensures within { result ≤ length (shown document.now (widget_at document.now widget)) }
+{
+    let len = document.shown_len(widget);
+    if place < len { place + 1 } else { len }
+}
 
-    /// `W count ?option ..? A B` (text(n), "count"). The arguments stand from a position on.
-    pub fn count(
-        &self,
-        options: &[String],
-        at: usize,
-        arguments: &[String],
-    ) -> Result<Answer, Fault>
-        requires { at + 1 ≤ usize.MAX }
-        ensures { Gives result (count self.now (lone_widget self.now) (texts_of options.now) at (texts_of arguments.now)) }
-    {
-        match two(arguments) {
-            Err(fault) => Err(fault),
-            Ok((first, second)) => {
-                let options = counted_options(self.allocator(), options)?;
-                self.count_words(&options, at, first, second)
-            }
+/// What stands from one place to another, the last of which is the word at a position, if there is one.
+fn dump_from<S: TextStore>(document: &Document<S>, widget: usize, listed: Listed,
+    from: Result<usize, Fault>,
+    at: usize,
+    last: Option<&str>,
+) -> Result<Answer, Fault>
+    requires shown { widget < length document.now.widgets }
+    requires { IfOk from (λ from. from ≤ length (shown document.now (widget_at document.now widget))) }
+    ensures { Gives result (with_value from (λ from.
+        with_value (place_or document.now (widget_at document.now widget) (place_behind document.now (widget_at document.now widget) from) at (option_map (λ word. chars word.now) last.entry))
+        (dumped document.now (widget_at document.now widget) listed from))) }
+{
+    match from {
+        Err(fault) => Err(fault),
+        Ok(from) => {
+            let to = place_or(document, widget, place_behind(document, widget, from), at, last);
+            dumped(document, widget, listed, from, to)
         }
     }
+}
 
-    /// The place behind that of a character, or the end.
-    fn place_behind(&self, place: usize) -> usize
-        requires { place ≤ length (shown self.now (lone_widget self.now)) }
-        ensures value { result ≡ place_behind self.now (lone_widget self.now) place }
-        ensures within { result ≤ length (shown self.now (lone_widget self.now)) }
-    {
-        let len = self.shown_len();
-        if place < len { place + 1 } else { len }
+fn dumped<S: TextStore>(document: &Document<S>, widget: usize, listed: Listed, from: usize, to: Result<usize, Fault>) -> Result<Answer, Fault>
+    requires shown { widget < length document.now.widgets }
+    requires from { from ≤ length (shown document.now (widget_at document.now widget)) }
+    requires to { IfOk to (λ to. to ≤ length (shown document.now (widget_at document.now widget))) }
+    ensures { Gives result (with_value to (dumped document.now (widget_at document.now widget) listed from)) }
+{
+    match to {
+        Err(fault) => Err(fault),
+        Ok(to) => Ok(Answer::Text(document.elements_of(widget, listed, from, to)?)),
     }
+}
 
-    /// What stands from one place to another, the last of which is the word at a position, if there is one.
-    fn dump_from(
-        &self,
-        listed: Listed,
-        from: Result<usize, Fault>,
-        at: usize,
-        last: Option<&str>,
-    ) -> Result<Answer, Fault>
-        requires { IfOk from (λ from. from ≤ length (shown self.now (lone_widget self.now))) }
-        ensures { Gives result (with_value from (λ from.
-            with_value (place_or self.now (lone_widget self.now) (place_behind self.now (lone_widget self.now) from) at (option_map (λ word. chars word.now) last.entry))
-            (dumped self.now (lone_widget self.now) listed from))) }
-    {
-        match from {
-            Err(fault) => Err(fault),
-            Ok(from) => {
-                let to = self.place_or(self.place_behind(from), at, last);
-                self.dumped(listed, from, to)
-            }
-        }
-    }
+fn dump_words<S: TextStore>(document: &Document<S>, widget: usize, listed: Listed,
+    at: usize,
+    first: &str,
+    last: Option<&str>,
+) -> Result<Answer, Fault>
+    requires shown { widget < length document.now.widgets }
+    requires { at + 1 ≤ usize.MAX }
+    ensures { Gives result (dump_words document.now (widget_at document.now widget) listed at (chars first.now, option_map (λ word. chars word.now) last.entry)) }
+{
+    let from = document.place_at(widget, at, first);
+    dump_from(document, widget, listed, from, at + 1, last)
+}
 
-    fn dumped(&self, listed: Listed, from: usize, to: Result<usize, Fault>) -> Result<Answer, Fault>
-        requires from { from ≤ length (shown self.now (lone_widget self.now)) }
-        requires to { IfOk to (λ to. to ≤ length (shown self.now (lone_widget self.now))) }
-        ensures { Gives result (with_value to (dumped self.now (lone_widget self.now) listed from)) }
-    {
-        match to {
-            Err(fault) => Err(fault),
-            Ok(to) => Ok(Answer::Text(self.elements_of(listed, from, to)?)),
-        }
-    }
-
-    fn dump_words(
-        &self,
-        listed: Listed,
-        at: usize,
-        first: &str,
-        last: Option<&str>,
-    ) -> Result<Answer, Fault>
-        requires { at + 1 ≤ usize.MAX }
-        ensures { Gives result (dump_words self.now (lone_widget self.now) listed at (chars first.now, option_map (λ word. chars word.now) last.entry)) }
-    {
-        let from = self.place_at(at, first);
-        self.dump_from(listed, from, at + 1, last)
-    }
-
-    /// `W dump ?switch ..? A ?B?` (text(n), "dump"). The arguments stand from a position on.
-    pub fn dump(
-        &self,
-        switches: &[String],
-        at: usize,
-        arguments: &[String],
-    ) -> Result<Answer, Fault>
-        requires { at + 1 ≤ usize.MAX }
-        ensures { Gives result (dump self.now (lone_widget self.now) (texts_of switches.now) at (texts_of arguments.now)) }
-    {
-        match one_or_two(arguments) {
-            Err(fault) => Err(fault),
-            Ok((first, last)) => self.dump_words(listed_by(switches), at, first, last),
-        }
+/// `W dump ?switch ..? A ?B?` (text(n), "dump"). The arguments stand from a position on.
+pub fn dump<S: TextStore>(document: &Document<S>, widget: usize, switches: &[String],
+    at: usize,
+    arguments: &[String],
+) -> Result<Answer, Fault>
+    requires shown { widget < length document.now.widgets }
+    requires { at + 1 ≤ usize.MAX }
+    ensures { Gives result (dump document.now (widget_at document.now widget) (texts_of switches.now) at (texts_of arguments.now)) }
+{
+    match one_or_two(arguments) {
+        Err(fault) => Err(fault),
+        Ok((first, last)) => dump_words(document, widget, listed_by(switches), at, first, last),
     }
 }

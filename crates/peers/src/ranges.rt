@@ -4,30 +4,29 @@ ghost use Rattle.tcl_words.specs.Unread.{texts_of};
 ghost use Rattle.command_parts.specs.declared.answers.Fault.TheVariants.{Memory};
 ghost use Rattle.peers.specs.Ranges.{places_at};
 ghost use Rattle.command_parts.specs.Ranges.{span, spans_of};
-ghost use Rattle.peers.specs.View.{shown};
-ghost use Rattle.peers.specs.World.{lone_widget};
+ghost use Rattle.documents.specs.View.{shown};
+ghost use Rattle.documents.specs.Documents.{widget_at};
 
-use crate::documents::Document;
 use command_parts::Fault;
 use edit_ops::Span;
 use std::alloc::{AllocError, Global};
+use documents::Document;
 use text_model::TextStore;
 
-impl<S: TextStore> Document<S> {
-    /// The places of indices, the first of which stands at a position.
-    pub fn places_at(&self, at: usize, words: &[String]) -> Result<Vec<usize>, Fault>
-        requires { at + length words.now ≤ usize.MAX }
-        ensures ok { IfOk result (λ places. places_at self.now (lone_widget self.now) at (texts_of words.now) ≡ Ok places.items) }
-        ensures err { IfErr result (λ fault. fault ≢ Memory → places_at self.now (lone_widget self.now) at (texts_of words.now) ≡ Err fault) }
-        ensures within { IfOk result (λ places. All (λ place. place ≤ length (shown self.now (lone_widget self.now))) places.items) }
-    {
-        let mut places = Vec::with_capacity(self.allocator(), words.len())?;
-        for (index, word) in words.iter().enumerate() {
-            match self.place_at(at + index, word.as_str()) {
-                Err(fault) => return Err(fault),
-                Ok(place) => places.push(place)?,
-            }
+/// The places of indices, the first of which stands at a position.
+pub fn places_at<S: TextStore>(document: &Document<S>, widget: usize, at: usize, words: &[String]) -> Result<Vec<usize>, Fault>
+    requires shown { widget < length document.now.widgets }
+    requires { at + length words.now ≤ usize.MAX }
+    ensures ok { IfOk result (λ places. places_at document.now (widget_at document.now widget) at (texts_of words.now) ≡ Ok places.items) }
+    ensures err { IfErr result (λ fault. fault ≢ Memory → places_at document.now (widget_at document.now widget) at (texts_of words.now) ≡ Err fault) }
+    ensures within { IfOk result (λ places. All (λ place. place ≤ length (shown document.now (widget_at document.now widget))) places.items) }
+{
+    let mut places = Vec::with_capacity(document.allocator(), words.len())?;
+    for (index, word) in words.iter().enumerate() {
+        match document.place_at(widget, at + index, word.as_str()) {
+            Err(fault) => return Err(fault),
+            Ok(place) => places.push(place)?,
         }
-        Ok(places)
     }
+    Ok(places)
 }

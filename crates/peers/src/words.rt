@@ -1,5 +1,5 @@
 ghost use Rattle.std.specs.Prelude.{◌≡◌, chars};
-ghost use Rattle.peers.specs.Kept.{is_window_name};
+ghost use Rattle.documents.specs.Kept.{is_window_name};
 ghost use Rattle.command_parts.specs.Words.{is_same};
 
 /// Whether a word may name a widget: a dot and at least one more character.

@@ -3,7 +3,7 @@ ghost use Rattle.tcl_words.specs.Unread.{texts_of};
 ghost use Rattle.command_table.specs.Reading.{reading};
 ghost use Rattle.peers.specs.Step.{create_first, create_named, create, create_shaped, on_widget, step, takes_none};
 ghost use Rattle.peers.specs.Command.{is_frugal_reading};
-ghost use Rattle.peers.specs.Kept.{is_window_name};
+ghost use Rattle.documents.specs.Kept.{is_window_name};
 ghost use Rattle.peers.specs.WellFormed.{IsWellFormed};
 
 use crate::documents::Document;
@@ -27,7 +27,7 @@ impl<S: TextStore> Model for World<S> {
     ghost use Rattle.std.specs.Coded.{codes};
     ghost use Rattle.std.specs.FinSet as set;
     ghost use Rattle.text_model.specs.contracts.places.Place as place;
-    ghost use Rattle.peers.specs.Keys.{key_cmp, key_code};
+    ghost use Rattle.documents.specs.Keys.{key_cmp, key_code};
     ghost use Rattle.peers.specs.World.{World as WorldState};
     ghost use Rattle.peers.specs.WellFormed.{IsWellFormed};
 

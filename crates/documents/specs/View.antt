@@ -1,8 +1,8 @@
 -- The part of a document that a widget shows.
-use Rattle.std.specs.Prelude.{ℕ, Bool, List, length, map, slice_range, unwrap_or}
+use Rattle.std.specs.Prelude.{ℕ, Bool, ◌||◌, ◌==◌, List, length, map, slice_range, unwrap_or}
 use Rattle.std.specs.FinSet as set
-use Rattle.peers.specs.Keys.{Key}
-use Rattle.peers.specs.World.{Widget, Document, KeyedCell, characters}
+use Rattle.documents.specs.Keys.{Key}
+use Rattle.documents.specs.Documents.{Widget, Document, KeyedCell, characters}
 
 abbrev pub view_start : Widget → ℕ
 view_start widget = unwrap_or widget.start 0
@@ -18,3 +18,7 @@ shown document widget = slice_range (characters document.cells) (view_start widg
 abbrev pub shown_flags : Document → Widget → Key → List Bool
 shown_flags document widget key =
     slice_range (map (λ (cell : KeyedCell). set.contains cell.keys key) document.cells) (view_start widget) (view_end document widget)
+
+-- a widget whose commands leave the text as it is: it is disabled, or its view is empty
+abbrev pub is_idle : Document → Widget → Bool
+is_idle document widget = widget.disabled || view_start widget == view_end document widget

@@ -1,11 +1,13 @@
 -- The keys of a cell: the names of tags, and `sel` of a widget.
-use Rattle.std.specs.Prelude.{ℕ, Bool, true, false, List, [], ◌∷◌, map, refl, if◌then◌else◌}
+use Rattle.std.specs.Prelude.{ℕ, Bool, true, false, not, List, [], ◌∷◌, ◌++◌, filter, map, refl, if◌then◌else◌}
 use Rattle.std.specs.FinSet as set
 use Rattle.std.specs.Coded.{Coded, code_by, coded×, coded_ℕ, coded_bool, coded_list}
 use Rattle.std.specs.declared.cmp.Ordering.{Ordering}
 use Rattle.std.specs.Ordering.{nat_cmp, ordering_then}
 use Rattle.std.specs.Cmp.Lexicographic.{slice_cmp}
 use Rattle.text_model.specs.Content.{Slots}
+use Rattle.text_model.specs.declared.cells.Cell.{Cell}
+use Rattle.name_list.specs.Names.{Named}
 use Rattle.tag_table.specs.Tags.{Tag, sel}
 use Rattle.command_parts.specs.Words.{is_same}
 
@@ -39,9 +41,19 @@ keys_of (pair ∷ pairs) slots = elim (set.contains slots pair.0) [ true ↦ set
 abbrev pub key_named : List ℕ → List ℕ → Key
 key_named widget name = if is_same name sel then record { selects = true; name = widget } else record { selects = false; name = name }
 
--- the slots of a table of tags with their keys, where the slot of `sel` is a widget's own
-abbrev pub key_pairs : List ℕ → List Tag → List (ℕ × Key)
-key_pairs widget tags = map (λ (tag : Tag). (tag.slot, key_named widget tag.name)) tags
+-- A seat is a widget's name with the slot of its `sel`.
+abbrev pub seat_pair : Named → ℕ × Key
+seat_pair seat = (seat.number, record { selects = true; name = seat.name })
+
+abbrev pub tag_pair : Tag → ℕ × Key
+tag_pair tag = (tag.slot, record { selects = false; name = tag.name })
+
+-- the slots of seats and of a table of tags with their keys; the slot that the table has for `sel` stands for each widget's own
+abbrev pub key_pairs : List Named → List Tag → List (ℕ × Key)
+key_pairs seats tags = map seat_pair seats ++ map tag_pair (filter (λ (tag : Tag). not (is_same tag.name sel)) tags)
+
+abbrev pub pair_slots : List (ℕ × Key) → List ℕ
+pair_slots pairs = map (λ (pair : ℕ × Key). pair.0) pairs
 
 -- the keys of a tag list
 abbrev pub keys_named : List ℕ → List (List ℕ) → Keys
@@ -50,3 +62,12 @@ keys_named widget names = set.from_list (map (key_named widget) names)
 -- keys with one of them among them, or without it
 abbrev pub set_key : Key → Bool → Keys → Keys
 set_key key on keys = if on then set.insert keys key else set.remove keys key
+
+-- a character with a finite set of keys
+pub record KeyedCell : Type 0 where
+  pub character : ℕ
+  pub keys : Keys
+
+-- the cells of a store, with the keys that the pairs of a slot and a key give their slots
+abbrev pub keyed : List (ℕ × Key) → List Cell → List KeyedCell
+keyed pairs cells = map (λ (cell : Cell). record { character = cell.character; keys = keys_of pairs cell.tags }) cells

@@ -1,11 +1,12 @@
 -- What every command promises.
-use Rattle.std.specs.Prelude.{◌≡◌, ◌≢◌, length, Result, Ok, Err, IfErr, if◌then◌else◌}
+use Rattle.std.specs.Prelude.{◌≡◌, ◌≢◌, ◌<◌, ◌≤◌, length, Result, Ok, Err, IfErr, if◌then◌else◌}
 use Rattle.text_model.specs.LimitTable.{LimitTable}
 use Rattle.command_parts.specs.declared.answers.Answer.{Answer}
 use Rattle.command_parts.specs.declared.answers.Fault.{Fault}
 use Rattle.command_parts.specs.declared.answers.Fault.TheVariants.{Memory}
-use Rattle.peers.specs.World.{Document, Widget}
-use Rattle.peers.specs.WellFormed.{IsWellFormedDocument}
+use Rattle.documents.specs.Documents.{Document, Widget}
+use Rattle.documents.specs.View.{is_idle}
+use Rattle.documents.specs.WellFormed.{IsWellFormedDocument}
 use Rattle.command_parts.specs.declared.answers.Answer.TheVariants.{Empty}
 
 -- the answer or the fault, and the document after the command
@@ -28,19 +29,21 @@ abbrev pub change_with : {A : Type 0} → Document → Result A Fault → (A →
 change_with document (Err fault) next = refused document fault
 change_with document (Ok value) next = next value
 
--- a command that changes the text leaves it as it is where the widget is disabled
-abbrev pub unless_disabled : Widget → Document → Change → Change
-unless_disabled widget document change = if widget.disabled then answered document Empty else change
+-- a command that changes the text leaves it as it is where the widget is disabled, or shows nothing
+abbrev pub unless_idle : Widget → Document → Change → Change
+unless_idle widget document change = if is_idle document widget then answered document Empty else change
 
 -- a command that reads gives what its definition gives, unless memory is wanted
 abbrev pub Gives : {A : Type 0} → Result A Fault → Result A Fault → Type 0
 Gives result defined = result ≢ Err Memory → result ≡ defined
 
 -- A command of a widget gives and leaves what its definition says, unless memory is wanted. Where it is refused, it leaves the
--- document as it was, and in any case a well-formed one well formed, with its widgets.
+-- document as it was, and in any case a well-formed one well formed, with a
+-- widget and no more than there may be.
 pub record Does (limits : LimitTable) (old new : Document) (result : Result Answer Fault) (change : Change) : Type 0 where
   pub reply : Gives result change.reply
   pub document : result ≢ Err Memory → new ≡ change.document
   pub refused : IfErr result (λ _. new ≡ old)
   pub well_formed : IsWellFormedDocument limits old → IsWellFormedDocument limits new
-  pub widgets : length new.widgets ≡ length old.widgets
+  pub shown : 0 < length old.widgets → 0 < length new.widgets
+  pub few : length old.widgets ≤ limits.widgets → length new.widgets ≤ limits.widgets

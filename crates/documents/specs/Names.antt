@@ -5,10 +5,10 @@ use Rattle.index_grammar.specs.declared.faults.IndexFault.{IndexFault}
 use Rattle.text_index.specs.Views.{own_place, shared_place}
 use Rattle.text_index.specs.Words.{is_word}
 use Rattle.text_index.specs.Meanings.{Meanings, word_value}
-use Rattle.peers.specs.Keys.{Key, key_named}
+use Rattle.documents.specs.Keys.{Key, key_named}
 use Rattle.command_parts.specs.Words.{is_same, literal}
-use Rattle.peers.specs.World.{Document, Widget, SharedMark}
-use Rattle.peers.specs.View.{view_start, view_end, shown, shown_flags}
+use Rattle.documents.specs.Documents.{Document, Widget, SharedMark}
+use Rattle.documents.specs.View.{view_start, view_end, shown, shown_flags}
 
 -- the marks that a widget can name: its own `insert` and `current`, and the shared ones by creation
 abbrev pub mark_number : Document → List ℕ → Option ℕ

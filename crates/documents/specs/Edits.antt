@@ -8,8 +8,8 @@ use Rattle.undo_stack.specs.declared.actions.Action.{Action}
 use Rattle.undo_stack.specs.declared.actions.EditKind.{EditKind}
 use Rattle.edit_ops.specs.Anchors.{anchor_moved, anchors_removed}
 use Rattle.edit_ops.specs.declared.spans.Span.{Span}
-use Rattle.peers.specs.Keys.{Key, Keys, set_key}
-use Rattle.peers.specs.World.{Document, Widget, SharedMark, KeyedCell, characters}
+use Rattle.documents.specs.Keys.{Key, Keys, set_key}
+use Rattle.documents.specs.Documents.{Document, Widget, SharedMark, KeyedCell, characters}
 
 -- a text to be put in, with the keys of each of its characters where it has a tag list
 pub record KeyedText : Type 0 where

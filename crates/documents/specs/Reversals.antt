@@ -6,10 +6,11 @@ use Rattle.undo_stack.specs.declared.actions.Action.{Action}
 use Rattle.edit_ops.specs.Reversals.{redo_end, undo_end}
 use Rattle.command_parts.specs.declared.answers.Answer.TheVariants.{Empty}
 use Rattle.command_parts.specs.declared.answers.Fault.TheVariants.{NothingToRedo, NothingToUndo}
-use Rattle.peers.specs.Deletions.{with_clipped}
-use Rattle.peers.specs.Edits.{keys_between, with_cells, without_cells}
-use Rattle.peers.specs.Promise.{Change, answered, refused}
-use Rattle.peers.specs.World.{Document, Widget}
+use Rattle.documents.specs.Deletions.{with_clipped}
+use Rattle.documents.specs.Edits.{keys_between, with_cells, without_cells}
+use Rattle.documents.specs.View.{is_idle}
+use Rattle.documents.specs.Promise.{Change, answered, refused}
+use Rattle.documents.specs.Documents.{Document, Widget}
 
 -- a text comes back at a place, with the keys that both its neighbours have
 abbrev pub text_back : ℕ → List ℕ → Document → Document
@@ -52,14 +53,14 @@ redone widget group document = record (with_end widget (redo_end group) (group_a
   modified = times (length group) counted_up document.modified;
 }
 
--- a disabled widget leaves the text as it is
+-- a widget that is disabled, or shows nothing, leaves the text as it is
 abbrev pub undo_found : Document → Widget → Option (List Action) → Change
 undo_found document widget None = refused document NothingToUndo
-undo_found document widget (Some group) = answered (if widget.disabled then document else undone widget group document) Empty
+undo_found document widget (Some group) = answered (if is_idle document widget then document else undone widget group document) Empty
 
 abbrev pub redo_found : Document → Widget → Option (List Action) → Change
 redo_found document widget None = refused document NothingToRedo
-redo_found document widget (Some group) = answered (if widget.disabled then document else redone widget group document) Empty
+redo_found document widget (Some group) = answered (if is_idle document widget then document else redone widget group document) Empty
 
 -- `W edit undo`: nothing happens where no action is kept
 abbrev pub edit_undo : Document → Widget → Change

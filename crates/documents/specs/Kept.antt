@@ -1,0 +1,89 @@
+-- What holds of how a document is kept, at any time.
+use Rattle.std.specs.Prelude.{◌≡◌, ℕ, ◌+◌, ◌*◌, ◌<◌, ◌≤◌, ◌==◌, Bool, true, false, List, [], ◌∷◌, length, is_some, Contains, Some, option_map}
+use Rattle.std.specs.FinMap as finite
+use Rattle.std.specs.FinSet as set
+use Rattle.std.specs.List.{All, AllByRecursion}
+use Rattle.text_model.specs.declared.cells.Cell.{Cell}
+use Rattle.text_model.specs.declared.limits.TheConstants.Limits.{MOST_CHARS, MOST_MARKS, MOST_TAGS, MOST_WIDGETS}
+use Rattle.text_model.specs.declared.places.Place.{Place}
+use Rattle.text_model.specs.Content.{Content, Marks, characters}
+use Rattle.text_model.specs.Documents.{IsDocument, MarksStand}
+use Rattle.name_list.specs.Names.{AreNames, Named, Names}
+use Rattle.mark_table.specs.SharedMarks.{AreMarks, Mark, SharedMarks}
+use Rattle.tag_table.specs.Tags.{Tag, Tags, AreTags}
+use Rattle.undo_stack.specs.History.{limit_of}
+use Rattle.edit_ops.specs.Anchors.{AreAnchored}
+use Rattle.command_parts.specs.Words.{is_own}
+use Rattle.documents.specs.Keys.{key_pairs, pair_slots}
+use Rattle.documents.specs.Documents.{Document, Journal, Parts, document_of}
+
+-- a dot and at least one more character
+abbrev pub is_window_name : List ℕ → Bool
+is_window_name [] = false
+is_window_name (character ∷ []) = false
+is_window_name (character ∷ other ∷ others) = character == 46
+
+-- every slot on a cell is that of a widget's `sel`, or of a tag
+abbrev pub HasKnownSlots : List Named → List Tag → Cell → Type 0
+HasKnownSlots seats tags cell = (slot : ℕ) → set.contains cell.tags slot ≡ true → Contains (pair_slots (key_pairs seats tags)) slot
+
+-- the two marks of a widget's own stand in the store
+pub record HasOwnMarks (places : Marks) (seat : Named) : Type 0 where
+  pub insert : is_some (finite.get places (2 * seat.number)) ≡ true
+  pub current : is_some (finite.get places (2 * seat.number + 1)) ≡ true
+
+-- each name is a window's, and each widget has a slot of its own
+pub record AreSeats (seats : Names) : Type 0 where
+  pub names : AreNames seats
+  pub limit : seats.limit ≡ MOST_WIDGETS
+  pub named : AllByRecursion (λ (seat : Named). is_window_name seat.name ≡ true) seats.entries
+
+-- The text is a document's and no longer than any text may be, marks stand in it, among them each widget's own two, and its
+-- characters have the slots of widgets and tags alone.
+pub record IsKept (seats : Names) (table : Tags) (content : Content) : Type 0 where
+  pub seats : AreSeats seats
+  pub text : IsDocument (characters content.cells)
+  pub short : length content.cells ≤ MOST_CHARS
+  pub marks : MarksStand content
+  pub own : AllByRecursion (HasOwnMarks content.marks) seats.entries
+  pub known : All (HasKnownSlots seats.entries table.tags) content.cells
+  pub tags : AreTags table
+  pub roomy : table.limit ≡ MOST_TAGS
+
+-- a mark of the table stands in the store, there with the table's gravity, and it isn't called as a widget's own
+pub record IsMarked (places : Marks) (mark : Mark) : Type 0 where
+  pub stands : option_map (λ (place : Place). place.gravity) (finite.get places mark.number) ≡ Some mark.gravity
+  pub shared : is_own mark.name ≡ false
+
+-- the table of shared marks and the marks of the store are the same
+pub record AreMarked (table : SharedMarks) (places : Marks) : Type 0 where
+  pub marks : AreMarks table
+  pub roomy : table.limit ≡ MOST_MARKS
+  pub each : AllByRecursion (IsMarked places) table.marks
+
+-- The history is bounded as the option says, and nothing is in it where no action is kept.
+pub record IsOrderly (journal : Journal) : Type 0 where
+  pub most : journal.log.most ≡ limit_of journal.settings.most_undo
+  pub groups : journal.settings.undo ≡ false → journal.log.history.groups ≡ []
+  pub undone : journal.settings.undo ≡ false → journal.log.history.undone ≡ []
+
+-- a widget has anchors, and is disabled or not, by its slot
+pub record IsSeated (journal : Journal) (seat : Named) : Type 0 where
+  pub anchors : seat.number < length journal.anchors
+  pub disabled : seat.number < length journal.disabled
+
+-- each widget has its anchors, and all of them stand at line starts, or where the text ends
+pub record AreViews (seats : List Named) (journal : Journal) (content : Content) : Type 0 where
+  pub anchored : All (AreAnchored (characters content.cells)) journal.anchors
+  pub seated : AllByRecursion (IsSeated journal) seats
+
+pub record IsSound (parts : Parts) : Type 0 where
+  pub kept : IsKept parts.seats parts.tags parts.content
+  pub marked : AreMarked parts.marks parts.content.marks
+  pub orderly : IsOrderly parts.journal
+  pub views : AreViews parts.seats.entries parts.journal parts.content
+
+-- a document is kept so
+pub record Stands (parts : Parts) (document : Document) : Type 0 where
+  pub sound : IsSound parts
+  pub is : document_of parts ≡ document

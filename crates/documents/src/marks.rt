@@ -1,0 +1,239 @@
+ghost use Rattle.std.specs.Prelude.{◌≡◌, ◌≢◌, ℕ, true, suc, None, Some, is_some, ◌+◌, ◌-◌, ◌<◌, ◌≤◌, min, length, chars, map, slice_range, option_map, nat_lt, nat_le, Ok, Err, IfOk, IfErr, OnOk, OnErr, [], IfSome, slice_index_or};
+ghost use Rattle.std.specs.List.{All};
+ghost use Rattle.text_model.specs.LimitTable.{LimitTable, AreLimits};
+ghost use Rattle.text_index.specs.Positions.{position_text};
+ghost use Rattle.documents.specs.Documents.{widget_at};
+ghost use Rattle.documents.specs.View.{is_idle, shown, view_end, view_start};
+ghost use Rattle.documents.specs.Widgets.{is_kept, new_document, widget_named, with_peer, without_widgets};
+ghost use Rattle.documents.specs.Kept.{is_window_name};
+ghost use Rattle.documents.specs.WellFormed.{IsWellFormedDocument, window_names};
+ghost use Rattle.command_parts.specs.Faults.{at_position};
+ghost use Rattle.documents.specs.Promise.{Gives, Does, answered};
+ghost use Rattle.documents.specs.Indices.{place_at};
+ghost use Rattle.documents.specs.Deletions.{delete_places, replace_span};
+ghost use Rattle.search_dump.specs.Counts.{counted};
+ghost use Rattle.search_dump.specs.Dump.{dump_elements};
+ghost use Rattle.search_dump.specs.Matches.{search_result};
+ghost use Rattle.documents.specs.Queries.{seen};
+ghost use Rattle.documents.specs.Texts.{insert_at, insertion_offset};
+ghost use Rattle.command_parts.specs.Lists.{total, with_name, with_names, all_names};
+ghost use Rattle.command_parts.specs.declared.answers.Fault.TheVariants.{Memory, TooManyTags};
+ghost use Rattle.edit_ops.specs.States.{log_of};
+ghost use Rattle.edit_ops.specs.Tagging.{SpanFits, tagged};
+ghost use Rattle.tag_table.specs.Tags.{AreTags, names_of, slot_of};
+ghost use Rattle.text_model.specs.declared.limits.TheConstants.Limits.{MOST_TAGS};
+ghost use Rattle.std.specs.Char.{IsScalar};
+ghost use Rattle.tcl_words.specs.ListText.{list_text};
+ghost use Rattle.tcl_words.specs.Unread.{texts_of};
+ghost use Rattle.text_index.specs.Ranges.{tag_ranges, next_range, previous_range};
+ghost use Rattle.documents.specs.Tags.{flags_of, tags_on, add_spans, remove_spans, tag_delete, reordered, raised, lowered};
+ghost use Rattle.command_parts.specs.Listing.{range_words, begun};
+ghost use Rattle.command_parts.specs.Words.{is_among};
+ghost use Rattle.mark_table.specs.Order.{next_mark, previous_mark, rank_of};
+ghost use Rattle.command_parts.specs.declared.answers.Answer.TheVariants.{Empty};
+ghost use Rattle.documents.specs.History.{edit_reset, edit_separator, modified_set};
+ghost use Rattle.documents.specs.Options.{settings_of, with_settings};
+ghost use Rattle.documents.specs.Reversals.{edit_redo, edit_undo};
+ghost use Rattle.undo_stack.specs.Modified.{is_modified};
+ghost use Rattle.documents.specs.Names.{mark_number, mark_place};
+ghost use Rattle.command_parts.specs.Marking.{gravity_word as spec_gravity_word};
+ghost use Rattle.documents.specs.Marks.{mark_names, mark_offset, mark_unset, place_named, set_found, usable_marks, with_current, with_insert, with_mark, with_shared};
+
+use crate::documents::Document;
+use crate::views::{end_of, mark_view_of, start_of};
+use command_parts::{Answer, Fault, gravity_word, is_word, make_mark, numbers_named, push_mark_names, put_mark, take_marks, turn_mark, unset_names};
+use mark_table::{Origin, WidgetMark};
+use std::alloc::AllocError;
+use text_model::{Gravity, Limits, MarkNo, Place, Text, TextStore};
+
+impl<S: TextStore> Document<S> {
+    /// The mark of a name: a widget's own, or a shared one.
+    pub fn find_mark(&self, name: &str) -> Option<WidgetMark>
+        ensures { option_map rank_of result ≡ mark_number self.now (chars name.now) }
+    {
+        if is_word(name, "insert") {
+            return Some(WidgetMark::Insert);
+        }
+        if is_word(name, "current") {
+            return Some(WidgetMark::Current);
+        }
+        let number = self.marks.find(name)?;
+        Some(WidgetMark::Shared(self.marks.place(number)?))
+    }
+
+    /// Where the mark of a name stands in the document, if there is one.
+    pub fn place_named(&self, widget: usize, name: &str) -> Option<Place>
+        requires shown { widget < length self.now.widgets }
+        ensures value { result ≡ place_named self.now (widget_at self.now widget) (chars name.now) }
+        ensures within { IfSome result (λ place. place.offset ≤ length self.now.cells) }
+    {
+        if is_word(name, "insert") {
+            return self.store.mark_place(MarkNo(2 * self.seats.number(widget)));
+        }
+        if is_word(name, "current") {
+            return self.store.mark_place(MarkNo(2 * self.seats.number(widget) + 1));
+        }
+        self.store.mark_place(self.marks.find(name)?)
+    }
+
+    /// The offset for a mark of a name at a place: of the widget's own, the end is the last character.
+    pub fn mark_offset(&self, widget: usize, name: &str, place: usize) -> usize
+        requires shown { widget < length self.now.widgets }
+        requires { place ≤ length (shown self.now (widget_at self.now widget)) }
+        ensures value { result ≡ mark_offset self.now (widget_at self.now widget) (chars name.now) place }
+        ensures within { result ≤ length self.now.cells }
+    {
+        let slot = self.seats.number(widget);
+        let start = start_of(&self.anchors, slot);
+        if is_word(name, "insert") || is_word(name, "current") {
+            let end = end_of(&self.anchors, slot, self.store.len());
+            start + place.min((end - start).saturating_sub(1))
+        } else {
+            start + place
+        }
+    }
+
+    /// The word for a gravity.
+    pub fn gravity_text(&self, gravity: Gravity) -> Result<Text, AllocError>
+        ensures { IfOk result (λ text. text ≡ spec_gravity_word gravity) }
+    {
+        Ok(Text::new(String::from_str(self.alloc, gravity_word(gravity))?))
+    }
+
+    /// The names of all marks as a list: the widget's own two, and the shared ones by their creation.
+    pub fn all_marks(&self) -> Result<Text, AllocError>
+        ensures { IfOk result (λ list. list ≡ list_text (mark_names self.now)) }
+    {
+        let mut list = String::new(self.alloc);
+        push_mark_names(&mut list, &self.marks)?;
+        Ok(Text::new(list))
+    }
+
+    /// The name of a mark.
+    pub fn mark_name(&self, mark: WidgetMark) -> Result<Text, AllocError>
+        ensures { IfOk result (λ text. text ≡ slice_index_or (mark_names self.now) (rank_of mark) []) }
+    {
+        let name = match mark {
+            WidgetMark::Insert => "insert",
+            WidgetMark::Current => "current",
+            WidgetMark::Shared(place) if place < self.marks.len() => self.marks.name(place),
+            WidgetMark::Shared(_) => "",
+        };
+        Ok(Text::new(String::from_str(self.alloc, name)?))
+    }
+
+    /// The mark behind another one in the order of marks, or the first at or behind a place.
+    pub fn next_mark(&self, widget: usize, origin: Origin) -> Option<WidgetMark>
+        requires shown { widget < length self.now.widgets }
+        ensures { result ≡ next_mark origin (usable_marks self.now (widget_at self.now widget)) }
+    {
+        let view = mark_view_of(&self.anchors, self.seats.number(widget), self.store.len());
+        self.marks.next(&self.store, view, origin)
+    }
+
+    /// The mark before another one in the order of marks, or the last before a place.
+    pub fn previous_mark(&self, widget: usize, origin: Origin) -> Option<WidgetMark>
+        requires shown { widget < length self.now.widgets }
+        ensures { result ≡ previous_mark origin (usable_marks self.now (widget_at self.now widget)) }
+    {
+        let view = mark_view_of(&self.anchors, self.seats.number(widget), self.store.len());
+        self.marks.previous(&self.store, view, origin)
+    }
+}
+
+impl<S: TextStore> Document<S> {
+    /// Puts the widget's `insert` at a place.
+    fn put_insert(&mut self, limits: &Limits, widget: usize, place: Place) -> Result<Answer, Fault>
+        requires shown { widget < length self.old.widgets }
+        requires { place.offset ≤ length self.old.cells }
+        ensures { Does limits.now self.old self.new result (answered (with_insert self.old (widget_at self.old widget) place) Empty) }
+    {
+        match put_mark(self.alloc, &mut self.store, MarkNo(2 * self.seats.number(widget)), place) {
+            Err(_) => Err(Fault::Memory),
+            Ok(()) => Ok(Answer::Empty),
+        }
+    }
+
+    /// Puts the widget's `current` at a place.
+    fn put_current(&mut self, limits: &Limits, widget: usize, place: Place) -> Result<Answer, Fault>
+        requires shown { widget < length self.old.widgets }
+        requires { place.offset ≤ length self.old.cells }
+        ensures { Does limits.now self.old self.new result (answered (with_current self.old (widget_at self.old widget) place) Empty) }
+    {
+        match put_mark(self.alloc, &mut self.store, MarkNo(2 * self.seats.number(widget) + 1), place) {
+            Err(_) => Err(Fault::Memory),
+            Ok(()) => Ok(Answer::Empty),
+        }
+    }
+
+    /// Puts the shared mark of a name at a place, if there is one.
+    fn put_shared(&mut self, limits: &Limits, name: &str, place: Place) -> Result<Answer, Fault>
+        requires { place.offset ≤ length self.old.cells }
+        ensures { Does limits.now self.old self.new result (answered (with_shared self.old (chars name.now) place) Empty) }
+    {
+        let Some(number) = self.marks.find(name) else {
+            return Ok(Answer::Empty);
+        };
+        match turn_mark(
+            self.alloc,
+            &mut self.marks,
+            &mut self.store,
+            name,
+            number,
+            place,
+        ) {
+            Err(_) => Err(Fault::Memory),
+            Ok(()) => Ok(Answer::Empty),
+        }
+    }
+
+    /// Puts the mark of a name at a place, if there is one.
+    pub fn put_mark(&mut self, limits: &Limits, widget: usize, name: &str, place: Place) -> Result<Answer, Fault>
+        requires shown { widget < length self.old.widgets }
+        requires { place.offset ≤ length self.old.cells }
+        ensures { Does limits.now self.old self.new result (answered (with_mark self.old (widget_at self.old widget) (chars name.now) place) Empty) }
+    {
+        if is_word(name, "insert") {
+            self.put_insert(limits, widget, place)
+        } else if is_word(name, "current") {
+            self.put_current(limits, widget, place)
+        } else {
+            self.put_shared(limits, name, place)
+        }
+    }
+
+    /// Makes a shared mark at an offset, with right gravity, unless there are too many.
+    pub fn make_mark(&mut self, limits: &Limits, widget: usize, name: &str, offset: usize) -> Result<Answer, Fault>
+        requires shown { widget < length self.old.widgets }
+        requires within { offset ≤ length self.old.cells }
+        requires new { place_named self.old (widget_at self.old widget) (chars name.now) ≡ None }
+        ensures { Does limits.now self.old self.new result (set_found limits.now self.old (widget_at self.old widget) (chars name.now) offset None) }
+    {
+        // Where one of the limits is read, all are known to be in their bounds.
+        let _chars = limits.chars();
+        if self.marks.len() >= limits.marks() as usize {
+            return Err(Fault::TooManyMarks);
+        }
+        match make_mark(self.alloc, &mut self.marks, &mut self.store, name, offset) {
+            Err(fault) => Err(fault),
+            Ok(()) => Ok(Answer::Empty),
+        }
+    }
+
+    /// Takes the shared marks of these names out. The widget's own and unknown names are skipped.
+    pub fn unset_marks(&mut self, limits: &Limits, names: &[String]) -> Result<Answer, Fault>
+        ensures { Does limits.now self.old self.new result (mark_unset self.old (texts_of names.now)) }
+    {
+        let numbers = numbers_named(self.alloc, &self.marks, names)?;
+        match take_marks(self.alloc, &mut self.store, &numbers) {
+            Err(_) => Err(Fault::Memory),
+            Ok(()) => {
+                unset_names(&mut self.marks, names);
+                // Where the marks are counted, they are known to be those of a table.
+                let _count = self.marks.len();
+                Ok(Answer::Empty)
+            }
+        }
+    }
+}
+

@@ -1,0 +1,113 @@
+//! The names of widgets with their slots, and what is kept by slot.
+
+ghost use Rattle.std.specs.Prelude.{◌≡◌, ◌<◌, ◌≤◌, ◌++◌, ◌∷◌, [], length, take, drop, map, filter, filter_map, not, chars, IfOk, OnOk, OnErr};
+ghost use Rattle.std.specs.List.{All};
+ghost use Rattle.text_model.specs.declared.limits.TheConstants.Limits.{MOST_WIDGETS};
+ghost use Rattle.name_list.specs.Names.{AreNames, IsLeastFree, Named, numbers_of, place_of};
+ghost use Rattle.tcl_words.specs.Unread.{texts_of};
+ghost use Rattle.command_parts.specs.Edits.{new_mark, with_own_marks};
+ghost use Rattle.command_parts.specs.Words.{is_among};
+ghost use Rattle.documents.specs.Documents.{whole};
+ghost use Rattle.documents.specs.Seats.{numbers_left_out, seats_left};
+
+use command_parts::{WHOLE, is_word, put_widget_marks};
+use edit_ops::Anchors;
+use name_list::NameList;
+use std::alloc::{AllocError, Global};
+use text_model::{TagSlot, TextStore};
+
+/// Makes a list long enough for a slot, by adding a value again and again.
+fn make_room<T: Copy>(list: &mut Vec<T>, value: T, slot: u16) -> Result<(), AllocError>
+    ensures long { OnOk result (slot < length list.new.items) }
+    ensures longer { length list.old.items ≤ length list.new.items }
+    ensures front { take (length list.old.items) list.new.items ≡ list.old.items }
+    ensures behind { All (λ other. other ≡ value) (drop (length list.old.items) list.new.items) }
+{
+    while list.len() <= slot as usize {
+        list.push(value)?;
+    }
+    Ok(())
+}
+
+/// Puts the name of a new widget last and gives it the least free slot, for which what is kept by slot gets long enough, with its
+/// own two marks at an offset. Where memory is refused, the name may stand behind the others.
+pub fn make_seat<S: TextStore>(
+    alloc: Global,
+    seats: &mut NameList,
+    disabled: &mut Vec<bool>,
+    anchors: &mut Vec<Anchors>,
+    store: &mut S,
+    name: &str,
+    offset: usize,
+) -> Result<usize, AllocError>
+    requires new { place_of (chars name.now) seats.old.entries ≡ None }
+    requires few { length seats.old.entries < seats.old.limit }
+    requires slots { seats.old.limit ≡ MOST_WIDGETS }
+    requires within { offset ≤ length (S.content store.old).cells }
+    ensures least { IfOk result (IsLeastFree (numbers_of seats.old.entries)) }
+    ensures below { IfOk result (λ slot. slot < MOST_WIDGETS) }
+    ensures last { IfOk result (λ slot. seats.new ≡ record seats.old { entries = seats.old.entries ++ record { name = chars name.now; number = slot } ∷ [] }) }
+    ensures sound { AreNames seats.new }
+    ensures store { IfOk result (λ slot. S.content store.new ≡ with_own_marks slot (record new_mark { offset = offset }) (S.content store.old)) }
+    ensures room { IfOk result (λ slot. (slot < length disabled.new.items) × (slot < length anchors.new.items)) }
+    ensures disabled { take (length disabled.old.items) disabled.new.items ≡ disabled.old.items }
+    ensures anchors { take (length anchors.old.items) anchors.new.items ≡ anchors.old.items }
+    ensures behind { All (λ other. other ≡ whole) (drop (length anchors.old.items) anchors.new.items) }
+    ensures front { take (length seats.old.entries) seats.new.entries ≡ seats.old.entries }
+    ensures limit { seats.new.limit ≡ seats.old.limit }
+    ensures err { OnErr result (S.content store.new ≡ S.content store.old) }
+{
+    let Some(slot) = seats.create(String::from_str(alloc, name)?)? else {
+        unreachable!()
+    };
+    make_room(disabled, false, slot)?;
+    make_room(anchors, WHOLE, slot)?;
+    put_widget_marks(alloc, store, TagSlot(slot), offset)?;
+    Ok(slot as usize)
+}
+
+/// Whether a name is one of these.
+pub fn is_among(name: &str, names: &[String]) -> bool
+    ensures { result ≡ is_among (chars name.now) (texts_of names.now) }
+{
+    for other in names {
+        if is_word(name, other.as_str()) {
+            return true;
+        }
+    }
+    false
+}
+
+/// The slots of the widgets of these names.
+pub fn slots_named(
+    alloc: Global,
+    seats: &NameList,
+    names: &[String],
+) -> Result<Vec<TagSlot>, AllocError>
+    requires { seats.now.limit ≡ MOST_WIDGETS }
+    ensures value { IfOk result (λ slots. map (λ slot. slot.0) slots.items ≡ numbers_left_out (texts_of names.now) seats.now.entries) }
+    ensures bound { IfOk result (λ slots. All (λ slot. slot.0 < MOST_WIDGETS) slots.items) }
+{
+    let mut slots = Vec::with_capacity(alloc, seats.len())?;
+    for place in 0..seats.len() {
+        if is_among(seats.name(place), names) {
+            slots.push(TagSlot(seats.number(place)))?;
+        }
+    }
+    Ok(slots)
+}
+
+/// Takes the widgets of these names out.
+pub fn remove_seats(seats: &mut NameList, names: &[String])
+    ensures value { seats.new ≡ record seats.old { entries = seats_left (texts_of names.now) seats.old.entries } }
+    ensures sound { AreNames seats.new }
+{
+    let mut place = seats.len();
+    while place > 0 {
+        place -= 1;
+        if is_among(seats.name(place), names) {
+            seats.remove(place);
+        }
+    }
+    let _count = seats.len();
+}

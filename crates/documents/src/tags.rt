@@ -1,0 +1,260 @@
+ghost use Rattle.std.specs.Prelude.{◌≡◌, ◌≢◌, ℕ, true, suc, None, Some, is_some, ◌+◌, ◌-◌, ◌<◌, ◌≤◌, min, length, chars, map, slice_range, option_map, nat_lt, nat_le, Ok, Err, IfOk, IfErr, OnOk, OnErr, [], IfSome, slice_index_or};
+ghost use Rattle.std.specs.List.{All};
+ghost use Rattle.text_model.specs.LimitTable.{LimitTable, AreLimits};
+ghost use Rattle.text_index.specs.Positions.{position_text};
+ghost use Rattle.documents.specs.Documents.{widget_at};
+ghost use Rattle.documents.specs.View.{is_idle, shown, view_end, view_start};
+ghost use Rattle.documents.specs.Widgets.{is_kept, new_document, widget_named, with_peer, without_widgets};
+ghost use Rattle.documents.specs.Kept.{is_window_name};
+ghost use Rattle.documents.specs.WellFormed.{IsWellFormedDocument, window_names};
+ghost use Rattle.command_parts.specs.Faults.{at_position};
+ghost use Rattle.documents.specs.Promise.{Gives, Does, answered};
+ghost use Rattle.documents.specs.Indices.{place_at};
+ghost use Rattle.documents.specs.Deletions.{delete_places, replace_span};
+ghost use Rattle.search_dump.specs.Counts.{counted};
+ghost use Rattle.search_dump.specs.Dump.{dump_elements};
+ghost use Rattle.search_dump.specs.Matches.{search_result};
+ghost use Rattle.documents.specs.Queries.{seen};
+ghost use Rattle.documents.specs.Texts.{insert_at, insertion_offset};
+ghost use Rattle.command_parts.specs.Lists.{total, with_name, with_names, all_names};
+ghost use Rattle.command_parts.specs.declared.answers.Fault.TheVariants.{Memory, TooManyTags};
+ghost use Rattle.edit_ops.specs.States.{log_of};
+ghost use Rattle.edit_ops.specs.Tagging.{SpanFits, tagged};
+ghost use Rattle.tag_table.specs.Tags.{AreTags, names_of, slot_of};
+ghost use Rattle.text_model.specs.declared.limits.TheConstants.Limits.{MOST_TAGS};
+ghost use Rattle.std.specs.Char.{IsScalar};
+ghost use Rattle.tcl_words.specs.ListText.{list_text};
+ghost use Rattle.tcl_words.specs.Unread.{texts_of};
+ghost use Rattle.text_index.specs.Ranges.{tag_ranges, next_range, previous_range};
+ghost use Rattle.documents.specs.Tags.{flags_of, tags_on, add_spans, remove_spans, tag_delete, reordered, raised, lowered};
+ghost use Rattle.command_parts.specs.Listing.{range_words, begun};
+ghost use Rattle.command_parts.specs.Words.{is_among};
+ghost use Rattle.mark_table.specs.Order.{next_mark, previous_mark, rank_of};
+ghost use Rattle.command_parts.specs.declared.answers.Answer.TheVariants.{Empty};
+ghost use Rattle.documents.specs.History.{edit_reset, edit_separator, modified_set};
+ghost use Rattle.documents.specs.Options.{settings_of, with_settings};
+ghost use Rattle.documents.specs.Reversals.{edit_redo, edit_undo};
+ghost use Rattle.undo_stack.specs.Modified.{is_modified};
+ghost use Rattle.documents.specs.Names.{mark_number, mark_place};
+ghost use Rattle.command_parts.specs.Marking.{gravity_word as spec_gravity_word};
+ghost use Rattle.documents.specs.Marks.{mark_names, mark_offset, mark_unset, place_named, set_found, usable_marks, with_current, with_insert, with_mark, with_shared};
+
+use crate::documents::Document;
+use crate::views::{end_of, start_of, view_of};
+use command_parts::{
+    Answer, Fault, clear_slots, delete_names, deleted_slots, find_tag, push_names, push_names_in, push_next, push_previous,
+    push_ranges, set_slot, spans_of, tag_spans,
+};
+use std::alloc::AllocError;
+use tag_table::NoSuchTag;
+use text_model::{Limits, TagSlot, Text, TextStore};
+
+impl<S: TextStore> Document<S> {
+    /// The names of all tags as a list, from the lowest.
+    pub fn all_tags(&self) -> Result<Text, AllocError>
+        ensures { IfOk result (λ list. list ≡ list_text self.now.tags) }
+    {
+        let mut list = String::new(self.alloc);
+        push_names(&mut list, &self.tags)?;
+        Ok(Text::new(list))
+    }
+
+    /// The names of the tags of the character at a place as a list, from the lowest; none at the end.
+    pub fn tags_on(&self, widget: usize, place: usize) -> Result<Text, AllocError>
+        requires shown { widget < length self.now.widgets }
+        requires { place ≤ length (shown self.now (widget_at self.now widget)) }
+        ensures { IfOk result (λ list. list ≡ list_text (tags_on self.now (widget_at self.now widget) place)) }
+    {
+        let mut list = String::new(self.alloc);
+        let slot = self.seats.number(widget);
+        let offset = start_of(&self.anchors, slot) + place;
+        if offset == end_of(&self.anchors, slot, self.store.len()) {
+            return Ok(Text::new(list));
+        }
+        push_names_in(&mut list, &self.tags, TagSlot(slot), self.store.tags_at(offset))?;
+        Ok(Text::new(list))
+    }
+
+    /// Where the ranges of a tag begin and end, as a list; none of an unknown tag.
+    pub fn ranges_of(&self, widget: usize, name: &str) -> Result<Text, AllocError>
+        requires shown { widget < length self.now.widgets }
+        ensures { IfOk result (λ list. list ≡ list_text (range_words (shown self.now (widget_at self.now widget))
+            (tag_ranges (flags_of self.now (widget_at self.now widget) (chars name.now))))) }
+    {
+        let mut list = String::new(self.alloc);
+        let number = self.seats.number(widget);
+        let Some(slot) = find_tag(&self.tags, TagSlot(number), name) else {
+            return Ok(Text::new(list));
+        };
+        let view = view_of(&self.store, &self.anchors, number);
+        push_ranges(&mut list, &view, slot)?;
+        Ok(Text::new(list))
+    }
+
+    /// Where the first range of a tag begins and ends that begins at a place or behind it, as a list, if it begins before another.
+    pub fn next_listed(&self, widget: usize, name: &str, from: usize, to: usize) -> Result<Text, AllocError>
+        requires shown { widget < length self.now.widgets }
+        requires { from ≤ length (shown self.now (widget_at self.now widget)) }
+        ensures { IfOk result (λ list. list ≡ list_text (range_words (shown self.now (widget_at self.now widget))
+            (begun (λ start. nat_lt start to) (next_range (flags_of self.now (widget_at self.now widget) (chars name.now)) from)))) }
+    {
+        let mut list = String::new(self.alloc);
+        let number = self.seats.number(widget);
+        let Some(slot) = find_tag(&self.tags, TagSlot(number), name) else {
+            return Ok(Text::new(list));
+        };
+        let view = view_of(&self.store, &self.anchors, number);
+        push_next(&mut list, &view, slot, from, to)?;
+        Ok(Text::new(list))
+    }
+
+    /// Where the last range of a tag begins and ends that begins before a place, as a list, if it doesn't begin before another.
+    pub fn previous_listed(&self, widget: usize, name: &str, from: usize, to: usize) -> Result<Text, AllocError>
+        requires shown { widget < length self.now.widgets }
+        requires { from ≤ length (shown self.now (widget_at self.now widget)) }
+        ensures { IfOk result (λ list. list ≡ list_text (range_words (shown self.now (widget_at self.now widget))
+            (begun (λ start. nat_le to start) (previous_range (flags_of self.now (widget_at self.now widget) (chars name.now)) from)))) }
+    {
+        let mut list = String::new(self.alloc);
+        let number = self.seats.number(widget);
+        let Some(slot) = find_tag(&self.tags, TagSlot(number), name) else {
+            return Ok(Text::new(list));
+        };
+        let view = view_of(&self.store, &self.anchors, number);
+        push_previous(&mut list, &view, slot, from, to)?;
+        Ok(Text::new(list))
+    }
+}
+
+impl<S: TextStore> Document<S> {
+    /// Puts a tag on the ranges between pairs of places, and makes it if it is new.
+    pub fn add_spans(
+        &mut self,
+        limits: &Limits,
+        widget: usize,
+        name: &str,
+        places: &[usize],
+    ) -> Result<Answer, Fault>
+        requires shown { widget < length self.old.widgets }
+        requires { All (λ place. place ≤ length (shown self.old (widget_at self.old widget))) places.now }
+        ensures { Does limits.now self.old self.new result (add_spans limits.now self.old (widget_at self.old widget) (chars name.now) places.now) }
+    {
+        let number = self.seats.number(widget);
+        let start = start_of(&self.anchors, number);
+        let len = end_of(&self.anchors, number, self.store.len()) - start;
+        let spans = spans_of(self.alloc, start, len, places)?;
+        let front = self.tags.len();
+        let tagged = tag_spans(
+            self.alloc,
+            limits,
+            &mut self.tags,
+            TagSlot(number),
+            &mut self.store,
+            &mut self.history,
+            name,
+            &spans,
+        );
+        match tagged {
+            Ok(()) => Ok(Answer::Empty),
+            Err(fault) => {
+                self.tags.truncate(front);
+                Err(fault)
+            }
+        }
+    }
+
+    /// Takes a tag off the ranges between pairs of places, if there is one of that name.
+    pub fn remove_spans(
+        &mut self,
+        limits: &Limits,
+        widget: usize,
+        name: &str,
+        places: &[usize],
+    ) -> Result<Answer, Fault>
+        requires shown { widget < length self.old.widgets }
+        requires { All (λ place. place ≤ length (shown self.old (widget_at self.old widget))) places.now }
+        ensures { Does limits.now self.old self.new result (remove_spans self.old (widget_at self.old widget) (chars name.now) places.now) }
+    {
+        let number = self.seats.number(widget);
+        let Some(slot) = find_tag(&self.tags, TagSlot(number), name) else {
+            return Ok(Answer::Empty);
+        };
+        let start = start_of(&self.anchors, number);
+        let len = end_of(&self.anchors, number, self.store.len()) - start;
+        let spans = spans_of(self.alloc, start, len, places)?;
+        match set_slot(
+            self.alloc,
+            &mut self.store,
+            &mut self.history,
+            &spans,
+            slot,
+            false,
+        ) {
+            Ok(()) => Ok(Answer::Empty),
+            Err(fault) => Err(fault),
+        }
+    }
+
+    /// Takes tags off all characters, and their names out. `sel` and unknown names are skipped.
+    pub fn delete_tags(&mut self, limits: &Limits, names: &[String]) -> Result<Answer, Fault>
+        ensures { Does limits.now self.old self.new result (tag_delete self.old (texts_of names.now)) }
+    {
+        let slots = deleted_slots(self.alloc, &self.tags, names)?;
+        match clear_slots(self.alloc, &mut self.store, &mut self.history, &slots) {
+            Err(fault) => Err(fault),
+            Ok(()) => {
+                delete_names(&mut self.tags, names);
+                // Where the tags are counted, they are known to be those of a table.
+                let _count = self.tags.len();
+                Ok(Answer::Empty)
+            }
+        }
+    }
+
+    /// Puts a tag highest, or just above another one. The tag is the word at a position, the other one that behind it.
+    pub fn raise(
+        &mut self,
+        limits: &Limits,
+        at: usize,
+        name: &str,
+        above: Option<&str>,
+    ) -> Result<Answer, Fault>
+        requires { at + 1 ≤ usize.MAX }
+        ensures { Does limits.now self.old self.new result
+            (reordered self.old at raised (chars name.now, option_map (λ word. chars word.now) above.entry)) }
+    {
+        match self.tags.raise(name, above) {
+            Ok(()) => {
+                // Where the tags are counted, they are known to be those of a table.
+                let _count = self.tags.len();
+                Ok(Answer::Empty)
+            }
+            Err(NoSuchTag::Moved) => Err(Fault::NoSuchTag(at)),
+            Err(NoSuchTag::Neighbour) => Err(Fault::NoSuchTag(at + 1)),
+        }
+    }
+
+    /// Puts a tag lowest, or just below another one. The tag is the word at a position, the other one that behind it.
+    pub fn lower(
+        &mut self,
+        limits: &Limits,
+        at: usize,
+        name: &str,
+        below: Option<&str>,
+    ) -> Result<Answer, Fault>
+        requires { at + 1 ≤ usize.MAX }
+        ensures { Does limits.now self.old self.new result
+            (reordered self.old at lowered (chars name.now, option_map (λ word. chars word.now) below.entry)) }
+    {
+        match self.tags.lower(name, below) {
+            Ok(()) => {
+                // Where the tags are counted, they are known to be those of a table.
+                let _count = self.tags.len();
+                Ok(Answer::Empty)
+            }
+            Err(NoSuchTag::Moved) => Err(Fault::NoSuchTag(at)),
+            Err(NoSuchTag::Neighbour) => Err(Fault::NoSuchTag(at + 1)),
+        }
+    }
+}
+

@@ -1,0 +1,169 @@
+ghost use Rattle.std.specs.Prelude.{◌≡◌, ◌≢◌, ℕ, true, suc, None, Some, is_some, ◌+◌, ◌-◌, ◌<◌, ◌≤◌, min, length, chars, map, slice_range, option_map, nat_lt, nat_le, Ok, Err, IfOk, IfErr, OnOk, OnErr, [], IfSome, slice_index_or};
+ghost use Rattle.std.specs.List.{All};
+ghost use Rattle.text_model.specs.LimitTable.{LimitTable, AreLimits};
+ghost use Rattle.text_index.specs.Positions.{position_text};
+ghost use Rattle.documents.specs.Documents.{widget_at};
+ghost use Rattle.documents.specs.View.{is_idle, shown, view_end, view_start};
+ghost use Rattle.documents.specs.Widgets.{is_kept, new_document, widget_named, with_peer, without_widgets};
+ghost use Rattle.documents.specs.Kept.{is_window_name};
+ghost use Rattle.documents.specs.WellFormed.{IsWellFormedDocument, window_names};
+ghost use Rattle.command_parts.specs.Faults.{at_position};
+ghost use Rattle.documents.specs.Promise.{Gives, Does, answered};
+ghost use Rattle.documents.specs.Indices.{place_at};
+ghost use Rattle.documents.specs.Deletions.{delete_places, replace_span};
+ghost use Rattle.search_dump.specs.Counts.{counted};
+ghost use Rattle.search_dump.specs.Dump.{dump_elements};
+ghost use Rattle.search_dump.specs.Matches.{search_result};
+ghost use Rattle.documents.specs.Queries.{seen};
+ghost use Rattle.documents.specs.Texts.{insert_at, insertion_offset};
+ghost use Rattle.command_parts.specs.Lists.{total, with_name, with_names, all_names};
+ghost use Rattle.command_parts.specs.declared.answers.Fault.TheVariants.{Memory, TooManyTags};
+ghost use Rattle.edit_ops.specs.States.{log_of};
+ghost use Rattle.edit_ops.specs.Tagging.{SpanFits, tagged};
+ghost use Rattle.tag_table.specs.Tags.{AreTags, names_of, slot_of};
+ghost use Rattle.text_model.specs.declared.limits.TheConstants.Limits.{MOST_TAGS};
+ghost use Rattle.std.specs.Char.{IsScalar};
+ghost use Rattle.tcl_words.specs.ListText.{list_text};
+ghost use Rattle.tcl_words.specs.Unread.{texts_of};
+ghost use Rattle.text_index.specs.Ranges.{tag_ranges, next_range, previous_range};
+ghost use Rattle.documents.specs.Tags.{flags_of, tags_on, add_spans, remove_spans, tag_delete, reordered, raised, lowered};
+ghost use Rattle.command_parts.specs.Listing.{range_words, begun};
+ghost use Rattle.command_parts.specs.Words.{is_among};
+ghost use Rattle.mark_table.specs.Order.{next_mark, previous_mark, rank_of};
+ghost use Rattle.command_parts.specs.declared.answers.Answer.TheVariants.{Empty};
+ghost use Rattle.documents.specs.History.{edit_reset, edit_separator, modified_set};
+ghost use Rattle.documents.specs.Options.{settings_of, with_settings};
+ghost use Rattle.documents.specs.Reversals.{edit_redo, edit_undo};
+ghost use Rattle.undo_stack.specs.Modified.{is_modified};
+ghost use Rattle.documents.specs.Names.{mark_number, mark_place};
+ghost use Rattle.command_parts.specs.Marking.{gravity_word as spec_gravity_word};
+ghost use Rattle.documents.specs.Marks.{mark_names, mark_offset, mark_unset, place_named, set_found, usable_marks, with_current, with_insert, with_mark, with_shared};
+
+use crate::documents::Document;
+use crate::seats::{is_among, make_seat, remove_seats, slots_named};
+use command_parts::{Answer, Settings, drop_widgets};
+use edit_ops::Anchors;
+use std::alloc::AllocError;
+use text_model::{Limits, TextStore};
+
+/// Where a line begins, by its number counted from 1.
+fn anchor_at<S: TextStore>(store: &S, line: Option<usize>) -> Option<usize>
+    requires { IfSome line (λ line. line ≤ lines (characters (S.content store.now).cells) + 1) }
+    ensures { result ≡ option_map (λ line. line_start (line - 1) (characters (S.content store.now).cells)) line }
+{
+    let line = line?;
+    Some(store.line_start(line - 1))
+}
+
+/// The number of the line that begins at an anchor, counted from 1.
+fn line_at<S: TextStore>(store: &S, anchor: Option<usize>) -> Option<usize>
+    requires { IfSome anchor (λ anchor. anchor ≤ length (S.content store.now).cells) }
+    ensures { result ≡ option_map (λ anchor. line_of (characters (S.content store.now).cells) anchor + 1) anchor }
+{
+    let anchor = anchor?;
+    Some(store.line_of(anchor) + 1)
+}
+
+impl<S: TextStore> Document<S> {
+    /// How many lines the document has.
+    pub fn lines(&self) -> usize
+        ensures { result ≡ lines (characters self.now.cells) }
+    {
+        self.store.lines()
+    }
+
+    /// The options of the document and a widget.
+    pub fn settings(&self, widget: usize) -> Settings
+        requires { widget < length self.now.widgets }
+        ensures value { result ≡ settings_of self.now (widget_at self.now widget) }
+        ensures lines { AreLines (lines (characters self.now.cells)) result }
+    {
+        let slot = self.seats.number(widget) as usize;
+        let anchors = self.anchors[slot];
+        Settings {
+            document: self.settings,
+            disabled: self.disabled[slot],
+            start: line_at(&self.store, anchors.start),
+            end: line_at(&self.store, anchors.end),
+        }
+    }
+
+    /// Gives the document and a widget options.
+    pub fn put_settings(&mut self, limits: &Limits, widget: usize, settings: Settings) -> Answer
+        requires shown { widget < length self.old.widgets }
+        requires lines { AreLines (lines (characters self.old.cells)) settings }
+        requires ordered { is_behind settings.start settings.end ≡ false }
+        ensures { Does limits.now self.old self.new (Ok result) (answered (with_settings (widget_at self.old widget) settings self.old) Empty) }
+    {
+        let slot = self.seats.number(widget) as usize;
+        let start = anchor_at(&self.store, settings.start);
+        let end = anchor_at(&self.store, settings.end);
+        self.anchors[slot] = Anchors { start, end };
+        self.disabled[slot] = settings.disabled;
+        settings.document.bound(&mut self.history);
+        self.settings = settings.document;
+        Answer::Empty
+    }
+
+    /// Makes a further widget of a name that no widget has, and gives it and the document options.
+    pub fn add_widget(&mut self, name: &str, settings: Settings) -> Result<(), AllocError>
+        requires named { is_window_name (chars name.now) ≡ true }
+        requires new { is_among (chars name.now) (window_names self.old) ≡ false }
+        requires few { length self.old.widgets < Limits.MOST_WIDGETS }
+        requires lines { AreLines (lines (characters self.old.cells)) settings }
+        requires ordered { is_behind settings.start settings.end ≡ false }
+        ensures ok { OnOk result (self.new ≡ with_peer (chars name.now) settings self.old) }
+        ensures err { OnErr result (self.new ≡ self.old) }
+        ensures well_formed { (limits : LimitTable) → IsWellFormedDocument limits self.old → IsWellFormedDocument limits self.new }
+    {
+        let start = anchor_at(&self.store, settings.start);
+        let end = anchor_at(&self.store, settings.end);
+        let front = self.seats.len();
+        let made = make_seat(
+            self.alloc,
+            &mut self.seats,
+            &mut self.disabled,
+            &mut self.anchors,
+            &mut self.store,
+            name,
+            start.unwrap_or(0),
+        );
+        match made {
+            Err(error) => {
+                self.seats.truncate(front);
+                Err(error)
+            }
+            Ok(slot) => {
+                self.anchors[slot] = Anchors { start, end };
+                self.disabled[slot] = settings.disabled;
+                settings.document.bound(&mut self.history);
+                self.settings = settings.document;
+                Ok(())
+            }
+        }
+    }
+
+    /// Whether some widget isn't of these names.
+    pub fn keeps_some(&self, names: &[String]) -> bool
+        ensures { result ≡ nat_lt 0 (length (without_widgets (texts_of names.now) self.now).widgets) }
+    {
+        for widget in 0..self.seats.len() {
+            if !is_among(self.seats.name(widget), names) {
+                return true;
+            }
+        }
+        false
+    }
+
+    /// Takes the widgets of these names out, with their own marks and their selections. Unknown names are skipped.
+    pub fn drop_widgets(&mut self, names: &[String]) -> Result<(), AllocError>
+        ensures ok { OnOk result (self.new ≡ without_widgets (texts_of names.now) self.old) }
+        ensures err { OnErr result (self.new ≡ self.old) }
+        ensures well_formed { (limits : LimitTable) → IsWellFormedDocument limits self.old → IsWellFormedDocument limits self.new }
+    {
+        let slots = slots_named(self.alloc, &self.seats, names)?;
+        drop_widgets(self.alloc, &mut self.store, &slots)?;
+        remove_seats(&mut self.seats, names);
+        Ok(())
+    }
+}
