@@ -10,6 +10,7 @@ use Rattle.std.proofs.lemmas.List.{append-nil, map-append}
 use Rattle.std.proofs.lemmas.List.Elements.{filter_map-append}
 use Rattle.text_model.specs.Content.{Slots}
 use Rattle.text_model.specs.declared.places.TagSlot.{TagSlot}
+use Rattle.index_grammar.specs.Names.{known_tags}
 use Rattle.tag_table.specs.Tags.{Tag, slot_of}
 use Rattle.tcl_words.specs.Unread.{texts_of}
 use Rattle.mark_table.specs.SharedMarks.{Mark, number_of}
@@ -36,18 +37,20 @@ found_swap None other slots = refl
 found_swap (Some one) None slots = refl
 found_swap (Some one) (Some other) slots = insert_swap slots other one
 
-slots_named-push : (tags : List Tag) (names : List (List ℕ)) (name : List ℕ) → slots_named tags (names ++ name ∷ []) ≡ with_found (slot_of name tags) (slots_named tags names)
-slots_named-push tags [] name = refl
-slots_named-push tags (first ∷ names) name =
-    ap (with_found (slot_of first tags)) (slots_named-push tags names name) ∙ found_swap (slot_of first tags) (slot_of name tags) (slots_named tags names)
+slots_named-push : (tags : List Tag) (widget : ℕ) (names : List (List ℕ)) (name : List ℕ)
+    → slots_named tags widget (names ++ name ∷ []) ≡ with_found (known_tags tags widget name) (slots_named tags widget names)
+slots_named-push tags widget [] name = refl
+slots_named-push tags widget (first ∷ names) name =
+    ap (with_found (known_tags tags widget first)) (slots_named-push tags widget names name)
+    ∙ found_swap (known_tags tags widget first) (known_tags tags widget name) (slots_named tags widget names)
 
 -- the slot of a name more
-pub slots_named-step : {Z : Type 0} (tags : List Tag) (words : List (String Z)) (at : ℕ) (word : String Z) (bytes : List ℕ) → at < length words → word ≡ get_or words at word → bytes ≡ string_bytes word
-    → with_found (slot_of (chars bytes) tags) (slots_named tags (texts_of (take at words))) ≡ slots_named tags (texts_of (take (at + 1) words))
-slots_named-step {Z} tags words at word bytes within is bytes_are =
-    ap (λ bs. with_found (slot_of (chars bs) tags) (slots_named tags (texts_of (take at words)))) bytes_are
-    ∙ sym (slots_named-push tags (texts_of (take at words)) (chars (string_bytes word)))
-    ∙ ap (slots_named tags) (sym (map-append (λ w. chars (string_bytes w)) (take at words) (word ∷ [])) ∙ ap texts_of (sym (take-more words at word within is)))
+pub slots_named-step : {Z : Type 0} (tags : List Tag) (widget : ℕ) (words : List (String Z)) (at : ℕ) (word : String Z) (bytes : List ℕ) → at < length words → word ≡ get_or words at word → bytes ≡ string_bytes word
+    → with_found (known_tags tags widget (chars bytes)) (slots_named tags widget (texts_of (take at words))) ≡ slots_named tags widget (texts_of (take (at + 1) words))
+slots_named-step {Z} tags widget words at word bytes within is bytes_are =
+    ap (λ bs. with_found (known_tags tags widget (chars bs)) (slots_named tags widget (texts_of (take at words)))) bytes_are
+    ∙ sym (slots_named-push tags widget (texts_of (take at words)) (chars (string_bytes word)))
+    ∙ ap (slots_named tags widget) (sym (map-append (λ w. chars (string_bytes w)) (take at words) (word ∷ [])) ∙ ap texts_of (sym (take-more words at word within is)))
 
 -- a word more
 pub texts-more : {Z : Type 0} (words : List (String Z)) (at : ℕ) (word : String Z) (bytes : List ℕ) → at < length words → word ≡ get_or words at word → bytes ≡ string_bytes word

@@ -1,21 +1,14 @@
--- What texts and spans make of a store that one widget shows as a whole, and why texts may not go in.
-use Rattle.std.specs.Prelude.{ℕ, ◌+◌, ◌-◌, min, nat_lt, if◌then◌else◌, length, List, [], ◌∷◌, Option, None, Some}
+-- What there is in a new store, what widgets have of their own in it, and why texts may not go in.
+use Rattle.std.specs.Prelude.{ℕ, ◌+◌, ◌*◌, ◌-◌, min, nat_lt, false, if◌then◌else◌, map, List, [], ◌∷◌, Option, None, Some}
 use Rattle.std.specs.FinMap as finite
 use Rattle.text_model.specs.Content.{Content, new_content}
 use Rattle.text_model.specs.LimitTable.{LimitTable}
+use Rattle.text_model.specs.Steps.{with_slot}
 use Rattle.text_model.specs.declared.places.Gravity.TheVariants.{Right}
 use Rattle.text_model.specs.declared.places.Place.{Place}
-use Rattle.undo_stack.specs.declared.actions.EditKind.TheVariants as kind
-use Rattle.edit_ops.specs.declared.anchors.Anchors.{Anchors}
-use Rattle.edit_ops.specs.declared.pieces.Piece.{Piece}
-use Rattle.edit_ops.specs.declared.plans.Recording.{Recording}
-use Rattle.edit_ops.specs.declared.spans.Span.{Span}
-use Rattle.edit_ops.specs.Deletions.{deleted}
-use Rattle.edit_ops.specs.Insertions.{inserted_texts}
-use Rattle.edit_ops.specs.Removals.{replaced}
-use Rattle.edit_ops.specs.States.{State, Log, state_of}
 use Rattle.command_parts.specs.declared.answers.Fault.{Fault}
 use Rattle.command_parts.specs.declared.answers.Fault.TheVariants.{TooManyTags, TextTooLong}
+use Rattle.command_parts.specs.Marking.{taken}
 
 -- a mark at the start
 abbrev pub new_mark : Place
@@ -25,28 +18,26 @@ new_mark = record { offset = 0; gravity = Right }
 abbrev pub first_content : Content
 first_content = record new_content { marks = finite.insert (finite.insert finite.empty 0 new_mark) 1 new_mark }
 
--- one widget shows the whole text
-abbrev pub whole : Anchors
-whole = record { start = None; end = None }
+-- both marks of a widget's own at a place; the widget is known by its slot
+abbrev pub with_own_marks : ℕ → Place → Content → Content
+with_own_marks widget place content = record content {
+  marks = finite.insert (finite.insert content.marks (2 * widget) place) (2 * widget + 1) place;
+}
 
-abbrev pub state_shown : Content → Log → State
-state_shown content log = state_of content (whole ∷ []) log
+-- without what a widget has of its own: the slot of its `sel`, and its two marks
+abbrev pub without_widget : ℕ → Content → Content
+without_widget widget content = record {
+  cells = map (with_slot widget false) content.cells;
+  marks = taken (2 * widget ∷ 2 * widget + 1 ∷ []) content.marks;
+}
 
-abbrev pub texts_put_in : Recording → ℕ → List Piece → Content → Log → State
-texts_put_in recording at pieces content log = inserted_texts recording kind.Insert at pieces (state_shown content log)
+abbrev pub without_widgets : List ℕ → Content → Content
+without_widgets [] content = content
+without_widgets (widget ∷ widgets) content = without_widgets widgets (without_widget widget content)
 
--- spans are deleted of the whole text
-abbrev pub spans_deleted : Recording → List Span → Content → Log → State
-spans_deleted recording spans content log = deleted recording 0 (length content.cells) spans (state_shown content log)
-
--- Texts take the place of the cells from one offset to another, where both are cut to the last cell; the widget's `insert` is
--- the first mark.
-abbrev pub texts_in_place : Recording → ℕ → ℕ → List Piece → Content → Log → State
-texts_in_place recording from to pieces content log = replaced recording 0 (length content.cells - 1) from to pieces (state_shown content log)
-
--- how many of so many cells are left where those from one offset to another go, both cut to the last cell
-abbrev pub length_replaced : ℕ → ℕ → ℕ → ℕ
-length_replaced len from to = len - (min to (len - 1) - min from (len - 1))
+-- how many of so many cells are left where those from one offset to another go, both cut to the last that a widget shows
+abbrev pub length_replaced : ℕ → ℕ → ℕ → ℕ → ℕ
+length_replaced len last from to = len - (min to last - min from last)
 
 -- why there may not be so many tags, `sel` among them, and so many characters
 abbrev pub excess : LimitTable → ℕ → ℕ → Option Fault

@@ -3,6 +3,7 @@ use Rattle.std.specs.Prelude.{◌≡◌, ℕ, ◌≤◌, ◌==◌, ◌||◌, Boo
 use Rattle.std.specs.FinSet as set
 use Rattle.std.specs.List.{filter_map}
 use Rattle.text_model.specs.Content.{Slots}
+use Rattle.index_grammar.specs.Names.{known_tags}
 use Rattle.tag_table.specs.Tags.{Tag, Tags, sel, slot_of}
 use Rattle.edit_ops.specs.declared.pieces.Piece.{Piece}
 use Rattle.command_parts.specs.Lists.{Pair}
@@ -18,13 +19,17 @@ abbrev pub with_found : Option ℕ → Slots → Slots
 with_found None slots = slots
 with_found (Some slot) slots = set.insert slots slot
 
--- the slots of the tags of these names
-abbrev pub slots_named : List Tag → List (List ℕ) → Slots
-slots_named tags [] = set.empty
-slots_named tags (name ∷ names) = with_found (slot_of name tags) (slots_named tags names)
+-- the slots of the tags of these names, for a widget
+abbrev pub slots_named : List Tag → ℕ → List (List ℕ) → Slots
+slots_named tags widget [] = set.empty
+slots_named tags widget (name ∷ names) = with_found (known_tags tags widget name) (slots_named tags widget names)
 
-abbrev pub piece_of : List Tag → Pair → Piece
-piece_of tags pair = record { text = pair.text; slots = option_map (slots_named tags) pair.names }
+abbrev pub piece_of : List Tag → ℕ → Pair → Piece
+piece_of tags widget pair = record { text = pair.text; slots = option_map (slots_named tags widget) pair.names }
+
+-- the slot that a tag of the table has for a widget: that of `sel` is the widget's own
+abbrev pub own_slot : ℕ → ℕ → ℕ
+own_slot widget slot = if slot == 0 then widget else slot
 
 -- the slot of a tag that goes; `sel` stays
 abbrev pub slot_taken : Option ℕ → Option ℕ

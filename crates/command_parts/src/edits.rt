@@ -1,14 +1,18 @@
-ghost use Rattle.std.specs.Prelude.{◌≡◌, ◌≢◌, ◌∷◌, ◌+◌, ◌-◌, ◌<◌, ◌≤◌, [], length, map, min, OnOk, OnErr, IfOk, IfErr};
+ghost use Rattle.std.specs.Prelude.{◌≡◌, ◌≢◌, ◌∷◌, ◌+◌, ◌*◌, ◌<◌, ◌≤◌, [], length, map, OnOk, OnErr, IfOk, IfErr};
 ghost use Rattle.std.specs.List.{All};
 ghost use Rattle.std.specs.FinMap as finite;
 ghost use Rattle.text_model.specs.Steps.{Fits, after};
 ghost use Rattle.text_model.specs.TagBits.{slot_count};
-ghost use Rattle.edit_ops.specs.Insertions.{total};
-ghost use Rattle.edit_ops.specs.States.{log_of};
+ghost use Rattle.text_model.specs.declared.limits.TheConstants.Limits.{MOST_WIDGETS};
+ghost use Rattle.edit_ops.specs.Anchors.{AnchorsStand};
+ghost use Rattle.edit_ops.specs.Deletions.{deleted};
+ghost use Rattle.edit_ops.specs.Insertions.{inserted_texts, total};
+ghost use Rattle.edit_ops.specs.Removals.{replaced};
+ghost use Rattle.edit_ops.specs.States.{log_of, state_of};
 ghost use Rattle.edit_ops.specs.Tagging.{SpanFits, tagged, cleared};
 ghost use Rattle.command_parts.specs.declared.answers.Fault.TheVariants.{Memory, TextTooLong};
 ghost use Rattle.command_parts.specs.Marking.{taken};
-ghost use Rattle.command_parts.specs.Edits.{first_content, length_replaced, new_mark, spans_deleted, texts_in_place, texts_put_in};
+ghost use Rattle.command_parts.specs.Edits.{first_content, length_replaced, with_own_marks, without_widgets};
 
 use crate::answers::Fault;
 use edit_ops::{
@@ -17,7 +21,7 @@ use edit_ops::{
 };
 use std::alloc::{AllocError, Global};
 use text_model::{Edit, Gravity, Limits, MarkNo, Place, Step, StepList, TagSlot, TextStore};
-use undo_stack::UndoStack;
+use undo_stack::{EditKind, UndoStack};
 
 /// Makes an edit. Where memory is refused nothing changes.
 fn make<S: TextStore>(store: &mut S, edit: Edit) -> Result<(), AllocError>
@@ -30,18 +34,37 @@ fn make<S: TextStore>(store: &mut S, edit: Edit) -> Result<(), AllocError>
     Ok(())
 }
 
-/// An edit that puts the first two marks at the start.
-fn first_marks(alloc: Global) -> Result<Edit, AllocError>
-    ensures { IfOk result (λ edit. edit.steps ≡ Step.PutMark (record { 0 = 0 }) new_mark ∷ Step.PutMark (record { 0 = 1 }) new_mark ∷ []) }
+/// An edit that puts both marks of a widget's own before the character at an offset, with right gravity.
+fn own_marks(alloc: Global, widget: TagSlot, offset: usize) -> Result<Edit, AllocError>
+    requires { widget.0 < MOST_WIDGETS }
+    ensures { IfOk result (λ edit. let place : Place = record { offset = offset; gravity = Gravity.Right } in
+        edit.steps ≡ Step.PutMark (record { 0 = 2 * widget.0 }) place ∷ Step.PutMark (record { 0 = 2 * widget.0 + 1 }) place ∷ []) }
 {
-    let start = Place {
-        offset: 0,
+    let place = Place {
+        offset,
         gravity: Gravity::Right,
     };
     let mut steps = StepList::new(alloc);
-    steps.push(Step::PutMark(MarkNo(0), start))?;
-    steps.push(Step::PutMark(MarkNo(1), start))?;
+    steps.push(Step::PutMark(MarkNo(2 * widget.0), place))?;
+    steps.push(Step::PutMark(MarkNo(2 * widget.0 + 1), place))?;
     Ok(Edit { steps })
+}
+
+/// Puts both marks of a widget's own at an offset of a store, with right gravity; the widget is known by its slot. Where memory
+/// is refused nothing changes.
+pub fn put_widget_marks<S: TextStore>(
+    alloc: Global,
+    store: &mut S,
+    widget: TagSlot,
+    offset: usize,
+) -> Result<(), AllocError>
+    requires known { widget.0 < MOST_WIDGETS }
+    requires within { offset ≤ length (S.content store.old).cells }
+    ensures ok { OnOk result (S.content store.new
+        ≡ with_own_marks widget.0 (record { offset = offset; gravity = Gravity.Right }) (S.content store.old)) }
+    ensures err { OnErr result (S.content store.new ≡ S.content store.old) }
+{
+    make(store, own_marks(alloc, widget, offset)?)
 }
 
 /// Puts a mark at a place.
@@ -81,15 +104,29 @@ pub fn new_store<S: TextStore>(alloc: Global) -> Result<S, AllocError>
     ensures { IfOk result (λ store. S.content store ≡ first_content) }
 {
     let mut store = S::new(alloc)?;
-    make(&mut store, first_marks(alloc)?)?;
+    make(&mut store, own_marks(alloc, TagSlot(0), 0)?)?;
     Ok(store)
 }
 
-/// A widget that shows the whole text.
-pub const WHOLE: Anchors = Anchors {
-    start: None,
-    end: None,
-};
+/// Takes what widgets have of their own out of a store: the slot of the `sel` of each off all characters, and its two marks; all
+/// in one edit. Where memory is refused nothing changes.
+pub fn drop_widgets<S: TextStore>(
+    alloc: Global,
+    store: &mut S,
+    widgets: &[TagSlot],
+) -> Result<(), AllocError>
+    requires { All (λ (widget : TagSlot). widget.0 < MOST_WIDGETS) widgets.now }
+    ensures ok { OnOk result (S.content store.new ≡ without_widgets (map (λ widget. widget.0) widgets.now) (S.content store.old)) }
+    ensures err { OnErr result (S.content store.new ≡ S.content store.old) }
+{
+    let mut steps = StepList::new(alloc);
+    for widget in widgets {
+        steps.push(Step::ClearSlot(*widget))?;
+        steps.push(Step::TakeMark(MarkNo(2 * widget.0)))?;
+        steps.push(Step::TakeMark(MarkNo(2 * widget.0 + 1)))?;
+    }
+    make(store, Edit { steps })
+}
 
 /// Puts texts in before the character at an offset of a store, each behind the one before it.
 pub fn put_texts<S: TextStore>(
@@ -97,101 +134,94 @@ pub fn put_texts<S: TextStore>(
     limits: &Limits,
     store: &mut S,
     history: &mut UndoStack,
+    anchors: &mut [Anchors],
     at: usize,
     pieces: &[Piece],
     recording: Recording,
 ) -> Result<(), Fault>
-    requires { at < length (S.content store.old).cells }
-    ensures ok { OnOk result (
-        (S.content store.new ≡ (texts_put_in recording at pieces.now (S.content store.old) (log_of history.old)).content)
-        × (log_of history.new ≡ (texts_put_in recording at pieces.now (S.content store.old) (log_of history.old)).log)) }
+    requires within { at < length (S.content store.old).cells }
+    requires stand { All (AnchorsStand (length (S.content store.old).cells)) anchors.old }
+    ensures ok { OnOk result (state_of (S.content store.new) anchors.new (log_of history.new)
+        ≡ inserted_texts recording EditKind.Insert at pieces.now (state_of (S.content store.old) anchors.old (log_of history.old))) }
     ensures fits { OnOk result (length (S.content store.old).cells + total pieces.now ≤ limits.now.chars) }
-    ensures err { OnErr result ((S.content store.new ≡ S.content store.old) × (log_of history.new ≡ log_of history.old)) }
+    ensures err { OnErr result ((S.content store.new ≡ S.content store.old) × (log_of history.new ≡ log_of history.old) × (anchors.new ≡ anchors.old)) }
     ensures fault { IfErr result (λ fault. fault ≢ Memory →
         (fault ≡ TextTooLong) × (limits.now.chars < length (S.content store.old).cells + total pieces.now)) }
 {
-    let mut anchors = [WHOLE];
     match plan_insert(
-        alloc, limits, store, history, &anchors, at, pieces, recording,
+        alloc, limits, store, history, anchors, at, pieces, recording,
     ) {
         Err(EditFault::TextTooLong) => Err(Fault::TextTooLong),
         Err(_) => Err(Fault::Memory),
         Ok(plan) => {
-            commit(plan, store, history, &mut anchors);
+            commit(plan, store, history, anchors);
             Ok(())
         }
     }
 }
 
-/// Deletes spans of a store, in any order: they may overlap or be empty, and the last character stays, though without its slots.
+/// Deletes spans of what a widget shows of a store from `start` to `end`, in any order: they may overlap or be empty, and the
+/// last character that it shows stays, though without its slots.
 pub fn delete_spans<S: TextStore>(
     alloc: Global,
     store: &mut S,
     history: &mut UndoStack,
+    anchors: &mut [Anchors],
+    start: usize,
+    end: usize,
     spans: &[Span],
     recording: Recording,
 ) -> Result<(), Fault>
-    requires filled { 0 < length (S.content store.old).cells }
-    requires spans { All (SpanFits (length (S.content store.old).cells)) spans.now }
-    ensures ok { OnOk result (
-        (S.content store.new ≡ (spans_deleted recording spans.now (S.content store.old) (log_of history.old)).content)
-        × (log_of history.new ≡ (spans_deleted recording spans.now (S.content store.old) (log_of history.old)).log)) }
-    ensures err { OnErr result ((S.content store.new ≡ S.content store.old) × (log_of history.new ≡ log_of history.old)) }
+    requires shows { start < end }
+    requires within { end ≤ length (S.content store.old).cells }
+    requires spans { All (λ span. span.to ≤ end) spans.now }
+    ensures ok { OnOk result (state_of (S.content store.new) anchors.new (log_of history.new)
+        ≡ deleted recording start end spans.now (state_of (S.content store.old) anchors.old (log_of history.old))) }
+    ensures err { OnErr result ((S.content store.new ≡ S.content store.old) × (log_of history.new ≡ log_of history.old) × (anchors.new ≡ anchors.old)) }
     ensures fault { IfErr result (λ fault. fault ≡ Memory) }
 {
-    let mut anchors = [WHOLE];
-    let len = store.len();
-    match plan_delete(alloc, store, history, &anchors, 0, len, spans, recording) {
+    match plan_delete(alloc, store, history, anchors, start, end, spans, recording) {
         Err(_) => Err(Fault::Memory),
         Ok(plan) => {
-            commit(plan, store, history, &mut anchors);
+            commit(plan, store, history, anchors);
             Ok(())
         }
     }
 }
 
-/// Puts texts in the place of the characters of a store from one offset to another, where both are cut to the last character.
-/// The first mark, if it stands before one of these, stays as far behind the place as it was, or goes to the end of the texts.
+/// Puts texts in the place of the characters of a store from one offset to another, where both are cut to the last character
+/// that a widget shows. The mark of a number, if it stands before one of these, stays as far behind the place as it was, or goes
+/// to the end of the texts.
 pub fn replace_texts<S: TextStore>(
     alloc: Global,
     limits: &Limits,
     store: &mut S,
     history: &mut UndoStack,
+    anchors: &mut [Anchors],
+    last: usize,
     from: usize,
     to: usize,
     pieces: &[Piece],
+    mark: MarkNo,
     recording: Recording,
 ) -> Result<(), Fault>
-    requires filled { 0 < length (S.content store.old).cells }
+    requires within { last < length (S.content store.old).cells }
     requires ordered { from ≤ to }
-    ensures ok { OnOk result (
-        (S.content store.new ≡ (texts_in_place recording from to pieces.now (S.content store.old) (log_of history.old)).content)
-        × (log_of history.new ≡ (texts_in_place recording from to pieces.now (S.content store.old) (log_of history.old)).log)) }
-    ensures fits { OnOk result (length_replaced (length (S.content store.old).cells) from to + total pieces.now ≤ limits.now.chars) }
-    ensures err { OnErr result ((S.content store.new ≡ S.content store.old) × (log_of history.new ≡ log_of history.old)) }
+    requires stand { All (AnchorsStand (length (S.content store.old).cells)) anchors.old }
+    ensures ok { OnOk result (state_of (S.content store.new) anchors.new (log_of history.new)
+        ≡ replaced recording mark.0 last from to pieces.now (state_of (S.content store.old) anchors.old (log_of history.old))) }
+    ensures fits { OnOk result (length_replaced (length (S.content store.old).cells) last from to + total pieces.now ≤ limits.now.chars) }
+    ensures err { OnErr result ((S.content store.new ≡ S.content store.old) × (log_of history.new ≡ log_of history.old) × (anchors.new ≡ anchors.old)) }
     ensures fault { IfErr result (λ fault. fault ≢ Memory →
-        (fault ≡ TextTooLong) × (limits.now.chars < length_replaced (length (S.content store.old).cells) from to + total pieces.now)) }
+        (fault ≡ TextTooLong) × (limits.now.chars < length_replaced (length (S.content store.old).cells) last from to + total pieces.now)) }
 {
-    let mut anchors = [WHOLE];
-    let last = store.len() - 1;
-    let planned = plan_replace(
-        alloc,
-        limits,
-        store,
-        history,
-        &anchors,
-        last,
-        from,
-        to,
-        pieces,
-        MarkNo(0),
-        recording,
-    );
-    match planned {
+    match plan_replace(
+        alloc, limits, store, history, anchors, last, from, to, pieces, mark, recording,
+    ) {
         Err(EditFault::TextTooLong) => Err(Fault::TextTooLong),
         Err(_) => Err(Fault::Memory),
         Ok(plan) => {
-            commit(plan, store, history, &mut anchors);
+            commit(plan, store, history, anchors);
             Ok(())
         }
     }
@@ -213,11 +243,11 @@ pub fn set_slot<S: TextStore>(
     ensures log { log_of history.new ≡ log_of history.old }
     ensures fault { IfErr result (λ fault. fault ≡ Memory) }
 {
-    let mut anchors = [WHOLE];
-    match plan_tag(alloc, store, history, &anchors, spans, slot, is_on) {
+    match plan_tag(alloc, store, history, &[], spans, slot, is_on) {
         Err(_) => Err(Fault::Memory),
         Ok(plan) => {
-            commit(plan, store, history, &mut anchors);
+            // No anchor moves.
+            commit(plan, store, history, &mut []);
             Ok(())
         }
     }
@@ -236,11 +266,11 @@ pub fn clear_slots<S: TextStore>(
     ensures log { log_of history.new ≡ log_of history.old }
     ensures fault { IfErr result (λ fault. fault ≡ Memory) }
 {
-    let mut anchors = [WHOLE];
-    match plan_clear(alloc, store, history, &anchors, slots) {
+    match plan_clear(alloc, store, history, &[], slots) {
         Err(_) => Err(Fault::Memory),
         Ok(plan) => {
-            commit(plan, store, history, &mut anchors);
+            // No anchor moves.
+            commit(plan, store, history, &mut []);
             Ok(())
         }
     }

@@ -19,7 +19,10 @@ mod words;
 pub use answers::{Answer, Fault};
 pub use arguments::{first, first_two, none_or_one, one, one_or_two, three, two, two_or_three};
 pub use comparisons::Comparison;
-pub use edits::{clear_slots, delete_spans, new_store, put_mark, set_slot, take_marks};
+pub use edits::{
+    clear_slots, delete_spans, drop_widgets, new_store, put_mark, put_widget_marks, set_slot,
+    take_marks,
+};
 pub use listing::{
     push_filled, push_mark_names, push_names, push_names_in, push_next, push_previous, push_ranges,
 };
@@ -29,5 +32,5 @@ pub use ranges::spans_of;
 pub use reversals::{redo_group, undo_group};
 pub use settings::{DocumentSettings, Settings, boolean_at};
 pub use tagged_edits::{put_pairs, replace_pairs, tag_spans};
-pub use tagging::{delete_names, deleted_slots};
+pub use tagging::{delete_names, deleted_slots, find_tag};
 pub use words::is_word;

@@ -8,9 +8,12 @@ ghost use Rattle.text_model.specs.TagBits.{slot_count};
 ghost use Rattle.text_index.specs.Positions.{position_text};
 ghost use Rattle.text_index.specs.Ranges.{tag_ranges, next_range, previous_range};
 ghost use Rattle.text_index.specs.Views.{shown, shown_flags, IsView};
+ghost use Rattle.text_model.specs.declared.limits.TheConstants.Limits.{MOST_WIDGETS};
+ghost use Rattle.command_parts.specs.Tagging.{own_slot};
 ghost use Rattle.command_parts.specs.Listing.{range_words, begun, is_filled};
 ghost use Rattle.tcl_words.specs.ListGrowth.{Goes};
 
+use crate::tagging::own_slot;
 use mark_table::MarkTable;
 use std::alloc::AllocError;
 use tag_table::TagTable;
@@ -176,12 +179,19 @@ fn push_wanted(list: &mut String, name: &str, is_wanted: bool) -> Result<(), All
     push_element(list, name)
 }
 
-/// Appends the names of the tags whose slots are in a set, from the lowest.
-pub fn push_names_in(list: &mut String, tags: &TagTable, slots: TagSet) -> Result<(), AllocError>
-    ensures { OnOk result (Goes (string_bytes list.old) (string_bytes list.new) (names_of (filter (λ tag. set.contains slots tag.slot) tags.now.tags))) }
+/// Appends the names of the tags whose slots for a widget are in a set, from the lowest: for `sel` it is the widget's own.
+pub fn push_names_in(
+    list: &mut String,
+    tags: &TagTable,
+    widget: TagSlot,
+    slots: TagSet,
+) -> Result<(), AllocError>
+    requires { widget.0 < MOST_WIDGETS }
+    ensures { OnOk result (Goes (string_bytes list.old) (string_bytes list.new)
+        (names_of (filter (λ tag. set.contains slots (own_slot widget.0 tag.slot)) tags.now.tags))) }
 {
     for place in 0..tags.len() {
-        push_wanted(list, tags.name(place), slots.has(tags.slot(place)))?;
+        push_wanted(list, tags.name(place), slots.has(own_slot(tags.slot(place), widget)))?;
     }
     Ok(())
 }

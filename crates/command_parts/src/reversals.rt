@@ -1,18 +1,17 @@
-ghost use Rattle.std.specs.Prelude.{◌≡◌, IfSome, OnOk, OnErr, IfErr};
+ghost use Rattle.std.specs.Prelude.{◌≡◌, length, IfSome, OnOk, OnErr, IfErr};
 ghost use Rattle.std.specs.Char.{IsScalar};
 ghost use Rattle.std.specs.List.{All};
 ghost use Rattle.text_model.specs.Content.{characters};
 ghost use Rattle.text_model.specs.LimitTable.{AreLimits};
 ghost use Rattle.undo_stack.specs.Fits.{FitsText};
 ghost use Rattle.undo_stack.specs.History.{next_undo, next_redo};
+ghost use Rattle.edit_ops.specs.Anchors.{AnchorsStand};
 ghost use Rattle.edit_ops.specs.Reversals.{undone, redone};
-ghost use Rattle.edit_ops.specs.States.{log_of};
+ghost use Rattle.edit_ops.specs.States.{log_of, state_of};
 ghost use Rattle.command_parts.specs.declared.answers.Fault.TheVariants.{Memory};
-ghost use Rattle.command_parts.specs.Edits.{state_shown};
 
 use crate::answers::Fault;
-use crate::edits::WHOLE;
-use edit_ops::{commit, plan_redo, plan_undo};
+use edit_ops::{Anchors, commit, plan_redo, plan_undo};
 use std::alloc::Global;
 use text_model::{Limits, MarkNo, TextStore};
 use undo_stack::{Group, UndoStack};
@@ -26,20 +25,23 @@ fn read_group(group: &Group<'_>)
     }
 }
 
-/// Reverts the last group of the history, if there is one. The first mark then stands where that ends.
+/// Reverts the last group of the history, if there is one. The mark of a number, if there is one, then
+/// stands where that ends.
 pub fn undo_group<S: TextStore>(
     alloc: Global,
     limits: &Limits,
     store: &mut S,
     history: &mut UndoStack,
+    anchors: &mut [Anchors],
+    mark: MarkNo,
 ) -> Result<(), Fault>
-    requires { FitsText limits.now.chars (characters (S.content store.old).cells) history.old.history }
+    requires stand { All (AnchorsStand (length (S.content store.old).cells)) anchors.old }
+    requires fits { FitsText limits.now.chars (characters (S.content store.old).cells) history.old.history }
     ensures bounds { AreLimits limits.now }
     ensures scalars { IfSome (next_undo history.old.history) (All (λ action. All IsScalar action.text)) }
-    ensures ok { OnOk result (
-        (S.content store.new ≡ (undone 0 (state_shown (S.content store.old) (log_of history.old))).content)
-        × (log_of history.new ≡ (undone 0 (state_shown (S.content store.old) (log_of history.old))).log)) }
-    ensures err { OnErr result ((S.content store.new ≡ S.content store.old) × (log_of history.new ≡ log_of history.old)) }
+    ensures ok { OnOk result (state_of (S.content store.new) anchors.new (log_of history.new)
+        ≡ undone mark.0 (state_of (S.content store.old) anchors.old (log_of history.old))) }
+    ensures err { OnErr result ((S.content store.new ≡ S.content store.old) × (log_of history.new ≡ log_of history.old) × (anchors.new ≡ anchors.old)) }
     ensures fault { IfErr result (λ fault. fault ≡ Memory) }
 {
     // Where one of the limits is read, all are known to be in their bounds.
@@ -47,30 +49,32 @@ pub fn undo_group<S: TextStore>(
     if let Some(group) = history.last_undo() {
         read_group(&group);
     }
-    let mut anchors = [WHOLE];
-    match plan_undo(alloc, limits, store, history, &anchors, MarkNo(0)) {
+    match plan_undo(alloc, limits, store, history, anchors, mark) {
         Err(_) => Err(Fault::Memory),
         Ok(plan) => {
-            commit(plan, store, history, &mut anchors);
+            commit(plan, store, history, anchors);
             Ok(())
         }
     }
 }
 
-/// Makes the group that was undone last once more, if there is one. The first mark then stands where that ends.
+/// Makes the group that was undone last once more, if there is one. The mark of a number, if there is one, then
+/// stands where that ends.
 pub fn redo_group<S: TextStore>(
     alloc: Global,
     limits: &Limits,
     store: &mut S,
     history: &mut UndoStack,
+    anchors: &mut [Anchors],
+    mark: MarkNo,
 ) -> Result<(), Fault>
-    requires { FitsText limits.now.chars (characters (S.content store.old).cells) history.old.history }
+    requires stand { All (AnchorsStand (length (S.content store.old).cells)) anchors.old }
+    requires fits { FitsText limits.now.chars (characters (S.content store.old).cells) history.old.history }
     ensures bounds { AreLimits limits.now }
     ensures scalars { IfSome (next_redo history.old.history) (All (λ action. All IsScalar action.text)) }
-    ensures ok { OnOk result (
-        (S.content store.new ≡ (redone 0 (state_shown (S.content store.old) (log_of history.old))).content)
-        × (log_of history.new ≡ (redone 0 (state_shown (S.content store.old) (log_of history.old))).log)) }
-    ensures err { OnErr result ((S.content store.new ≡ S.content store.old) × (log_of history.new ≡ log_of history.old)) }
+    ensures ok { OnOk result (state_of (S.content store.new) anchors.new (log_of history.new)
+        ≡ redone mark.0 (state_of (S.content store.old) anchors.old (log_of history.old))) }
+    ensures err { OnErr result ((S.content store.new ≡ S.content store.old) × (log_of history.new ≡ log_of history.old) × (anchors.new ≡ anchors.old)) }
     ensures fault { IfErr result (λ fault. fault ≡ Memory) }
 {
     // Where one of the limits is read, all are known to be in their bounds.
@@ -78,11 +82,10 @@ pub fn redo_group<S: TextStore>(
     if let Some(group) = history.last_redo() {
         read_group(&group);
     }
-    let mut anchors = [WHOLE];
-    match plan_redo(alloc, limits, store, history, &anchors, MarkNo(0)) {
+    match plan_redo(alloc, limits, store, history, anchors, mark) {
         Err(_) => Err(Fault::Memory),
         Ok(plan) => {
-            commit(plan, store, history, &mut anchors);
+            commit(plan, store, history, anchors);
             Ok(())
         }
     }

@@ -1,25 +1,29 @@
 ghost use Rattle.std.specs.Prelude.{◌≡◌, ◌≢◌, true, None, Some, ◌+◌, ◌<◌, ◌≤◌, length, chars, map, option_map, IfOk, IfErr, OnOk, OnErr};
 ghost use Rattle.std.specs.Char.{IsScalar};
 ghost use Rattle.std.specs.List.{All};
-ghost use Rattle.edit_ops.specs.States.{log_of};
+ghost use Rattle.edit_ops.specs.Anchors.{AnchorsStand};
+ghost use Rattle.edit_ops.specs.Insertions.{inserted_texts};
+ghost use Rattle.edit_ops.specs.Removals.{replaced};
+ghost use Rattle.edit_ops.specs.States.{log_of, state_of};
 ghost use Rattle.edit_ops.specs.Tagging.{SpanFits, tagged};
-ghost use Rattle.tag_table.specs.Tags.{AreTags, names_of, slot_of};
+ghost use Rattle.index_grammar.specs.Names.{known_tags};
+ghost use Rattle.tag_table.specs.Tags.{AreTags, names_of};
 ghost use Rattle.text_model.specs.LimitTable.{AreLimits};
-ghost use Rattle.text_model.specs.declared.limits.TheConstants.Limits.{MOST_TAGS};
+ghost use Rattle.text_model.specs.declared.limits.TheConstants.Limits.{MOST_TAGS, MOST_WIDGETS};
 ghost use Rattle.command_parts.specs.declared.answers.Fault.TheVariants.{Memory, TooManyTags};
-ghost use Rattle.command_parts.specs.Edits.{excess, length_replaced, texts_in_place, texts_put_in};
+ghost use Rattle.command_parts.specs.Edits.{excess, length_replaced};
 ghost use Rattle.command_parts.specs.Lists.{with_name, with_names, all_names, total};
 ghost use Rattle.command_parts.specs.Tagging.{IsFront, piece_of};
 
 use crate::answers::Fault;
 use crate::edits::{put_texts, replace_texts, set_slot};
 use crate::lists::Pair;
-use crate::tagging::{make_listed, make_tag, pieces_of};
-use edit_ops::{Piece, Recording, Span};
+use crate::tagging::{make_listed, make_tag, own_slot, pieces_of};
+use edit_ops::{Anchors, Piece, Recording, Span};
 use std::alloc::Global;
 use tag_table::TagTable;
-use text_model::{Limits, TextStore};
-use undo_stack::UndoStack;
+use text_model::{Limits, MarkNo, TagSlot, TextStore};
+use undo_stack::{EditKind, UndoStack};
 
 /// The texts of pairs are of Unicode scalar values, as the bytes of each show.
 fn read_texts(pairs: &[Pair])
@@ -36,15 +40,17 @@ fn make_pieces(
     alloc: Global,
     limits: &Limits,
     tags: &mut TagTable,
+    widget: TagSlot,
     pairs: Vec<Pair>,
 ) -> Result<Vec<Piece>, Fault>
     requires roomy { tags.old.limit ≡ MOST_TAGS }
+    requires known { widget.0 < MOST_WIDGETS }
     ensures bounds { AreLimits limits.now }
     ensures front { IsFront tags.old tags.new }
     ensures sound { OnOk result (AreTags tags.new) }
     ensures scalars { All (λ pair. All IsScalar pair.text) pairs.items }
     ensures made { OnOk result (names_of tags.new.tags ≡ with_names (names_of tags.old.tags) (all_names pairs.items)) }
-    ensures pieces { IfOk result (λ pieces. pieces.items ≡ map (piece_of tags.new.tags) pairs.items) }
+    ensures pieces { IfOk result (λ pieces. pieces.items ≡ map (piece_of tags.new.tags widget.0) pairs.items) }
     ensures few { OnOk result (length (with_names (names_of tags.old.tags) (all_names pairs.items)) ≤ limits.now.tags + 1) }
     ensures fault { IfErr result (λ fault. fault ≢ Memory →
         (fault ≡ TooManyTags) × (limits.now.tags + 1 < length (with_names (names_of tags.old.tags) (all_names pairs.items)))) }
@@ -59,7 +65,7 @@ fn make_pieces(
     if tags.len() > limits.tags() as usize + 1 {
         return Err(Fault::TooManyTags);
     }
-    Ok(pieces_of(alloc, tags, pairs)?)
+    Ok(pieces_of(alloc, tags, widget, pairs)?)
 }
 
 /// Makes the tags of pairs that are new, and puts their texts in. Where that is refused, new tags may stand behind the others.
@@ -67,70 +73,82 @@ pub fn put_pairs<S: TextStore>(
     alloc: Global,
     limits: &Limits,
     tags: &mut TagTable,
+    widget: TagSlot,
     store: &mut S,
     history: &mut UndoStack,
+    anchors: &mut [Anchors],
     at: usize,
     pairs: Vec<Pair>,
     recording: Recording,
 ) -> Result<(), Fault>
     requires within { at < length (S.content store.old).cells }
+    requires stand { All (AnchorsStand (length (S.content store.old).cells)) anchors.old }
     requires roomy { tags.old.limit ≡ MOST_TAGS }
+    requires known { widget.0 < MOST_WIDGETS }
     ensures bounds { AreLimits limits.now }
     ensures front { IsFront tags.old tags.new }
     ensures sound { OnOk result (AreTags tags.new) }
     ensures scalars { All (λ pair. All IsScalar pair.text) pairs.items }
     ensures made { OnOk result (names_of tags.new.tags ≡ with_names (names_of tags.old.tags) (all_names pairs.items)) }
-    ensures ok { OnOk result (
-        (S.content store.new ≡ (texts_put_in recording at (map (piece_of tags.new.tags) pairs.items) (S.content store.old) (log_of history.old)).content)
-        × (log_of history.new ≡ (texts_put_in recording at (map (piece_of tags.new.tags) pairs.items) (S.content store.old) (log_of history.old)).log)) }
+    ensures ok { OnOk result (state_of (S.content store.new) anchors.new (log_of history.new)
+        ≡ inserted_texts recording EditKind.Insert at (map (piece_of tags.new.tags widget.0) pairs.items) (state_of (S.content store.old) anchors.old (log_of history.old))) }
     ensures room { OnOk result (excess limits.now (length (with_names (names_of tags.old.tags) (all_names pairs.items)))
         (length (S.content store.old).cells + total pairs.items) ≡ None) }
-    ensures err { OnErr result ((S.content store.new ≡ S.content store.old) × (log_of history.new ≡ log_of history.old)) }
+    ensures err { OnErr result ((S.content store.new ≡ S.content store.old) × (log_of history.new ≡ log_of history.old) × (anchors.new ≡ anchors.old)) }
     ensures fault { IfErr result (λ fault. fault ≢ Memory → excess limits.now (length (with_names (names_of tags.old.tags) (all_names pairs.items)))
         (length (S.content store.old).cells + total pairs.items) ≡ Some fault) }
 {
-    let pieces = match make_pieces(alloc, limits, tags, pairs) {
+    let pieces = match make_pieces(alloc, limits, tags, widget, pairs) {
         Err(fault) => return Err(fault),
         Ok(pieces) => pieces,
     };
-    put_texts(alloc, limits, store, history, at, &pieces, recording)
+    put_texts(
+        alloc, limits, store, history, anchors, at, &pieces, recording,
+    )
 }
 
 /// Makes the tags of pairs that are new, and puts their texts in the place of the characters from one offset to another, where
-/// both are cut to the last character. Where that is refused, new tags may stand behind the others.
+/// both are cut to the last character that the widget shows. Where that is refused, new tags may stand behind the others.
 pub fn replace_pairs<S: TextStore>(
     alloc: Global,
     limits: &Limits,
     tags: &mut TagTable,
+    widget: TagSlot,
     store: &mut S,
     history: &mut UndoStack,
+    anchors: &mut [Anchors],
+    last: usize,
     from: usize,
     to: usize,
     pairs: Vec<Pair>,
+    mark: MarkNo,
     recording: Recording,
 ) -> Result<(), Fault>
-    requires filled { 0 < length (S.content store.old).cells }
+    requires within { last < length (S.content store.old).cells }
     requires ordered { from ≤ to }
+    requires stand { All (AnchorsStand (length (S.content store.old).cells)) anchors.old }
     requires roomy { tags.old.limit ≡ MOST_TAGS }
+    requires known { widget.0 < MOST_WIDGETS }
     ensures bounds { AreLimits limits.now }
     ensures front { IsFront tags.old tags.new }
     ensures sound { OnOk result (AreTags tags.new) }
     ensures scalars { All (λ pair. All IsScalar pair.text) pairs.items }
     ensures made { OnOk result (names_of tags.new.tags ≡ with_names (names_of tags.old.tags) (all_names pairs.items)) }
-    ensures ok { OnOk result (
-        (S.content store.new ≡ (texts_in_place recording from to (map (piece_of tags.new.tags) pairs.items) (S.content store.old) (log_of history.old)).content)
-        × (log_of history.new ≡ (texts_in_place recording from to (map (piece_of tags.new.tags) pairs.items) (S.content store.old) (log_of history.old)).log)) }
+    ensures ok { OnOk result (state_of (S.content store.new) anchors.new (log_of history.new)
+        ≡ replaced recording mark.0 last from to (map (piece_of tags.new.tags widget.0) pairs.items) (state_of (S.content store.old) anchors.old (log_of history.old))) }
     ensures room { OnOk result (excess limits.now (length (with_names (names_of tags.old.tags) (all_names pairs.items)))
-        (length_replaced (length (S.content store.old).cells) from to + total pairs.items) ≡ None) }
-    ensures err { OnErr result ((S.content store.new ≡ S.content store.old) × (log_of history.new ≡ log_of history.old)) }
+        (length_replaced (length (S.content store.old).cells) last from to + total pairs.items) ≡ None) }
+    ensures err { OnErr result ((S.content store.new ≡ S.content store.old) × (log_of history.new ≡ log_of history.old) × (anchors.new ≡ anchors.old)) }
     ensures fault { IfErr result (λ fault. fault ≢ Memory → excess limits.now (length (with_names (names_of tags.old.tags) (all_names pairs.items)))
-        (length_replaced (length (S.content store.old).cells) from to + total pairs.items) ≡ Some fault) }
+        (length_replaced (length (S.content store.old).cells) last from to + total pairs.items) ≡ Some fault) }
 {
-    let pieces = match make_pieces(alloc, limits, tags, pairs) {
+    let pieces = match make_pieces(alloc, limits, tags, widget, pairs) {
         Err(fault) => return Err(fault),
         Ok(pieces) => pieces,
     };
-    replace_texts(alloc, limits, store, history, from, to, &pieces, recording)
+    replace_texts(
+        alloc, limits, store, history, anchors, last, from, to, &pieces, mark, recording,
+    )
 }
 
 /// Makes a tag if it is new, and sets it on spans. Where that is refused, the new tag may stand behind the others.
@@ -138,6 +156,7 @@ pub fn tag_spans<S: TextStore>(
     alloc: Global,
     limits: &Limits,
     tags: &mut TagTable,
+    widget: TagSlot,
     store: &mut S,
     history: &mut UndoStack,
     name: &str,
@@ -145,10 +164,11 @@ pub fn tag_spans<S: TextStore>(
 ) -> Result<(), Fault>
     requires spans { All (SpanFits (length (S.content store.old).cells)) spans.now }
     requires roomy { tags.old.limit ≡ MOST_TAGS }
+    requires known { widget.0 < MOST_WIDGETS }
     ensures front { IsFront tags.old tags.new }
     ensures sound { OnOk result (AreTags tags.new) }
     ensures made { OnOk result (names_of tags.new.tags ≡ with_name (names_of tags.old.tags) (chars name.now)) }
-    ensures ok { OnOk result (option_map (λ slot. tagged slot true spans.now (S.content store.old)) (slot_of (chars name.now) tags.new.tags)
+    ensures ok { OnOk result (option_map (λ slot. tagged slot true spans.now (S.content store.old)) (known_tags tags.new.tags widget.0 (chars name.now))
         ≡ Some (S.content store.new)) }
     ensures room { OnOk result (length (with_name (names_of tags.old.tags) (chars name.now)) ≤ limits.now.tags + 1) }
     ensures err { OnErr result (S.content store.new ≡ S.content store.old) }
@@ -164,7 +184,14 @@ pub fn tag_spans<S: TextStore>(
             if tags.len() > limits.tags() as usize + 1 {
                 return Err(Fault::TooManyTags);
             }
-            set_slot(alloc, store, history, spans, slot, true)
+            set_slot(
+                alloc,
+                store,
+                history,
+                spans,
+                own_slot(slot, widget),
+                true,
+            )
         }
     }
 }

@@ -1,13 +1,14 @@
 ghost use Rattle.std.specs.Prelude.{◌≡◌, ◌≢◌, ℕ, ◌+◌, ◌<◌, ◌≤◌, ◌++◌, [], length, map, take, Some, Err, chars, is_some, option_map, IfOk, IfErr, OnOk, OnErr, IsSome, IfSome};
 ghost use Rattle.std.specs.FinSet as set;
 ghost use Rattle.std.specs.List.{All};
+ghost use Rattle.index_grammar.specs.Names.{known_tags};
 ghost use Rattle.tag_table.specs.Tags.{Tags, slot_of, names_of};
 ghost use Rattle.tcl_words.specs.Unread.{texts_of};
 ghost use Rattle.text_model.specs.TagBits.{slot_count};
-ghost use Rattle.text_model.specs.declared.limits.TheConstants.Limits.{MOST_TAGS};
+ghost use Rattle.text_model.specs.declared.limits.TheConstants.Limits.{MOST_WIDGETS};
 ghost use Rattle.command_parts.specs.declared.answers.Fault.TheVariants.{Memory, TooManyTags};
 ghost use Rattle.command_parts.specs.Lists.{with_name, with_names, listed_names, all_names};
-ghost use Rattle.command_parts.specs.Tagging.{IsFront, with_found, slots_named, piece_of, slot_taken, slots_deleted, tags_left};
+ghost use Rattle.command_parts.specs.Tagging.{IsFront, own_slot, with_found, slots_named, piece_of, slot_taken, slots_deleted, tags_left};
 
 use crate::answers::Fault;
 use crate::lists::Pair;
@@ -76,42 +77,67 @@ pub fn make_listed(alloc: Global, tags: &mut TagTable, pairs: &[Pair]) -> Result
     Ok(())
 }
 
-/// A set of slots with that of a tag, if there is one.
-fn with_found(slots: TagSet, tags: &TagTable, name: &str) -> TagSet
-    ensures { result ≡ with_found (slot_of (chars name.now) tags.now.tags) slots }
+/// The slot of a tag of the table, for a widget: that of `sel` is the widget's own.
+pub fn own_slot(slot: TagSlot, widget: TagSlot) -> TagSlot
+    requires { widget.0 < MOST_WIDGETS }
+    ensures value { result.0 ≡ own_slot widget.0 slot.0 }
+    ensures bound { slot.0 < slot_count → result.0 < slot_count }
+{
+    if slot.0 == 0 { widget } else { slot }
+}
+
+/// The slot of the tag of a name, for a widget that is known by its own slot: `sel` is the widget's own.
+pub fn find_tag(tags: &TagTable, widget: TagSlot, name: &str) -> Option<TagSlot>
+    requires { widget.0 < MOST_WIDGETS }
+    ensures value { option_map (λ slot. slot.0) result ≡ known_tags tags.now.tags widget.0 (chars name.now) }
+    ensures bound { IfSome result (λ slot. slot.0 < slot_count) }
 {
     match tags.find(name) {
+        None => None,
+        Some(slot) => Some(own_slot(slot, widget)),
+    }
+}
+
+/// A set of slots with that of a tag, if there is one.
+fn with_found(slots: TagSet, tags: &TagTable, widget: TagSlot, name: &str) -> TagSet
+    requires { widget.0 < MOST_WIDGETS }
+    ensures { result ≡ with_found (known_tags tags.now.tags widget.0 (chars name.now)) slots }
+{
+    match find_tag(tags, widget, name) {
         None => slots,
         Some(slot) => slots.with(slot),
     }
 }
 
-/// The slots of the tags of these names.
-fn slots_of(tags: &TagTable, names: &[String]) -> TagSet
-    ensures { result ≡ slots_named tags.now.tags (texts_of names.now) }
+/// The slots of the tags of these names, for a widget.
+fn slots_of(tags: &TagTable, widget: TagSlot, names: &[String]) -> TagSet
+    requires { widget.0 < MOST_WIDGETS }
+    ensures { result ≡ slots_named tags.now.tags widget.0 (texts_of names.now) }
 {
     let mut slots = TagSet::empty();
     for name in names {
-        slots = with_found(slots, tags, name.as_str());
+        slots = with_found(slots, tags, widget, name.as_str());
     }
     slots
 }
 
 /// The slots of a list, where there is one.
-fn listed_slots(tags: &TagTable, names: &Option<Vec<String>>) -> Option<TagSet>
-    ensures { result ≡ option_map (slots_named tags.now.tags) (option_map (λ names. texts_of names.items) names.now) }
+fn listed_slots(tags: &TagTable, widget: TagSlot, names: &Option<Vec<String>>) -> Option<TagSet>
+    requires { widget.0 < MOST_WIDGETS }
+    ensures { result ≡ option_map (slots_named tags.now.tags widget.0) (option_map (λ names. texts_of names.items) names.now) }
 {
     match names {
         None => None,
-        Some(names) => Some(slots_of(tags, names.as_slice())),
+        Some(names) => Some(slots_of(tags, widget, names.as_slice())),
     }
 }
 
 /// A pair with the slots of its list.
-fn piece_of(tags: &TagTable, pair: Pair) -> Piece
-    ensures { result ≡ piece_of tags.now.tags pair }
+fn piece_of(tags: &TagTable, widget: TagSlot, pair: Pair) -> Piece
+    requires { widget.0 < MOST_WIDGETS }
+    ensures { result ≡ piece_of tags.now.tags widget.0 pair }
 {
-    let slots = listed_slots(tags, &pair.names);
+    let slots = listed_slots(tags, widget, &pair.names);
     Piece {
         text: pair.text,
         slots,
@@ -119,12 +145,18 @@ fn piece_of(tags: &TagTable, pair: Pair) -> Piece
 }
 
 /// The texts of pairs with the slots of their lists.
-pub fn pieces_of(alloc: Global, tags: &TagTable, pairs: Vec<Pair>) -> Result<Vec<Piece>, AllocError>
-    ensures { IfOk result (λ pieces. pieces.items ≡ map (piece_of tags.now.tags) pairs.items) }
+pub fn pieces_of(
+    alloc: Global,
+    tags: &TagTable,
+    widget: TagSlot,
+    pairs: Vec<Pair>,
+) -> Result<Vec<Piece>, AllocError>
+    requires { widget.0 < MOST_WIDGETS }
+    ensures { IfOk result (λ pieces. pieces.items ≡ map (piece_of tags.now.tags widget.0) pairs.items) }
 {
     let mut pieces = Vec::with_capacity(alloc, pairs.len())?;
     for pair in pairs {
-        pieces.push(piece_of(tags, pair))?;
+        pieces.push(piece_of(tags, widget, pair))?;
     }
     Ok(pieces)
 }
