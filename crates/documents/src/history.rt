@@ -83,7 +83,7 @@ impl<S: TextStore> Document<S> {
     /// `W edit undo` (text(n), "edit undo").
     pub fn edit_undo(&mut self, limits: &Limits, widget: usize) -> Result<Answer, Fault>
         requires shown { widget < length self.old.widgets }
-        requires { IsWellFormedDocument limits.now self.old }
+        requires formed { IsWellFormedDocument limits.now self.old }
         ensures { Does limits.now self.old self.new result (edit_undo self.old (widget_at self.old widget)) }
     {
         if !self.settings.undo {
@@ -112,7 +112,7 @@ impl<S: TextStore> Document<S> {
     /// `W edit redo` (text(n), "edit redo").
     pub fn edit_redo(&mut self, limits: &Limits, widget: usize) -> Result<Answer, Fault>
         requires shown { widget < length self.old.widgets }
-        requires { IsWellFormedDocument limits.now self.old }
+        requires formed { IsWellFormedDocument limits.now self.old }
         ensures { Does limits.now self.old self.new result (edit_redo self.old (widget_at self.old widget)) }
     {
         if !self.settings.undo {

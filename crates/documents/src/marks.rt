@@ -79,7 +79,7 @@ impl<S: TextStore> Document<S> {
     /// The offset for a mark of a name at a place: of the widget's own, the end is the last character.
     pub fn mark_offset(&self, widget: usize, name: &str, place: usize) -> usize
         requires shown { widget < length self.now.widgets }
-        requires { place ≤ length (shown self.now (widget_at self.now widget)) }
+        requires within { place ≤ length (shown self.now (widget_at self.now widget)) }
         ensures value { result ≡ mark_offset self.now (widget_at self.now widget) (chars name.now) place }
         ensures within { result ≤ length self.now.cells }
     {
@@ -145,7 +145,7 @@ impl<S: TextStore> Document<S> {
     /// Puts the widget's `insert` at a place.
     fn put_insert(&mut self, limits: &Limits, widget: usize, place: Place) -> Result<Answer, Fault>
         requires shown { widget < length self.old.widgets }
-        requires { place.offset ≤ length self.old.cells }
+        requires stands { place.offset ≤ length self.old.cells }
         ensures { Does limits.now self.old self.new result (answered (with_insert self.old (widget_at self.old widget) place) Empty) }
     {
         match put_mark(self.alloc, &mut self.store, MarkNo(2 * self.seats.number(widget)), place) {
@@ -157,7 +157,7 @@ impl<S: TextStore> Document<S> {
     /// Puts the widget's `current` at a place.
     fn put_current(&mut self, limits: &Limits, widget: usize, place: Place) -> Result<Answer, Fault>
         requires shown { widget < length self.old.widgets }
-        requires { place.offset ≤ length self.old.cells }
+        requires stands { place.offset ≤ length self.old.cells }
         ensures { Does limits.now self.old self.new result (answered (with_current self.old (widget_at self.old widget) place) Empty) }
     {
         match put_mark(self.alloc, &mut self.store, MarkNo(2 * self.seats.number(widget) + 1), place) {
@@ -190,7 +190,7 @@ impl<S: TextStore> Document<S> {
     /// Puts the mark of a name at a place, if there is one.
     pub fn put_mark(&mut self, limits: &Limits, widget: usize, name: &str, place: Place) -> Result<Answer, Fault>
         requires shown { widget < length self.old.widgets }
-        requires { place.offset ≤ length self.old.cells }
+        requires stands { place.offset ≤ length self.old.cells }
         ensures { Does limits.now self.old self.new result (answered (with_mark self.old (widget_at self.old widget) (chars name.now) place) Empty) }
     {
         if is_word(name, "insert") {

@@ -96,7 +96,7 @@ impl<S: TextStore> Document<S> {
     /// The character at a place, or nothing at the end.
     pub fn character_at(&self, widget: usize, place: usize) -> Result<Text, AllocError>
         requires shown { widget < length self.now.widgets }
-        requires { place ≤ length (shown self.now (widget_at self.now widget)) }
+        requires within { place ≤ length (shown self.now (widget_at self.now widget)) }
         ensures { IfOk result (λ text. text ≡ slice_range (shown self.now (widget_at self.now widget)) place (suc place)) }
     {
         let slot = self.seats.number(widget);
@@ -108,7 +108,7 @@ impl<S: TextStore> Document<S> {
     /// A place as `line.char`.
     pub fn position_of(&self, widget: usize, place: usize) -> Result<Text, AllocError>
         requires shown { widget < length self.now.widgets }
-        requires { place ≤ length (shown self.now (widget_at self.now widget)) }
+        requires within { place ≤ length (shown self.now (widget_at self.now widget)) }
         ensures { IfOk result (λ text. text ≡ position_text (shown self.now (widget_at self.now widget)) place) }
     {
         let view = view_of(&self.store, &self.anchors, self.seats.number(widget));
@@ -121,6 +121,7 @@ impl<S: TextStore> Document<S> {
     pub fn insertion_offset(&self, widget: usize, place: usize) -> usize
         requires shown { widget < length self.now.widgets }
         requires active { is_idle self.now (widget_at self.now widget) ≡ false }
+        requires near { place ≤ length (shown self.now (widget_at self.now widget)) }
         ensures value { result ≡ insertion_offset self.now (widget_at self.now widget) place }
         ensures within { result < length self.now.cells }
     {

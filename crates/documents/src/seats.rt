@@ -1,20 +1,28 @@
 //! The names of widgets with their slots, and what is kept by slot.
 
-ghost use Rattle.std.specs.Prelude.{◌≡◌, ◌<◌, ◌≤◌, ◌++◌, ◌∷◌, [], length, take, drop, map, filter, filter_map, not, chars, IfOk, OnOk, OnErr};
+ghost use Rattle.std.specs.Prelude.{◌≡◌, ◌<◌, ◌≤◌, ◌++◌, ◌∷◌, [], length, take, drop, map, filter, filter_map, not, nat_lt, chars, string_bytes, IfOk, OnOk, OnErr};
 ghost use Rattle.std.specs.List.{All};
 ghost use Rattle.text_model.specs.declared.limits.TheConstants.Limits.{MOST_WIDGETS};
 ghost use Rattle.name_list.specs.Names.{AreNames, IsLeastFree, Named, numbers_of, place_of};
 ghost use Rattle.tcl_words.specs.Unread.{texts_of};
 ghost use Rattle.command_parts.specs.Edits.{new_mark, with_own_marks};
 ghost use Rattle.command_parts.specs.Words.{is_among};
+ghost use Rattle.tcl_words.specs.ListGrowth.{Goes};
 ghost use Rattle.documents.specs.Documents.{whole};
-ghost use Rattle.documents.specs.Seats.{numbers_left_out, seats_left};
+ghost use Rattle.documents.specs.Seats.{numbers_left_out, other_names, seats_left};
 
-use command_parts::{WHOLE, is_word, put_widget_marks};
+use command_parts::{is_word, put_widget_marks};
 use edit_ops::Anchors;
 use name_list::NameList;
 use std::alloc::{AllocError, Global};
+use tcl_words::push_element;
 use text_model::{TagSlot, TextStore};
+
+/// A widget without anchors.
+const WHOLE: Anchors = Anchors {
+    start: None,
+    end: None,
+};
 
 /// Makes a list long enough for a slot, by adding a value again and again.
 fn make_room<T: Copy>(list: &mut Vec<T>, value: T, slot: u16) -> Result<(), AllocError>
@@ -67,7 +75,7 @@ pub fn make_seat<S: TextStore>(
 }
 
 /// Whether a name is one of these.
-pub fn is_among(name: &str, names: &[String]) -> bool
+fn is_among(name: &str, names: &[String]) -> bool
     ensures { result ≡ is_among (chars name.now) (texts_of names.now) }
 {
     for other in names {
@@ -110,4 +118,29 @@ pub fn remove_seats(seats: &mut NameList, names: &[String])
         }
     }
     let _count = seats.len();
+}
+
+/// Whether some widget isn't of these names.
+pub fn some_left(seats: &NameList, names: &[String]) -> bool
+    ensures { result ≡ nat_lt 0 (length (seats_left (texts_of names.now) seats.now.entries)) }
+{
+    for place in 0..seats.len() {
+        if !is_among(seats.name(place), names) {
+            return true;
+        }
+    }
+    false
+}
+
+/// Appends the names of all widgets but the one at a place.
+pub fn push_other_seats(list: &mut String, seats: &NameList, place: usize) -> Result<(), AllocError>
+    requires { place < length seats.now.entries }
+    ensures { OnOk result (Goes (string_bytes list.old) (string_bytes list.new) (other_names place seats.now.entries)) }
+{
+    for other in 0..seats.len() {
+        if other != place {
+            push_element(list, seats.name(other))?;
+        }
+    }
+    Ok(())
 }

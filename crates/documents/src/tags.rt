@@ -62,7 +62,7 @@ impl<S: TextStore> Document<S> {
     /// The names of the tags of the character at a place as a list, from the lowest; none at the end.
     pub fn tags_on(&self, widget: usize, place: usize) -> Result<Text, AllocError>
         requires shown { widget < length self.now.widgets }
-        requires { place ≤ length (shown self.now (widget_at self.now widget)) }
+        requires within { place ≤ length (shown self.now (widget_at self.now widget)) }
         ensures { IfOk result (λ list. list ≡ list_text (tags_on self.now (widget_at self.now widget) place)) }
     {
         let mut list = String::new(self.alloc);
@@ -94,7 +94,7 @@ impl<S: TextStore> Document<S> {
     /// Where the first range of a tag begins and ends that begins at a place or behind it, as a list, if it begins before another.
     pub fn next_listed(&self, widget: usize, name: &str, from: usize, to: usize) -> Result<Text, AllocError>
         requires shown { widget < length self.now.widgets }
-        requires { from ≤ length (shown self.now (widget_at self.now widget)) }
+        requires within { from ≤ length (shown self.now (widget_at self.now widget)) }
         ensures { IfOk result (λ list. list ≡ list_text (range_words (shown self.now (widget_at self.now widget))
             (begun (λ start. nat_lt start to) (next_range (flags_of self.now (widget_at self.now widget) (chars name.now)) from)))) }
     {
@@ -111,7 +111,7 @@ impl<S: TextStore> Document<S> {
     /// Where the last range of a tag begins and ends that begins before a place, as a list, if it doesn't begin before another.
     pub fn previous_listed(&self, widget: usize, name: &str, from: usize, to: usize) -> Result<Text, AllocError>
         requires shown { widget < length self.now.widgets }
-        requires { from ≤ length (shown self.now (widget_at self.now widget)) }
+        requires within { from ≤ length (shown self.now (widget_at self.now widget)) }
         ensures { IfOk result (λ list. list ≡ list_text (range_words (shown self.now (widget_at self.now widget))
             (begun (λ start. nat_le to start) (previous_range (flags_of self.now (widget_at self.now widget) (chars name.now)) from)))) }
     {
@@ -136,7 +136,7 @@ impl<S: TextStore> Document<S> {
         places: &[usize],
     ) -> Result<Answer, Fault>
         requires shown { widget < length self.old.widgets }
-        requires { All (λ place. place ≤ length (shown self.old (widget_at self.old widget))) places.now }
+        requires within { All (λ place. place ≤ length (shown self.old (widget_at self.old widget))) places.now }
         ensures { Does limits.now self.old self.new result (add_spans limits.now self.old (widget_at self.old widget) (chars name.now) places.now) }
     {
         let number = self.seats.number(widget);
@@ -172,7 +172,7 @@ impl<S: TextStore> Document<S> {
         places: &[usize],
     ) -> Result<Answer, Fault>
         requires shown { widget < length self.old.widgets }
-        requires { All (λ place. place ≤ length (shown self.old (widget_at self.old widget))) places.now }
+        requires within { All (λ place. place ≤ length (shown self.old (widget_at self.old widget))) places.now }
         ensures { Does limits.now self.old self.new result (remove_spans self.old (widget_at self.old widget) (chars name.now) places.now) }
     {
         let number = self.seats.number(widget);

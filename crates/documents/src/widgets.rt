@@ -40,11 +40,11 @@ ghost use Rattle.command_parts.specs.Marking.{gravity_word as spec_gravity_word}
 ghost use Rattle.documents.specs.Marks.{mark_names, mark_offset, mark_unset, place_named, set_found, usable_marks, with_current, with_insert, with_mark, with_shared};
 
 use crate::documents::Document;
-use crate::seats::{is_among, make_seat, remove_seats, slots_named};
+use crate::seats::{make_seat, push_other_seats, remove_seats, slots_named, some_left};
 use command_parts::{Answer, Settings, drop_widgets};
 use edit_ops::Anchors;
 use std::alloc::AllocError;
-use text_model::{Limits, TextStore};
+use text_model::{Limits, Text, TextStore};
 
 /// Where a line begins, by its number counted from 1.
 fn anchor_at<S: TextStore>(store: &S, line: Option<usize>) -> Option<usize>
@@ -143,16 +143,21 @@ impl<S: TextStore> Document<S> {
         }
     }
 
+    /// The names of the other widgets as a list, by their creation.
+    pub fn other_widgets(&self, widget: usize) -> Result<Text, AllocError>
+        requires { widget < length self.now.widgets }
+        ensures { IfOk result (λ list. list ≡ list_text (filter (λ name. not (is_same name (widget_at self.now widget).name)) (window_names self.now))) }
+    {
+        let mut list = String::new(self.alloc);
+        push_other_seats(&mut list, &self.seats, widget)?;
+        Ok(Text::new(list))
+    }
+
     /// Whether some widget isn't of these names.
     pub fn keeps_some(&self, names: &[String]) -> bool
         ensures { result ≡ nat_lt 0 (length (without_widgets (texts_of names.now) self.now).widgets) }
     {
-        for widget in 0..self.seats.len() {
-            if !is_among(self.seats.name(widget), names) {
-                return true;
-            }
-        }
-        false
+        some_left(&self.seats, names)
     }
 
     /// Takes the widgets of these names out, with their own marks and their selections. Unknown names are skipped.

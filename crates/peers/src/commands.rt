@@ -5,13 +5,14 @@ ghost use Rattle.documents.specs.Promise.{Does};
 ghost use Rattle.peers.specs.Command.{done, command, is_frugal, is_frugal_reading};
 ghost use Rattle.command_table.specs.Reading.{reading};
 ghost use Rattle.command_parts.specs.declared.answers.Fault.TheVariants.{Memory};
-ghost use Rattle.documents.specs.WellFormed.{IsWellFormedDocument};
+ghost use Rattle.documents.specs.WellFormed.{IsWellFormedDocument, window_names};
 
 use crate::deletions::{delete, replace};
 use crate::history::{edit_modified};
 use crate::indices::{compare, index};
 use crate::marks::{mark_gravity, mark_names, mark_next, mark_previous, mark_set};
 use crate::options::{cget, configure};
+use crate::peers::{peer_create, peer_names};
 use crate::queries::{count, dump, search};
 use crate::tags::{tag_add, tag_lower, tag_names, tag_nextrange, tag_prevrange, tag_raise, tag_ranges, tag_remove};
 use crate::texts::{get, insert};
@@ -20,7 +21,7 @@ use command_table::{Command, shape};
 use documents::Document;
 use text_model::{Limits, TextStore};
 
-/// A command with its switches, and its arguments and options, which stand from a position on. What isn't there yet is no option.
+/// A command of a widget with its switches, and its arguments and options, which stand from a position on.
 fn carry_out<S: TextStore>(document: &mut Document<S>, limits: &Limits, widget: usize,
     command: Command,
     switches: &[String],
@@ -31,7 +32,7 @@ fn carry_out<S: TextStore>(document: &mut Document<S>, limits: &Limits, widget: 
     requires formed { IsWellFormedDocument limits.now document.old }
     requires near { at + 2 ≤ usize.MAX }
     requires all { at + length arguments.now ≤ usize.MAX }
-    ensures does { Does limits.now document.old document.new result (done command limits.now document.old (widget_at document.old widget) (texts_of switches.now) at (texts_of arguments.now)) }
+    ensures does { Does limits.now document.old document.new result (done command limits.now (window_names document.old) document.old (widget_at document.old widget) (texts_of switches.now) at (texts_of arguments.now)) }
     ensures sure { is_frugal command ≡ true → result ≢ Err Memory }
 {
     match command {
@@ -66,16 +67,18 @@ fn carry_out<S: TextStore>(document: &mut Document<S>, limits: &Limits, widget: 
         Command::Search => search(document, widget, switches, at, arguments),
         Command::Count => count(document, widget, switches, at, arguments),
         Command::Dump => dump(document, widget, switches, at, arguments),
-        _ => Err(Fault::BadOption(1)),
+        Command::PeerCreate => peer_create(document, limits, widget, at, arguments),
+        Command::PeerNames => peer_names(document, widget),
+        Command::Text | Command::Destroy => Err(Fault::BadOption(1)),
     }
 }
 
-/// A command of the widget, of all its words.
+/// A command of a widget, of all its words.
 pub fn command<S: TextStore>(document: &mut Document<S>, limits: &Limits, widget: usize, words: &[String]) -> Result<Answer, Fault>
     requires shown { widget < length document.old.widgets }
     requires formed { IsWellFormedDocument limits.now document.old }
     requires some { 0 < length words.now }
-    ensures does { Does limits.now document.old document.new result (command limits.now document.old (widget_at document.old widget) (texts_of words.now)) }
+    ensures does { Does limits.now document.old document.new result (command limits.now (window_names document.old) document.old (widget_at document.old widget) (texts_of words.now)) }
     ensures sure { is_frugal_reading (reading (texts_of words.now)) ≡ true → result ≢ Err Memory }
 {
     match shape(words) {

@@ -17,7 +17,7 @@ use text_model::{Limits, TextStore};
 /// Deletes the ranges between pairs of places, unless the widget is disabled.
 fn delete_found<S: TextStore>(document: &mut Document<S>, limits: &Limits, widget: usize, places: &[usize]) -> Result<Answer, Fault>
     requires shown { widget < length document.old.widgets }
-    requires { All (λ place. place ≤ length (shown document.old (widget_at document.old widget))) places.now }
+    requires within { All (λ place. place ≤ length (shown document.old (widget_at document.old widget))) places.now }
     ensures { Does limits.now document.old document.new result
         (unless_idle (widget_at document.old widget) document.old (delete_places document.old (widget_at document.old widget) places.now)) }
 {
@@ -33,7 +33,7 @@ pub fn delete<S: TextStore>(document: &mut Document<S>, limits: &Limits, widget:
     arguments: &[String],
 ) -> Result<Answer, Fault>
     requires shown { widget < length document.old.widgets }
-    requires { at + length arguments.now ≤ usize.MAX }
+    requires near { at + length arguments.now ≤ usize.MAX }
     ensures { Does limits.now document.old document.new result (delete document.old (widget_at document.old widget) at (texts_of arguments.now)) }
 {
     match places_at(document, widget, at, arguments) {
@@ -49,7 +49,8 @@ fn replace_ordered<S: TextStore>(document: &mut Document<S>, limits: &Limits, wi
     pairs: Vec<Pair>,
 ) -> Result<Answer, Fault>
     requires shown { widget < length document.old.widgets }
-    requires { from ≤ to }
+    requires ordered { from ≤ to }
+    requires within { to ≤ length (shown document.old (widget_at document.old widget)) }
     ensures { Does limits.now document.old document.new result
         (unless_idle (widget_at document.old widget) document.old (replace_span limits.now document.old (widget_at document.old widget)
         (insertion_offset document.old (widget_at document.old widget) from) (insertion_offset document.old (widget_at document.old widget) to) pairs.items)) }
@@ -68,6 +69,7 @@ fn replace_places<S: TextStore>(document: &mut Document<S>, limits: &Limits, wid
     pairs: Vec<Pair>,
 ) -> Result<Answer, Fault>
     requires shown { widget < length document.old.widgets }
+    requires within { to ≤ length (shown document.old (widget_at document.old widget)) }
     ensures { Does limits.now document.old document.new result (replace_places limits.now document.old (widget_at document.old widget) second from to pairs.items) }
 {
     if to < from {
@@ -83,7 +85,8 @@ fn replace_found<S: TextStore>(document: &mut Document<S>, limits: &Limits, widg
     words: &[String],
 ) -> Result<Answer, Fault>
     requires shown { widget < length document.old.widgets }
-    requires { at + 2 + length words.now ≤ usize.MAX }
+    requires within { IfOk to (λ to. to ≤ length (shown document.old (widget_at document.old widget))) }
+    requires near { at + 2 + length words.now ≤ usize.MAX }
     ensures { Does limits.now document.old document.new result
         (change_with document.old from (λ from. change_with document.old to (λ to.
         change_with document.old (pairs_at (at + 2) (texts_of words.now)) (replace_places limits.now document.old (widget_at document.old widget) (at + 1) from to)))) }
@@ -109,7 +112,7 @@ fn replace_words<S: TextStore>(document: &mut Document<S>, limits: &Limits, widg
     words: &[String],
 ) -> Result<Answer, Fault>
     requires shown { widget < length document.old.widgets }
-    requires { at + 2 + length words.now ≤ usize.MAX }
+    requires near { at + 2 + length words.now ≤ usize.MAX }
     ensures { Does limits.now document.old document.new result
         (replace_words limits.now document.old (widget_at document.old widget) at (chars first.now, chars second.now, texts_of words.now)) }
 {
@@ -124,7 +127,7 @@ pub fn replace<S: TextStore>(document: &mut Document<S>, limits: &Limits, widget
     arguments: &[String],
 ) -> Result<Answer, Fault>
     requires shown { widget < length document.old.widgets }
-    requires { at + length arguments.now ≤ usize.MAX }
+    requires near { at + length arguments.now ≤ usize.MAX }
     ensures { Does limits.now document.old document.new result (replace limits.now document.old (widget_at document.old widget) at (texts_of arguments.now)) }
 {
     match first_two(arguments) {

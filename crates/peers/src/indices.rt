@@ -40,7 +40,7 @@ fn compared(
 /// A place as `line.char`.
 fn show_place<S: TextStore>(document: &Document<S>, widget: usize, place: Result<usize, Fault>) -> Result<Answer, Fault>
     requires shown { widget < length document.now.widgets }
-    requires { IfOk place (λ place. place ≤ length (shown document.now (widget_at document.now widget))) }
+    requires within { IfOk place (λ place. place ≤ length (shown document.now (widget_at document.now widget))) }
     ensures { Gives result (with_value place (position_answer document.now (widget_at document.now widget))) }
 {
     match place {
@@ -73,7 +73,7 @@ fn compared_at<S: TextStore>(document: &Document<S>, widget: usize, at: usize,
     right: &str,
 ) -> Result<Answer, Fault>
     requires shown { widget < length document.now.widgets }
-    requires { at + 2 ≤ usize.MAX }
+    requires near { at + 2 ≤ usize.MAX }
     ensures { Gives result
         (compared_at document.now (widget_at document.now widget) at (chars left.now, chars operator.now, chars right.now)) }
 {
@@ -86,7 +86,7 @@ fn compared_at<S: TextStore>(document: &Document<S>, widget: usize, at: usize,
 /// `W compare A op B` (text(n), "compare"). The arguments stand from a position on.
 pub fn compare<S: TextStore>(document: &Document<S>, widget: usize, at: usize, arguments: &[String]) -> Result<Answer, Fault>
     requires shown { widget < length document.now.widgets }
-    requires { at + 2 ≤ usize.MAX }
+    requires near { at + 2 ≤ usize.MAX }
     ensures { Gives result (compare document.now (widget_at document.now widget) at (texts_of arguments.now)) }
 {
     match three(arguments) {

@@ -3,11 +3,11 @@
 
 mod commands;
 mod deletions;
-mod documents;
 mod history;
 mod indices;
 mod marks;
 mod options;
+mod peers;
 mod queries;
 mod ranges;
 mod tags;

@@ -16,7 +16,7 @@ use text_model::{Gravity, Limits, Place, TextStore};
 /// Sets the mark of a name to a place of the view.
 fn set_at<S: TextStore>(document: &mut Document<S>, limits: &Limits, widget: usize, name: &str, place: usize) -> Result<Answer, Fault>
     requires shown { widget < length document.old.widgets }
-    requires { place ≤ length (shown document.old (widget_at document.old widget)) }
+    requires within { place ≤ length (shown document.old (widget_at document.old widget)) }
     ensures { Does limits.now document.old document.new result (set_at limits.now document.old (widget_at document.old widget) (chars name.now) place) }
 {
     let offset = document.mark_offset(widget, name, place);
@@ -37,7 +37,7 @@ fn set_place<S: TextStore>(document: &mut Document<S>, limits: &Limits, widget: 
     place: Result<usize, Fault>,
 ) -> Result<Answer, Fault>
     requires shown { widget < length document.old.widgets }
-    requires { IfOk place (λ place. place ≤ length (shown document.old (widget_at document.old widget))) }
+    requires within { IfOk place (λ place. place ≤ length (shown document.old (widget_at document.old widget))) }
     ensures { Does limits.now document.old document.new result
         (change_with document.old place (set_at limits.now document.old (widget_at document.old widget) (chars name.now))) }
 {
@@ -53,7 +53,7 @@ fn set_words<S: TextStore>(document: &mut Document<S>, limits: &Limits, widget: 
     word: &str,
 ) -> Result<Answer, Fault>
     requires shown { widget < length document.old.widgets }
-    requires { at + 1 ≤ usize.MAX }
+    requires near { at + 1 ≤ usize.MAX }
     ensures { Does limits.now document.old document.new result
         (set_words limits.now document.old (widget_at document.old widget) at (chars name.now, chars word.now)) }
 {
@@ -67,7 +67,7 @@ pub fn mark_set<S: TextStore>(document: &mut Document<S>, limits: &Limits, widge
     arguments: &[String],
 ) -> Result<Answer, Fault>
     requires shown { widget < length document.old.widgets }
-    requires { at + 1 ≤ usize.MAX }
+    requires near { at + 1 ≤ usize.MAX }
     ensures { Does limits.now document.old document.new result (mark_set limits.now document.old (widget_at document.old widget) at (texts_of arguments.now)) }
 {
     match two(arguments) {
@@ -93,7 +93,7 @@ fn gravity_given<S: TextStore>(document: &mut Document<S>, limits: &Limits, widg
     gravity: Option<Gravity>,
 ) -> Result<Answer, Fault>
     requires shown { widget < length document.old.widgets }
-    requires { at + 1 ≤ usize.MAX }
+    requires near { at + 1 ≤ usize.MAX }
     ensures { Does limits.now document.old document.new result
         (gravity_given document.old (widget_at document.old widget) at (chars name.now) (place_named document.old (widget_at document.old widget) (chars name.now)) gravity) }
 {
@@ -116,7 +116,7 @@ fn gravity_words<S: TextStore>(document: &mut Document<S>, limits: &Limits, widg
     word: Option<&str>,
 ) -> Result<Answer, Fault>
     requires shown { widget < length document.old.widgets }
-    requires { at + 1 ≤ usize.MAX }
+    requires near { at + 1 ≤ usize.MAX }
     ensures { Does limits.now document.old document.new result
         (gravity_words document.old (widget_at document.old widget) at (chars name.now, option_map (λ word. chars word.now) word.entry)) }
 {
@@ -132,7 +132,7 @@ pub fn mark_gravity<S: TextStore>(document: &mut Document<S>, limits: &Limits, w
     arguments: &[String],
 ) -> Result<Answer, Fault>
     requires shown { widget < length document.old.widgets }
-    requires { at + 1 ≤ usize.MAX }
+    requires near { at + 1 ≤ usize.MAX }
     ensures { Does limits.now document.old document.new result (mark_gravity document.old (widget_at document.old widget) at (texts_of arguments.now)) }
 {
     match one_or_two(arguments) {

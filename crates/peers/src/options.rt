@@ -5,21 +5,47 @@ ghost use Rattle.documents.specs.Options.{settings_of};
 ghost use Rattle.peers.specs.Options.{cget, configure};
 ghost use Rattle.documents.specs.Promise.{Does, Gives};
 ghost use Rattle.documents.specs.Documents.{widget_at};
+ghost use Rattle.std.specs.Prelude.{◌≡◌, ◌<◌, false, IfOk};
+ghost use Rattle.command_parts.specs.Settings.{AreLines, is_behind, settings_checked, settings_read};
+ghost use Rattle.command_parts.specs.Faults.{with_value};
 
-use command_parts::{Answer, Fault, one};
+use command_parts::{Answer, Fault, Settings, one};
 use documents::Document;
 use text_model::{Limits, TextStore};
 
+/// The settings with the values of options, of which the first stands at a position, for a document of so many lines: each value
+/// is decided, and then whether the view begins behind its end.
+pub fn settings_given(
+    settings: Settings,
+    at: usize,
+    words: &[String],
+    lines: usize,
+) -> Result<Settings, Fault>
+    requires near { at + length words.now ≤ usize.MAX }
+    requires lines { AreLines lines settings }
+    ensures value { result ≡ with_value (settings_read lines at (texts_of words.now) settings) settings_checked }
+    ensures lines { IfOk result (AreLines lines) }
+    ensures ordered { IfOk result (λ settings. is_behind settings.start settings.end ≡ false) }
+{
+    match settings.read(at, words, lines) {
+        Err(fault) => Err(fault),
+        Ok(settings) => settings.checked(),
+    }
+}
+
 /// `W configure option value ?option value ..?` (text(n), "configure"). The first option stands at a position.
-pub fn configure<S: TextStore>(document: &mut Document<S>, limits: &Limits, widget: usize,
+pub fn configure<S: TextStore>(
+    document: &mut Document<S>,
+    limits: &Limits,
+    widget: usize,
     at: usize,
     words: &[String],
 ) -> Result<Answer, Fault>
     requires shown { widget < length document.old.widgets }
-    requires { at + length words.now ≤ usize.MAX }
+    requires near { at + length words.now ≤ usize.MAX }
     ensures { Does limits.now document.old document.new result (configure document.old (widget_at document.old widget) at (texts_of words.now)) }
 {
-    match document.settings(widget).read(at, words) {
+    match settings_given(document.settings(widget), at, words, document.lines()) {
         Err(fault) => Err(fault),
         Ok(settings) => Ok(document.put_settings(limits, widget, settings)),
     }

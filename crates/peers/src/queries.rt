@@ -167,7 +167,7 @@ fn search_words<S: TextStore>(document: &Document<S>, widget: usize, switches: S
     last: Option<&str>,
 ) -> Result<Answer, Fault>
     requires shown { widget < length document.now.widgets }
-    requires { at + 2 ≤ usize.MAX }
+    requires near { at + 2 ≤ usize.MAX }
     ensures { Gives result (search_words document.now (widget_at document.now widget) switches at
         (chars pattern.now, chars first.now, option_map (λ word. chars word.now) last.entry)) }
 {
@@ -182,7 +182,7 @@ pub fn search<S: TextStore>(document: &Document<S>, widget: usize, switches: &[S
     arguments: &[String],
 ) -> Result<Answer, Fault>
     requires shown { widget < length document.now.widgets }
-    requires { at + 2 ≤ usize.MAX }
+    requires near { at + 2 ≤ usize.MAX }
     ensures { Gives result (search document.now (widget_at document.now widget) (texts_of switches.now) at (texts_of arguments.now)) }
 {
     match two_or_three(arguments) {
@@ -216,7 +216,7 @@ fn count_words<S: TextStore>(document: &Document<S>, widget: usize, options: &[C
     second: &str,
 ) -> Result<Answer, Fault>
     requires shown { widget < length document.now.widgets }
-    requires { at + 1 ≤ usize.MAX }
+    requires near { at + 1 ≤ usize.MAX }
     ensures { Gives result (count_words document.now (widget_at document.now widget) options.now at (chars first.now, chars second.now)) }
 {
     let from = document.place_at(widget, at, first);
@@ -230,7 +230,7 @@ pub fn count<S: TextStore>(document: &Document<S>, widget: usize, options: &[Str
     arguments: &[String],
 ) -> Result<Answer, Fault>
     requires shown { widget < length document.now.widgets }
-    requires { at + 1 ≤ usize.MAX }
+    requires near { at + 1 ≤ usize.MAX }
     ensures { Gives result (count document.now (widget_at document.now widget) (texts_of options.now) at (texts_of arguments.now)) }
 {
     match two(arguments) {
@@ -245,7 +245,7 @@ pub fn count<S: TextStore>(document: &Document<S>, widget: usize, options: &[Str
 /// The place behind that of a character, or the end.
 fn place_behind<S: TextStore>(document: &Document<S>, widget: usize, place: usize) -> usize
     requires shown { widget < length document.now.widgets }
-    requires { place ≤ length (shown document.now (widget_at document.now widget)) }
+    requires within { place ≤ length (shown document.now (widget_at document.now widget)) }
     ensures value { result ≡ place_behind document.now (widget_at document.now widget) place }
     ensures within { result ≤ length (shown document.now (widget_at document.now widget)) }
 {
@@ -260,7 +260,7 @@ fn dump_from<S: TextStore>(document: &Document<S>, widget: usize, listed: Listed
     last: Option<&str>,
 ) -> Result<Answer, Fault>
     requires shown { widget < length document.now.widgets }
-    requires { IfOk from (λ from. from ≤ length (shown document.now (widget_at document.now widget))) }
+    requires within { IfOk from (λ from. from ≤ length (shown document.now (widget_at document.now widget))) }
     ensures { Gives result (with_value from (λ from.
         with_value (place_or document.now (widget_at document.now widget) (place_behind document.now (widget_at document.now widget) from) at (option_map (λ word. chars word.now) last.entry))
         (dumped document.now (widget_at document.now widget) listed from))) }
@@ -292,7 +292,7 @@ fn dump_words<S: TextStore>(document: &Document<S>, widget: usize, listed: Liste
     last: Option<&str>,
 ) -> Result<Answer, Fault>
     requires shown { widget < length document.now.widgets }
-    requires { at + 1 ≤ usize.MAX }
+    requires near { at + 1 ≤ usize.MAX }
     ensures { Gives result (dump_words document.now (widget_at document.now widget) listed at (chars first.now, option_map (λ word. chars word.now) last.entry)) }
 {
     let from = document.place_at(widget, at, first);
@@ -305,7 +305,7 @@ pub fn dump<S: TextStore>(document: &Document<S>, widget: usize, switches: &[Str
     arguments: &[String],
 ) -> Result<Answer, Fault>
     requires shown { widget < length document.now.widgets }
-    requires { at + 1 ≤ usize.MAX }
+    requires near { at + 1 ≤ usize.MAX }
     ensures { Gives result (dump document.now (widget_at document.now widget) (texts_of switches.now) at (texts_of arguments.now)) }
 {
     match one_or_two(arguments) {

@@ -3,20 +3,17 @@ ghost use Rattle.std.specs.List.{All};
 ghost use Rattle.tcl_words.specs.Unread.{texts_of};
 ghost use Rattle.command_parts.specs.declared.answers.Fault.TheVariants.{Memory};
 ghost use Rattle.peers.specs.Ranges.{places_at};
-ghost use Rattle.command_parts.specs.Ranges.{span, spans_of};
 ghost use Rattle.documents.specs.View.{shown};
 ghost use Rattle.documents.specs.Documents.{widget_at};
 
 use command_parts::Fault;
-use edit_ops::Span;
-use std::alloc::{AllocError, Global};
 use documents::Document;
 use text_model::TextStore;
 
 /// The places of indices, the first of which stands at a position.
 pub fn places_at<S: TextStore>(document: &Document<S>, widget: usize, at: usize, words: &[String]) -> Result<Vec<usize>, Fault>
     requires shown { widget < length document.now.widgets }
-    requires { at + length words.now ≤ usize.MAX }
+    requires near { at + length words.now ≤ usize.MAX }
     ensures ok { IfOk result (λ places. places_at document.now (widget_at document.now widget) at (texts_of words.now) ≡ Ok places.items) }
     ensures err { IfErr result (λ fault. fault ≢ Memory → places_at document.now (widget_at document.now widget) at (texts_of words.now) ≡ Err fault) }
     ensures within { IfOk result (λ places. All (λ place. place ≤ length (shown document.now (widget_at document.now widget))) places.items) }

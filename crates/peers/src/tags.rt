@@ -17,7 +17,7 @@ fn add_words<S: TextStore>(document: &mut Document<S>, limits: &Limits, widget: 
     words: &[String],
 ) -> Result<Answer, Fault>
     requires shown { widget < length document.old.widgets }
-    requires { at + 1 + length words.now ≤ usize.MAX }
+    requires near { at + 1 + length words.now ≤ usize.MAX }
     ensures { Does limits.now document.old document.new result (add_words limits.now document.old (widget_at document.old widget) at (chars name.now, texts_of words.now)) }
 {
     match places_at(document, widget, at + 1, words) {
@@ -32,7 +32,7 @@ pub fn tag_add<S: TextStore>(document: &mut Document<S>, limits: &Limits, widget
     arguments: &[String],
 ) -> Result<Answer, Fault>
     requires shown { widget < length document.old.widgets }
-    requires { at + length arguments.now ≤ usize.MAX }
+    requires near { at + length arguments.now ≤ usize.MAX }
     ensures { Does limits.now document.old document.new result (tag_add limits.now document.old (widget_at document.old widget) at (texts_of arguments.now)) }
 {
     match first(arguments) {
@@ -47,7 +47,7 @@ fn remove_words<S: TextStore>(document: &mut Document<S>, limits: &Limits, widge
     words: &[String],
 ) -> Result<Answer, Fault>
     requires shown { widget < length document.old.widgets }
-    requires { at + 1 + length words.now ≤ usize.MAX }
+    requires near { at + 1 + length words.now ≤ usize.MAX }
     ensures { Does limits.now document.old document.new result (remove_words document.old (widget_at document.old widget) at (chars name.now, texts_of words.now)) }
 {
     match places_at(document, widget, at + 1, words) {
@@ -62,7 +62,7 @@ pub fn tag_remove<S: TextStore>(document: &mut Document<S>, limits: &Limits, wid
     arguments: &[String],
 ) -> Result<Answer, Fault>
     requires shown { widget < length document.old.widgets }
-    requires { at + length arguments.now ≤ usize.MAX }
+    requires near { at + length arguments.now ≤ usize.MAX }
     ensures { Does limits.now document.old document.new result (tag_remove document.old (widget_at document.old widget) at (texts_of arguments.now)) }
 {
     match first(arguments) {
@@ -74,7 +74,7 @@ pub fn tag_remove<S: TextStore>(document: &mut Document<S>, limits: &Limits, wid
 /// The tags of the character at a place.
 fn names_on<S: TextStore>(document: &Document<S>, widget: usize, place: Result<usize, Fault>) -> Result<Answer, Fault>
     requires shown { widget < length document.now.widgets }
-    requires { IfOk place (λ place. place ≤ length (shown document.now (widget_at document.now widget))) }
+    requires within { IfOk place (λ place. place ≤ length (shown document.now (widget_at document.now widget))) }
     ensures { Gives result (with_value place (names_on document.now (widget_at document.now widget))) }
 {
     match place {
@@ -125,7 +125,7 @@ pub fn tag_ranges<S: TextStore>(document: &Document<S>, widget: usize, arguments
 /// The place of a last index, or another one where it is left out.
 pub fn place_or<S: TextStore>(document: &Document<S>, widget: usize, place: usize, at: usize, word: Option<&str>) -> Result<usize, Fault>
     requires shown { widget < length document.now.widgets }
-    requires { place ≤ length (shown document.now (widget_at document.now widget)) }
+    requires within { place ≤ length (shown document.now (widget_at document.now widget)) }
     ensures value { Gives result (place_or document.now (widget_at document.now widget) place at (option_map (λ word. chars word.now) word.entry)) }
     ensures within { IfOk result (λ place. place ≤ length (shown document.now (widget_at document.now widget))) }
 {
@@ -141,7 +141,7 @@ fn next_between<S: TextStore>(document: &Document<S>, widget: usize, name: &str,
     to: Result<usize, Fault>,
 ) -> Result<Answer, Fault>
     requires shown { widget < length document.now.widgets }
-    requires { IfOk from (λ from. from ≤ length (shown document.now (widget_at document.now widget))) }
+    requires within { IfOk from (λ from. from ≤ length (shown document.now (widget_at document.now widget))) }
     ensures { Gives result (with_value from (λ first. with_value to (next_between document.now (widget_at document.now widget) (chars name.now) first))) }
 {
     match (from, to) {
@@ -157,7 +157,7 @@ fn next_words<S: TextStore>(document: &Document<S>, widget: usize, at: usize,
     last: Option<&str>,
 ) -> Result<Answer, Fault>
     requires shown { widget < length document.now.widgets }
-    requires { at + 2 ≤ usize.MAX }
+    requires near { at + 2 ≤ usize.MAX }
     ensures { Gives result (next_words document.now (widget_at document.now widget) at
         (chars name.now, chars first.now, option_map (λ word. chars word.now) last.entry)) }
 {
@@ -169,7 +169,7 @@ fn next_words<S: TextStore>(document: &Document<S>, widget: usize, at: usize,
 /// `W tag nextrange T A ?B?` (text(n), "tag nextrange"). The arguments stand from a position on.
 pub fn tag_nextrange<S: TextStore>(document: &Document<S>, widget: usize, at: usize, arguments: &[String]) -> Result<Answer, Fault>
     requires shown { widget < length document.now.widgets }
-    requires { at + 2 ≤ usize.MAX }
+    requires near { at + 2 ≤ usize.MAX }
     ensures { Gives result (tag_nextrange document.now (widget_at document.now widget) at (texts_of arguments.now)) }
 {
     match two_or_three(arguments) {
@@ -184,7 +184,7 @@ fn previous_between<S: TextStore>(document: &Document<S>, widget: usize, name: &
     to: Result<usize, Fault>,
 ) -> Result<Answer, Fault>
     requires shown { widget < length document.now.widgets }
-    requires { IfOk from (λ from. from ≤ length (shown document.now (widget_at document.now widget))) }
+    requires within { IfOk from (λ from. from ≤ length (shown document.now (widget_at document.now widget))) }
     ensures { Gives result (with_value from (λ first. with_value to (previous_between document.now (widget_at document.now widget) (chars name.now) first))) }
 {
     match (from, to) {
@@ -200,7 +200,7 @@ fn previous_words<S: TextStore>(document: &Document<S>, widget: usize, at: usize
     last: Option<&str>,
 ) -> Result<Answer, Fault>
     requires shown { widget < length document.now.widgets }
-    requires { at + 2 ≤ usize.MAX }
+    requires near { at + 2 ≤ usize.MAX }
     ensures { Gives result (previous_words document.now (widget_at document.now widget) at
         (chars name.now, chars first.now, option_map (λ word. chars word.now) last.entry)) }
 {
@@ -212,7 +212,7 @@ fn previous_words<S: TextStore>(document: &Document<S>, widget: usize, at: usize
 /// `W tag prevrange T A ?B?` (text(n), "tag prevrange"). The arguments stand from a position on.
 pub fn tag_prevrange<S: TextStore>(document: &Document<S>, widget: usize, at: usize, arguments: &[String]) -> Result<Answer, Fault>
     requires shown { widget < length document.now.widgets }
-    requires { at + 2 ≤ usize.MAX }
+    requires near { at + 2 ≤ usize.MAX }
     ensures { Gives result (tag_prevrange document.now (widget_at document.now widget) at (texts_of arguments.now)) }
 {
     match two_or_three(arguments) {

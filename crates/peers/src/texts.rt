@@ -22,6 +22,7 @@ fn insert_pairs<S: TextStore>(document: &mut Document<S>, limits: &Limits, widge
     pairs: Vec<Pair>,
 ) -> Result<Answer, Fault>
     requires shown { widget < length document.old.widgets }
+    requires within { place ≤ length (shown document.old (widget_at document.old widget)) }
     ensures { Does limits.now document.old document.new result
         (unless_idle (widget_at document.old widget) document.old (insert_at limits.now document.old (widget_at document.old widget)
         (insertion_offset document.old (widget_at document.old widget) place) pairs.items)) }
@@ -39,7 +40,8 @@ fn insert_place<S: TextStore>(document: &mut Document<S>, limits: &Limits, widge
     words: &[String],
 ) -> Result<Answer, Fault>
     requires shown { widget < length document.old.widgets }
-    requires { at + length words.now ≤ usize.MAX }
+    requires within { IfOk place (λ place. place ≤ length (shown document.old (widget_at document.old widget))) }
+    requires near { at + length words.now ≤ usize.MAX }
     ensures { Does limits.now document.old document.new result
         (change_with document.old place (insert_pairs limits.now document.old (widget_at document.old widget) (pairs_at at (texts_of words.now)))) }
 {
@@ -59,7 +61,7 @@ fn insert_words<S: TextStore>(document: &mut Document<S>, limits: &Limits, widge
     words: &[String],
 ) -> Result<Answer, Fault>
     requires shown { widget < length document.old.widgets }
-    requires { at + 1 + length words.now ≤ usize.MAX }
+    requires near { at + 1 + length words.now ≤ usize.MAX }
     ensures { Does limits.now document.old document.new result (insert_words limits.now document.old (widget_at document.old widget) at (chars index.now, texts_of words.now)) }
 {
     let place = document.place_at(widget, at, index);
@@ -72,7 +74,7 @@ pub fn insert<S: TextStore>(document: &mut Document<S>, limits: &Limits, widget:
     arguments: &[String],
 ) -> Result<Answer, Fault>
     requires shown { widget < length document.old.widgets }
-    requires { at + length arguments.now ≤ usize.MAX }
+    requires near { at + length arguments.now ≤ usize.MAX }
     ensures { Does limits.now document.old document.new result (insert limits.now document.old (widget_at document.old widget) at (texts_of arguments.now)) }
 {
     match first(arguments) {
@@ -84,7 +86,7 @@ pub fn insert<S: TextStore>(document: &mut Document<S>, limits: &Limits, widget:
 /// The texts of ranges as a list, without those that are empty.
 fn got_list<S: TextStore>(document: &Document<S>, widget: usize, places: &[usize]) -> Result<Text, AllocError>
     requires shown { widget < length document.now.widgets }
-    requires { All (λ place. place ≤ length (shown document.now (widget_at document.now widget))) places.now }
+    requires within { All (λ place. place ≤ length (shown document.now (widget_at document.now widget))) places.now }
     ensures { IfOk result (λ list. list ≡ list_text (filter is_filled (texts_of_places document.now (widget_at document.now widget) places.now))) }
 {
     let mut list = String::new(document.allocator());
@@ -121,7 +123,7 @@ fn got<S: TextStore>(document: &Document<S>, widget: usize, places: &[usize]) ->
 /// `W get I ?I ..?` (text(n), "get"). The arguments stand from a position on.
 pub fn get<S: TextStore>(document: &Document<S>, widget: usize, at: usize, arguments: &[String]) -> Result<Answer, Fault>
     requires shown { widget < length document.now.widgets }
-    requires { at + length arguments.now ≤ usize.MAX }
+    requires near { at + length arguments.now ≤ usize.MAX }
     ensures { Gives result (get document.now (widget_at document.now widget) at (texts_of arguments.now)) }
 {
     match places_at(document, widget, at, arguments) {

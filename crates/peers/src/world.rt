@@ -1,20 +1,24 @@
-ghost use Rattle.std.specs.Prelude.{◌≡◌, ◌≢◌, ◌<◌, [], true, length, chars, string_bytes, IfErr, ◌+◌, ◌≤◌};
+ghost use Rattle.std.specs.Prelude.{◌≡◌, ◌≢◌, ◌<◌, [], false, true, length, chars, string_bytes, IfErr, ◌+◌, ◌≤◌};
 ghost use Rattle.tcl_words.specs.Unread.{texts_of};
 ghost use Rattle.command_table.specs.Reading.{reading};
-ghost use Rattle.peers.specs.Step.{create_first, create_named, create, create_shaped, on_widget, step, takes_none};
-ghost use Rattle.peers.specs.Command.{is_frugal_reading};
+ghost use Rattle.command_parts.specs.Settings.{AreLines, is_behind};
+ghost use Rattle.command_parts.specs.Words.{is_among};
 ghost use Rattle.documents.specs.Kept.{is_window_name};
+ghost use Rattle.peers.specs.Step.{create_first, create_named, create, create_shaped, destroy, destroy_shaped, on_widget, step, takes_none};
+ghost use Rattle.peers.specs.Command.{is_frugal_reading};
 ghost use Rattle.peers.specs.WellFormed.{IsWellFormed};
 
-use crate::documents::Document;
+use crate::commands::command;
+use crate::options::settings_given;
 use crate::words::is_window_name;
 use command_parts::{Answer, Fault, Settings, is_word};
 use command_table::shape;
+use documents::Document;
 use std::alloc::Global;
 use std::marker::Model;
 use text_model::{Limits, TextStore};
 
-/// All that a session of commands can see later: the limits, and the document with its widget, if there is one.
+/// All that a session of commands can see later: the limits, and the document with its widgets, if there is one.
 #[derive(Drop)]
 pub struct World<S: TextStore> {
     alloc: Global,
@@ -57,6 +61,8 @@ impl<S: TextStore> World<S> {
     fn create_first(&mut self, name: &str, settings: Settings) -> Result<Answer, Fault>
         requires named { is_window_name (chars name.now) ≡ true }
         requires empty { self.old.documents ≡ [] }
+        requires lines { AreLines 1 settings }
+        requires ordered { is_behind settings.start settings.end ≡ false }
         ensures reply { result ≢ Err Fault.Memory → result ≡ (create_first self.old (chars name.now) settings).reply }
         ensures world { result ≢ Err Fault.Memory → self.new ≡ (create_first self.old (chars name.now) settings).world }
         ensures refused { IfErr result (λ _. self.new ≡ self.old) }
@@ -72,16 +78,18 @@ impl<S: TextStore> World<S> {
 
     /// Makes a widget of a name on a document of its own, with options.
     fn create_named(&mut self, name: &str, settings: Settings) -> Result<Answer, Fault>
-        requires { is_window_name (chars name.now) ≡ true }
-        ensures reply { result ≢ Err Fault.Memory → result ≡ (create_named self.old (chars name.now) settings self.old.documents).reply }
-        ensures world { result ≢ Err Fault.Memory → self.new ≡ (create_named self.old (chars name.now) settings self.old.documents).world }
+        requires named { is_window_name (chars name.now) ≡ true }
+        requires lines { AreLines 1 settings }
+        requires ordered { is_behind settings.start settings.end ≡ false }
+        ensures reply { result ≢ Err Fault.Memory → result ≡ (create_named self.old (chars name.now) settings).reply }
+        ensures world { result ≢ Err Fault.Memory → self.new ≡ (create_named self.old (chars name.now) settings).world }
         ensures refused { IfErr result (λ _. self.new ≡ self.old) }
         ensures well_formed { IsWellFormed self.new }
     {
         // Read first, so that every return knows that the world is well formed.
         match &self.document {
             None => self.create_first(name, settings),
-            Some(document) if document.is_named(name) => Err(Fault::WindowExists(1)),
+            Some(document) if document.find_widget(name).is_some() => Err(Fault::WindowExists(1)),
             Some(_) => Err(Fault::DocumentExists),
         }
     }
@@ -102,7 +110,7 @@ impl<S: TextStore> World<S> {
         if !is_window_name(name.as_str()) {
             return Err(Fault::InvalidCommandName(1));
         }
-        match Settings::new().read(2, options) {
+        match settings_given(Settings::new(), 2, options, 1) {
             Err(fault) => Err(fault),
             Ok(settings) => self.create_named(name.as_str(), settings),
         }
@@ -124,6 +132,40 @@ impl<S: TextStore> World<S> {
         }
     }
 
+    /// `destroy ?W ..?` (Tk's destroy(n)).
+    fn destroy(&mut self, names: &[String]) -> Result<Answer, Fault>
+        ensures reply { result ≢ Err Fault.Memory → result ≡ (destroy self.old (texts_of names.now)).reply }
+        ensures world { result ≢ Err Fault.Memory → self.new ≡ (destroy self.old (texts_of names.now)).world }
+        ensures refused { IfErr result (λ _. self.new ≡ self.old) }
+        ensures well_formed { IsWellFormed self.new }
+    {
+        let Some(document) = &mut self.document else {
+            return Ok(Answer::Empty);
+        };
+        if document.keeps_some(names) {
+            document.drop_widgets(names)?;
+        } else {
+            self.document = None;
+        }
+        Ok(Answer::Empty)
+    }
+
+    /// `destroy ?W ..?`, of all its words.
+    fn destroy_shaped(&mut self, words: &[String]) -> Result<Answer, Fault>
+        requires { 0 < length words.now }
+        ensures reply { result ≢ Err Fault.Memory → result ≡ (destroy_shaped self.old (texts_of words.now) (reading (texts_of words.now))).reply }
+        ensures world { result ≢ Err Fault.Memory → self.new ≡ (destroy_shaped self.old (texts_of words.now) (reading (texts_of words.now))).world }
+        ensures refused { IfErr result (λ _. self.new ≡ self.old) }
+        ensures well_formed { IsWellFormed self.new }
+    {
+        // Read first, so that every return knows that the world is well formed.
+        let _document = &self.document;
+        match shape(words) {
+            Err(fault) => Err(Fault::of_shape(fault)),
+            Ok(shape) => self.destroy(&words[shape.arguments..]),
+        }
+    }
+
     /// A command of the widget of a name, of all its words.
     fn on_widget(&mut self, name: &str, words: &[String]) -> Result<Answer, Fault>
         requires { 0 < length words.now }
@@ -138,10 +180,10 @@ impl<S: TextStore> World<S> {
         let Some(document) = &mut self.document else {
             return Err(Fault::InvalidCommandName(0));
         };
-        if !document.is_named(name) {
-            return Err(Fault::InvalidCommandName(0));
+        match document.find_widget(name) {
+            None => Err(Fault::InvalidCommandName(0)),
+            Some(widget) => command(document, &self.limits, widget, words),
         }
-        document.command(&self.limits, words)
     }
 
     /// Carries out a command of one word or more. A fault leaves the world as it was.
@@ -156,6 +198,8 @@ impl<S: TextStore> World<S> {
         let [name, ..] = words else { unreachable!() };
         if is_word(name.as_str(), "text") {
             self.create_shaped(words)
+        } else if is_word(name.as_str(), "destroy") {
+            self.destroy_shaped(words)
         } else {
             self.on_widget(name.as_str(), words)
         }
