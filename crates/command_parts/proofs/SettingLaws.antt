@@ -1,13 +1,15 @@
--- Options with their values, which are taken by twos.
-use Rattle.std.proofs.Common.{◌≡◌, ℕ, ◌+◌, ◌-◌, ◌≤◌, List, [], ◌∷◌, length, drop, get_or, refl, sym, ap, ◌∙◌, arith}
-use Rattle.std.specs.Prelude.{take, Result, Ok, Err, String, chars, string_bytes}
+-- Options with their values, which are taken by twos, and the words of lines.
+use Rattle.std.proofs.Common.{◌≡◌, ℕ, ℤ, ◌+◌, ◌-◌, ◌<◌, ◌≤◌, List, [], ◌∷◌, length, drop, get_or, refl, sym, ap, ◌∙◌, arith}
+use Rattle.std.specs.Prelude.{take, Option, None, Some, option_and_then, option_map, ok_or, Result, Ok, Err, String, chars, string_bytes}
 use Rattle.std.proofs.lemmas.List.{take_rest, drop-map, length-map}
+use Rattle.std.proofs.lemmas.Str.{chars-nil}
+use Rattle.command_table.specs.Numbers.{integer_of}
 use Rattle.tcl_words.specs.Unread.{texts_of}
 use Rattle.command_parts.specs.declared.answers.Fault.{Fault}
-use Rattle.command_parts.specs.declared.answers.Fault.TheVariants.{WrongArguments}
+use Rattle.command_parts.specs.declared.answers.Fault.TheVariants.{BadInteger, WrongArguments}
 use Rattle.command_parts.specs.declared.settings.Settings.{Settings}
 use Rattle.command_parts.specs.Faults.{with_value}
-use Rattle.command_parts.specs.Settings.{setting_read, settings_read}
+use Rattle.command_parts.specs.Settings.{line_numbered, line_of_word, setting_read, settings_read}
 use Rattle.command_parts.proofs.PairLaws.{word_or}
 
 settings_read-two : (lines at : ℕ) (words : List (List ℕ)) (settings : Settings) → 2 ≤ length words
@@ -45,3 +47,27 @@ pub settings_read-odd : {Z : Type 0} (lines position : ℕ) (rest : List (String
 settings_read-odd lines position [] settings one = absurd (omega (arith, one))
 settings_read-odd lines position (option ∷ []) settings one = refl
 settings_read-odd lines position (option ∷ value ∷ words) settings one = absurd (omega (arith, one))
+
+-- ---- lines
+
+pub line_of_word-none : (bytes : List ℕ) → length bytes ≡ 0 → line_of_word (chars bytes) ≡ Some None
+line_of_word-none [] none = ap line_of_word chars-nil
+line_of_word-none (b ∷ bytes) none = absurd (omega (arith, none))
+
+abbrev line_of_integer : Option ℤ → Option (Option ℕ)
+line_of_integer integer = option_and_then (λ number. option_map (λ line. Some line) (line_numbered number)) integer
+
+line_of_word-some : (word : List ℕ) → 0 < length word → line_of_word word ≡ line_of_integer (integer_of word)
+line_of_word-some [] some = absurd (omega arith)
+line_of_word-some (c ∷ cs) some = refl
+
+same_fault : (at : ℕ) (integer : Option ℤ) (found : Result ℤ Fault) (fault : Fault) → found ≡ ok_or integer (BadInteger at) → found ≡ Err fault
+    → Err fault ≡ ok_or (line_of_integer integer) (BadInteger at)
+same_fault at None found fault is err = let same : BadInteger at ≡ fault = (let h : Err (BadInteger at) ≡ Err fault = sym is ∙ err in cc) in ap Err (sym same)
+same_fault at (Some number) found fault is err = absurd (let h : Ok number ≡ Err fault = sym is ∙ err in cc)
+
+-- a word that is no integer is no line
+pub line_of_word-fault : (at : ℕ) (word : List ℕ) (found : Result ℤ Fault) (fault : Fault) → 0 < length word → found ≡ ok_or (integer_of word) (BadInteger at) → found ≡ Err fault
+    → Err fault ≡ ok_or (line_of_word word) (BadInteger at)
+line_of_word-fault at word found fault some is err =
+    same_fault at (integer_of word) found fault is err ∙ ap (λ line. ok_or line (BadInteger at)) (sym (line_of_word-some word some))

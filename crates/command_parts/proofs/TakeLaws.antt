@@ -8,8 +8,9 @@ use Rattle.text_model.specs.Content.{Content}
 use Rattle.text_model.specs.Steps.{Fits, after, after_step}
 use Rattle.command_parts.specs.Marking.{taken}
 use Rattle.std.proofs.Math.Seq.{take-suc}
-use Rattle.std.specs.Prelude.{◌*◌, ◌≤◌}
+use Rattle.std.specs.Prelude.{◌*◌}
 use Rattle.std.specs.List.{All}
+use Rattle.std.proofs.lemmas.List.Elements.{All-head, All-tail}
 use Rattle.text_model.specs.TagBits.{slot_count}
 use Rattle.text_model.specs.declared.limits.TheConstants.Limits.{MOST_WIDGETS}
 use Rattle.text_model.specs.declared.places.TagSlot.{TagSlot}
@@ -47,8 +48,8 @@ drops-append (widget ∷ widgets) more =
 pub drops-fit : (widgets : List TagSlot) (content : Content) → All (λ (widget : TagSlot). widget.0 < MOST_WIDGETS) widgets → Fits (drops widgets) content
 drops-fit [] content known = tt
 drops-fit (widget ∷ widgets) content known =
-    let fits : widget.0 < slot_count = omega (arith, known.0) in
-    (fits, tt, tt, drops-fit widgets (without_widget widget.0 content) known.1)
+    let fits : widget.0 < slot_count = omega (arith, All-head (λ (widget : TagSlot). widget.0 < MOST_WIDGETS) widget widgets known) in
+    (fits, (tt, (tt, drops-fit widgets (without_widget widget.0 content) (All-tail (λ (widget : TagSlot). widget.0 < MOST_WIDGETS) widget widgets known))))
 
 pub drops-after : (widgets : List TagSlot) (content : Content) → after (drops widgets) content ≡ without_widgets (map (λ (widget : TagSlot). widget.0) widgets) content
 drops-after [] content = refl

@@ -28,7 +28,7 @@ with_own_marks widget place content = record content {
 abbrev pub without_widget : ℕ → Content → Content
 without_widget widget content = record {
   cells = map (with_slot widget false) content.cells;
-  marks = taken (2 * widget ∷ 2 * widget + 1 ∷ []) content.marks;
+  marks = taken ((2 * widget) ∷ (2 * widget + 1) ∷ []) content.marks;
 }
 
 abbrev pub without_widgets : List ℕ → Content → Content

@@ -49,7 +49,7 @@ line_numbered (negsuc n) = None
 abbrev pub line_of_word : List ℕ → Option (Option ℕ)
 line_of_word [] = Some None
 line_of_word (character ∷ characters) =
-    option_and_then (integer_of (character ∷ characters)) (λ number. option_map (λ line. Some line) (line_numbered number))
+    option_and_then (λ number. option_map (λ line. Some line) (line_numbered number)) (integer_of (character ∷ characters))
 
 -- The line at which a view begins, in a document of so many lines. Where it would be above the last, the view begins behind
 -- that.

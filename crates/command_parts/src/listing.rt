@@ -191,7 +191,11 @@ pub fn push_names_in(
         (names_of (filter (λ tag. set.contains slots (own_slot widget.0 tag.slot)) tags.now.tags))) }
 {
     for place in 0..tags.len() {
-        push_wanted(list, tags.name(place), slots.has(own_slot(tags.slot(place), widget)))?;
+        push_wanted(
+            list,
+            tags.name(place),
+            slots.has(own_slot(tags.slot(place), widget)),
+        )?;
     }
     Ok(())
 }

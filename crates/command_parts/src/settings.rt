@@ -89,9 +89,12 @@ fn line_at(position: usize, word: &str) -> Result<Option<usize>, Fault>
     if word.is_empty() {
         return Ok(None);
     }
-    match line_numbered(integer_at(position, word)?) {
-        None => Err(Fault::BadInteger(position)),
-        Some(line) => Ok(Some(line)),
+    match integer_at(position, word) {
+        Err(fault) => Err(fault),
+        Ok(number) => match line_numbered(number) {
+            None => Err(Fault::BadInteger(position)),
+            Some(line) => Ok(Some(line)),
+        },
     }
 }
 

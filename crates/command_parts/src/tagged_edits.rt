@@ -184,14 +184,7 @@ pub fn tag_spans<S: TextStore>(
             if tags.len() > limits.tags() as usize + 1 {
                 return Err(Fault::TooManyTags);
             }
-            set_slot(
-                alloc,
-                store,
-                history,
-                spans,
-                own_slot(slot, widget),
-                true,
-            )
+            set_slot(alloc, store, history, spans, own_slot(slot, widget), true)
         }
     }
 }

@@ -13,7 +13,7 @@ use std::process::Abort;
 use std::test::Fail;
 
 // Each command with too few words, the least number of them, the greatest, and one more; a `-` where any number may stand.
-static COUNTS: [(&str, &str, &str, &str, Command); 29] = [
+static COUNTS: [(&str, &str, &str, &str, Command); 35] = [
     (
         "text",
         "text .t",
@@ -21,6 +21,7 @@ static COUNTS: [(&str, &str, &str, &str, Command); 29] = [
         "-",
         Command::Text,
     ),
+    ("-", "destroy", "destroy .t .u .v", "-", Command::Destroy),
     (
         ".t insert 1.0",
         ".t insert 1.0 a",
@@ -217,10 +218,45 @@ static COUNTS: [(&str, &str, &str, &str, Command); 29] = [
         ".t cget -undo x",
         Command::Cget,
     ),
+    (
+        ".t search a",
+        ".t search a 1.0",
+        ".t search -all -exact a 1.0 end",
+        ".t search a 1.0 end x",
+        Command::Search,
+    ),
+    (
+        ".t count 1.0",
+        ".t count 1.0 end",
+        ".t count -lines -chars 1.0 end",
+        ".t count 1.0 end x",
+        Command::Count,
+    ),
+    (
+        ".t dump",
+        ".t dump 1.0",
+        ".t dump -text -mark 1.0 end",
+        ".t dump 1.0 end x",
+        Command::Dump,
+    ),
+    (
+        ".t peer create",
+        ".t peer create .u",
+        ".t peer create .u -startline 1 -state normal -endline 2",
+        ".t peer create .u -endline",
+        Command::PeerCreate,
+    ),
+    (
+        ".t peer",
+        ".t peer names",
+        ".t peer names",
+        ".t peer names x",
+        Command::PeerNames,
+    ),
 ];
 
 // Commands with the position of the word that is a bad option.
-static BAD_OPTIONS: [(&str, usize); 19] = [
+static BAD_OPTIONS: [(&str, usize); 28] = [
     (".t foo", 1),
     (".t foo bar", 1),
     (".t inser 1.0 a", 1),
@@ -240,7 +276,16 @@ static BAD_OPTIONS: [(&str, usize); 19] = [
     (".t configure -undo 1 2", 4),
     (".t cget -foo x", 2),
     (".t edit foo", 2),
-    ("destroy .t", 1),
+    (".t destroy", 1),
+    (".t peer foo", 2),
+    (".t peer creat .u", 2),
+    (".t peer create .u foo", 4),
+    (".t peer create .u -startline 1 -end", 6),
+    (".t search -regexp a 1.0", 2),
+    (".t search -all -o -re a 1.0", 4),
+    (".t count -line 1.0 end", 2),
+    (".t dump -t 1.0", 2),
+    (".t dump -all -foo", 3),
 ];
 
 // The words between single blanks.
@@ -283,7 +328,9 @@ fn all_are_counted(
     rows: &[(&str, &str, &str, &str, Command)],
 ) -> Result<(), Fail> {
     for (few, least, greatest, more, command) in rows {
-        refuses(rt, alloc, few, ShapeFault::WrongArguments)?;
+        if *few != "-" {
+            refuses(rt, alloc, few, ShapeFault::WrongArguments)?;
+        }
         is_read(rt, alloc, least, *command)?;
         is_read(rt, alloc, greatest, *command)?;
         if *more != "-" {
@@ -311,36 +358,42 @@ fn a_subcommand_has_to_stand_there(rt: HostRuntime) -> Result<(), Fail> {
     refuses(&rt, rt.alloc(), ".t", ShapeFault::WrongArguments)
 }
 
-// Commands, where their arguments begin and how many there are.
-static PARTS: [(&str, usize, usize); 6] = [
-    ("text .t", 1, 1),
-    ("text .t -undo 1", 1, 1),
-    (".t configure -undo 1", 2, 0),
-    (".t get 1.0 1.1", 2, 2),
-    (".t mark names", 3, 0),
-    (".t tag add x 1.0 1.1", 3, 3),
+// Commands, where their switches and their arguments begin, and how many arguments there are.
+static PARTS: [(&str, usize, usize, usize); 14] = [
+    ("text .t", 1, 1, 1),
+    ("text .t -undo 1", 1, 1, 1),
+    ("destroy", 1, 1, 0),
+    ("destroy .t .u", 1, 1, 2),
+    (".t configure -undo 1", 2, 2, 0),
+    (".t get 1.0 1.1", 2, 2, 2),
+    (".t mark names", 3, 3, 0),
+    (".t tag add x 1.0 1.1", 3, 3, 3),
+    (".t search a 1.0", 2, 2, 2),
+    (".t search -b -- -all 1.0 end", 2, 4, 3),
+    (".t count -lines -indices 1.0 end", 2, 4, 2),
+    (".t dump -ta 1.0", 2, 3, 1),
+    (".t peer create .u -endline 4", 3, 3, 1),
+    (".t peer names", 3, 3, 0),
 ];
 
 fn has_parts(
     rt: &impl Abort,
     alloc: Global,
     words: &str,
-    arguments: usize,
-    count: usize,
+    parts: (usize, usize, usize),
 ) -> Result<(), Fail> {
     let shape = shape_of(rt, alloc, words)?.ok().ok_or("a command")?;
     assert!(rt;
-        shape.switches == arguments && shape.arguments == arguments,
+        (shape.switches, shape.arguments, shape.count) == parts,
         "{words}"
     );
-    assert!(rt; shape.count == count, "{words}");
     Ok(())
 }
 
 #[test]
 fn parts_have_places(rt: HostRuntime) -> Result<(), Fail> {
-    for (words, arguments, count) in &PARTS {
-        has_parts(&rt, rt.alloc(), words, *arguments, *count)?;
+    for (words, switches, arguments, count) in &PARTS {
+        has_parts(&rt, rt.alloc(), words, (*switches, *arguments, *count))?;
     }
     Ok(())
 }

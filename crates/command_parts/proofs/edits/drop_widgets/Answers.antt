@@ -1,5 +1,6 @@
 use Rattle.std.proofs.Common.{◌≡◌, sym, ap, subst, ◌∙◌}
-use Rattle.std.specs.Prelude.{OnOk}
+use Rattle.std.specs.Prelude.{OnOk, get_or, ◌+◌, ◌*◌, ◌++◌, ◌∷◌, []}
+use Rattle.text_model.specs.declared.edits.Step.TheVariants.{TakeMark}
 use Rattle.std.proofs.lemmas.List.{take_all}
 use Rattle.text_model.specs.Steps.{Fits, after}
 use Rattle.command_parts.proofs.TakeLaws.{drops, drops-fit, drops-after, drops-more}
@@ -16,3 +17,11 @@ returns-clause-ok g c =
     let content = g.S.TextStore.content c.args.store.now in
     let steps : c.loop-widget.steps ≡ drops c.args.widgets.now = c.loop-widget.invariant ∙ ap drops (take_all c.loop-widget.widget-index c.args.widgets.now c.loop-widget-test.false) in
     subst (λ made. OnOk c.make.result (g.S.TextStore.content c.make.new.store ≡ made)) (ap (λ ss. after ss content) steps ∙ drops-after c.args.widgets.now content) c.make.ensures.ok
+
+pub loop-widget-preserved : goal.loop-widget-preserved
+loop-widget-preserved g c =
+    let widget = get_or c.args.widgets.now c.loop-widget.widget-index _ in
+    c.in_ok-push-3.ensures.ok
+    ∙ ap (λ steps. steps ++ TakeMark (record { 0 = 2 * widget.0 + 1 }) ∷ [])
+    (c.in_ok-push-2.ensures.ok ∙ ap (λ steps. steps ++ TakeMark (record { 0 = 2 * widget.0 }) ∷ []) c.in_ok-push.ensures.ok)
+    ∙ drops-more c.args.widgets.now c.loop-widget.widget-index _ c.loop-widget.steps c.loop-widget-test.true c.loop-widget.invariant
