@@ -61,6 +61,27 @@ impl<S: TextStore> Document<S> {
         Some(WidgetMark::Shared(self.marks.place(number)?))
     }
 
+    /// Whether a widget can use a mark: its own, and a shared one that stands in its view or at the end of that.
+    pub fn shows_mark(&self, widget: usize, mark: WidgetMark) -> bool
+        requires { widget < length self.now.widgets }
+        ensures { result ≡ is_some (mark_place self.now (widget_at self.now widget) (rank_of mark)) }
+    {
+        let WidgetMark::Shared(place) = mark else {
+            return true;
+        };
+        if place >= self.marks.len() {
+            return false;
+        }
+        let slot = self.seats.number(widget);
+        match self.store.mark_place(self.marks.number(place)) {
+            None => false,
+            Some(found) => {
+                start_of(&self.anchors, slot) <= found.offset
+                    && found.offset <= end_of(&self.anchors, slot, self.store.len())
+            }
+        }
+    }
+
     /// Where the mark of a name stands in the document, if there is one.
     pub fn place_named(&self, widget: usize, name: &str) -> Option<Place>
         requires shown { widget < length self.now.widgets }

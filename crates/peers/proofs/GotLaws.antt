@@ -7,7 +7,7 @@ use Rattle.peers.specs.Texts.{text_of, texts_of_places, got}
 use Rattle.command_parts.specs.Listing.{is_filled}
 use Rattle.tcl_words.specs.ListText.{list_text}
 use Rattle.command_parts.specs.declared.answers.Answer.TheVariants.{Text}
-use Rattle.peers.specs.World.{Document, Widget}
+use Rattle.documents.specs.Documents.{Document, Widget}
 use Rattle.tcl_words.proofs.ListGrowth.{goes_nowhere, goes_on}
 use Rattle.command_parts.proofs.WrittenLaws.{filter-append}
 

@@ -4,7 +4,7 @@ use Rattle.std.specs.Prelude.{chars, IsUtf8, encode_utf8, encode_utf8_all, ◌==
 use Rattle.std.proofs.lemmas.Bool.{false≢true}
 use Rattle.std.proofs.lemmas.Bool.Decides.{Decides-eqb}
 use Rattle.std.proofs.lemmas.Str.{chars-nil, chars_past_char, encodes-chars, encode_ascii, IsUtf8-past_char}
-use Rattle.peers.specs.Kept.{is_window_name}
+use Rattle.documents.specs.Kept.{is_window_name}
 
 -- a character, and more
 abbrev begins : Bool → List ℕ → Bool

@@ -5,9 +5,9 @@ use Rattle.text_model.specs.LimitTable.{LimitTable}
 use Rattle.command_parts.specs.declared.answers.Answer.{Answer}
 use Rattle.command_parts.specs.declared.answers.Fault.{Fault}
 use Rattle.command_parts.specs.declared.answers.Fault.TheVariants.{Memory}
-use Rattle.peers.specs.World.{Document}
+use Rattle.documents.specs.Documents.{Document}
 use Rattle.command_parts.specs.Faults.{with_value}
-use Rattle.peers.specs.Promise.{Change, Gives, Does, change_with}
+use Rattle.documents.specs.Promise.{Change, Gives, Does, change_with}
 
 -- what is refused for memory is refused for memory
 abbrev pub refusal : (A : Type 0) → Fault → Result A Fault

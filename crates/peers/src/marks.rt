@@ -7,6 +7,9 @@ ghost use Rattle.documents.specs.Promise.{Gives, Does, change_with};
 ghost use Rattle.documents.specs.Marks.{place_named};
 ghost use Rattle.peers.specs.Marks.{set_at, set_words, mark_set, gravity_asked, gravity_given, gravity_words, mark_gravity, mark_names_of, mark_answer, origin_at, next_from, next_at, mark_next, previous_from, previous_at, mark_previous};
 ghost use Rattle.command_parts.specs.Marking.{gravity_of};
+ghost use Rattle.mark_table.specs.Order.{rank_of};
+ghost use Rattle.documents.specs.Names.{mark_place};
+ghost use Rattle.peers.specs.Marks.{origin_marked};
 
 use command_parts::{Answer, Fault, one, one_or_two, read_gravity, two};
 use mark_table::{Origin, WidgetMark};
@@ -158,13 +161,30 @@ fn mark_answer<S: TextStore>(document: &Document<S>, mark: Option<WidgetMark>) -
     }
 }
 
+/// A mark where a walk begins, if the widget can use it.
+fn origin_marked<S: TextStore>(
+    document: &Document<S>,
+    widget: usize,
+    at: usize,
+    mark: WidgetMark,
+) -> Result<Origin, Fault>
+    requires shown { widget < length document.now.widgets }
+    ensures { result ≡ origin_marked at (rank_of mark) (mark_place document.now (widget_at document.now widget) (rank_of mark)) }
+{
+    if document.shows_mark(widget, mark) {
+        Ok(Origin::Mark(mark))
+    } else {
+        Err(Fault::BadIndex(at))
+    }
+}
+
 /// Where a walk begins: at the mark whose name the whole word is, else at the place of the index.
 fn origin_at<S: TextStore>(document: &Document<S>, widget: usize, at: usize, word: &str) -> Result<Origin, Fault>
     requires shown { widget < length document.now.widgets }
     ensures { Gives result (origin_at document.now (widget_at document.now widget) at (chars word.now)) }
 {
     match document.find_mark(word) {
-        Some(mark) => Ok(Origin::Mark(mark)),
+        Some(mark) => origin_marked(document, widget, at, mark),
         None => match document.place_at(widget, at, word) {
             Err(fault) => Err(fault),
             Ok(place) => Ok(Origin::Place(place)),

@@ -1,5 +1,5 @@
 use Rattle.std.proofs.Common.{sym, ap, ◌∙◌}
-use Rattle.peers.specs.Kept.{is_window_name}
+use Rattle.documents.specs.Kept.{is_window_name}
 use Rattle.peers.proofs.NameLaws.{is_window_name-chars, is_window_name-short, is_window_name-long}
 use Rattle.peers.proofs.words.is_window_name.Goals as goal
 

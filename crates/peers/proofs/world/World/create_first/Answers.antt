@@ -1,5 +1,5 @@
 use Rattle.std.proofs.Common.{length, ap, arith}
-use Rattle.peers.specs.World.{Document}
+use Rattle.documents.specs.Documents.{Document}
 use Rattle.peers.proofs.world.World.create_first.Goals as goal
 
 pub invariant_of-self : goal.invariant_of-self
