@@ -1,50 +1,27 @@
--- What a change makes of a lone document, and that it does what the definition says.
-use Rattle.std.proofs.Common.{◌≡◌, ◌≢◌, ℕ, List, Err, Ok, length, take, sym, ap, ap₂, subst, ◌∙◌}
+-- What a change makes of a document as it is kept, and that it does what the definition says.
+use Rattle.std.proofs.Common.{◌≡◌, ◌≢◌, ℕ, ◌+◌, ◌<◌, ◌≤◌, List, Err, Ok, length, take, refl, sym, ap, ap₂, subst, ◌∙◌, arith}
 use Rattle.std.specs.Prelude.{Result}
-use Rattle.mark_table.specs.SharedMarks.{SharedMarks}
 use Rattle.tag_table.specs.Tags.{Tags}
-use Rattle.text_model.specs.Content.{Content}
-use Rattle.text_model.specs.Splices.{changed}
+use Rattle.text_model.specs.Content as model
 use Rattle.text_model.specs.LimitTable.{LimitTable}
-use Rattle.undo_stack.specs.Rings.{Kept}
-use Rattle.edit_ops.specs.States.{Log, log_of}
-use Rattle.command_parts.specs.declared.settings.Settings.{Settings}
+use Rattle.undo_stack.specs.Fits.{FitsText}
 use Rattle.command_parts.specs.declared.answers.Answer.{Answer}
 use Rattle.command_parts.specs.declared.answers.Answer.TheVariants.{Empty}
 use Rattle.command_parts.specs.declared.answers.Fault.{Fault}
 use Rattle.command_parts.specs.declared.answers.Fault.TheVariants.{Memory}
-use Rattle.documents.specs.Kept.{AreMarked, IsOrderly, IsKept}
-use Rattle.documents.specs.Promise.{Change, Does, answered, refused}
 use Rattle.command_parts.specs.Tagging.{IsFront}
+use Rattle.documents.specs.Documents.{Document, Parts, document_of}
+use Rattle.documents.specs.Kept.{IsSound, Stands}
+use Rattle.documents.specs.Promise.{Change, Does, answered, refused}
 use Rattle.documents.specs.WellFormed.{IsWellFormedDocument}
-use Rattle.documents.specs.Documents.{Document, lone_document, Journal, journal_of}
-
--- a document stands in its fields
-pub record Stands (name : List ℕ) (table : Tags) (marks : SharedMarks) (journal : Journal) (content : Content) (document : Document) : Type 0 where
-  pub kept : IsKept name table content
-  pub marked : AreMarked marks content.marks
-  pub orderly : IsOrderly journal
-  pub is : lone_document name table.tags marks.marks journal content ≡ document
-
-pub orderly-same : (old new : Journal) → IsOrderly old → new ≡ old → IsOrderly new
-orderly-same old new orderly same = subst IsOrderly (sym same) orderly
-
--- what is kept is the same, and so are the options
-pub journal-same : (settings : Settings) (before after : Kept) → log_of after ≡ log_of before → journal_of settings after ≡ journal_of settings before
-journal-same settings before after same = ap (λ (log : Log). record { settings = settings; log = log }) same
+use Rattle.documents.proofs.PartsLaws.{marks-kept, tags-kept, widgets-kept}
+use Rattle.documents.proofs.WellFormedLaws.{IsWellFormedDocument-kept, fits-kept}
 
 -- ---- what is refused
 
--- the fields are as they were
-pub stands-same : (name : List ℕ) (old new : Tags) (marks : SharedMarks) (before after : Journal) (content changed : Content) (document : Document) → Stands name old marks before content document
-    → new ≡ old → after ≡ before → changed ≡ content → Stands name new marks after changed document
-stands-same name old new marks before after content changed document stands tags log same = record {
-  kept = subst (λ c. IsKept name new c) (sym same) (subst (λ t. IsKept name t content) (sym tags) stands.kept);
-  marked = subst (λ (c : Content). AreMarked marks c.marks) (sym same) stands.marked;
-  orderly = orderly-same before after stands.orderly log;
-  is = ap (λ (t : Tags). lone_document name t.tags marks.marks after changed) tags ∙ ap (λ (j : Journal). lone_document name old.tags marks.marks j changed) log
-      ∙ ap (lone_document name old.tags marks.marks before) same ∙ stands.is;
-}
+-- the parts are as they were
+pub stands-same : (old new : Parts) (document : Document) → Stands old document → new ≡ old → Stands new document
+stands-same old new document stands same = subst (λ parts. Stands parts document) (sym same) stands
 
 abbrev failed : Fault → Result Answer Fault
 failed fault = Err fault
@@ -55,7 +32,8 @@ does-left limits old new fault change same is = record {
   document = λ other. same ∙ ap (λ (c : Change). c.document) (sym (is (λ memory. other (ap failed memory))));
   refused = same;
   well_formed = λ formed. subst (IsWellFormedDocument limits) (sym same) formed;
-  widgets = ap (λ (d : Document). length d.widgets) same;
+  shown = λ some. subst (λ (d : Document). 0 < length d.widgets) (sym same) some;
+  few = λ few. subst (λ (d : Document). length d.widgets ≤ limits.widgets) (sym same) few;
 }
 
 -- the tags that were made are taken back
@@ -72,5 +50,34 @@ does-answered limits old new made change is same formed widgets = record {
   document = λ _. is ∙ ap (λ (c : Change). c.document) (sym same);
   refused = tt;
   well_formed = formed;
-  widgets = widgets;
+  shown = λ some. omega (arith, some, widgets);
+  few = λ few. omega (arith, few, widgets);
 }
+
+-- a document that goes on as it is
+pub does-nothing : (limits : LimitTable) (document : Document) (change : Change) → change ≡ answered document Empty → Does limits document document (Ok Empty) change
+does-nothing limits document change same = does-answered limits document document document change refl same (λ formed. formed) refl
+
+-- what has to be shown of the parts after a change that keeps the widgets
+pub record IsChanged (limits : LimitTable) (old new : Parts) (document : Document) (change : Change) : Type 0 where
+  pub sound : IsSound new
+  pub is : change ≡ answered (document_of new) Empty
+  pub fits : FitsText limits.chars (model.characters old.content.cells) old.journal.log.history → FitsText limits.chars (model.characters new.content.cells) new.journal.log.history
+  pub tags : length old.tags.tags ≤ limits.tags + 1 → length new.tags.tags ≤ limits.tags + 1
+  pub marks : length old.marks.marks ≤ limits.marks → length new.marks.marks ≤ limits.marks
+  pub seats : length new.seats.entries ≡ length old.seats.entries
+
+pub does-changed : (limits : LimitTable) (old new : Parts) (document : Document) (change : Change) → Stands old document → IsChanged limits old new document change
+    → Does limits document (document_of new) (Ok Empty) change
+does-changed limits old new document change stands changed =
+    let before = widgets-kept old document stands.is in
+    let after = widgets-kept new (document_of new) refl in
+    let count = changed.seats in
+    does-answered limits document (document_of new) (document_of new) change refl changed.is
+    (λ formed.
+    let few = formed.tag_count in
+    let many = formed.mark_count in
+    let tags = tags-kept old document stands.is in
+    let marks = marks-kept old document stands.is in
+    IsWellFormedDocument-kept limits new changed.sound (changed.fits (fits-kept limits old document stands.is formed)) (changed.tags (omega (arith, few, tags))) (changed.marks (omega (arith, many, marks))))
+    (omega (arith, before, after, count))

@@ -1,53 +1,55 @@
--- A lone document after tags are deleted: their slots are taken off all its cells.
-use Rattle.std.proofs.Common.{◌≡◌, ◌≢◌, ℕ, zero, suc, Bool, true, false, cond, not, ◌&&◌, ◌||◌, List, [], ◌∷◌, Option, None, Some, filter, map, length, slice_get, get_or, refl, sym, ap, ap₂, subst, ◌∙◌, true≢false, arith, eqb-true, eq-eqb}
-use Rattle.std.specs.Prelude.{find, bytes_eq, option_map, ◌==◌, if◌then◌else◌}
-use Rattle.std.specs.FinSet as set
-use Rattle.std.specs.Cmp.{nat_cmp_total, unsigned_tied}
-use Rattle.std.specs.List.{All, cons_option, list_any}
-use Rattle.std.proofs.lemmas.Bool.{eqb-false, false_from_ne_true, or_left, or_right, true_from_ne_false}
-use Rattle.std.proofs.lemmas.List.{length-map}
-use Rattle.std.proofs.lemmas.List.Elements.{All-map}
+-- Slots that are taken off all cells with their keys: those of tags that are deleted, and of seats that are given up.
+use Rattle.std.proofs.Common.{◌≡◌, ◌≢◌, ℕ, zero, suc, Bool, true, false, cond, not, ◌||◌, List, [], ◌∷◌, Option, None, Some, filter, map, slice_get, refl, sym, ap, ap₂, subst, ◌∙◌, true≢false, arith, eqb-true, eq-eqb, ne_eqb}
+use Rattle.std.specs.Prelude.{remove, bytes_eq, option_map, ◌==◌, if◌then◌else◌}
+use Rattle.std.specs.Cmp.{both_ways}
+use Rattle.std.specs.List.{All, cons_option}
+use Rattle.std.proofs.lemmas.Bool.{eqb-false, false_from_ne_true, or_left, or_right}
 use Rattle.std.proofs.lemmas.Option.{none-some, same_Some, slice_get-map}
 use Rattle.std.proofs.lemmas.Slice.Eq.{bytes_eq-Decides}
-use Rattle.name_list.specs.Names.{AreApart}
-use Rattle.name_list.proofs.ListLaws.{Contains-from_stands, Stands, stands_from_Contains, stands_map, stood_at}
-use Rattle.mark_table.specs.SharedMarks.{Mark}
-use Rattle.tag_table.specs.Tags.{AreTags, Tag, Tags, is_named, names_of, sel, slot_of, slots_of}
+use Rattle.name_list.specs.Names.{Named, numbers_of}
+use Rattle.name_list.proofs.ListLaws.{Stands, stands_map, stood_at}
+use Rattle.tag_table.specs.Tags.{AreTags, Tag, Tags, names_of as tag_names, sel, slot_of}
 use Rattle.text_model.specs.declared.cells.Cell.{Cell}
-use Rattle.text_model.specs.Content.{Content, Slots}
-use Rattle.text_model.specs.Documents.{IsDocument}
-use Rattle.text_model.proofs.SpliceLaws.{map-alike, map-map}
-use Rattle.edit_ops.specs.Tagging.{cell_without, cleared, without}
-use Rattle.documents.specs.Kept.{HasKnownSlots, IsKept}
-use Rattle.documents.specs.Keys.{key_pairs}
-use Rattle.command_parts.specs.Tagging.{slot_taken, slots_deleted, tags_left, stays}
-use Rattle.documents.specs.Tags.{without_tags}
-use Rattle.command_parts.specs.Words.{is_among}
-use Rattle.documents.specs.Documents.{Document, keyed, lone_document, Journal}
-use Rattle.command_parts.proofs.LeftLaws.{AreApart-head, AreApart-tail}
-use Rattle.documents.proofs.BridgeLaws.{and_none, left_true, same_slot}
-use Rattle.documents.proofs.KeyedLaws.{keyed_cell}
-use Rattle.documents.proofs.DeletedLaws.{StaySame, keys_of-deleted}
+use Rattle.edit_ops.specs.Tagging.{cell_without}
+use Rattle.command_parts.specs.Tagging.{slot_taken, slots_deleted, stays, tags_left}
+use Rattle.command_parts.specs.Words.{is_among, is_same}
+use Rattle.documents.specs.Kept.{AreSeats, HasKnownSlots}
+use Rattle.documents.specs.Keys.{Key, key_pairs, numbers_gone, seats_left, selection_stays}
+use Rattle.documents.specs.Tags.{key_stays, without_tags}
+use Rattle.documents.specs.Documents.{keyed}
+use Rattle.documents.proofs.KeyedLaws.{keyed-left, with_staying}
+use Rattle.documents.proofs.KnownLaws.{known-without}
+use Rattle.documents.proofs.LookupLaws.{AreApart-filter, filter_stands, filter_stood, looked-filter, one_passes}
+use Rattle.documents.proofs.SlotLaws.{GoWith, is_in, number_low, same_slot, seat_stands, slot_for, slot_high, tag_slot-is}
 
--- ---- the slots that go
+not_not : (a : Bool) → a ≡ not (not a)
+not_not true = refl
+not_not false = refl
 
-abbrev pub is_in : List ℕ → ℕ → Bool
-is_in slots slot = list_any (λ other. slot == other) slots
+-- what is left of a list, seen by what a test is about
+pub map-filter : {A B : Type 0} (f : A → B) (p : B → Bool) (xs : List A) → map f (filter (λ x. p (f x)) xs) ≡ filter p (map f xs)
+map-filter f p [] = refl
+map-filter f p (x ∷ xs) =
+    let rest = filter (λ y. p (f y)) xs in
+    elim (p (f x)) as (λ b. map f (cond b (x ∷ rest) rest) ≡ cond b (f x ∷ filter p (map f xs)) (filter p (map f xs))) [
+      | true ↦ ap (λ ys. f x ∷ ys) (map-filter f p xs)
+      | false ↦ map-filter f p xs
+    ]
 
-contains-one_less : (a c b : Bool) → ((not a && c) && not b) ≡ (c && not (a || b))
-contains-one_less true c b = sym (and_none c)
-contains-one_less false c b = refl
+in_stands : (slots : List ℕ) (slot : ℕ) → is_in slots slot ≡ true → Stands slots slot
+in_stands [] slot there = absurd (true≢false (sym there))
+in_stands (other ∷ slots) slot there =
+    elim (slot == other) as (λ b. (slot == other) ≡ b → (b || is_in slots slot) ≡ true → Stands (other ∷ slots) slot) [
+      | true ↦ λ same _. (0, ap Some (sym (eqb-true slot other same)))
+      | false ↦ λ _ rest. let found = in_stands slots slot rest in (suc found.0, found.1)
+    ] refl there
 
-and_true : (a : Bool) → a ≡ (a && true)
-and_true true = refl
-and_true false = refl
+stands_in : (slots : List ℕ) (at slot : ℕ) → slice_get slots at ≡ Some slot → is_in slots slot ≡ true
+stands_in [] at slot is = absurd (none-some slot is)
+stands_in (other ∷ slots) zero slot is = or_left (slot == other) (is_in slots slot) (eq-eqb slot other (sym (same_Some other slot is)))
+stands_in (other ∷ slots) (suc at) slot is = or_right (slot == other) (is_in slots slot) (stands_in slots at slot is)
 
-pub contains-without : (gone : List ℕ) (slots : Slots) (slot : ℕ) → set.contains (without gone slots) slot ≡ (set.contains slots slot && not (is_in gone slot))
-contains-without [] slots slot = and_true (set.contains slots slot)
-contains-without (other ∷ gone) slots slot =
-    contains-without gone (set.remove slots other) slot
-    ∙ ap (λ b. b && not (is_in gone slot)) (set.contains-remove nat_cmp_total slots other slot ∙ ap (λ b. not b && set.contains slots slot) (unsigned_tied slot other))
-    ∙ contains-one_less (slot == other) (set.contains slots slot) (is_in gone slot)
+-- ---- tags that are deleted
 
 -- a slot that goes is that of a tag of one of the names
 abbrev GoesWith : List Tag → List (List ℕ) → ℕ → Type 0
@@ -89,123 +91,165 @@ deleted_in tags (other ∷ names) name slot among is own =
     behind None there = there
     behind (Some taken) there = or_right (slot == taken) (is_in (slots_deleted tags names) slot) there
 
--- where a tag stands, its name has its slot
-pub slot_standing : (tags : List Tag) (at : ℕ) (tag : Tag) → AreApart (names_of tags) → slice_get tags at ≡ Some tag → slot_of tag.name tags ≡ Some tag.slot
-slot_standing [] at tag apart is = absurd (none-some tag is)
-slot_standing (first ∷ tags) zero tag apart is =
-    let one : first ≡ tag = same_Some first tag is in
-    ap (λ b. option_map (λ (t : Tag). t.slot) (cond b (Some first) (find (is_named tag.name) tags))) ((bytes_eq-Decides tag.name first.name).1 (ap (λ (t : Tag). t.name) (sym one)))
-    ∙ ap (λ (t : Tag). Some t.slot) one
-slot_standing (first ∷ tags) (suc at) tag apart is =
-    let name : slice_get (names_of tags) at ≡ Some tag.name = (stands_at (λ (t : Tag). t.name) tags at tag is) in
-    let other : bytes_eq tag.name first.name ≡ false =
-    false_from_ne_true (bytes_eq tag.name first.name) (λ same. AreApart-head first.name (names_of tags) at apart (name ∙ ap Some ((bytes_eq-Decides tag.name first.name).0 same))) in
-    ap (λ b. option_map (λ (t : Tag). t.slot) (cond b (Some first) (find (is_named tag.name) tags))) other
-    ∙ slot_standing tags at tag (AreApart-tail first.name (names_of tags) apart) is
+-- the slot of a name among those that stay
+kept_slot : (is_sel named : Bool) (o : Option ℕ) → cond (not is_sel) (cond (is_sel || not named) o None) None ≡ cond (not named) (cond (not is_sel) o None) None
+kept_slot true true o = refl
+kept_slot true false o = refl
+kept_slot false named o = refl
+
+pub GoWith-deleted : (seats : List Named) (table : Tags) (names : List (List ℕ)) → AreSeats seats → AreTags table
+    → GoWith (slots_deleted table.tags names) (key_stays names) seats table.tags seats (tags_left names table.tags)
+GoWith-deleted seats table names seated sound = record {
+  slots = λ key slot is. goes key.selects key.name slot is;
+  keys = λ key. left key.selects key.name;
+}
   where
-    stands_at : {A B : Type 0} (f : A → B) (xs : List A) (at : ℕ) (x : A) → slice_get xs at ≡ Some x → slice_get (map f xs) at ≡ Some (f x)
-    stands_at f xs at x is = slice_get-map f xs at ∙ ap (option_map f) is
+    left : (selects : Bool) (name : List ℕ)
+        → (let key : Key = record { selects = selects; name = name } in slot_for seats (tags_left names table.tags) key ≡ cond (key_stays names key) (slot_for seats table.tags key) None)
+    left true name = refl
+    left false name =
+        ap (λ o. cond (not (is_same name sel)) o None) (looked-filter (λ (tag : Tag). tag.name) (λ (tag : Tag). tag.slot) (stays names) name table.tags)
+        ∙ kept_slot (is_same name sel) (is_among name names) (slot_of name table.tags)
 
-names_left : (names : List (List ℕ)) (tags : List Tag) → names_of (tags_left names tags) ≡ filter (stays names) (names_of tags)
-names_left names [] = refl
-names_left names (tag ∷ tags) =
-    elim (stays names tag.name) as (λ b. names_of (cond b (tag ∷ tags_left names tags) (tags_left names tags)) ≡ cond b (tag.name ∷ filter (stays names) (names_of tags)) (filter (stays names) (names_of tags))) [
-      | true ↦ ap (λ rest. tag.name ∷ rest) (names_left names tags)
-      | false ↦ names_left names tags
-    ]
+    high : (name : List ℕ) (slot : ℕ) → slot_of name table.tags ≡ Some slot → slot ≢ 0 → is_same name sel ≡ false
+    high name slot is own = false_from_ne_true (is_same name sel) (λ same.
+        own (same_Some slot 0 (sym is ∙ ap (λ n. slot_of n table.tags) ((bytes_eq-Decides name sel).0 same) ∙ sound.selection)))
 
-filter_stands : {A : Type 0} (p : A → Bool) (xs : List A) (at : ℕ) (x : A) → slice_get xs at ≡ Some x → p x ≡ true → Stands (filter p xs) x
-filter_stands p [] at x is passes = absurd (none-some x is)
-filter_stands p (y ∷ xs) zero x is passes =
-    let one : y ≡ x = same_Some y x is in
-    (0, ap (λ b. slice_get (cond b (y ∷ filter p xs) (filter p xs)) 0) (ap p one ∙ passes) ∙ ap Some one)
-filter_stands p (y ∷ xs) (suc at) x is passes =
-    let rest = filter_stands p xs at x is passes in
-    elim (p y) as (λ b. Stands (cond b (y ∷ filter p xs) (filter p xs)) x) [
-      | true ↦ (suc rest.0, rest.1)
-      | false ↦ rest
-    ]
+    goes : (selects : Bool) (name : List ℕ) (slot : ℕ)
+        → (let key : Key = record { selects = selects; name = name } in slot_for seats table.tags key ≡ Some slot → is_in (slots_deleted table.tags names) slot ≡ not (key_stays names key))
+    goes true name slot is = false_from_ne_true (is_in (slots_deleted table.tags names) slot) (λ there.
+        let found = goes_with table.tags names slot there in
+        let above = slot_high seats table seated sound found.0 slot (high found.0 slot found.2 found.3) found.2 in
+        let below = number_low seats table seated sound name slot is in
+        omega (arith, above, below))
+    goes false name slot is =
+        let tag = tag_slot-is table.tags name slot is in
+        let above = slot_high seats table seated sound name slot tag.0 tag.1 in
+        both_ways (is_in (slots_deleted table.tags names) slot) (is_among name names)
+        (λ there. let found = goes_with table.tags names slot there in
+        ap (λ n. is_among n names) (same_slot seats table seated sound name found.0 slot tag.1 found.2) ∙ found.1)
+        (λ among. deleted_in table.tags names name slot among tag.1 (ne_eqb slot 0 (omega (arith, above))))
+        ∙ not_not (is_among name names)
 
--- of the tags of a table, which slots go
-module _ (table : Tags) (names : List (List ℕ)) (sound : AreTags table) where
-  abbrev pub gone : List ℕ
-  gone = slots_deleted table.tags names
+-- the cells after tags are deleted
+pub keyed-deleted : (seats : List Named) (table : Tags) (names : List (List ℕ)) (cells : List Cell) → AreSeats seats → AreTags table
+    → keyed (key_pairs seats (tags_left names table.tags)) (map (cell_without (slots_deleted table.tags names)) cells) ≡ map (without_tags names) (keyed (key_pairs seats table.tags) cells)
+keyed-deleted seats table names cells seated sound =
+    keyed-left (slots_deleted table.tags names) (key_stays names) seats table.tags seats (tags_left names table.tags) (GoWith-deleted seats table names seated sound)
+    seated.names_apart sound.names_apart seated.names_apart (AreApart-filter (λ (tag : Tag). tag.name) (λ (tag : Tag). stays names tag.name) table.tags sound.names_apart) cells
 
-  same_tag : (name other : List ℕ) (slot : ℕ) → slot_of name table.tags ≡ Some slot → slot_of other table.tags ≡ Some slot → name ≡ other
-  same_tag name other slot is also = same_slot name other slot table.tags sound.slots_apart is also
+pub known-deleted : (seats : List Named) (table : Tags) (names : List (List ℕ)) (cells : List Cell) → AreSeats seats → AreTags table → All (HasKnownSlots seats table.tags) cells
+    → All (HasKnownSlots seats (tags_left names table.tags)) (map (cell_without (slots_deleted table.tags names)) cells)
+known-deleted seats table names cells seated sound known =
+    known-without (slots_deleted table.tags names) (key_stays names) seats table seats (tags_left names table.tags) (GoWith-deleted seats table names seated sound) seated sound cells known
 
-  goes_not : (name : List ℕ) (slot : ℕ) → slot_of name table.tags ≡ Some slot → stays names name ≡ true → is_in gone slot ≡ false
-  goes_not name slot is stay = false_from_ne_true (is_in gone slot) (λ there.
-      let found = goes_with table.tags names slot there in
-      let one : name ≡ found.0 = same_tag name found.0 slot is found.2 in
-      let among : is_among name names ≡ true = ap (λ n. is_among n names) one ∙ found.1 in
-      elim (bytes_eq name sel) as (λ b. bytes_eq name sel ≡ b → (b || not (is_among name names)) ≡ true → ⊥) [
-        | true ↦ λ same _. found.3 (same_Some slot 0 (sym is ∙ ap (λ n. slot_of n table.tags) ((bytes_eq-Decides name sel).0 same) ∙ sound.selection))
-        | false ↦ λ _ not_among. true≢false (sym not_among ∙ ap not among)
-      ] refl stay)
+pub names_left : (names : List (List ℕ)) (tags : List Tag) → tag_names (tags_left names tags) ≡ filter (stays names) (tag_names tags)
+names_left names tags = map-filter (λ (tag : Tag). tag.name) (stays names) tags
 
-  goes : (name : List ℕ) (slot : ℕ) → slot_of name table.tags ≡ Some slot → stays names name ≡ false → is_in gone slot ≡ true
-  goes name slot is go =
-      let other : bytes_eq name sel ≡ false = false_from_ne_true (bytes_eq name sel) (λ same. true≢false (sym (ap (λ b. b || not (is_among name names)) same) ∙ go)) in
-      let among : is_among name names ≡ true = true_from_ne_false (is_among name names) (λ none. true≢false (sym (ap₂ (λ b c. b || not c) other none) ∙ go)) in
-      let own : (slot == 0) ≡ false = false_from_ne_true (slot == 0) (λ zero_is.
-      true≢false (sym ((bytes_eq-Decides name sel).1 (same_tag name sel 0 (is ∙ ap Some (eqb-true slot 0 zero_is)) sound.selection)) ∙ other)) in
-      deleted_in table.tags names name slot among is own
+-- ---- seats that are given up
 
-  stay_same : (slots : Slots) → StaySame names table.tags slots (without gone slots)
-  stay_same slots at tag is stay =
-      contains-without gone slots tag.slot
-      ∙ ap (λ b. set.contains slots tag.slot && not b) (goes_not tag.name tag.slot (slot_standing table.tags at tag sound.names_apart is) stay)
-      ∙ sym (and_true (set.contains slots tag.slot))
+abbrev is_given_up : List (List ℕ) → Named → Bool
+is_given_up names seat = is_among seat.name names
 
-  pub keyed-cleared : (widget : List ℕ) (cells : List Cell)
-      → keyed (key_pairs widget (tags_left names table.tags)) (map (cell_without gone) cells) ≡ map (without_tags names) (keyed (key_pairs widget table.tags) cells)
-  keyed-cleared widget cells =
-      let pairs = key_pairs widget table.tags in
-      let left = key_pairs widget (tags_left names table.tags) in
-      map-map (keyed_cell left) (cell_without gone) cells
-      ∙ map-alike (λ cell. keyed_cell left (cell_without gone cell)) (λ cell. without_tags names (keyed_cell pairs cell))
-      (λ cell. ap (λ keys. record { character = cell.character; keys = keys }) (keys_of-deleted widget names table.tags cell.tags (without gone cell.tags) (stay_same cell.tags))) cells
-      ∙ sym (map-map (without_tags names) (keyed_cell pairs) cells)
+number_at : (seats : List Named) (at : ℕ) (seat : Named) → slice_get seats at ≡ Some seat → slice_get (numbers_of seats) at ≡ Some seat.number
+number_at seats at seat is = slice_get-map (λ (s : Named). s.number) seats at ∙ ap (option_map (λ (s : Named). s.number)) is
 
-  -- the document after tags are deleted is the one that the definition gives
-  pub lone-cleared : (widget : List ℕ) (marks : List Mark) (journal : Journal) (content : Content) (document : Document) → lone_document widget table.tags marks journal content ≡ document
-      → lone_document widget (tags_left names table.tags) marks journal (cleared gone content)
-      ≡ record document { tags = filter (stays names) document.tags; cells = map (without_tags names) document.cells }
-  lone-cleared widget marks journal content document is =
-      let old = lone_document widget table.tags marks journal content in
-      let cells = keyed-cleared widget content.cells in
-      let tags = names_left names table.tags in
-      let made : lone_document widget (tags_left names table.tags) marks journal (cleared gone content) ≡ record old { tags = filter (stays names) old.tags; cells = map (without_tags names) old.cells } =
-      λ i. record old { tags = tags i; cells = cells i } in
-      made ∙ ap (λ (d : Document). record d { tags = filter (stays names) d.tags; cells = map (without_tags names) d.cells }) is
+-- a number that goes is that of a seat of one of the names
+number_goes : (seats : List Named) (names : List (List ℕ)) (number : ℕ) → is_in (numbers_gone names seats) number ≡ true
+    → (at : ℕ) × (seat : Named) × (slice_get seats at ≡ Some seat) × (seat.number ≡ number) × (is_among seat.name names ≡ true)
+number_goes seats names number there =
+    let gone = filter (is_given_up names) seats in
+    let at = in_stands (numbers_of gone) number there in
+    let seat = stood_at (λ (s : Named). s.number) gone at.0 number at.1 in
+    let from = filter_stood (is_given_up names) seats at.0 seat.0 seat.1 in
+    (from.0.0, seat.0, from.0.1, seat.2, from.1)
 
-  known-cleared : (cell : Cell) → HasKnownSlots table.tags cell → HasKnownSlots (tags_left names table.tags) (cell_without gone cell)
-  known-cleared cell known slot there =
-      let parts : (set.contains cell.tags slot && not (is_in gone slot)) ≡ true = sym (contains-without gone cell.tags slot) ∙ there in
-      let old = stands_from_Contains (slots_of table.tags) slot (known slot (left_true (set.contains cell.tags slot) (not (is_in gone slot)) parts)) in
-      let tag = stood_at (λ (t : Tag). t.slot) table.tags old.0 slot old.1 in
-      let has : slot_of tag.0.name table.tags ≡ Some slot = slot_standing table.tags old.0 tag.0 sound.names_apart tag.1 ∙ ap Some tag.2 in
-      let stay : stays names tag.0.name ≡ true = true_from_ne_false (stays names tag.0.name) (λ go.
-      true≢false (sym parts ∙ ap (λ b. set.contains cell.tags slot && not b) (goes tag.0.name slot has go) ∙ and_none (set.contains cell.tags slot))) in
-      let left = filter_stands (λ (t : Tag). stays names t.name) table.tags old.0 tag.0 tag.1 stay in
-      Contains-from_stands (slots_of (tags_left names table.tags)) slot
-      (subst (Stands (slots_of (tags_left names table.tags))) tag.2 (stands_map (λ (t : Tag). t.slot) (tags_left names table.tags) tag.0 left))
+numbers_go : (seats : List Named) (names : List (List ℕ)) (at : ℕ) (seat : Named) → AreSeats seats → slice_get seats at ≡ Some seat → is_in (numbers_gone names seats) seat.number ≡ is_among seat.name names
+numbers_go seats names at seat seated is =
+    both_ways (is_in (numbers_gone names seats) seat.number) (is_among seat.name names)
+    (λ there.
+    let found = number_goes seats names seat.number there in
+    let same = seated.numbers_apart at found.0 seat.number (number_at seats at seat is) (number_at seats found.0 found.1 found.2 ∙ ap Some found.3) in
+    let one = same_Some seat found.1 (sym is ∙ ap (slice_get seats) same ∙ found.2) in
+    ap (λ (s : Named). is_among s.name names) one ∙ found.4)
+    (λ among.
+    let left = filter_stands (is_given_up names) seats at seat is among in
+    let number = stands_map (λ (s : Named). s.number) (filter (is_given_up names) seats) seat left in
+    stands_in (numbers_gone names seats) number.0 seat.number number.1)
 
-  -- what holds of a document at any time holds then too
-  pub kept-cleared : (name : List ℕ) (content : Content) (new : Tags) → IsKept name table content → AreTags new → new ≡ record table { tags = tags_left names table.tags }
-      → IsKept name new (cleared gone content)
-  kept-cleared name content new kept new_sound is =
-      let long : length (map (cell_without gone) content.cells) ≡ length content.cells = length-map content.cells (cell_without gone) in
-      record {
-        named = kept.named;
-        text = subst IsDocument (sym (map-map (λ (cell : Cell). cell.character) (cell_without gone) content.cells)) kept.text;
-        short = (let h = kept.short in omega (arith, long, h));
-        marks = λ number place there. (let h = kept.marks number place there in omega (arith, long, h));
-        insert = kept.insert;
-        current = kept.current;
-        known = subst (λ (ts : Tags). All (HasKnownSlots ts.tags) (map (cell_without gone) content.cells)) (sym is)
-            (All-map (HasKnownSlots (tags_left names table.tags)) (cell_without gone) content.cells (λ k cell within. known-cleared (get_or content.cells k cell) (kept.known k cell within)));
-        tags = new_sound;
-        roomy = ap (λ (ts : Tags). ts.limit) is ∙ kept.roomy;
-      }
+pub GoWith-unseated : (seats : List Named) (table : Tags) (names : List (List ℕ)) → AreSeats seats → AreTags table
+    → GoWith (numbers_gone names seats) (selection_stays names) seats table.tags (seats_left names seats) table.tags
+GoWith-unseated seats table names seated sound = record {
+  slots = λ key slot is. goes key.selects key.name slot is;
+  keys = λ key. left key.selects key.name;
+}
+  where
+    left : (selects : Bool) (name : List ℕ)
+        → (let key : Key = record { selects = selects; name = name } in slot_for (seats_left names seats) table.tags key ≡ cond (selection_stays names key) (slot_for seats table.tags key) None)
+    left true name = looked-filter (λ (seat : Named). seat.name) (λ (seat : Named). seat.number) (λ n. not (is_among n names)) name seats
+    left false name = refl
+
+    goes : (selects : Bool) (name : List ℕ) (slot : ℕ)
+        → (let key : Key = record { selects = selects; name = name } in slot_for seats table.tags key ≡ Some slot → is_in (numbers_gone names seats) slot ≡ not (selection_stays names key))
+    goes true name slot is =
+        let seat = seat_stands seats name slot is in
+        ap (is_in (numbers_gone names seats)) (sym seat.4) ∙ numbers_go seats names seat.0 seat.1 seated seat.2 ∙ ap (λ n. is_among n names) seat.3 ∙ not_not (is_among name names)
+    goes false name slot is = false_from_ne_true (is_in (numbers_gone names seats) slot) (λ there.
+        let found = number_goes seats names slot there in
+        let tag = tag_slot-is table.tags name slot is in
+        let above = slot_high seats table seated sound name slot tag.0 tag.1 in
+        let below = seated.below found.0 slot (number_at seats found.0 found.1 found.2 ∙ ap Some found.3) in
+        omega (arith, above, below))
+
+pub AreSeats-left : (seats : List Named) (names : List (List ℕ)) → AreSeats seats → AreSeats (seats_left names seats)
+AreSeats-left seats names seated =
+    let stays = λ (seat : Named). not (is_among seat.name names) in
+    record {
+      names_apart = AreApart-filter (λ (seat : Named). seat.name) stays seats seated.names_apart;
+      numbers_apart = AreApart-filter (λ (seat : Named). seat.number) stays seats seated.numbers_apart;
+      below = λ at number is.
+          let seat = stood_at (λ (s : Named). s.number) (seats_left names seats) at number is in
+          let from = filter_stood stays seats at seat.0 seat.1 in
+          seated.below from.0.0 number (number_at seats from.0.0 seat.0 from.0.1 ∙ ap Some seat.2);
+    }
+
+-- the cells after seats are given up
+pub keyed-unseated : (seats : List Named) (table : Tags) (names : List (List ℕ)) (cells : List Cell) → AreSeats seats → AreTags table
+    → keyed (key_pairs (seats_left names seats) table.tags) (map (cell_without (numbers_gone names seats)) cells) ≡ map (with_staying (selection_stays names)) (keyed (key_pairs seats table.tags) cells)
+keyed-unseated seats table names cells seated sound =
+    keyed-left (numbers_gone names seats) (selection_stays names) seats table.tags (seats_left names seats) table.tags (GoWith-unseated seats table names seated sound)
+    seated.names_apart sound.names_apart (AreSeats-left seats names seated).names_apart sound.names_apart cells
+
+pub known-unseated : (seats : List Named) (table : Tags) (names : List (List ℕ)) (cells : List Cell) → AreSeats seats → AreTags table → All (HasKnownSlots seats table.tags) cells
+    → All (HasKnownSlots (seats_left names seats) table.tags) (map (cell_without (numbers_gone names seats)) cells)
+known-unseated seats table names cells seated sound known =
+    known-without (numbers_gone names seats) (selection_stays names) seats table (seats_left names seats) table.tags (GoWith-unseated seats table names seated sound) seated sound cells known
+
+-- ---- one seat that is given up
+
+one_seat : (seats : List Named) (at : ℕ) (seat : Named) → AreSeats seats → slice_get seats at ≡ Some seat
+    → (numbers_gone (seat.name ∷ []) seats ≡ seat.number ∷ []) × (seats_left (seat.name ∷ []) seats ≡ remove seats at)
+one_seat seats at seat seated is =
+    let named : is_given_up (seat.name ∷ []) seat ≡ true = or_left (bytes_eq seat.name seat.name) false ((bytes_eq-Decides seat.name seat.name).1 refl) in
+    let only = one_passes (is_given_up (seat.name ∷ [])) seats at seat is named (λ k other there also.
+    let same : other.name ≡ seat.name = (bytes_eq-Decides other.name seat.name).0 (sym (or_none (bytes_eq other.name seat.name)) ∙ also) in
+    seated.names_apart k at seat.name (slice_get-map (λ (s : Named). s.name) seats k ∙ ap (option_map (λ (s : Named). s.name)) there ∙ ap Some same)
+    (slice_get-map (λ (s : Named). s.name) seats at ∙ ap (option_map (λ (s : Named). s.name)) is)) in
+    (ap numbers_of only.0, only.1)
+  where
+    or_none : (b : Bool) → (b || false) ≡ b
+    or_none true = refl
+    or_none false = refl
+
+pub keyed-one_less : (seats : List Named) (table : Tags) (at : ℕ) (seat : Named) (cells : List Cell) → AreSeats seats → AreTags table → slice_get seats at ≡ Some seat
+    → keyed (key_pairs (remove seats at) table.tags) (map (cell_without (seat.number ∷ [])) cells) ≡ map (with_staying (selection_stays (seat.name ∷ []))) (keyed (key_pairs seats table.tags) cells)
+keyed-one_less seats table at seat cells seated sound is =
+    let one = one_seat seats at seat seated is in
+    ap₂ (λ left gone. keyed (key_pairs left table.tags) (map (cell_without gone) cells)) (sym one.1) (sym one.0) ∙ keyed-unseated seats table (seat.name ∷ []) cells seated sound
+
+pub known-one_less : (seats : List Named) (table : Tags) (at : ℕ) (seat : Named) (cells : List Cell) → AreSeats seats → AreTags table → slice_get seats at ≡ Some seat → All (HasKnownSlots seats table.tags) cells
+    → All (HasKnownSlots (remove seats at) table.tags) (map (cell_without (seat.number ∷ [])) cells)
+known-one_less seats table at seat cells seated sound is known =
+    let one = one_seat seats at seat seated is in
+    subst (λ left. All (HasKnownSlots left table.tags) (map (cell_without (seat.number ∷ [])) cells)) one.1
+    (subst (λ gone. All (HasKnownSlots (seats_left (seat.name ∷ []) seats) table.tags) (map (cell_without gone) cells)) one.0 (known-unseated seats table (seat.name ∷ []) cells seated sound known))

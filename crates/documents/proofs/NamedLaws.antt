@@ -1,6 +1,6 @@
 -- The slots and the keys of tag lists.
-use Rattle.std.proofs.Common.{◌≡◌, ℕ, true, false, cond, ◌||◌, ◌+◌, List, [], ◌∷◌, ◌++◌, Option, None, Some, map, length, get_or, refl, sym, ap, ap₂, subst, ◌∙◌, true≢false, arith, length-append, get_or-append-add}
-use Rattle.std.specs.Prelude.{IfSome, find, bytes_eq, option_map, if◌then◌else◌}
+use Rattle.std.proofs.Common.{◌≡◌, ℕ, true, false, ◌||◌, ◌+◌, List, [], ◌∷◌, ◌++◌, Option, None, Some, map, length, get_or, slice_get, refl, sym, ap, ap₂, subst, ◌∙◌, arith, length-append, get_or-append-add}
+use Rattle.std.specs.Prelude.{IfSome, bytes_eq, option_map, ◌==◌, if◌then◌else◌}
 use Rattle.std.specs.Char.{IsScalar}
 use Rattle.std.specs.FinSet as set
 use Rattle.std.specs.List.{All}
@@ -10,9 +10,11 @@ use Rattle.std.proofs.lemmas.List.{get_or_append_left}
 use Rattle.std.proofs.lemmas.List.Folds.{list_any-append}
 use Rattle.std.proofs.lemmas.List.Sums.{sum_by-cons}
 use Rattle.std.proofs.lemmas.Slice.Eq.{bytes_eq-Decides}
-use Rattle.name_list.specs.Names.{AreApart}
-use Rattle.tag_table.specs.Tags.{Tag, is_named, names_of, slot_of, slots_of}
-use Rattle.documents.specs.Keys.{keys_of, key_named, key_pairs, keys_named}
+use Rattle.name_list.specs.Names.{Named}
+use Rattle.tag_table.specs.Tags.{AreTags, Tag, Tags, names_of}
+use Rattle.index_grammar.specs.Names.{known_tags}
+use Rattle.documents.specs.Keys.{Key, keys_of, key_named, key_pairs, keys_named}
+use Rattle.documents.specs.Kept.{AreKnown, AreSeats}
 use Rattle.edit_ops.specs.declared.pieces.Piece.{Piece}
 use Rattle.edit_ops.specs.Insertions.{total}
 use Rattle.command_parts.specs.Lists.{Pair, all_names, listed_names, with_name, with_names}
@@ -22,34 +24,20 @@ use Rattle.documents.specs.Texts.{keyed_text}
 use Rattle.command_parts.specs.Words.{is_among, is_same}
 use Rattle.documents.specs.Documents.{Widget}
 use Rattle.documents.proofs.BridgeLaws.{keys_of-empty, keys_of-set_slot}
-use Rattle.documents.proofs.KeptLaws.{AreKnown, IsKnownPiece, known-named}
-use Rattle.peers.proofs.TextLaws as text
+use Rattle.documents.proofs.KnownLaws.{IsKnownPiece, known-named}
+use Rattle.documents.proofs.LookupLaws.{among-looked}
+use Rattle.documents.proofs.SlotLaws.{slot_for-named}
 use Rattle.documents.specs.Edits.{KeyedText}
 
--- a name of a tag has a slot
-pub slot_found : (name : List ℕ) (tags : List Tag) → is_among name (names_of tags) ≡ true → (slot : ℕ) × (slot_of name tags ≡ Some slot)
-slot_found name [] among = absurd (true≢false (sym among))
-slot_found name (tag ∷ tags) among =
-    elim (bytes_eq name tag.name) as (λ b. (b || is_among name (names_of tags)) ≡ true → (slot : ℕ) × (option_map (λ (t : Tag). t.slot) (cond b (Some tag) (find (is_named name) tags)) ≡ Some slot)) [
-      | true ↦ λ _. (tag.slot, refl)
-      | false ↦ λ rest. slot_found name tags rest
-    ] among
+-- a name of a tag has a slot for each widget
+pub slot_found : (name : List ℕ) (tags : List Tag) (widget : ℕ) → is_among name (names_of tags) ≡ true → (slot : ℕ) × (known_tags tags widget name ≡ Some slot)
+slot_found name tags widget among =
+    let found = among-looked (λ (tag : Tag). tag.name) (λ (tag : Tag). tag.slot) name tags among in
+    (if found.0 == 0 then widget else found.0, ap (option_map (λ slot. if slot == 0 then widget else slot)) found.1)
 
 -- every name is that of a tag
 abbrev pub AreTagNames : List Tag → List (List ℕ) → Type 0
 AreTagNames tags names = All (λ name. is_among name (names_of tags) ≡ true) names
-
--- the keys of the slots of a tag list are those of the list
-pub keys_of-slots_named : (widget : List ℕ) (tags : List Tag) (names : List (List ℕ)) → AreApart (names_of tags) → AreApart (slots_of tags) → AreTagNames tags names
-    → keys_of (key_pairs widget tags) (slots_named tags names) ≡ keys_named widget names
-keys_of-slots_named widget tags [] apart slots_apart known = keys_of-empty widget tags
-keys_of-slots_named widget tags (name ∷ names) apart slots_apart known =
-    let found = slot_found name tags (All-head (λ n. is_among n (names_of tags) ≡ true) name names known) in
-    ap (λ o. keys_of (key_pairs widget tags) (with_found o (slots_named tags names))) found.1
-    ∙ keys_of-set_slot widget tags (slots_named tags names) name found.0 true apart slots_apart found.1
-    ∙ ap (λ keys. set.insert keys (key_named widget name)) (keys_of-slots_named widget tags names apart slots_apart (All-tail (λ n. is_among n (names_of tags) ≡ true) name names known))
-
--- ---- the texts of pairs, as a store gets them and as a document does
 
 AreNames-front : (tags : List Tag) (xs ys : List (List ℕ)) → AreTagNames tags (xs ++ ys) → AreTagNames tags xs
 AreNames-front tags xs ys known k name within =
@@ -61,42 +49,57 @@ AreNames-rest tags xs ys known k name within =
     subst (λ n. is_among n (names_of tags) ≡ true) (get_or-append-add xs ys k name)
     (known (length xs + k) name (omega (arith, within, length-append xs ys)))
 
-abbrev keyed_piece : List ℕ → List Tag → Piece → KeyedText
-keyed_piece widget tags piece = text.keyed_text widget tags piece
+-- a piece with the keys of its slots
+abbrev pub keyed_piece : List (ℕ × Key) → Piece → KeyedText
+keyed_piece pairs piece = record { text = piece.text; keys = option_map (keys_of pairs) piece.slots }
 
-keyed-piece : (widget : List ℕ) (tags : List Tag) (pair : Pair) → AreApart (names_of tags) → AreApart (slots_of tags) → AreTagNames tags (listed_names pair.names)
-    → keyed_piece widget tags (piece_of tags pair) ≡ record { text = pair.text; keys = option_map (keys_named widget) pair.names }
-keyed-piece widget tags pair apart slots_apart known =
-    elim pair.names as (λ o. AreTagNames tags (listed_names o)
-    → keyed_piece widget tags (record { text = pair.text; slots = option_map (slots_named tags) o }) ≡ record { text = pair.text; keys = option_map (keys_named widget) o }) [
-      | None ↦ λ _. refl
-      | Some names ↦ λ all. ap (λ keys. record { text = pair.text; keys = Some keys }) (keys_of-slots_named widget tags names apart slots_apart all)
-    ] known
+-- a widget of the seats
+module _ (seats : List Named) (table : Tags) (seated : AreSeats seats) (sound : AreTags table) (seat_at : ℕ) (seat : Named) (sits : slice_get seats seat_at ≡ Some seat) where
+  abbrev pairs_of : List (ℕ × Key)
+  pairs_of = key_pairs seats table.tags
 
--- texts with the slots of their lists have the keys of these
-pub keyed-pieces : (widget : Widget) (tags : List Tag) (pairs : List Pair) → AreApart (names_of tags) → AreApart (slots_of tags) → AreTagNames tags (all_names pairs)
-    → map (keyed_piece widget.name tags) (map (piece_of tags) pairs) ≡ map (keyed_text widget) pairs
-keyed-pieces widget tags [] apart slots_apart known = refl
-keyed-pieces widget tags (pair ∷ pairs) apart slots_apart known =
-    ap₂ (λ text texts. text ∷ texts) (keyed-piece widget.name tags pair apart slots_apart (AreNames-front tags (listed_names pair.names) (all_names pairs) known))
-    (keyed-pieces widget tags pairs apart slots_apart (AreNames-rest tags (listed_names pair.names) (all_names pairs) known))
+  -- the keys of the slots of a tag list are those of the list
+  pub keys_of-slots_named : (names : List (List ℕ)) → AreTagNames table.tags names → keys_of pairs_of (slots_named table.tags seat.number names) ≡ keys_named seat.name names
+  keys_of-slots_named [] known = keys_of-empty pairs_of
+  keys_of-slots_named (name ∷ names) known =
+      let found = slot_found name table.tags seat.number (All-head (λ n. is_among n (names_of table.tags) ≡ true) name names known) in
+      ap (λ o. keys_of pairs_of (with_found o (slots_named table.tags seat.number names))) found.1
+      ∙ keys_of-set_slot seats table seated sound (key_named seat.name name) found.0 true (slots_named table.tags seat.number names) (slot_for-named seats table seated sound seat_at seat name sits ∙ found.1)
+      ∙ ap (λ keys. set.insert keys (key_named seat.name name)) (keys_of-slots_named names (All-tail (λ n. is_among n (names_of table.tags) ≡ true) name names known))
 
--- texts of scalar values are pieces with slots of tags alone
-pub known-pieces : (tags : List Tag) (pairs : List Pair) → All (λ (pair : Pair). All IsScalar pair.text) pairs → All (IsKnownPiece tags) (map (piece_of tags) pairs)
-known-pieces tags pairs scalars = All-map (IsKnownPiece tags) (piece_of tags) pairs (λ k pair within. known-piece (get_or pairs k pair) (scalars k pair within))
-  where
-    listed : (names : Option (List (List ℕ))) → IfSome (option_map (slots_named tags) names) (AreKnown tags)
-    listed None = tt
-    listed (Some names) = known-named tags names
+  keyed-piece : (pair : Pair) → AreTagNames table.tags (listed_names pair.names)
+      → keyed_piece pairs_of (piece_of table.tags seat.number pair) ≡ record { text = pair.text; keys = option_map (keys_named seat.name) pair.names }
+  keyed-piece pair known =
+      elim pair.names as (λ o. AreTagNames table.tags (listed_names o)
+      → keyed_piece pairs_of (record { text = pair.text; slots = option_map (slots_named table.tags seat.number) o }) ≡ record { text = pair.text; keys = option_map (keys_named seat.name) o }) [
+        | None ↦ λ _. refl
+        | Some names ↦ λ all. ap (λ keys. record { text = pair.text; keys = Some keys }) (keys_of-slots_named names all)
+      ] known
 
-    known-piece : (pair : Pair) → All IsScalar pair.text → IsKnownPiece tags (piece_of tags pair)
-    known-piece pair text = record { text = text; slots = listed pair.names }
+  -- texts with the slots of their lists have the keys of these
+  pub keyed-pieces : (widget : Widget) (pairs : List Pair) → widget.name ≡ seat.name → AreTagNames table.tags (all_names pairs)
+      → map (keyed_piece pairs_of) (map (piece_of table.tags seat.number) pairs) ≡ map (keyed_text widget) pairs
+  keyed-pieces widget [] same known = refl
+  keyed-pieces widget (pair ∷ pairs) same known =
+      ap₂ (λ text texts. text ∷ texts)
+      (keyed-piece pair (AreNames-front table.tags (listed_names pair.names) (all_names pairs) known)
+      ∙ ap (λ name. record { text = pair.text; keys = option_map (keys_named name) pair.names }) (sym same))
+      (keyed-pieces widget pairs same (AreNames-rest table.tags (listed_names pair.names) (all_names pairs) known))
 
-pub total-pieces : (tags : List Tag) (pairs : List Pair) → total (map (piece_of tags) pairs) ≡ texts.total pairs
-total-pieces tags [] = refl
-total-pieces tags (pair ∷ pairs) =
-    sum_by-cons (λ (piece : Piece). length piece.text) (piece_of tags pair) (map (piece_of tags) pairs)
-    ∙ ap (λ n. length pair.text + n) (total-pieces tags pairs) ∙ sym (sum_by-cons (λ (p : Pair). length p.text) pair pairs)
+  -- texts of scalar values are pieces with slots of seats and tags alone
+  pub known-pieces : (pairs : List Pair) → All (λ (pair : Pair). All IsScalar pair.text) pairs → All (IsKnownPiece seats table.tags) (map (piece_of table.tags seat.number) pairs)
+  known-pieces pairs scalars =
+      All-map (IsKnownPiece seats table.tags) (piece_of table.tags seat.number) pairs (λ k pair within. record { text = scalars k pair within; slots = listed (get_or pairs k pair).names })
+    where
+      listed : (names : Option (List (List ℕ))) → IfSome (option_map (slots_named table.tags seat.number) names) (AreKnown seats table.tags)
+      listed None = tt
+      listed (Some names) = known-named seats table seated sound seat_at seat sits names
+
+pub total-pieces : (tags : List Tag) (widget : ℕ) (pairs : List Pair) → total (map (piece_of tags widget) pairs) ≡ texts.total pairs
+total-pieces tags widget [] = refl
+total-pieces tags widget (pair ∷ pairs) =
+    sum_by-cons (λ (piece : Piece). length piece.text) (piece_of tags widget pair) (map (piece_of tags widget) pairs)
+    ∙ ap (λ n. length pair.text + n) (total-pieces tags widget pairs) ∙ sym (sum_by-cons (λ (p : Pair). length p.text) pair pairs)
 
 -- ---- the tags of lists that are made
 

@@ -1,5 +1,5 @@
 -- A document with its widgets, and how it is kept.
-use Rattle.std.specs.Prelude.{ℕ, ℤ, Bool, false, List, get_or, map, unwrap_or, ◌+◌, ◌*◌, Option, None}
+use Rattle.std.specs.Prelude.{ℕ, ℤ, Bool, false, List, [], get_or, map, unwrap_or, ◌+◌, ◌*◌, Option, None}
 use Rattle.std.specs.FinMap as finite
 use Rattle.text_model.specs.declared.cells.Cell.{Cell}
 use Rattle.text_model.specs.declared.places.Place.{Place}

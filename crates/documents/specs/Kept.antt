@@ -1,14 +1,14 @@
 -- What holds of how a document is kept, at any time.
-use Rattle.std.specs.Prelude.{◌≡◌, ℕ, ◌+◌, ◌*◌, ◌<◌, ◌≤◌, ◌==◌, Bool, true, false, List, [], ◌∷◌, length, is_some, Contains, Some, option_map}
+use Rattle.std.specs.Prelude.{◌≡◌, ℕ, ◌+◌, ◌*◌, ◌<◌, ◌≤◌, ◌==◌, Bool, true, false, List, [], ◌∷◌, length, is_some, slice_get, Contains, Some, option_map}
 use Rattle.std.specs.FinMap as finite
 use Rattle.std.specs.FinSet as set
 use Rattle.std.specs.List.{All, AllByRecursion}
 use Rattle.text_model.specs.declared.cells.Cell.{Cell}
 use Rattle.text_model.specs.declared.limits.TheConstants.Limits.{MOST_CHARS, MOST_MARKS, MOST_TAGS, MOST_WIDGETS}
 use Rattle.text_model.specs.declared.places.Place.{Place}
-use Rattle.text_model.specs.Content.{Content, Marks, characters}
+use Rattle.text_model.specs.Content.{Content, Marks, Slots, characters}
 use Rattle.text_model.specs.Documents.{IsDocument, MarksStand}
-use Rattle.name_list.specs.Names.{AreNames, Named, Names}
+use Rattle.name_list.specs.Names.{AreApart, Named, Names, names_of, numbers_of}
 use Rattle.mark_table.specs.SharedMarks.{AreMarks, Mark, SharedMarks}
 use Rattle.tag_table.specs.Tags.{Tag, Tags, AreTags}
 use Rattle.undo_stack.specs.History.{limit_of}
@@ -23,25 +23,30 @@ is_window_name [] = false
 is_window_name (character ∷ []) = false
 is_window_name (character ∷ other ∷ others) = character == 46
 
--- every slot on a cell is that of a widget's `sel`, or of a tag
+-- names are distinct, and so are numbers, each a slot of a widget's own
+pub record AreSeats (seats : List Named) : Type 0 where
+  pub names_apart : AreApart (names_of seats)
+  pub numbers_apart : AreApart (numbers_of seats)
+  pub below : (at number : ℕ) → slice_get (numbers_of seats) at ≡ Some number → number < MOST_WIDGETS
+
+-- every slot is that of a seat or of a tag
+abbrev pub AreKnown : List Named → List Tag → Slots → Type 0
+AreKnown seats tags slots = (slot : ℕ) → set.contains slots slot ≡ true → Contains (pair_slots (key_pairs seats tags)) slot
+
 abbrev pub HasKnownSlots : List Named → List Tag → Cell → Type 0
-HasKnownSlots seats tags cell = (slot : ℕ) → set.contains cell.tags slot ≡ true → Contains (pair_slots (key_pairs seats tags)) slot
+HasKnownSlots seats tags cell = AreKnown seats tags cell.tags
 
 -- the two marks of a widget's own stand in the store
 pub record HasOwnMarks (places : Marks) (seat : Named) : Type 0 where
   pub insert : is_some (finite.get places (2 * seat.number)) ≡ true
   pub current : is_some (finite.get places (2 * seat.number + 1)) ≡ true
 
--- each name is a window's, and each widget has a slot of its own
-pub record AreSeats (seats : Names) : Type 0 where
-  pub names : AreNames seats
-  pub limit : seats.limit ≡ MOST_WIDGETS
-  pub named : AllByRecursion (λ (seat : Named). is_window_name seat.name ≡ true) seats.entries
-
--- The text is a document's and no longer than any text may be, marks stand in it, among them each widget's own two, and its
+-- Each widget has a window's name and a slot of its own. The text is a document's and no longer than any text may be, marks stand in it, among them each widget's own two, and its
 -- characters have the slots of widgets and tags alone.
 pub record IsKept (seats : Names) (table : Tags) (content : Content) : Type 0 where
-  pub seats : AreSeats seats
+  pub seats : AreSeats seats.entries
+  pub slots : seats.limit ≡ MOST_WIDGETS
+  pub named : AllByRecursion (λ (seat : Named). is_window_name seat.name ≡ true) seats.entries
   pub text : IsDocument (characters content.cells)
   pub short : length content.cells ≤ MOST_CHARS
   pub marks : MarksStand content

@@ -1,15 +1,15 @@
 -- The keys of a cell: the names of tags, and `sel` of a widget.
-use Rattle.std.specs.Prelude.{ℕ, Bool, true, false, not, List, [], ◌∷◌, ◌++◌, filter, map, refl, if◌then◌else◌}
+use Rattle.std.specs.Prelude.{ℕ, Bool, true, false, not, ◌&&◌, List, [], ◌∷◌, ◌++◌, map, filter, refl, if◌then◌else◌}
 use Rattle.std.specs.FinSet as set
 use Rattle.std.specs.Coded.{Coded, code_by, coded×, coded_ℕ, coded_bool, coded_list}
 use Rattle.std.specs.declared.cmp.Ordering.{Ordering}
 use Rattle.std.specs.Ordering.{nat_cmp, ordering_then}
 use Rattle.std.specs.Cmp.Lexicographic.{slice_cmp}
+use Rattle.name_list.specs.Names.{Named, numbers_of}
 use Rattle.text_model.specs.Content.{Slots}
-use Rattle.text_model.specs.declared.cells.Cell.{Cell}
-use Rattle.name_list.specs.Names.{Named}
 use Rattle.tag_table.specs.Tags.{Tag, sel}
-use Rattle.command_parts.specs.Words.{is_same}
+use Rattle.command_parts.specs.Words.{is_among, is_same}
+use Rattle.text_model.specs.declared.cells.Cell.{Cell}
 
 -- the key of a tag, by its name, or of a widget's `sel`, by the widget's name
 pub record Key : Type 0 where
@@ -48,12 +48,26 @@ seat_pair seat = (seat.number, record { selects = true; name = seat.name })
 abbrev pub tag_pair : Tag → ℕ × Key
 tag_pair tag = (tag.slot, record { selects = false; name = tag.name })
 
--- the slots of seats and of a table of tags with their keys; the slot that the table has for `sel` stands for each widget's own
+abbrev pub is_shared : Tag → Bool
+is_shared tag = not (is_same tag.name sel)
+
+-- the slots of the seats and of a table of tags, each with its key; `sel` is the seats' alone
 abbrev pub key_pairs : List Named → List Tag → List (ℕ × Key)
-key_pairs seats tags = map seat_pair seats ++ map tag_pair (filter (λ (tag : Tag). not (is_same tag.name sel)) tags)
+key_pairs seats tags = map seat_pair seats ++ map tag_pair (filter is_shared tags)
 
 abbrev pub pair_slots : List (ℕ × Key) → List ℕ
 pair_slots pairs = map (λ (pair : ℕ × Key). pair.0) pairs
+
+-- the seats without those of some widgets, and the slots of these
+abbrev pub seats_left : List (List ℕ) → List Named → List Named
+seats_left names seats = filter (λ (seat : Named). not (is_among seat.name names)) seats
+
+abbrev pub numbers_gone : List (List ℕ) → List Named → List ℕ
+numbers_gone names seats = numbers_of (filter (λ (seat : Named). is_among seat.name names) seats)
+
+-- a key stays that isn't the selection of one of these widgets
+abbrev pub selection_stays : List (List ℕ) → Key → Bool
+selection_stays names key = not (key.selects && is_among key.name names)
 
 -- the keys of a tag list
 abbrev pub keys_named : List ℕ → List (List ℕ) → Keys

@@ -1,7 +1,6 @@
 -- When a document is well formed: what every command can rely on, and keeps.
-use Rattle.std.specs.Prelude.{◌≡◌, ℕ, ◌+◌, ◌<◌, ◌≤◌, Bool, true, false, ◌&&◌, not, List, length, map, if◌then◌else◌}
+use Rattle.std.specs.Prelude.{◌≡◌, ℕ, ◌+◌, ◌≤◌, IfSome, Bool, true, false, ◌&&◌, not, List, length, map, if◌then◌else◌}
 use Rattle.std.specs.List.{AllByRecursion, IsDistinct}
-use Rattle.std.specs.Option.{ForSome}
 use Rattle.std.specs.FinSet as set
 use Rattle.text_model.specs.Documents.{IsDocument}
 use Rattle.text_model.specs.Lines.{IsLineStart}
@@ -29,8 +28,8 @@ HasItsKeys document cell = (key : Key) → set.contains cell.keys key ≡ true �
 -- a widget's view is of whole lines of the document, and its marks stand in the document
 pub record IsPlaced (document : Document) (widget : Widget) : Type 0 where
   pub name : is_window_name widget.name ≡ true
-  pub start : ForSome widget.start (IsLineStart (characters document.cells))
-  pub end : ForSome widget.end (IsLineStart (characters document.cells))
+  pub start : IfSome widget.start (IsLineStart (characters document.cells))
+  pub end : IfSome widget.end (IsLineStart (characters document.cells))
   pub ordered : view_start widget ≤ view_end document widget
   pub insert : widget.insert.offset ≤ length document.cells
   pub current : widget.current.offset ≤ length document.cells

@@ -8,7 +8,7 @@ use Rattle.undo_stack.specs.History.{limit_of, no_history}
 use Rattle.undo_stack.specs.Modified.{unmodified}
 use Rattle.command_parts.specs.declared.settings.Settings.{Settings}
 use Rattle.command_parts.specs.Words.{is_among, is_same}
-use Rattle.documents.specs.Keys.{Key, KeyedCell}
+use Rattle.documents.specs.Keys.{KeyedCell, selection_stays}
 use Rattle.documents.specs.Documents.{Document, Widget, sel}
 use Rattle.documents.specs.Options.{anchor_at, widget_set, with_shared_settings}
 
@@ -57,10 +57,7 @@ new_document name settings = with_peer name settings bare_document
 abbrev pub is_kept : List (List ℕ) → Widget → Bool
 is_kept names widget = not (is_among widget.name names)
 
--- a selection goes with its widget
-abbrev pub selection_stays : List (List ℕ) → Key → Bool
-selection_stays names key = not (key.selects && is_among key.name names)
-
+-- selections go with their widgets
 abbrev pub without_selections : List (List ℕ) → KeyedCell → KeyedCell
 without_selections names cell = record cell { keys = set.retain cell.keys (selection_stays names) }
 

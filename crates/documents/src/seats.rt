@@ -9,7 +9,8 @@ ghost use Rattle.command_parts.specs.Edits.{new_mark, with_own_marks};
 ghost use Rattle.command_parts.specs.Words.{is_among};
 ghost use Rattle.tcl_words.specs.ListGrowth.{Goes};
 ghost use Rattle.documents.specs.Documents.{whole};
-ghost use Rattle.documents.specs.Seats.{numbers_left_out, other_names, seats_left};
+ghost use Rattle.documents.specs.Keys.{numbers_gone, seats_left};
+ghost use Rattle.documents.specs.Seats.{other_names};
 
 use command_parts::{is_word, put_widget_marks};
 use edit_ops::Anchors;
@@ -93,7 +94,7 @@ pub fn slots_named(
     names: &[String],
 ) -> Result<Vec<TagSlot>, AllocError>
     requires { seats.now.limit ≡ MOST_WIDGETS }
-    ensures value { IfOk result (λ slots. map (λ slot. slot.0) slots.items ≡ numbers_left_out (texts_of names.now) seats.now.entries) }
+    ensures value { IfOk result (λ slots. map (λ slot. slot.0) slots.items ≡ numbers_gone (texts_of names.now) seats.now.entries) }
     ensures bound { IfOk result (λ slots. All (λ slot. slot.0 < MOST_WIDGETS) slots.items) }
 {
     let mut slots = Vec::with_capacity(alloc, seats.len())?;

@@ -1,0 +1,107 @@
+-- A document as it is kept: its characters, its widgets, and what of it a change leaves.
+use Rattle.std.proofs.Common.{◌≡◌, ◌≢◌, ℕ, zero, suc, ◌+◌, ◌*◌, ◌<◌, ◌≤◌, true, List, [], ◌∷◌, length, map, refl, sym, ap, subst, ◌∙◌, arith}
+use Rattle.std.specs.Prelude.{◌≢◌, slice_get, get_or, option_map, Option, None, Some, Ok, is_some, unwrap_or}
+use Rattle.std.specs.FinMap as finite
+use Rattle.std.specs.List.{All, AllByRecursion}
+use Rattle.std.proofs.lemmas.List.{length-map}
+use Rattle.std.proofs.lemmas.Option.{none-some, same_Some, get_or_from_slice_get}
+use Rattle.text_model.specs.declared.cells.Cell.{Cell}
+use Rattle.text_model.specs.declared.limits.TheConstants.Limits.{MOST_WIDGETS}
+use Rattle.text_model.specs.Content as model
+use Rattle.text_model.specs.Content.{Content, Marks}
+use Rattle.text_model.specs.LimitTable.{LimitTable}
+use Rattle.undo_stack.specs.Fits.{FitsText}
+use Rattle.name_list.specs.Names.{Named, Names, numbers_of}
+use Rattle.mark_table.specs.SharedMarks.{Mark}
+use Rattle.tag_table.specs.Tags.{Tag}
+use Rattle.edit_ops.specs.Anchors.{AreAnchored}
+use Rattle.command_parts.specs.declared.answers.Answer.TheVariants.{Empty}
+use Rattle.documents.specs.Documents.{Document, KeyedCell, Parts, Widget, anchors_at, characters, document_of, mark_of, no_widget, whole, widget_at, widget_of}
+use Rattle.documents.specs.Kept.{HasOwnMarks, IsSeated, IsSound, Stands}
+use Rattle.documents.specs.Keys.{Key, key_pairs, keyed}
+use Rattle.documents.specs.Promise.{Change, Does, answered}
+use Rattle.documents.specs.WellFormed.{IsWellFormedDocument}
+use Rattle.documents.proofs.PlacedLaws.{placed-length}
+
+-- ---- its characters and counts
+
+pub characters-keyed : (pairs : List (ℕ × Key)) (cells : List Cell) → characters (keyed pairs cells) ≡ model.characters cells
+characters-keyed pairs [] = refl
+characters-keyed pairs (cell ∷ cells) = ap (λ cs. cell.character ∷ cs) (characters-keyed pairs cells)
+
+pub length-keyed : (pairs : List (ℕ × Key)) (cells : List Cell) → length (keyed pairs cells) ≡ length cells
+length-keyed pairs cells = length-map cells _
+
+abbrev pub pairs_of : Parts → List (ℕ × Key)
+pairs_of parts = key_pairs parts.seats.entries parts.tags.tags
+
+pub characters-kept : (parts : Parts) (document : Document) → document_of parts ≡ document → characters document.cells ≡ model.characters parts.content.cells
+characters-kept parts document is = ap (λ (d : Document). characters d.cells) (sym is) ∙ characters-keyed (pairs_of parts) parts.content.cells
+
+pub cells-kept : (parts : Parts) (document : Document) → document_of parts ≡ document → length document.cells ≡ length parts.content.cells
+cells-kept parts document is = ap (λ (d : Document). length d.cells) (sym is) ∙ length-keyed (pairs_of parts) parts.content.cells
+
+pub marks-kept : (parts : Parts) (document : Document) → document_of parts ≡ document → length document.marks ≡ length parts.marks.marks
+marks-kept parts document is = ap (λ (d : Document). length d.marks) (sym is) ∙ placed-length parts.content.marks parts.marks.marks
+
+pub tags-kept : (parts : Parts) (document : Document) → document_of parts ≡ document → length document.tags ≡ length parts.tags.tags
+tags-kept parts document is = ap (λ (d : Document). length d.tags) (sym is) ∙ length-map parts.tags.tags (λ (tag : Tag). tag.name)
+
+pub widgets-kept : (parts : Parts) (document : Document) → document_of parts ≡ document → length document.widgets ≡ length parts.seats.entries
+widgets-kept parts document is = ap (λ (d : Document). length d.widgets) (sym is) ∙ length-map parts.seats.entries (widget_of parts.journal parts.content.marks)
+
+-- ---- one of its widgets
+
+-- a widget sits at a place of the order of creation, and has a slot
+pub record Sits (parts : Parts) (document : Document) (place slot : ℕ) : Type 0 where
+  pub seat : Named
+  pub stands : slice_get parts.seats.entries place ≡ Some seat
+  pub number : seat.number ≡ slot
+  pub widget : widget_at document place ≡ widget_of parts.journal parts.content.marks seat
+  pub below : slot < MOST_WIDGETS
+  pub anchors : slot < length parts.journal.anchors
+  pub disabled : slot < length parts.journal.disabled
+  pub anchored : AreAnchored (model.characters parts.content.cells) (anchors_at parts.journal slot)
+  pub insert : is_some (finite.get parts.content.marks (2 * slot)) ≡ true
+  pub current : is_some (finite.get parts.content.marks (2 * slot + 1)) ≡ true
+
+-- what holds of each element holds of the one at a place
+pub at-place : {A : Type 0} (P : A → Type 0) (xs : List A) (place : ℕ) (x : A) → AllByRecursion P xs → slice_get xs place ≡ Some x → P x
+at-place P [] place x each is = absurd (none-some x is)
+at-place P (y ∷ ys) zero x each is = subst P (same_Some y x is) each.0
+at-place P (y ∷ ys) (suc place) x each is = at-place P ys place x each.1 is
+
+mapped-at : {A B : Type 0} (f : A → B) (xs : List A) (place : ℕ) (x : A) → slice_get xs place ≡ Some x → slice_get (map f xs) place ≡ Some (f x)
+mapped-at f [] place x is = absurd (none-some x is)
+mapped-at f (y ∷ ys) zero x is = ap (option_map f) is
+mapped-at f (y ∷ ys) (suc place) x is = mapped-at f ys place x is
+
+seat-at : (entries : List Named) (place slot : ℕ) → slice_get (numbers_of entries) place ≡ Some slot → (seat : Named) × (slice_get entries place ≡ Some seat) × (seat.number ≡ slot)
+seat-at [] place slot is = absurd (none-some slot is)
+seat-at (seat ∷ seats) zero slot is = (seat, refl, same_Some seat.number slot is)
+seat-at (seat ∷ seats) (suc place) slot is = seat-at seats place slot is
+
+pub widget-is : (parts : Parts) (document : Document) (place : ℕ) (seat : Named) → document_of parts ≡ document → slice_get parts.seats.entries place ≡ Some seat
+    → widget_at document place ≡ widget_of parts.journal parts.content.marks seat
+widget-is parts document place seat is stands =
+    ap (λ (d : Document). widget_at d place) (sym is)
+    ∙ get_or_from_slice_get (document_of parts).widgets place (widget_of parts.journal parts.content.marks seat) no_widget (mapped-at (widget_of parts.journal parts.content.marks) parts.seats.entries place seat stands)
+
+pub sits : (parts : Parts) (document : Document) (place slot : ℕ) → Stands parts document → slice_get (numbers_of parts.seats.entries) place ≡ Some slot → Sits parts document place slot
+sits parts document place slot stands is =
+    let found = seat-at parts.seats.entries place slot is in
+    let own = at-place (HasOwnMarks parts.content.marks) parts.seats.entries place found.0 stands.sound.kept.own found.1 in
+    let seated = at-place (IsSeated parts.journal) parts.seats.entries place found.0 stands.sound.views.seated found.1 in
+    let same = found.2 in
+    record {
+      seat = found.0;
+      stands = found.1;
+      number = found.2;
+      widget = widget-is parts document place found.0 stands.is found.1;
+      below = stands.sound.kept.seats.below place slot is;
+      anchors = subst (λ n. n < length parts.journal.anchors) same seated.anchors;
+      disabled = subst (λ n. n < length parts.journal.disabled) same seated.disabled;
+      anchored = stands.sound.views.anchored slot whole (subst (λ n. n < length parts.journal.anchors) same seated.anchors);
+      insert = subst (λ n. is_some (finite.get parts.content.marks (2 * n)) ≡ true) same own.insert;
+      current = subst (λ n. is_some (finite.get parts.content.marks (2 * n + 1)) ≡ true) same own.current;
+    }
