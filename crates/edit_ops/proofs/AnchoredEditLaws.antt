@@ -1,5 +1,5 @@
 -- The anchors of each widget go on standing where lines start, through each edit.
-use Rattle.std.proofs.Common.{◌≡◌, ℕ, zero, suc, ◌+◌, ◌-◌, ◌<◌, ◌≤◌, ◌==◌, ◌&&◌, Bool, true, false, List, [], ◌∷◌, Option, Some, None, map, length, refl, sym, ap, ◌∙◌, arith, subst}
+use Rattle.std.proofs.Common.{◌≡◌, ℕ, ◌+◌, ◌-◌, ◌<◌, ◌≤◌, ◌==◌, ◌&&◌, Bool, true, false, List, [], ◌∷◌, Option, Some, None, map, length, refl, sym, ap, ◌∙◌, arith, subst}
 use Rattle.std.specs.Prelude.{slice_range, bytes_eq, nat_lt, nat_le, min, if◌then◌else◌, option_and_then}
 use Rattle.std.specs.FinMap as finite
 use Rattle.std.specs.List.{All}
@@ -10,7 +10,7 @@ use Rattle.text_model.specs.declared.edits.Step.TheVariants.{ClearTags}
 use Rattle.text_model.specs.declared.places.Place.{Place}
 use Rattle.text_model.specs.Content.{Content, Slots, characters}
 use Rattle.text_model.specs.Documents.{ends_in_newline}
-use Rattle.text_model.specs.Splices.{inserted, removed, changed}
+use Rattle.text_model.specs.Splices.{inserted, removed}
 use Rattle.text_model.specs.Steps.{cells_of, after_step, after_insertion, after_removal, without_slots}
 use Rattle.text_model.proofs.SpliceLaws.{length-cells_inserted, length-removed, length-changed, map-inserted, map-removed, map-changed, changed-same, length-inserted}
 use Rattle.text_cursor.specs.Around.{shared_slots}
@@ -35,7 +35,7 @@ use Rattle.edit_ops.specs.States.{State, log_noted}
 use Rattle.edit_ops.proofs.AnchoredLaws.{all-moved, all-removed}
 use Rattle.edit_ops.proofs.KeepLaws.{deleted-runs}
 use Rattle.edit_ops.proofs.ReplayLaws.{guarded-holds}
-use Rattle.edit_ops.proofs.ReversalLaws.{redone-text, undone-text, group-undone-text, stood-cells}
+use Rattle.edit_ops.proofs.ReversalLaws.{redone-text, group-undone-text, stood-cells}
 use Rattle.edit_ops.proofs.StartLaws.{Begins, text-end-begins, inserted-behind, removed-behind}
 
 -- the anchors stand where lines start, and so does the end of the text
