@@ -25,8 +25,7 @@ fn read_group(group: &Group<'_>)
     }
 }
 
-/// Reverts the last group of the history, if there is one. The mark of a number, if there is one, then
-/// stands where that ends.
+/// Reverts the last group of the history, if there is one. The mark of a number, if it stands, is then where that ends.
 pub fn undo_group<S: TextStore>(
     alloc: Global,
     limits: &Limits,
@@ -58,8 +57,7 @@ pub fn undo_group<S: TextStore>(
     }
 }
 
-/// Makes the group that was undone last once more, if there is one. The mark of a number, if there is one, then
-/// stands where that ends.
+/// Makes the group that was undone last once more, if there is one. The mark of a number, if it stands, is then where that ends.
 pub fn redo_group<S: TextStore>(
     alloc: Global,
     limits: &Limits,

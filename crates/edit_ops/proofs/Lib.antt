@@ -1,4 +1,6 @@
 pub mod AnchorLaws
+pub mod AnchoredEditLaws
+pub mod AnchoredLaws
 pub mod DeleteLaws
 pub mod InsertLaws
 pub mod KeepLaws
@@ -8,3 +10,4 @@ pub mod ReplaceLaws
 pub mod ReplayLaws
 pub mod ReversalLaws
 pub mod RunLaws
+pub mod StartLaws

@@ -229,7 +229,7 @@ first-goes : (found : Option (List ℕ)) (after_it : List ℕ → Option (List �
 first-goes None after_it goes = absurd (false≢true goes)
 first-goes (Some next) after_it goes = (next, refl, goes)
 
-guarded-holds : {A : Type 0} (test : Bool) (x y : A) → (if test then Some x else None) ≡ Some y → test ≡ true
+pub guarded-holds : {A : Type 0} (test : Bool) (x y : A) → (if test then Some x else None) ≡ Some y → test ≡ true
 guarded-holds true x y is = refl
 guarded-holds false x y is = absurd (let h : None ≡ Some y = is in cc)
 

@@ -71,7 +71,7 @@ group-redone-text limit (action ∷ actions) found state is =
     group-redone-text limit actions found (action_redone action state) (ap (repeated_group limit actions) first ∙ others))
 
 -- the mark doesn't matter
-stood-cells : (number : ℕ) (place : Option Place) (content : Content) → (with_mark number place content).cells ≡ content.cells
+pub stood-cells : (number : ℕ) (place : Option Place) (content : Content) → (with_mark number place content).cells ≡ content.cells
 stood-cells number None content = refl
 stood-cells number (Some place) content = refl
 

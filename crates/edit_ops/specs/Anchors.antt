@@ -1,6 +1,6 @@
 -- Where the anchors of a widget go: they stand at line starts, or at the end of the text.
-use Rattle.std.specs.Prelude.{ℕ, ◌+◌, ◌-◌, ◌≤◌, ◌&&◌, ◌==◌, not, nat_lt, nat_le, List, IfSome, option_map, unwrap_or, if◌then◌else◌}
-use Rattle.text_model.specs.Lines.{line_of, line_start}
+use Rattle.std.specs.Prelude.{ℕ, ◌+◌, ◌-◌, ◌≤◌, ◌&&◌, ◌==◌, not, nat_lt, nat_le, List, length, IfSome, option_map, unwrap_or, if◌then◌else◌}
+use Rattle.text_model.specs.Lines.{IsLineStart, line_of, line_start}
 use Rattle.text_model.specs.Splices.{removed}
 use Rattle.text_cursor.specs.Around.{next_line}
 use Rattle.edit_ops.specs.declared.anchors.Anchors.{Anchors}
@@ -9,6 +9,12 @@ use Rattle.edit_ops.specs.declared.anchors.Anchors.{Anchors}
 pub record AnchorsStand (len : ℕ) (anchors : Anchors) : Type 0 where
   pub start : IfSome anchors.start (λ start. start ≤ len)
   pub end : IfSome anchors.end (λ end. end ≤ len)
+
+-- the anchors stand where lines of a text start, or at its end, and the start no later than the end
+pub record AreAnchored (text : List ℕ) (anchors : Anchors) : Type 0 where
+  pub start : IfSome anchors.start (IsLineStart text)
+  pub end : IfSome anchors.end (IsLineStart text)
+  pub ordered : unwrap_or anchors.start 0 ≤ unwrap_or anchors.end (length text)
 
 -- what is put in at an offset takes along the anchors above it, and those alone
 abbrev pub anchor_moved : ℕ → ℕ → ℕ → ℕ

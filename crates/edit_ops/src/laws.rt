@@ -1,15 +1,19 @@
 //! Laws of edits, each the contract of a function that does nothing.
 
-ghost use Rattle.std.specs.Prelude.{◌≡◌, ℕ, ◌+◌, ◌-◌, ◌<◌, ◌≤◌, Bool, List, length, min};
+ghost use Rattle.std.specs.Prelude.{◌≡◌, ℕ, true, ◌+◌, ◌-◌, ◌<◌, ◌≤◌, Bool, List, length, min};
 ghost use Rattle.std.specs.List.{All};
+ghost use Rattle.text_model.specs.Content.{characters};
+ghost use Rattle.text_model.specs.Documents.{ends_in_newline};
 ghost use Rattle.undo_stack.specs.declared.actions.EditKind.{EditKind};
 ghost use Rattle.edit_ops.specs.declared.pieces.Piece.{Piece};
 ghost use Rattle.edit_ops.specs.declared.plans.Recording.{Recording};
 ghost use Rattle.edit_ops.specs.declared.spans.Span.{Span};
-ghost use Rattle.edit_ops.specs.Deletions.{deleted};
+ghost use Rattle.edit_ops.specs.declared.anchors.Anchors.{Anchors};
+ghost use Rattle.edit_ops.specs.Anchors.{AnchorsStand, AreAnchored};
+ghost use Rattle.edit_ops.specs.Deletions.{AreApart, deleted, removed_spans};
 ghost use Rattle.edit_ops.specs.Insertions.{inserted_texts, total};
-ghost use Rattle.edit_ops.specs.Keeping.{IsKept};
-ghost use Rattle.edit_ops.specs.Removals.{replaced};
+ghost use Rattle.edit_ops.specs.Keeping.{IsAnchored, IsKept};
+ghost use Rattle.edit_ops.specs.Removals.{removed_span, replaced};
 ghost use Rattle.edit_ops.specs.Reversals.{undone, redone};
 ghost use Rattle.edit_ops.specs.States.{State, Log, state_of};
 ghost use Rattle.edit_ops.specs.Tagging.{SpanFits, tagged};
@@ -33,4 +37,28 @@ pub fn edits_fit()
     ensures tagged { (limit slot : ℕ) (on : Bool) (recording : Recording) (spans : List Span) (state : State) →
         IsKept limit recording state → All (SpanFits (length state.content.cells)) spans →
         IsKept limit recording (state_of (tagged slot on spans state.content) state.anchors state.log) }
+{}
+
+/// Where the anchors of each widget stand at starts of lines of a text that ends with a newline, or at its end, they do so after
+/// an edit.
+pub fn anchors_stand_yet()
+    ensures within { (text : List ℕ) (anchors : Anchors) → AreAnchored text anchors → AnchorsStand (length text) anchors }
+    ensures inserted { (at : ℕ) (recording : Recording) (kind : EditKind) (pieces : List Piece) (state : State) →
+        IsAnchored state → at < length state.content.cells → IsAnchored (inserted_texts recording kind at pieces state) }
+    ensures removed { (from to : ℕ) (recording : Recording) (kind : EditKind) (state : State) →
+        IsAnchored state → ends_in_newline (characters state.content.cells) ≡ true → from ≤ to → to < length state.content.cells →
+        IsAnchored (removed_span recording kind from to state) }
+    ensures spans { (border : ℕ) (recording : Recording) (kind : EditKind) (spans : List Span) (state : State) →
+        IsAnchored state → ends_in_newline (characters state.content.cells) ≡ true → AreApart border spans → border ≤ length state.content.cells →
+        IsAnchored (removed_spans recording kind spans state) }
+    ensures replaced { (mark last from to : ℕ) (recording : Recording) (pieces : List Piece) (state : State) →
+        IsAnchored state → ends_in_newline (characters state.content.cells) ≡ true → last < length state.content.cells → from ≤ to →
+        IsAnchored (replaced recording mark last from to pieces state) }
+    ensures deleted { (start end : ℕ) (recording : Recording) (spans : List Span) (state : State) →
+        IsAnchored state → ends_in_newline (characters state.content.cells) ≡ true → start < end → end ≤ length state.content.cells →
+        All (λ (span : Span). span.to ≤ end) spans → IsAnchored (deleted recording start end spans state) }
+    ensures undone { (limit mark : ℕ) (recording : Recording) (state : State) →
+        IsAnchored state → ends_in_newline (characters state.content.cells) ≡ true → IsKept limit recording state → IsAnchored (undone mark state) }
+    ensures redone { (limit mark : ℕ) (recording : Recording) (state : State) →
+        IsAnchored state → ends_in_newline (characters state.content.cells) ≡ true → IsKept limit recording state → IsAnchored (redone mark state) }
 {}
