@@ -67,17 +67,25 @@ pub record IsChanged (limits : LimitTable) (old new : Parts) (document : Documen
   pub marks : length old.marks.marks ≤ limits.marks → length new.marks.marks ≤ limits.marks
   pub seats : length new.seats.entries ≡ length old.seats.entries
 
+-- what a change leaves is sound, and it does what the definition says
+pub record Leaves (limits : LimitTable) (new : Parts) (document : Document) (result : Result Answer Fault) (change : Change) : Type 0 where
+  pub sound : IsSound new
+  pub does : Does limits document (document_of new) result change
+
 pub does-changed : (limits : LimitTable) (old new : Parts) (document : Document) (change : Change) → Stands old document → IsChanged limits old new document change
-    → Does limits document (document_of new) (Ok Empty) change
+    → Leaves limits new document (Ok Empty) change
 does-changed limits old new document change stands changed =
     let before = widgets-kept old document stands.is in
     let after = widgets-kept new (document_of new) refl in
     let count = changed.seats in
-    does-answered limits document (document_of new) (document_of new) change refl changed.is
+    record {
+    sound = changed.sound;
+    does = does-answered limits document (document_of new) (document_of new) change refl changed.is
     (λ formed.
     let few = formed.tag_count in
     let many = formed.mark_count in
     let tags = tags-kept old document stands.is in
     let marks = marks-kept old document stands.is in
     IsWellFormedDocument-kept limits new changed.sound (changed.fits (fits-kept limits old document stands.is formed)) (changed.tags (omega (arith, few, tags))) (changed.marks (omega (arith, many, marks))))
-    (omega (arith, before, after, count))
+    (omega (arith, before, after, count));
+    }

@@ -91,7 +91,7 @@ pub sits : (parts : Parts) (document : Document) (place slot : ℕ) → Stands p
 sits parts document place slot stands is =
     let found = seat-at parts.seats.entries place slot is in
     let own = at-place (HasOwnMarks parts.content.marks) parts.seats.entries place found.0 stands.sound.kept.own found.1 in
-    let seated = at-place (IsSeated parts.journal) parts.seats.entries place found.0 stands.sound.views.seated found.1 in
+    let seated = at-place (IsSeated parts.journal.anchors parts.journal.disabled) parts.seats.entries place found.0 stands.sound.views.seated found.1 in
     let same = found.2 in
     record {
       seat = found.0;
@@ -99,9 +99,9 @@ sits parts document place slot stands is =
       number = found.2;
       widget = widget-is parts document place found.0 stands.is found.1;
       below = stands.sound.kept.seats.below place slot is;
-      anchors = subst (λ n. n < length parts.journal.anchors) same seated.anchors;
-      disabled = subst (λ n. n < length parts.journal.disabled) same seated.disabled;
-      anchored = stands.sound.views.anchored slot whole (subst (λ n. n < length parts.journal.anchors) same seated.anchors);
+      anchors = subst (λ n. n < length parts.journal.anchors) same seated.anchored;
+      disabled = subst (λ n. n < length parts.journal.disabled) same seated.flagged;
+      anchored = stands.sound.views.anchored slot whole (subst (λ n. n < length parts.journal.anchors) same seated.anchored);
       insert = subst (λ n. is_some (finite.get parts.content.marks (2 * n)) ≡ true) same own.insert;
       current = subst (λ n. is_some (finite.get parts.content.marks (2 * n + 1)) ≡ true) same own.current;
     }

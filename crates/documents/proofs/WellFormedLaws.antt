@@ -20,8 +20,8 @@ use Rattle.edit_ops.specs.Anchors.{AreAnchored}
 use Rattle.command_parts.specs.Words.{is_same, is_among}
 use Rattle.command_parts.proofs.LeftLaws.{AreApart-head, AreApart-tail}
 use Rattle.command_parts.proofs.MadeLaws.{found_tag}
-use Rattle.documents.specs.Keys.{Key}
-use Rattle.documents.specs.Documents.{Document, Journal, Parts, Widget, anchors_at, characters, document_of, keyed, sel, whole, widget_of}
+use Rattle.documents.specs.Keys.{Key, keyed}
+use Rattle.documents.specs.Documents.{Document, Journal, Parts, Widget, anchors_at, characters, document_of, sel, whole, widget_of}
 use Rattle.documents.specs.Kept.{IsSeated, IsSound, is_window_name}
 use Rattle.documents.specs.WellFormed.{belongs, HasItsKeys, IsPlaced, IsWellFormedDocument, window_names}
 use Rattle.documents.proofs.BridgeLaws.{is_key_of, keys_of-belongs}
@@ -71,7 +71,7 @@ keys_belong parts sound (cell ∷ cells) = (
 -- ---- widgets
 
 -- a widget's view is as its anchors are, and its marks stand in the text
-placed-widget : (parts : Parts) → IsSound parts → (seat : Named) → is_window_name seat.name ≡ true → IsSeated parts.journal seat
+placed-widget : (parts : Parts) → IsSound parts → (seat : Named) → is_window_name seat.name ≡ true → IsSeated parts.journal.anchors parts.journal.disabled seat
     → IsPlaced (document_of parts) (widget_of parts.journal parts.content.marks seat)
 placed-widget parts sound seat named seated =
     let text = model.characters parts.content.cells in
@@ -79,7 +79,7 @@ placed-widget parts sound seat named seated =
     let same : text ≡ characters document.cells = sym (characters-keyed (pairs_of parts) parts.content.cells) in
     let long : length document.cells ≡ length parts.content.cells = length-keyed (pairs_of parts) parts.content.cells in
     let counted : length text ≡ length parts.content.cells = length-map parts.content.cells (λ (cell : Cell). cell.character) in
-    let anchored : AreAnchored text (anchors_at parts.journal seat.number) = sound.views.anchored seat.number whole seated.anchors in
+    let anchored : AreAnchored text (anchors_at parts.journal seat.number) = sound.views.anchored seat.number whole seated.anchored in
     let stand = sound.kept.marks in
     record {
       name = named;
@@ -90,7 +90,7 @@ placed-widget parts sound seat named seated =
       current = omega (arith, long, offset-within (finite.get parts.content.marks (2 * seat.number + 1)) (length parts.content.cells) (stand (2 * seat.number + 1)));
     }
 
-placed-widgets : (parts : Parts) → IsSound parts → (seats : List Named) → AllByRecursion (λ (seat : Named). is_window_name seat.name ≡ true) seats → AllByRecursion (IsSeated parts.journal) seats
+placed-widgets : (parts : Parts) → IsSound parts → (seats : List Named) → AllByRecursion (λ (seat : Named). is_window_name seat.name ≡ true) seats → AllByRecursion (IsSeated parts.journal.anchors parts.journal.disabled) seats
     → AllByRecursion (IsPlaced (document_of parts)) (map (widget_of parts.journal parts.content.marks) seats)
 placed-widgets parts sound [] named seated = tt
 placed-widgets parts sound (seat ∷ seats) named seated = (placed-widget parts sound seat named.0 seated.0, placed-widgets parts sound seats named.1 seated.1)

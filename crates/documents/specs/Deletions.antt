@@ -13,7 +13,7 @@ use Rattle.command_parts.specs.Lists.{Pair, pairs_at, total}
 use Rattle.documents.specs.Edits.{with_bare, with_texts, without_span, without_spans}
 use Rattle.documents.specs.Indices.{place_at}
 use Rattle.documents.specs.Marks.{with_insert}
-use Rattle.documents.specs.Promise.{Change, answered, change_with, refused, unless_disabled}
+use Rattle.documents.specs.Promise.{Change, answered, change_with, refused}
 use Rattle.documents.specs.Ranges.{spans_shown}
 use Rattle.documents.specs.Texts.{insertion_offset, keyed_text, tags_with, within_limits}
 use Rattle.documents.specs.View.{view_end, view_start}

@@ -1,6 +1,5 @@
 -- Commands on the history and on whether the text is modified: `edit ..`.
 use Rattle.std.specs.Prelude.{ℕ, Bool, List, Option, None, Some, ok_or, if◌then◌else◌}
-use Rattle.command_table.specs.Numbers.{boolean_of}
 use Rattle.undo_stack.specs.History.{no_history, separated}
 use Rattle.undo_stack.specs.Modified.{is_modified, set_to}
 use Rattle.command_parts.specs.declared.answers.Answer.TheVariants.{Empty, Flag}

@@ -13,6 +13,7 @@ use Rattle.mark_table.specs.SharedMarks.{AreMarks, Mark, SharedMarks}
 use Rattle.tag_table.specs.Tags.{Tag, Tags, AreTags}
 use Rattle.undo_stack.specs.History.{limit_of}
 use Rattle.edit_ops.specs.Anchors.{AreAnchored}
+use Rattle.edit_ops.specs.declared.anchors.Anchors.{Anchors}
 use Rattle.command_parts.specs.Words.{is_own}
 use Rattle.documents.specs.Keys.{key_pairs, pair_slots}
 use Rattle.documents.specs.Documents.{Document, Journal, Parts, document_of}
@@ -43,15 +44,15 @@ pub record HasOwnMarks (places : Marks) (seat : Named) : Type 0 where
 
 -- Each widget has a window's name and a slot of its own. The text is a document's and no longer than any text may be, marks stand in it, among them each widget's own two, and its
 -- characters have the slots of widgets and tags alone.
-pub record IsKept (seats : Names) (table : Tags) (content : Content) : Type 0 where
-  pub seats : AreSeats seats.entries
-  pub slots : seats.limit ≡ MOST_WIDGETS
-  pub named : AllByRecursion (λ (seat : Named). is_window_name seat.name ≡ true) seats.entries
+pub record IsKept (widgets : Names) (table : Tags) (content : Content) : Type 0 where
+  pub seats : AreSeats widgets.entries
+  pub slots : widgets.limit ≡ MOST_WIDGETS
+  pub named : AllByRecursion (λ (seat : Named). is_window_name seat.name ≡ true) widgets.entries
   pub text : IsDocument (characters content.cells)
   pub short : length content.cells ≤ MOST_CHARS
   pub marks : MarksStand content
-  pub own : AllByRecursion (HasOwnMarks content.marks) seats.entries
-  pub known : All (HasKnownSlots seats.entries table.tags) content.cells
+  pub own : AllByRecursion (HasOwnMarks content.marks) widgets.entries
+  pub known : All (HasKnownSlots widgets.entries table.tags) content.cells
   pub tags : AreTags table
   pub roomy : table.limit ≡ MOST_TAGS
 
@@ -73,14 +74,14 @@ pub record IsOrderly (journal : Journal) : Type 0 where
   pub undone : journal.settings.undo ≡ false → journal.log.history.undone ≡ []
 
 -- a widget has anchors, and is disabled or not, by its slot
-pub record IsSeated (journal : Journal) (seat : Named) : Type 0 where
-  pub anchors : seat.number < length journal.anchors
-  pub disabled : seat.number < length journal.disabled
+pub record IsSeated (anchors : List Anchors) (disabled : List Bool) (seat : Named) : Type 0 where
+  pub anchored : seat.number < length anchors
+  pub flagged : seat.number < length disabled
 
 -- each widget has its anchors, and all of them stand at line starts, or where the text ends
 pub record AreViews (seats : List Named) (journal : Journal) (content : Content) : Type 0 where
   pub anchored : All (AreAnchored (characters content.cells)) journal.anchors
-  pub seated : AllByRecursion (IsSeated journal) seats
+  pub seated : AllByRecursion (IsSeated journal.anchors journal.disabled) seats
 
 pub record IsSound (parts : Parts) : Type 0 where
   pub kept : IsKept parts.seats parts.tags parts.content

@@ -1,7 +1,6 @@
 -- Commands that ask what stands in a view: `search`, `count` and `dump`.
 use Rattle.std.specs.Prelude.{ℕ, suc, ◌+◌, min, Bool, true, ◌||◌, List, [], ◌∷◌, length, map, reverse, slice_index_or, Option, None, Some, Result, Ok, if◌then◌else◌}
 use Rattle.std.specs.List.{find, list_any, starts_with}
-use Rattle.command_table.specs.Words.{is_character}
 use Rattle.index_grammar.specs.declared.indices.Direction.{Direction}
 use Rattle.index_grammar.specs.declared.indices.Direction.TheVariants.{Forward, Back}
 use Rattle.mark_table.specs.declared.order.Shown.{Shown}

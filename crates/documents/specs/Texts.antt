@@ -13,7 +13,7 @@ use Rattle.command_parts.specs.Faults.{with_value}
 use Rattle.documents.specs.Indices.{place_at}
 use Rattle.documents.specs.Keys.{keys_named}
 use Rattle.command_parts.specs.Lists.{Pair, pairs_at, all_names, total, with_names}
-use Rattle.documents.specs.Promise.{Change, refused, answered, change_with, unless_disabled}
+use Rattle.documents.specs.Promise.{Change, refused, answered, change_with}
 use Rattle.documents.specs.View.{view_start, shown}
 use Rattle.documents.specs.Documents.{Document, Widget}
 use Rattle.command_parts.specs.Listing.{is_filled}
