@@ -9,5 +9,6 @@ pub mod LookupLaws
 pub mod NamedLaws
 pub mod PartsLaws
 pub mod PlacedLaws
+pub mod SeatLaws
 pub mod SlotLaws
 pub mod WellFormedLaws
