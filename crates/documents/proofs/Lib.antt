@@ -6,9 +6,11 @@ pub mod KeyLaws
 pub mod KeyedLaws
 pub mod KnownLaws
 pub mod LookupLaws
+pub mod MeaningLaws
 pub mod NamedLaws
 pub mod PartsLaws
 pub mod PlacedLaws
 pub mod SeatLaws
 pub mod SlotLaws
+pub mod ViewLaws
 pub mod WellFormedLaws
