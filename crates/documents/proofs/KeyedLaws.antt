@@ -20,8 +20,8 @@ use Rattle.edit_ops.specs.Tagging.{cell_without, tagged}
 use Rattle.command_parts.specs.Tagging.{IsFront}
 use Rattle.documents.specs.Edits.{bare, with_key, with_tag, keys_between, common_keys}
 use Rattle.documents.specs.Kept.{AreSeats, HasKnownSlots}
-use Rattle.documents.specs.Keys.{Key, Keys, keys_of, key_named, key_pairs}
-use Rattle.documents.specs.Documents.{KeyedCell, keyed}
+use Rattle.documents.specs.Keys.{Key, Keys, keyed, keys_of, key_named, key_pairs}
+use Rattle.documents.specs.Documents.{KeyedCell}
 use Rattle.documents.proofs.BridgeLaws.{keys_of-empty, keys_of-extended, keys_of-has, keys_of-intersection, keys_of-left, keys_of-reordered, keys_of-set_slot}
 use Rattle.documents.proofs.LookupLaws.{has}
 use Rattle.documents.proofs.SlotLaws.{Extends, Extends-front, Extends-seated, GoWith, slot_for, slot_for-named}

@@ -11,4 +11,5 @@ pub mod NamedLaws
 pub mod PartsLaws
 pub mod PlacedLaws
 pub mod SlotLaws
+pub mod ViewLaws
 pub mod WellFormedLaws

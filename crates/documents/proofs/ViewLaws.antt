@@ -1,0 +1,121 @@
+-- What of a document one of its widgets shows.
+use Rattle.std.proofs.Common.{◌≡◌, ℕ, ◌+◌, ◌-◌, ◌<◌, ◌≤◌, true, false, List, length, map, refl, sym, ap, ap₂, subst, ◌∙◌, arith, length-drop, drop, true≢false, ◌≢◌, eq-eqb}
+use Rattle.std.specs.Prelude.{Bool, ◌||◌, ◌==◌, IfSome, None, Option, Some, get_or, slice_index_or, slice_range, unwrap_or}
+use Rattle.std.specs.FinSet as set
+use Rattle.std.proofs.lemmas.List.{get_or_default, length-map, length-take-le}
+use Rattle.text_model.specs.declared.cells.Cell.{Cell}
+use Rattle.text_model.specs.Content as model
+use Rattle.text_model.specs.Content.{Content, flags}
+use Rattle.text_model.specs.Lines.{IsLineStart}
+use Rattle.text_index.specs.Views as view
+use Rattle.text_index.specs.Views.{IsView}
+use Rattle.index_grammar.specs.Names.{known_tags}
+use Rattle.edit_ops.specs.Anchors.{AreAnchored}
+use Rattle.edit_ops.specs.declared.anchors.Anchors.{Anchors}
+use Rattle.edit_ops.proofs.StartLaws.{is-start, text-end-begins}
+use Rattle.documents.specs.Documents.{Document, KeyedCell, Parts, Widget, anchors_at, characters, whole, widget_at, widget_of}
+use Rattle.documents.specs.Keys.{Key, key_named}
+use Rattle.documents.specs.Kept.{Stands}
+use Rattle.documents.specs.View.{is_idle, shown, shown_flags, view_end, view_start}
+use Rattle.documents.proofs.KeyedLaws.{keyed-flags}
+use Rattle.documents.proofs.PartsLaws.{Sits, cells-kept, characters-kept}
+
+-- where the view of a slot begins, and where it ends
+abbrev pub start_in : Parts → ℕ → ℕ
+start_in parts slot = unwrap_or (anchors_at parts.journal slot).start 0
+
+abbrev pub end_in : Parts → ℕ → ℕ
+end_in parts slot = unwrap_or (anchors_at parts.journal slot).end (length parts.content.cells)
+
+pub counted : (content : Content) → length (model.characters content.cells) ≡ length content.cells
+counted content = length-map content.cells (λ (cell : Cell). cell.character)
+
+first-line : (text : List ℕ) (start : Option ℕ) → IfSome start (IsLineStart text) → IsLineStart text (unwrap_or start 0)
+first-line text None anchored = is-start text 0 tt
+first-line text (Some start) anchored = anchored
+
+last-line : (text : List ℕ) (end : Option ℕ) (long : ℕ) → IfSome end (IsLineStart text) → IsLineStart text long → IsLineStart text (unwrap_or end long)
+last-line text None long anchored ends = ends
+last-line text (Some end) long anchored ends = anchored
+
+-- where the view of a slot begins and ends, found by the anchors as they are held
+pub start-found : (parts : Parts) (slot : ℕ) (anchors : List Anchors) (start : ℕ) → anchors ≡ parts.journal.anchors → start ≡ unwrap_or (get_or anchors slot whole).start 0 → start ≡ start_in parts slot
+start-found parts slot anchors start held is = is ∙ ap (λ found. unwrap_or (get_or found slot whole).start 0) held
+
+pub end-found : (parts : Parts) (slot : ℕ) (anchors : List Anchors) (long end : ℕ) → anchors ≡ parts.journal.anchors → long ≡ length parts.content.cells
+    → end ≡ unwrap_or (get_or anchors slot whole).end long → end ≡ end_in parts slot
+end-found parts slot anchors long end held counts is = is ∙ ap₂ (λ found n. unwrap_or (get_or found slot whole).end n) held counts
+
+-- whether the widget of a slot is disabled
+pub flag-at : (flags_of : List Bool) (slot : ℕ) (found is : Bool) → slot < length flags_of → found ≡ slice_index_or flags_of slot found → found ≡ is → get_or flags_of slot false ≡ is
+flag-at flags_of slot found is within read same = get_or_default flags_of slot false found within ∙ sym read ∙ same
+
+pub part-length : {A : Type 0} (xs : List A) (start end : ℕ) → end ≤ length xs → length (slice_range xs start end) ≡ end - start
+part-length xs start end within = length-take-le (end - start) (drop start xs) (omega (arith, length-drop start xs))
+
+neither : (a b : Bool) → (a || b) ≡ false → (a ≡ false) × (b ≡ false)
+neither true b none = absurd (true≢false none)
+neither false b none = (refl, none)
+
+-- a document as it is kept, and one of its widgets with its slot
+module _ (parts : Parts) (document : Document) (place slot : ℕ) (stands : Stands parts document) (sits : Sits parts document place slot) where
+  abbrev widget : Widget
+  widget = widget_at document place
+
+  pub start-is : view_start widget ≡ start_in parts slot
+  start-is = ap view_start sits.widget ∙ ap (start_in parts) sits.number
+
+  pub end-is : view_end document widget ≡ end_in parts slot
+  end-is =
+      ap (view_end document) sits.widget ∙ ap (λ n. unwrap_or (anchors_at parts.journal n).end (length document.cells)) sits.number
+      ∙ ap (unwrap_or (anchors_at parts.journal slot).end) (cells-kept parts document stands.is)
+
+  -- whole lines of the text
+  pub view-is : IsView parts.content (start_in parts slot) (end_in parts slot)
+  view-is =
+      let text : List ℕ = model.characters parts.content.cells in
+      let long : length text ≡ length parts.content.cells = counted parts.content in
+      let ends : IsLineStart text (length parts.content.cells) = subst (IsLineStart text) long (is-start text (length text) (text-end-begins text stands.sound.kept.text.newline)) in
+      record {
+        ordered = subst (λ n. start_in parts slot ≤ unwrap_or (anchors_at parts.journal slot).end n) long sits.anchored.ordered;
+        first = first-line text (anchors_at parts.journal slot).start sits.anchored.start;
+        behind = last-line text (anchors_at parts.journal slot).end (length parts.content.cells) sits.anchored.end ends;
+      }
+
+  pub ordered-is : start_in parts slot ≤ end_in parts slot
+  ordered-is = view-is.ordered
+
+  pub within-is : end_in parts slot ≤ length parts.content.cells
+  within-is = let h = view-is.behind.within in omega (arith, h, counted parts.content)
+
+  -- its characters
+  pub shown-is : shown document widget ≡ view.shown parts.content (start_in parts slot) (end_in parts slot)
+  shown-is =
+      ap (λ text. slice_range text (view_start widget) (view_end document widget)) (characters-kept parts document stands.is)
+      ∙ ap₂ (slice_range (model.characters parts.content.cells)) start-is end-is
+
+  pub shown-length : length (shown document widget) ≡ end_in parts slot - start_in parts slot
+  shown-length =
+      ap length shown-is ∙ part-length (model.characters parts.content.cells) (start_in parts slot) (end_in parts slot) (omega (arith, within-is, counted parts.content))
+
+  -- which of its cells have the key of a name
+  pub flags-is : (name : List ℕ) (tag : ℕ) → known_tags parts.tags.tags slot name ≡ Some tag
+      → shown_flags document widget (key_named sits.seat.name name) ≡ view.shown_flags tag parts.content (start_in parts slot) (end_in parts slot)
+  flags-is name tag known =
+      let to_seat : known_tags parts.tags.tags sits.seat.number name ≡ Some tag = ap (λ n. known_tags parts.tags.tags n name) sits.number ∙ known in
+      let key : Key = key_named sits.seat.name name in
+      ap (λ (d : Document). slice_range (map (λ (cell : KeyedCell). set.contains cell.keys key) d.cells) (view_start widget) (view_end document widget)) (sym stands.is)
+      ∙ ap (λ flags_of. slice_range flags_of (view_start widget) (view_end document widget))
+      (sym (keyed-flags parts.seats.entries parts.tags stands.sound.kept.seats stands.sound.kept.tags place sits.seat sits.stands name tag to_seat parts.content.cells))
+      ∙ ap₂ (slice_range (flags tag parts.content.cells)) start-is end-is
+
+  -- whether its commands leave the text as it is
+  pub idle-is : is_idle document widget ≡ (get_or parts.journal.disabled slot false || start_in parts slot == end_in parts slot)
+  idle-is =
+      ap₂ (λ a b. a || b) (ap (λ (w : Widget). w.disabled) sits.widget ∙ ap (λ n. get_or parts.journal.disabled n false) sits.number)
+      (ap₂ (λ a b. a == b) start-is end-is)
+
+  pub active-is : is_idle document widget ≡ false → (get_or parts.journal.disabled slot false ≡ false) × (start_in parts slot < end_in parts slot)
+  active-is active =
+      let both = neither (get_or parts.journal.disabled slot false) (start_in parts slot == end_in parts slot) (sym idle-is ∙ active) in
+      (both.0, (let apart : start_in parts slot ≢ end_in parts slot = λ same. true≢false (sym (eq-eqb (start_in parts slot) (end_in parts slot) same) ∙ both.1) in omega (arith, ordered-is, apart)))
