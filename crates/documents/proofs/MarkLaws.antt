@@ -1,6 +1,6 @@
 -- A document after a mark is put at a place, made or taken out.
 use Rattle.std.proofs.Common.{◌≡◌, ◌≢◌, ℕ, zero, suc, ◌+◌, ◌*◌, ◌<◌, ◌≤◌, Bool, true, false, cond, List, [], ◌∷◌, ◌++◌, length, map, refl, sym, ap, ap₂, subst, ◌∙◌, arith, inl, inr}
-use Rattle.std.specs.Prelude.{bytes_eq, filter, find, nat_le, not, slice_get, Option, None, Some, Ok, is_some, option_map, unwrap_or, if◌then◌else◌}
+use Rattle.std.specs.Prelude.{◌||◌, bytes_eq, filter, find, nat_le, not, slice_get, Option, None, Some, Ok, is_some, option_map, unwrap_or, if◌then◌else◌}
 use Rattle.std.specs.Cmp.{nat_cmp_total, unsigned_tied}
 use Rattle.std.specs.FinMap as finite
 use Rattle.std.specs.List.{AllByRecursion, cons_option}
@@ -23,10 +23,10 @@ use Rattle.command_parts.specs.declared.answers.Answer.TheVariants.{Empty}
 use Rattle.command_parts.specs.declared.answers.Fault.TheVariants.{TooManyMarks}
 use Rattle.command_parts.specs.Edits.{new_mark}
 use Rattle.command_parts.specs.Marking.{is_left, IsMadeMark, marks_left, numbers_named, taken}
-use Rattle.command_parts.specs.Words.{is_among, is_own, is_same}
+use Rattle.command_parts.specs.Words.{is_among, is_own, is_same, literal}
 use Rattle.documents.specs.Documents.{Document, Journal, Parts, SharedMark, Widget, document_of, mark_of, placed, widget_at, widget_of}
 use Rattle.documents.specs.Kept.{AreMarked, AreSeats, HasOwnMarks, IsMarked, Stands}
-use Rattle.documents.specs.Marks.{mark_unset, set_found, with_current, with_insert, with_shared}
+use Rattle.documents.specs.Marks.{mark_unset, place_named, set_found, with_current, with_insert, with_shared}
 use Rattle.documents.specs.Promise.{Change, Does, answered, refused}
 use Rattle.documents.proofs.ChangeLaws.{Leaves, does-changed, does-nothing, stands-same}
 use Rattle.documents.proofs.PartsLaws.{Sits, marks-kept}
@@ -561,3 +561,31 @@ leaves-unset limits old new changed document names numbers stands sound table go
     (stand-taken (numbers_named marks names) old.content stands.sound.kept.marks) (own-alike places old.content.marks old.seats.entries own low stands.sound.kept.own)
     (λ few. omega (arith, count, few)) (ap (λ (d : Document). answered d Empty) (sym whole)) in
     subst (λ (p : Parts). Leaves limits p document (Ok Empty) (mark_unset document names)) (λ i. record old { marks = sym table i; content = sym is i }) done
+
+-- ---- a new name
+
+abbrev sought_place : List ℕ → Document → Option Place
+sought_place word document = option_map (λ (mark : SharedMark). mark.place) (find (λ (mark : SharedMark). is_same word mark.name) document.marks)
+
+-- a name that no mark has is none of a widget's own, and none in the table
+pub new-name : (parts : Parts) (document : Document) (widget : Widget) (word : List ℕ) → Stands parts document → place_named document widget word ≡ None
+    → (is_own word ≡ false) × (number_of word parts.marks.marks ≡ None)
+new-name parts document widget word stands none = by (is_same word (literal "insert")) (is_same word (literal "current")) refl refl
+  where
+    by : (b c : Bool) → is_same word (literal "insert") ≡ b → is_same word (literal "current") ≡ c → (is_own word ≡ false) × (number_of word parts.marks.marks ≡ None)
+    by true c is also =
+        absurd (none-some widget.insert (sym none ∙ ap (λ test. if test then Some widget.insert else (if is_same word (literal "current") then Some widget.current else sought_place word document)) is))
+    by false true is also =
+        absurd (none-some widget.current (sym none ∙ ap₂ (λ test other. if test then Some widget.insert else (if other then Some widget.current else sought_place word document)) is also))
+    by false false is also = (
+      ap₂ (λ a b. a || b) is also,
+      elim (found_mark parts.content.marks word parts.marks.marks 0 stands.sound.marked.each) [
+        | inl unknown ↦ unknown.0
+        | inr there ↦
+            let place : Place = mark_of parts.content.marks there.mark.number in
+            let found : sought_place word document ≡ Some place =
+            ap (sought_place word) (sym stands.is)
+            ∙ ap (option_map (λ (mark : SharedMark). mark.place)) there.sought in
+            absurd (none-some place (sym none ∙ ap₂ (λ test other. if test then Some widget.insert else (if other then Some widget.current else sought_place word document)) is also ∙ found))
+      ],
+    )
