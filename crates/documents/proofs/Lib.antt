@@ -5,11 +5,17 @@ pub mod JournalLaws
 pub mod KeyLaws
 pub mod KeyedLaws
 pub mod KnownLaws
+pub mod ListedLaws
 pub mod LookupLaws
 pub mod MarkLaws
 pub mod NamedLaws
+pub mod OrderLaws
 pub mod PartsLaws
 pub mod PlacedLaws
+pub mod ReorderLaws
 pub mod SlotLaws
+pub mod SpanLaws
+pub mod TableLaws
+pub mod TagLaws
 pub mod ViewLaws
 pub mod WellFormedLaws
