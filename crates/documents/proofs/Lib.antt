@@ -8,6 +8,7 @@ pub mod KnownLaws
 pub mod ListedLaws
 pub mod LookupLaws
 pub mod MarkLaws
+pub mod MeaningLaws
 pub mod NamedLaws
 pub mod OrderLaws
 pub mod PartsLaws
