@@ -10,5 +10,6 @@ pub mod NamedLaws
 pub mod PartsLaws
 pub mod PlacedLaws
 pub mod SlotLaws
+pub mod StateLaws
 pub mod ViewLaws
 pub mod WellFormedLaws
