@@ -1,10 +1,10 @@
 -- A document after what edits do to its text: a text is put in, cells are taken out, and an action is noted.
-use Rattle.std.proofs.Common.{◌≡◌, ℕ, ◌+◌, ◌-◌, ◌*◌, ◌<◌, ◌≤◌, true, false, List, [], ◌∷◌, Option, None, Some, map, length, take, drop, ◌++◌, refl, sym, ap, ap₂, subst, ◌∙◌, arith, eqb-true}
+use Rattle.std.proofs.Common.{◌≡◌, ℕ, ◌+◌, ◌-◌, ◌*◌, ◌<◌, ◌≤◌, true, false, List, [], ◌∷◌, Option, None, Some, map, length, take, drop, get_or, ◌++◌, refl, sym, ap, ap₂, subst, ◌∙◌, arith, eqb-true}
 use Rattle.std.specs.Prelude.{Bool, option_map, slice_range, ◌==◌, if◌then◌else◌}
 use Rattle.std.specs.Char.{IsScalar}
 use Rattle.std.specs.FinMap as finite
 use Rattle.std.specs.List.{All, AllByRecursion}
-use Rattle.std.proofs.lemmas.List.{get_or-map, length-map}
+use Rattle.std.proofs.lemmas.List.{append-nil, drop_all, get_or-map, length-map, take_all}
 use Rattle.std.proofs.lemmas.List.Elements.{All-append, All-drop, All-head, All-tail, All-take}
 use Rattle.name_list.specs.Names.{Named}
 use Rattle.text_model.specs.declared.cells.Cell.{Cell}
@@ -25,14 +25,14 @@ use Rattle.undo_stack.specs.History.{limit_of, noted}
 use Rattle.undo_stack.specs.Modified.{counted_new}
 use Rattle.undo_stack.specs.declared.actions.Action.{Action}
 use Rattle.undo_stack.specs.declared.actions.EditKind.{EditKind}
-use Rattle.edit_ops.specs.Anchors.{AreAnchored, anchors_moved, anchors_removed}
+use Rattle.edit_ops.specs.Anchors.{AnchorsStand, AreAnchored, anchors_moved, anchors_removed}
 use Rattle.edit_ops.specs.Insertions.{inserted_text, inserted_texts, slots_or, total}
 use Rattle.edit_ops.specs.Removals.{removed_span}
 use Rattle.edit_ops.specs.States.{Log, State, log_noted, state_of}
 use Rattle.edit_ops.specs.declared.anchors.Anchors.{Anchors}
 use Rattle.edit_ops.specs.declared.pieces.Piece.{Piece}
 use Rattle.edit_ops.specs.declared.plans.Recording.{Recording}
-use Rattle.edit_ops.proofs.AnchoredLaws.{all-moved, all-removed}
+use Rattle.edit_ops.proofs.AnchoredLaws.{all-moved, all-removed, anchored-stand}
 use Rattle.edit_ops.proofs.InsertLaws.{total-cons}
 use Rattle.edit_ops.proofs.StartLaws.{text-end-begins}
 use Rattle.command_parts.specs.Settings.{recording_of}
@@ -337,3 +337,29 @@ length-span recording kind from to state ordered within =
       | true ↦ λ none. let same = eqb-true from to none in omega (arith, same)
       | false ↦ λ _. length-removed from to state.content.cells ordered within
     ] refl
+
+-- ---- what an edit of a store leaves
+
+-- anchors that are written back whole
+pub written-back : (held new there : List Anchors) (count : ℕ) → there ≡ held → length new ≡ length there → count ≡ length held → take count (new ++ drop (length new) held) ≡ new
+written-back held new there count is same all =
+    let long : length new ≡ length held = same ∙ ap length is in
+    ap (λ rest. take count (new ++ rest)) (drop_all (length new) held (omega (arith, long))) ∙ ap (take count) (append-nil new) ∙ take_all count new (omega (arith, long, all))
+
+-- the state that an edit leaves, with the anchors that are held
+pub edited-is : (edit : Recording → State → State) (content changed : Content) (held new there kept : List Anchors) (before after : Log) (recording given : Recording) → kept ≡ new → there ≡ held → given ≡ recording
+    → state_of changed new after ≡ edit given (state_of content there before) → state_of changed kept after ≡ edit recording (state_of content held before)
+edited-is edit content changed held new there kept before after recording given written is same made =
+    ap (λ anchors. state_of changed anchors after) written ∙ made ∙ ap₂ (λ r anchors. edit r (state_of content anchors before)) same is
+
+pub unedited-is : (content changed : Content) (held new there kept : List Anchors) (before after : Log) → kept ≡ new → there ≡ held → changed ≡ content → after ≡ before → new ≡ there
+    → state_of changed kept after ≡ state_of content held before
+unedited-is content changed held new there kept before after written is cells log anchors =
+    let all : kept ≡ held = written ∙ anchors ∙ is in
+    λ i. state_of (cells i) (all i) (log i)
+
+pub anchors-stand : (parts : Parts) (document : Document) (there : List Anchors) → Stands parts document → there ≡ parts.journal.anchors → All (AnchorsStand (length parts.content.cells)) there
+anchors-stand parts document there stands is =
+    subst (All (AnchorsStand (length parts.content.cells))) (sym is) (λ k anchors within.
+    subst (λ n. AnchorsStand n (get_or parts.journal.anchors k anchors)) (count-characters parts.content.cells)
+    (anchored-stand (model.characters parts.content.cells) (get_or parts.journal.anchors k anchors) (stands.sound.views.anchored k anchors within)))
