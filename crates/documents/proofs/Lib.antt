@@ -10,6 +10,7 @@ pub mod LookupLaws
 pub mod NamedLaws
 pub mod PartsLaws
 pub mod PlacedLaws
+pub mod RemovalLaws
 pub mod SlotLaws
 pub mod StateLaws
 pub mod ViewLaws
