@@ -7,6 +7,7 @@ pub mod KeyLaws
 pub mod KeyedLaws
 pub mod KnownLaws
 pub mod LookupLaws
+pub mod MarkLaws
 pub mod NamedLaws
 pub mod PartsLaws
 pub mod PlacedLaws
