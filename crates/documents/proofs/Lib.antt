@@ -24,3 +24,4 @@ pub mod TableLaws
 pub mod TagLaws
 pub mod ViewLaws
 pub mod WellFormedLaws
+pub mod WidgetLaws
