@@ -6,12 +6,14 @@ pub mod JournalLaws
 pub mod KeyLaws
 pub mod KeyedLaws
 pub mod KnownLaws
+pub mod ListedLaws
 pub mod LookupLaws
 pub mod MarkLaws
 pub mod NamedLaws
 pub mod PartsLaws
 pub mod PlacedLaws
 pub mod RemovalLaws
+pub mod ReplacementLaws
 pub mod SlotLaws
 pub mod StateLaws
 pub mod ViewLaws
