@@ -14,6 +14,7 @@ pub mod PartsLaws
 pub mod PlacedLaws
 pub mod RemovalLaws
 pub mod ReplacementLaws
+pub mod ReversalLaws
 pub mod SlotLaws
 pub mod StateLaws
 pub mod ViewLaws

@@ -247,11 +247,11 @@ stands-noted parts document kind action stands =
 
 -- ---- texts
 
-keys_put : (parts : Parts) (document : Document) (at : ℕ) (slots : Option Slots) → Stands parts document → at < length parts.content.cells
+pub keys-put : (parts : Parts) (document : Document) (at : ℕ) (slots : Option Slots) → Stands parts document → at < length parts.content.cells
     → keys_of (pairs_of parts) (slots_or slots (shared_slots at parts.content.cells)) ≡ keys_or (option_map (keys_of (pairs_of parts)) slots) (keys_between document.cells at)
-keys_put parts document at None stands within =
+keys-put parts document at None stands within =
     keyed-shared parts.seats.entries parts.tags stands.sound.kept.seats stands.sound.kept.tags at parts.content.cells within ∙ ap (λ (d : Document). keys_between d.cells at) stands.is
-keys_put parts document at (Some slots) stands within = refl
+keys-put parts document at (Some slots) stands within = refl
 
 -- one text
 pub stands-text : (parts : Parts) (document : Document) (kind : EditKind) (at : ℕ) (piece : Piece) → Stands parts document → at < length parts.content.cells
@@ -263,7 +263,7 @@ stands-text parts document kind at piece stands within short known =
     let slots = slots_or piece.slots (shared_slots at parts.content.cells) in
     let keys = keys_or (option_map (keys_of (pairs_of parts)) piece.slots) (keys_between document.cells at) in
     let put = stands-put parts document at piece.text slots keys stands within short known.text
-    (known-put parts.seats.entries parts.tags.tags at piece.slots parts.content.cells known.slots stands.sound.kept.known within) (keys_put parts document at piece.slots stands within) in
+    (known-put parts.seats.entries parts.tags.tags at piece.slots parts.content.cells known.slots stands.sound.kept.known within) (keys-put parts document at piece.slots stands within) in
     let made : State = state_of (after_insertion at piece.text slots parts.content) (map (anchors_moved at (length piece.text)) parts.journal.anchors) (log_noted recording kind action parts.journal.log) in
     elim (length piece.text == 0) as (λ b. Stands (with_state parts (if b then state_in parts else made)) (if b then document else with_action kind action (with_cells at (cells_with piece.text keys) document))) [
       | true ↦ stands
