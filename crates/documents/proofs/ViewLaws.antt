@@ -1,9 +1,11 @@
 -- What of a document one of its widgets shows.
 use Rattle.std.proofs.Common.{◌≡◌, ℕ, ◌+◌, ◌-◌, ◌<◌, ◌≤◌, true, false, List, length, map, refl, sym, ap, ap₂, subst, ◌∙◌, arith, length-drop, drop, true≢false, ◌≢◌, eq-eqb}
-use Rattle.std.specs.Prelude.{Bool, ◌||◌, ◌==◌, IfSome, None, Option, Some, get_or, slice_index_or, slice_range, unwrap_or}
+use Rattle.std.specs.Prelude.{Bool, slice_get, ◌||◌, ◌==◌, IfSome, None, Option, Some, get_or, slice_index_or, slice_range, unwrap_or}
 use Rattle.std.specs.FinSet as set
 use Rattle.std.proofs.lemmas.List.{get_or_default, length-map, length-take-le}
+use Rattle.name_list.specs.Names.{numbers_of}
 use Rattle.text_model.specs.declared.cells.Cell.{Cell}
+use Rattle.text_model.specs.declared.limits.TheConstants.Limits.{MOST_CHARS}
 use Rattle.text_model.specs.Content as model
 use Rattle.text_model.specs.Content.{Content, flags}
 use Rattle.text_model.specs.Lines.{IsLineStart}
@@ -18,7 +20,7 @@ use Rattle.documents.specs.Keys.{Key, key_named}
 use Rattle.documents.specs.Kept.{Stands}
 use Rattle.documents.specs.View.{is_idle, shown, shown_flags, view_end, view_start}
 use Rattle.documents.proofs.KeyedLaws.{keyed-flags}
-use Rattle.documents.proofs.PartsLaws.{Sits, cells-kept, characters-kept}
+use Rattle.documents.proofs.PartsLaws.{Sits, cells-kept, characters-kept, sits}
 
 -- where the view of a slot begins, and where it ends
 abbrev pub start_in : Parts → ℕ → ℕ
@@ -119,3 +121,44 @@ module _ (parts : Parts) (document : Document) (place slot : ℕ) (stands : Stan
   active-is active =
       let both = neither (get_or parts.journal.disabled slot false) (start_in parts slot == end_in parts slot) (sym idle-is ∙ active) in
       (both.0, (let apart : start_in parts slot ≢ end_in parts slot = λ same. true≢false (sym (eq-eqb (start_in parts slot) (end_in parts slot) same) ∙ both.1) in omega (arith, ordered-is, apart)))
+
+-- a widget's view as it was found: where it begins and ends in a store
+pub record IsSeen (parts : Parts) (document : Document) (place slot : ℕ) (content : Content) (first behind : ℕ) : Type 0 where
+  pub stands : Stands parts document
+  pub sits : Sits parts document place slot
+  pub held : content ≡ parts.content
+  pub starts : first ≡ start_in parts slot
+  pub ends : behind ≡ end_in parts slot
+
+pub see : (parts : Parts) (document : Document) (place slot : ℕ) (content : Content) (first behind : ℕ) (anchors : List Anchors) → Stands parts document → slice_get (numbers_of parts.seats.entries) place ≡ Some slot
+    → anchors ≡ parts.journal.anchors → first ≡ unwrap_or (get_or anchors slot whole).start 0 → behind ≡ unwrap_or (get_or anchors slot whole).end (length parts.content.cells) → content ≡ parts.content
+    → IsSeen parts document place slot content first behind
+see parts document place slot content first behind anchors stands number found start end held = record {
+  stands = stands;
+  sits = sits parts document place slot stands number;
+  held = held;
+  starts = start-found parts slot anchors first found start;
+  ends = end-found parts slot anchors (length parts.content.cells) behind found refl end;
+}
+
+module _ (parts : Parts) (document : Document) (place slot : ℕ) (content : Content) (first behind : ℕ) (seen : IsSeen parts document place slot content first behind) where
+  pub view-found : IsView content first behind
+  view-found =
+      subst (λ (v : Content × ℕ × ℕ). IsView v.0 v.1 v.2) (λ i. (sym seen.held i, sym seen.starts i, sym seen.ends i)) (view-is parts document place slot seen.stands seen.sits)
+
+  pub shown-found : view.shown content first behind ≡ shown document (widget_at document place)
+  shown-found = (λ i. view.shown (seen.held i) (seen.starts i) (seen.ends i)) ∙ sym (shown-is parts document place slot seen.stands seen.sits)
+
+  -- how much of it is shown
+  pub length-found : length (shown document (widget_at document place)) ≡ behind - first
+  length-found = let h = shown-length parts document place slot seen.stands seen.sits in omega (arith, h, seen.starts, seen.ends)
+
+  pub ordered-found : first ≤ behind
+  ordered-found = let h = ordered-is parts document place slot seen.stands seen.sits in omega (arith, h, seen.starts, seen.ends)
+
+  -- where it ends in the text
+  pub ends-found : behind ≤ length content.cells
+  ends-found = let h = within-is parts document place slot seen.stands seen.sits in omega (arith, h, seen.ends, ap (λ (c : Content). length c.cells) seen.held)
+
+  pub short-found : length content.cells ≤ MOST_CHARS
+  short-found = omega (arith, ap (λ (c : Content). length c.cells) seen.held, seen.stands.sound.kept.short)

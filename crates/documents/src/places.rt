@@ -64,12 +64,13 @@ impl<S: TextStore> Document<S> {
         ensures value { Gives result (place_at self.now (widget_at self.now widget) position (chars word.now)) }
         ensures within { IfOk result (λ place. place ≤ length (shown self.now (widget_at self.now widget))) }
     {
+        let slot = self.seats.number(widget);
         let names = Names {
             tags: &self.tags,
             marks: &self.marks,
-            widget: TagSlot(self.seats.number(widget)),
+            widget: TagSlot(slot),
         };
-        let view = view_of(&self.store, &self.anchors, self.seats.number(widget));
+        let view = view_of(&self.store, &self.anchors, slot);
         at_position(position, locate(self.alloc, word, &names, &view))
     }
 

@@ -83,12 +83,13 @@ impl<S: TextStore> Document<S> {
         requires to { to ≤ length (shown self.now (widget_at self.now widget)) }
         ensures { IfOk result (λ list. list ≡ list_text (dump_elements listed (seen self.now (widget_at self.now widget)) from to)) }
     {
+        let slot = self.seats.number(widget);
         let names = Names {
             tags: &self.tags,
             marks: &self.marks,
-            widget: TagSlot(self.seats.number(widget)),
+            widget: TagSlot(slot),
         };
-        let view = view_of(&self.store, &self.anchors, self.seats.number(widget));
+        let view = view_of(&self.store, &self.anchors, slot);
         Ok(Text::new(dump(self.alloc, &view, &names, listed, from, to)?))
     }
 }

@@ -27,9 +27,9 @@ pub fn end_of(anchors: &[Anchors], slot: u16, len: usize) -> usize
 /// The view of a slot.
 pub fn view_of<'a, S: TextStore>(store: &'a S, anchors: &[Anchors], slot: u16) -> View<'a, S>
     requires { slot < length anchors.now }
-    ensures start { result.now.s ≡ unwrap_or (get_or anchors.now slot whole).start 0 }
-    ensures end { result.now.e ≡ unwrap_or (get_or anchors.now slot whole).end (length (S.content store.now).cells) }
-    ensures store { S.content result.now.store.now ≡ S.content store.now }
+    ensures start { result.s ≡ unwrap_or (get_or anchors.now slot whole).start 0 }
+    ensures end { result.e ≡ unwrap_or (get_or anchors.now slot whole).end (length (S.content store.now).cells) }
+    ensures store { S.content result.store.now ≡ S.content store.now }
 {
     View {
         store,
