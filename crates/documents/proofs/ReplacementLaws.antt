@@ -1,5 +1,5 @@
 -- A document after texts have taken the place of cells, or where that is refused.
-use Rattle.std.proofs.Common.{◌≡◌, ◌≢◌, ℕ, ◌+◌, ◌-◌, ◌*◌, ◌<◌, ◌≤◌, true, false, min, List, Ok, Err, map, length, refl, sym, ap, ap₂, subst, ◌∙◌, arith}
+use Rattle.std.proofs.Common.{◌≡◌, ◌≢◌, ℕ, ◌+◌, ◌-◌, ◌*◌, ◌<◌, ◌≤◌, true, min, List, Ok, Err, map, length, refl, sym, ap, ap₂, subst, ◌∙◌, arith}
 use Rattle.std.specs.Prelude.{None, Option, Result, Some, is_some, nat_lt, option_and_then, option_map, slice_get, unwrap_or}
 use Rattle.std.specs.FinMap as finite
 use Rattle.std.specs.List.{All}
@@ -9,9 +9,7 @@ use Rattle.name_list.specs.Names.{Named, numbers_of}
 use Rattle.tag_table.specs.Tags.{Tags, names_of}
 use Rattle.text_model.specs.declared.limits.TheConstants.Limits.{MOST_CHARS}
 use Rattle.text_model.specs.declared.places.Place.{Place}
-use Rattle.text_model.specs.Content as model
 use Rattle.text_model.specs.LimitTable.{LimitTable}
-use Rattle.undo_stack.specs.Fits.{FitsText}
 use Rattle.undo_stack.specs.declared.actions.EditKind.TheVariants.{Replace}
 use Rattle.edit_ops.specs.Insertions as insertions
 use Rattle.edit_ops.specs.Insertions.{inserted_texts}
@@ -19,7 +17,6 @@ use Rattle.edit_ops.specs.Removals as removals
 use Rattle.edit_ops.specs.Removals.{clipped, removed_span, replaced_span, with_mark}
 use Rattle.edit_ops.specs.States.{State}
 use Rattle.edit_ops.specs.declared.pieces.Piece.{Piece}
-use Rattle.edit_ops.specs.declared.plans.Recording.{Recording}
 use Rattle.edit_ops.proofs.KeepLaws.{replaced-kept}
 use Rattle.edit_ops.proofs.ReplaceLaws.{found-within}
 use Rattle.command_parts.specs.declared.answers.Answer.{Answer}
@@ -31,13 +28,12 @@ use Rattle.command_parts.specs.Lists.{Pair, all_names, total, with_names}
 use Rattle.command_parts.specs.Settings.{recording_of}
 use Rattle.command_parts.specs.Tagging.{piece_of}
 use Rattle.documents.specs.Deletions.{replace_span, replaced, with_clipped}
-use Rattle.documents.specs.Documents.{Document, Parts, Widget, document_of, mark_of, widget_at, widget_of}
+use Rattle.documents.specs.Documents.{Document, Parts, Widget, document_of, mark_of, widget_at}
 use Rattle.documents.specs.Edits.{with_texts, without_span}
 use Rattle.documents.specs.Kept.{Stands}
 use Rattle.documents.specs.Marks.{with_insert}
 use Rattle.documents.specs.Promise.{Change, answered, refused}
 use Rattle.documents.specs.Texts.{insertion_offset, tags_with}
-use Rattle.documents.specs.View.{is_idle, shown, view_start}
 use Rattle.documents.proofs.ChangeLaws.{Leaves, does-changed}
 use Rattle.documents.proofs.InsertionLaws.{IsListed, IsWithin, count-made, excess-none, few_enough, limits-made, limits-refused, ready, with_tags}
 use Rattle.documents.proofs.KnownLaws.{IsKnownPiece}
@@ -45,7 +41,7 @@ use Rattle.documents.proofs.MarkLaws.{leaves-insert}
 use Rattle.documents.proofs.NamedLaws.{keyed_piece, total-pieces}
 use Rattle.documents.proofs.PartsLaws.{Sits, cells-kept, pairs_of, sits, widget-is}
 use Rattle.documents.proofs.StateLaws.{length-span, length-texts, stands-span, stands-texts, state_in, with_state}
-use Rattle.documents.proofs.ViewLaws.{active-is, end_in, shown-length, start-is, start_in, within-is}
+use Rattle.documents.proofs.ViewLaws.{end_in, shown-length, start-is, start_in, within-is}
 
 -- ---- the widget's `insert`, which stays among the texts
 

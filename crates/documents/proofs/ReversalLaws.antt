@@ -1,5 +1,5 @@
 -- A document after a group is undone or redone.
-use Rattle.std.proofs.Common.{◌≡◌, ℕ, ◌+◌, ◌*◌, ◌<◌, ◌≤◌, ◌&&◌, Bool, true, false, List, [], ◌∷◌, Option, None, Some, Ok, length, refl, sym, ap, ap₂, subst, ◌∙◌, arith, true≢false}
+use Rattle.std.proofs.Common.{◌≡◌, ℕ, ◌+◌, ◌*◌, ◌<◌, ◌≤◌, ◌&&◌, Bool, true, false, List, [], ◌∷◌, Option, None, Some, Ok, length, refl, sym, ap, subst, ◌∙◌, arith, true≢false}
 use Rattle.std.specs.Prelude.{slice_range, bytes_eq, nat_lt, nat_le, option_map, option_and_then, IfSome, if◌then◌else◌}
 use Rattle.std.specs.Char.{IsScalar}
 use Rattle.std.specs.FinMap as finite
@@ -34,7 +34,7 @@ use Rattle.documents.specs.Deletions.{with_clipped}
 use Rattle.documents.specs.Documents.{Document, Parts, Widget, document_of, widget_at}
 use Rattle.documents.specs.Edits.{keys_between, without_cells}
 use Rattle.documents.specs.Kept.{Stands}
-use Rattle.documents.specs.Promise.{Change, answered, refused}
+use Rattle.documents.specs.Promise.{answered, refused}
 use Rattle.documents.specs.Reversals.{action_again, action_back, edit_redo, edit_undo, group_again, group_back, redo_found, redone, text_back, undo_found, undone, with_end}
 use Rattle.documents.specs.View.{is_idle}
 use Rattle.documents.specs.WellFormed.{IsWellFormedDocument}

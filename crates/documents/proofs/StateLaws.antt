@@ -2,7 +2,6 @@
 use Rattle.std.proofs.Common.{◌≡◌, ℕ, ◌+◌, ◌-◌, ◌*◌, ◌<◌, ◌≤◌, true, false, List, [], ◌∷◌, Option, None, Some, map, length, take, drop, get_or, ◌++◌, refl, sym, ap, ap₂, subst, ◌∙◌, arith, eqb-true}
 use Rattle.std.specs.Prelude.{Bool, option_map, slice_range, ◌==◌, if◌then◌else◌}
 use Rattle.std.specs.Char.{IsScalar}
-use Rattle.std.specs.FinMap as finite
 use Rattle.std.specs.List.{All, AllByRecursion}
 use Rattle.std.proofs.lemmas.List.{append-nil, drop_all, get_or-map, length-map, take_all}
 use Rattle.std.proofs.lemmas.List.Elements.{All-append, All-drop, All-head, All-tail, All-take}
@@ -14,7 +13,7 @@ use Rattle.text_model.specs.declared.places.Place.{Place}
 use Rattle.text_model.specs.Content as model
 use Rattle.text_model.specs.Content.{Content, Marks, Slots, map_marks}
 use Rattle.text_model.specs.Documents.{IsDocument}
-use Rattle.text_model.specs.Splices.{drawn, inserted, moved, removed}
+use Rattle.text_model.specs.Splices.{drawn, inserted, moved}
 use Rattle.text_model.specs.Steps.{after_insertion, after_removal, cells_of}
 use Rattle.text_model.proofs.CellLaws.{characters-inserted, characters-removed}
 use Rattle.text_model.proofs.DocumentLaws.{IsDocument-inserted, IsDocument-removed}
@@ -36,9 +35,9 @@ use Rattle.edit_ops.proofs.AnchoredLaws.{all-moved, all-removed, anchored-stand}
 use Rattle.edit_ops.proofs.InsertLaws.{total-cons}
 use Rattle.edit_ops.proofs.StartLaws.{text-end-begins}
 use Rattle.command_parts.specs.Settings.{recording_of}
-use Rattle.documents.specs.Documents.{Document, Journal, KeyedCell, Parts, SharedMark, Widget, anchors_at, characters, document_of, mark_of, placed, whole, widget_of}
+use Rattle.documents.specs.Documents.{Document, Journal, KeyedCell, Parts, SharedMark, Widget, characters, document_of, placed, whole, widget_of}
 use Rattle.documents.specs.Edits.{keys_between, keys_or, with_action, with_cells, with_text, with_texts, without_cells, without_span}
-use Rattle.documents.specs.Kept.{AreKnown, AreSeats, HasKnownSlots, HasOwnMarks, IsSeated, Stands}
+use Rattle.documents.specs.Kept.{AreKnown, HasKnownSlots, HasOwnMarks, IsSeated, Stands}
 use Rattle.documents.specs.Keys.{Keys, keyed, keys_of}
 use Rattle.documents.proofs.KeyedLaws.{keyed-inserted, keyed-removed, keyed-shared}
 use Rattle.documents.proofs.KnownLaws.{IsKnownPiece, known-inserted, known-put}

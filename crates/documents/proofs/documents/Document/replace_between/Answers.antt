@@ -1,4 +1,4 @@
-use Rattle.std.proofs.Common.{◌≡◌, ◌<◌, ◌+◌, ◌-◌, ◌*◌, ap, ap₂, ◌∙◌, arith, map, take, drop, length, ◌++◌}
+use Rattle.std.proofs.Common.{◌+◌, ◌-◌, ◌*◌, ap, ap₂, ◌∙◌, arith, map, take, drop, length, ◌++◌}
 use Rattle.tag_table.specs.Tags.{sel, slot_of}
 use Rattle.edit_ops.specs.Removals.{replaced}
 use Rattle.edit_ops.specs.States.{log_of, state_of}
