@@ -16,6 +16,8 @@ pub mod PartsLaws
 pub mod PlacedLaws
 pub mod RemovalLaws
 pub mod ReorderLaws
+pub mod ReplacementLaws
+pub mod ReversalLaws
 pub mod SeatLaws
 pub mod SlotLaws
 pub mod SpanLaws
