@@ -10,6 +10,7 @@ pub mod MeaningLaws
 pub mod NamedLaws
 pub mod PartsLaws
 pub mod PlacedLaws
+pub mod QueryLaws
 pub mod SlotLaws
 pub mod ViewLaws
 pub mod WellFormedLaws
