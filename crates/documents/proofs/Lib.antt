@@ -6,6 +6,7 @@ pub mod KeyLaws
 pub mod KeyedLaws
 pub mod KnownLaws
 pub mod LookupLaws
+pub mod MarkQueryLaws
 pub mod MeaningLaws
 pub mod NamedLaws
 pub mod PartsLaws
