@@ -8,11 +8,13 @@ pub mod KnownLaws
 pub mod ListedLaws
 pub mod LookupLaws
 pub mod MarkLaws
+pub mod MarkQueryLaws
 pub mod MeaningLaws
 pub mod NamedLaws
 pub mod OrderLaws
 pub mod PartsLaws
 pub mod PlacedLaws
+pub mod QueryLaws
 pub mod ReorderLaws
 pub mod SlotLaws
 pub mod SpanLaws
