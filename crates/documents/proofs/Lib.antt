@@ -1,6 +1,7 @@
 pub mod BridgeLaws
 pub mod ChangeLaws
 pub mod ClearedLaws
+pub mod InsertionLaws
 pub mod JournalLaws
 pub mod KeyLaws
 pub mod KeyedLaws
@@ -15,9 +16,12 @@ pub mod OrderLaws
 pub mod PartsLaws
 pub mod PlacedLaws
 pub mod QueryLaws
+pub mod RemovalLaws
 pub mod ReorderLaws
+pub mod SeatLaws
 pub mod SlotLaws
 pub mod SpanLaws
+pub mod StateLaws
 pub mod TableLaws
 pub mod TagLaws
 pub mod ViewLaws
