@@ -24,5 +24,6 @@ pub mod SpanLaws
 pub mod StateLaws
 pub mod TableLaws
 pub mod TagLaws
+pub mod TaggedLaws
 pub mod ViewLaws
 pub mod WellFormedLaws
