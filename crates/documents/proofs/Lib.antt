@@ -9,11 +9,13 @@ pub mod KnownLaws
 pub mod ListedLaws
 pub mod LookupLaws
 pub mod MarkLaws
+pub mod MarkQueryLaws
 pub mod MeaningLaws
 pub mod NamedLaws
 pub mod OrderLaws
 pub mod PartsLaws
 pub mod PlacedLaws
+pub mod QueryLaws
 pub mod RemovalLaws
 pub mod ReorderLaws
 pub mod ReplacementLaws
@@ -24,6 +26,7 @@ pub mod SpanLaws
 pub mod StateLaws
 pub mod TableLaws
 pub mod TagLaws
+pub mod TaggedLaws
 pub mod ViewLaws
 pub mod WellFormedLaws
 pub mod WidgetLaws

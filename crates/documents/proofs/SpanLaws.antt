@@ -31,7 +31,7 @@ use Rattle.documents.specs.View.{shown, view_start}
 use Rattle.documents.proofs.ChangeLaws.{Leaves, does-nothing}
 use Rattle.documents.proofs.KeyedLaws.{keyed-more, keyed-tagged}
 use Rattle.documents.proofs.KnownLaws.{known-front, known-slot}
-use Rattle.documents.proofs.PartsLaws.{Sits, pairs_of}
+use Rattle.documents.proofs.PartsLaws.{Sits, cells-kept}
 use Rattle.documents.proofs.TableLaws.{characters-tagged, known-tagged, leaves-relogged, leaves-retagged, marks-tagged, relogged, retagged, retagged-is}
 use Rattle.documents.proofs.ViewLaws.{end_in, ordered-is, shown-length, start-is, start_in, within-is}
 
@@ -101,25 +101,31 @@ leaves-spans limits old new content log document place widget word on spans chan
 wider : (short long : ℕ) (spans : List Span) → short ≤ long → All (SpanFits short) spans → All (SpanFits long) spans
 wider short long spans less fit k span within = let one = fit k span within in let end = one.within in record { ordered = one.ordered; within = omega (arith, end, less) }
 
--- by where the view begins and how long it is, as they were found
-pub record AreShown (old : Parts) (document : Document) (place : ℕ) (places : List ℕ) (spans : List Span) : Type 0 where
+-- as the view's bounds were found
+pub record AreShown (document : Document) (place : ℕ) (places : List ℕ) (spans : List Span) : Type 0 where
   pub same : spans ≡ spans_shown document (widget_at document place) places
-  pub fit : All (SpanFits (length old.content.cells)) spans
+  pub fit : All (SpanFits (length document.cells)) spans
 
-pub spans-found : (old : Parts) (document : Document) (place widget start len : ℕ) (places : List ℕ) (spans given : List Span) → Stands old document → Sits old document place widget → start ≡ start_in old widget
-    → start + len ≡ end_in old widget → All (λ at. at ≤ length (shown document (widget_at document place))) places → spans ≡ spans_of start len places → given ≡ spans
-    → AreShown old document place places given
-spans-found old document place widget start len places spans given stands sits starts ends within is same =
+pub spans-found : (old : Parts) (document : Document) (place widget start end : ℕ) (places : List ℕ) (spans : List Span) → Stands old document → Sits old document place widget → start ≡ start_in old widget
+    → end ≡ end_in old widget → All (λ at. at ≤ length (shown document (widget_at document place))) places → spans ≡ spans_of start (end - start) places → AreShown document place places spans
+spans-found old document place widget start end places spans stands sits starts ends within is =
     let long = shown-length old document place widget stands sits in
-    let count : len ≡ length (shown document (widget_at document place)) = omega (arith, long, starts, ends) in
+    let count : end - start ≡ length (shown document (widget_at document place)) = omega (arith, long, starts, ends) in
     let begins : start ≡ view_start (widget_at document place) = starts ∙ sym (start-is old document place widget stands sits) in
-    let all : given ≡ spans_of start len places = same ∙ is in
     let inside = within-is old document place widget stands sits in
-    let fit = spans_of-fit start len places (subst (λ n. All (λ at. at ≤ n) places) (sym count) within) in
+    let ordered = ordered-is old document place widget stands sits in
+    let fit = spans_of-fit start (end - start) places (subst (λ n. All (λ at. at ≤ n) places) (sym count) within) in
     record {
-      same = all ∙ ap₂ (λ s n. spans_of s n places) begins count;
-      fit = subst (All (SpanFits (length old.content.cells))) (sym all) (wider (start + len) (length old.content.cells) (spans_of start len places) (omega (arith, ends, inside)) fit);
+      same = is ∙ ap₂ (λ s n. spans_of s n places) begins count;
+      fit = subst (All (SpanFits (length document.cells))) (sym is)
+          (wider (start + (end - start)) (length document.cells) (spans_of start (end - start) places) (omega (arith, starts, ends, inside, ordered, cells-kept old document stands.is)) fit);
     }
+
+-- places of the view
+pub places-within : (old : Parts) (document : Document) (place widget start end : ℕ) (places : List ℕ) → Stands old document → Sits old document place widget → start ≡ start_in old widget → end ≡ end_in old widget
+    → All (λ at. at ≤ length (shown document (widget_at document place))) places → All (λ at. at ≤ end - start) places
+places-within old document place widget start end places stands sits starts ends within =
+    subst (λ n. All (λ at. at ≤ n) places) (omega (arith, shown-length old document place widget stands sits, starts, ends)) within
 
 -- ---- the commands
 

@@ -1,8 +1,9 @@
 -- What of a document one of its widgets shows.
-use Rattle.std.proofs.Common.{◌≡◌, ℕ, ◌+◌, ◌-◌, ◌<◌, ◌≤◌, true, false, List, length, map, refl, sym, ap, ap₂, subst, ◌∙◌, arith, length-drop, drop, true≢false, ◌≢◌, eq-eqb}
+use Rattle.std.proofs.Common.{[], inl, inr, min, suc, zero, ◌≡◌, ℕ, ◌+◌, ◌-◌, ◌<◌, ◌≤◌, true, false, List, length, map, refl, sym, ap, ap₂, subst, ◌∙◌, arith, length-drop, drop, take, true≢false, ◌≢◌, eq-eqb}
 use Rattle.std.specs.Prelude.{Bool, slice_get, ◌||◌, ◌==◌, IfSome, None, Option, Some, get_or, slice_index_or, slice_range, unwrap_or}
 use Rattle.std.specs.FinSet as set
-use Rattle.std.proofs.lemmas.List.{get_or_default, length-map, length-take-le}
+use Rattle.std.proofs.lemmas.Bool.{cases_lt}
+use Rattle.std.proofs.lemmas.List.{drop_all, drop-drop, drop-take, get_or_default, length-map, length-take-le, take-take}
 use Rattle.name_list.specs.Names.{numbers_of}
 use Rattle.text_model.specs.declared.cells.Cell.{Cell}
 use Rattle.text_model.specs.declared.limits.TheConstants.Limits.{MOST_CHARS}
@@ -58,6 +59,34 @@ part-length xs start end within = length-take-le (end - start) (drop start xs) (
 neither : (a b : Bool) → (a || b) ≡ false → (a ≡ false) × (b ≡ false)
 neither true b none = absurd (true≢false none)
 neither false b none = (refl, none)
+
+-- a part of a part, which may end before it begins
+pub part-of-part : {A : Type 0} (xs : List A) (start end from to past : ℕ) → start + from ≤ end → start + past ≤ end → past - from ≡ to - from
+    → slice_range xs (start + from) (start + past) ≡ slice_range (slice_range xs start end) from to
+part-of-part xs start end from to past begins within count =
+    let rest : ℕ = end - start - from in
+    ap (λ n. take n (drop (start + from) xs)) (let h : start + past - (start + from) ≡ to - from = omega (arith, count) in h)
+    ∙ ap (take (to - from)) (sym (drop-drop from start xs))
+    ∙ sym (take-take (to - from) rest (drop from (drop start xs)) (omega (arith, begins, within, count)))
+    ∙ ap (take (to - from)) (sym (drop-take from rest (drop start xs)))
+    ∙ ap (λ n. take (to - from) (drop from (take n (drop start xs)))) (let h : from + rest ≡ end - start = omega (arith, begins) in h)
+
+-- one element of a part, or none at its end
+pub part-one : {A : Type 0} (xs : List A) (start end at stop : ℕ) → start + at ≤ end → end ≤ length xs → stop ≡ min (start + at + 1) end
+    → slice_range xs (start + at) stop ≡ slice_range (slice_range xs start end) at (suc at)
+part-one xs start end at stop begins within is =
+    elim (cases_lt (start + at) end) [
+      | inl before ↦
+          ap (slice_range xs (start + at)) (let h : stop ≡ start + suc at = omega (arith, is, before) in h)
+          ∙ part-of-part xs start end at (suc at) (suc at) begins (omega (arith, before)) refl
+      | inr past ↦
+          ap (λ n. take n (drop (start + at) xs)) (let h : stop - (start + at) ≡ 0 = omega (arith, is, past) in h)
+          ∙ sym (ap (take (suc at - at)) (drop_all at (slice_range xs start end) (omega (arith, past, part-length xs start end within))) ∙ none (suc at - at))
+    ]
+  where
+    none : {B : Type 0} (n : ℕ) → take {A = B} n [] ≡ []
+    none zero = refl
+    none (suc n) = refl
 
 -- a document as it is kept, and one of its widgets with its slot
 module _ (parts : Parts) (document : Document) (place slot : ℕ) (stands : Stands parts document) (sits : Sits parts document place slot) where
@@ -162,3 +191,9 @@ module _ (parts : Parts) (document : Document) (place slot : ℕ) (content : Con
 
   pub short-found : length content.cells ≤ MOST_CHARS
   short-found = omega (arith, ap (λ (c : Content). length c.cells) seen.held, seen.stands.sound.kept.short)
+
+  pub start-found-is : first ≡ view_start (widget_at document place)
+  start-found-is = seen.starts ∙ sym (start-is parts document place slot seen.stands seen.sits)
+
+  pub end-found-is : behind ≡ view_end document (widget_at document place)
+  end-found-is = seen.ends ∙ sym (end-is parts document place slot seen.stands seen.sits)

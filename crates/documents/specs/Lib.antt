@@ -8,6 +8,7 @@ pub mod Keys
 pub mod Marks
 pub mod Names
 pub mod Options
+pub mod Origins
 pub mod Promise
 pub mod Queries
 pub mod Ranges

@@ -36,15 +36,26 @@ ghost use Rattle.documents.specs.Options.{settings_of, with_settings};
 ghost use Rattle.documents.specs.Reversals.{edit_redo, edit_undo};
 ghost use Rattle.undo_stack.specs.Modified.{is_modified};
 ghost use Rattle.documents.specs.Names.{mark_number, mark_place};
+ghost use Rattle.documents.specs.Origins.{origin_in};
 ghost use Rattle.command_parts.specs.Marking.{gravity_word as spec_gravity_word};
 ghost use Rattle.documents.specs.Marks.{mark_names, mark_offset, mark_unset, place_named, set_found, usable_marks, with_current, with_insert, with_mark, with_shared};
 
 use crate::documents::Document;
-use crate::views::{end_of, mark_view_of, start_of};
+use crate::views::mark_view_of;
 use command_parts::{Answer, Fault, gravity_word, is_word, make_mark, numbers_named, push_mark_names, put_mark, take_marks, turn_mark, unset_names};
 use mark_table::{Origin, WidgetMark};
 use std::alloc::AllocError;
 use text_model::{Gravity, Limits, MarkNo, Place, Text, TextStore};
+
+/// From where a mark is asked for, counted from the start of the text: a place of a view moves by the view's start.
+fn origin_in(start: usize, origin: Origin) -> Origin
+    ensures { result ≡ origin_in usize.MAX start origin }
+{
+    match origin {
+        Origin::Mark(mark) => Origin::Mark(mark),
+        Origin::Place(place) => Origin::Place(place.saturating_add(start)),
+    }
+}
 
 impl<S: TextStore> Document<S> {
     /// The mark of a name: a widget's own, or a shared one.
@@ -72,13 +83,10 @@ impl<S: TextStore> Document<S> {
         if place >= self.marks.len() {
             return false;
         }
-        let slot = self.seats.number(widget);
+        let view = self.view_at(widget);
         match self.store.mark_place(self.marks.number(place)) {
             None => false,
-            Some(found) => {
-                start_of(&self.anchors, slot) <= found.offset
-                    && found.offset <= end_of(&self.anchors, slot, self.store.len())
-            }
+            Some(found) => view.s <= found.offset && found.offset <= view.e,
         }
     }
 
@@ -104,13 +112,11 @@ impl<S: TextStore> Document<S> {
         ensures value { result ≡ mark_offset self.now (widget_at self.now widget) (chars name.now) place }
         ensures within { result ≤ length self.now.cells }
     {
-        let slot = self.seats.number(widget);
-        let start = start_of(&self.anchors, slot);
+        let view = self.view_at(widget);
         if is_word(name, "insert") || is_word(name, "current") {
-            let end = end_of(&self.anchors, slot, self.store.len());
-            start + place.min((end - start).saturating_sub(1))
+            view.s + place.min((view.e - view.s).saturating_sub(1))
         } else {
-            start + place
+            view.s + place
         }
     }
 
@@ -149,7 +155,7 @@ impl<S: TextStore> Document<S> {
         ensures { result ≡ next_mark origin (usable_marks self.now (widget_at self.now widget)) }
     {
         let view = mark_view_of(&self.anchors, self.seats.number(widget), self.store.len());
-        self.marks.next(&self.store, view, origin)
+        self.marks.next(&self.store, view, origin_in(view.start, origin))
     }
 
     /// The mark before another one in the order of marks, or the last before a place.
@@ -158,7 +164,7 @@ impl<S: TextStore> Document<S> {
         ensures { result ≡ previous_mark origin (usable_marks self.now (widget_at self.now widget)) }
     {
         let view = mark_view_of(&self.anchors, self.seats.number(widget), self.store.len());
-        self.marks.previous(&self.store, view, origin)
+        self.marks.previous(&self.store, view, origin_in(view.start, origin))
     }
 }
 

@@ -1,4 +1,4 @@
-ghost use Rattle.std.specs.Prelude.{◌≡◌, ◌≢◌, ℕ, true, suc, None, Some, is_some, ◌+◌, ◌-◌, ◌<◌, ◌≤◌, min, length, chars, map, slice_range, option_map, nat_lt, nat_le, Ok, Err, IfOk, IfErr, OnOk, OnErr, [], IfSome, slice_index_or};
+ghost use Rattle.std.specs.Prelude.{◌≡◌, ◌≢◌, ℕ, true, false, suc, None, Some, is_some, ◌+◌, ◌-◌, ◌<◌, ◌≤◌, min, length, chars, map, slice_range, option_map, nat_lt, nat_le, Ok, Err, IfOk, IfErr, OnOk, OnErr, [], IfSome, slice_index_or};
 ghost use Rattle.std.specs.List.{All};
 ghost use Rattle.text_model.specs.LimitTable.{LimitTable, AreLimits};
 ghost use Rattle.text_index.specs.Positions.{position_text};
@@ -40,7 +40,7 @@ ghost use Rattle.command_parts.specs.Marking.{gravity_word as spec_gravity_word}
 ghost use Rattle.documents.specs.Marks.{mark_names, mark_offset, mark_unset, place_named, set_found, usable_marks, with_current, with_insert, with_mark, with_shared};
 
 use crate::documents::Document;
-use crate::views::{end_of, start_of, view_of};
+use crate::views::view_of;
 use command_parts::Fault;
 use std::alloc::AllocError;
 use text_index::{IndexFault, Names, locate, push_index};
@@ -79,8 +79,8 @@ impl<S: TextStore> Document<S> {
         requires shown { widget < length self.now.widgets }
         ensures { result ≡ length (shown self.now (widget_at self.now widget)) }
     {
-        let slot = self.seats.number(widget);
-        end_of(&self.anchors, slot, self.store.len()) - start_of(&self.anchors, slot)
+        let view = self.view_at(widget);
+        view.e - view.s
     }
 
     /// The characters from one place to another; none where the second isn't behind the first.
@@ -90,8 +90,8 @@ impl<S: TextStore> Document<S> {
         requires to { to ≤ length (shown self.now (widget_at self.now widget)) }
         ensures { IfOk result (λ text. text ≡ slice_range (shown self.now (widget_at self.now widget)) from to) }
     {
-        let start = start_of(&self.anchors, self.seats.number(widget));
-        Ok(Text::new(self.store.copy_text(start + from, start + to.max(from))?))
+        let view = self.view_at(widget);
+        Ok(Text::new(view.store.copy_text(view.s + from, view.s + to.max(from))?))
     }
 
     /// The character at a place, or nothing at the end.
@@ -100,10 +100,9 @@ impl<S: TextStore> Document<S> {
         requires within { place ≤ length (shown self.now (widget_at self.now widget)) }
         ensures { IfOk result (λ text. text ≡ slice_range (shown self.now (widget_at self.now widget)) place (suc place)) }
     {
-        let slot = self.seats.number(widget);
-        let start = start_of(&self.anchors, slot) + place;
-        let end = (start + 1).min(end_of(&self.anchors, slot, self.store.len()));
-        Ok(Text::new(self.store.copy_text(start, end)?))
+        let view = self.view_at(widget);
+        let start = view.s + place;
+        Ok(Text::new(view.store.copy_text(start, (start + 1).min(view.e))?))
     }
 
     /// A place as `line.char`.
@@ -112,7 +111,7 @@ impl<S: TextStore> Document<S> {
         requires within { place ≤ length (shown self.now (widget_at self.now widget)) }
         ensures { IfOk result (λ text. text ≡ position_text (shown self.now (widget_at self.now widget)) place) }
     {
-        let view = view_of(&self.store, &self.anchors, self.seats.number(widget));
+        let view = self.view_at(widget);
         let mut text = String::new(self.alloc);
         push_index(&mut text, &view, place)?;
         Ok(Text::new(text))
@@ -126,9 +125,8 @@ impl<S: TextStore> Document<S> {
         ensures value { result ≡ insertion_offset self.now (widget_at self.now widget) place }
         ensures within { result < length self.now.cells }
     {
-        let slot = self.seats.number(widget);
-        let end = end_of(&self.anchors, slot, self.store.len());
-        (start_of(&self.anchors, slot) + place).min(end - 1)
+        let view = self.view_at(widget);
+        (view.s + place).min(view.e - 1)
     }
 }
 

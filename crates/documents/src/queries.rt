@@ -61,7 +61,7 @@ impl<S: TextStore> Document<S> {
         requires stop { IfSome stop (λ place. place ≤ length (shown self.now (widget_at self.now widget))) }
         ensures { IfOk result (λ list. list ≡ list_text (search_result switches (chars pattern.now) (shown self.now (widget_at self.now widget)) from stop)) }
     {
-        let view = view_of(&self.store, &self.anchors, self.seats.number(widget));
+        let view = self.view_at(widget);
         Ok(Text::new(search(self.alloc, &view, switches, pattern, from, stop)?))
     }
 
@@ -72,7 +72,7 @@ impl<S: TextStore> Document<S> {
         requires to { to ≤ length (shown self.now (widget_at self.now widget)) }
         ensures { IfOk result (λ list. list ≡ list_text (counted options.now (shown self.now (widget_at self.now widget)) from to)) }
     {
-        let view = view_of(&self.store, &self.anchors, self.seats.number(widget));
+        let view = self.view_at(widget);
         Ok(Text::new(count(self.alloc, &view, options, from, to)?))
     }
 

@@ -41,7 +41,7 @@ ghost use Rattle.command_parts.specs.Marking.{gravity_word as spec_gravity_word}
 ghost use Rattle.documents.specs.Marks.{mark_names, mark_offset, mark_unset, place_named, set_found, usable_marks, with_current, with_insert, with_mark, with_shared};
 
 use crate::documents::Document;
-use crate::views::{end_of, start_of, view_of};
+use crate::views::view_of;
 use command_parts::{
     Answer, Fault, clear_slots, delete_names, deleted_slots, find_tag, push_names, push_names_in, push_next, push_previous,
     push_ranges, set_slot, spans_of, tag_spans,
@@ -68,12 +68,13 @@ impl<S: TextStore> Document<S> {
         ensures { IfOk result (λ list. list ≡ list_text (tags_on self.now (widget_at self.now widget) place)) }
     {
         let mut list = String::new(self.alloc);
-        let slot = self.seats.number(widget);
-        let offset = start_of(&self.anchors, slot) + place;
-        if offset == end_of(&self.anchors, slot, self.store.len()) {
+        let number = self.seats.number(widget);
+        let view = view_of(&self.store, &self.anchors, number);
+        let offset = view.s + place;
+        if offset == view.e {
             return Ok(Text::new(list));
         }
-        push_names_in(&mut list, &self.tags, TagSlot(slot), self.store.tags_at(offset))?;
+        push_names_in(&mut list, &self.tags, TagSlot(number), view.store.tags_at(offset))?;
         Ok(Text::new(list))
     }
 

@@ -1,8 +1,12 @@
 //! Where a widget's view begins and ends, by the widget's slot.
 
-ghost use Rattle.std.specs.Prelude.{◌≡◌, ◌<◌, length, get_or, unwrap_or};
-ghost use Rattle.documents.specs.Documents.{whole};
+ghost use Rattle.std.specs.Prelude.{◌≡◌, ◌-◌, ◌<◌, ◌≤◌, length, get_or, unwrap_or};
+ghost use Rattle.text_model.specs.declared.limits.TheConstants.Limits.{MOST_CHARS};
+ghost use Rattle.text_index.specs.Views.{IsView, shown as shown_in};
+ghost use Rattle.documents.specs.Documents.{whole, widget_at};
+ghost use Rattle.documents.specs.View.{shown, view_end, view_start};
 
+use crate::documents::Document;
 use edit_ops::Anchors;
 use mark_table::MarkView;
 use text_index::View;
@@ -51,5 +55,23 @@ pub fn mark_view_of(anchors: &[Anchors], slot: u16, len: usize) -> MarkView
         widget: TagSlot(slot),
         start: start_of(anchors, slot),
         end: end_of(anchors, slot, len),
+    }
+}
+
+impl<S: TextStore> Document<S> {
+    /// The view of a widget.
+    pub(crate) fn view_at(&self, widget: usize) -> View<'_, S>
+        requires { widget < length self.now.widgets }
+        ensures lines { IsView (S.content result.store.now) result.s result.e }
+        ensures text { shown_in (S.content result.store.now) result.s result.e ≡ shown self.now (widget_at self.now widget) }
+        ensures start { result.s ≡ view_start (widget_at self.now widget) }
+        ensures end { result.e ≡ view_end self.now (widget_at self.now widget) }
+        ensures count { length (shown self.now (widget_at self.now widget)) ≡ result.e - result.s }
+        ensures ordered { result.s ≤ result.e }
+        ensures within { result.e ≤ length self.now.cells }
+        ensures cells { length (S.content result.store.now).cells ≡ length self.now.cells }
+        ensures short { length self.now.cells ≤ MOST_CHARS }
+    {
+        view_of(&self.store, &self.anchors, self.seats.number(widget))
     }
 }

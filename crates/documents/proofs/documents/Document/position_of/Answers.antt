@@ -1,0 +1,15 @@
+use Rattle.std.proofs.Common.{◌++◌, ap, ◌∙◌}
+use Rattle.std.specs.Prelude.{chars}
+use Rattle.std.proofs.lemmas.Str.{chars-nil}
+use Rattle.text_index.specs.Views.{shown}
+use Rattle.text_index.specs.Positions.{position_text}
+use Rattle.documents.proofs.documents.Document.position_of.Goals as goal
+
+pub returns : goal.returns
+returns g c =
+    let found = c.view_at-view in
+    let text = shown (g.S.TextStore.content found.result.store.now) found.result.s found.result.e in
+    c.new.ensures ∙ c.in_ok-push_index.ensures.ok
+    ∙ ap (λ bytes. chars bytes ++ position_text text c.args.place) c.new-text.ensures.bytes
+    ∙ ap (λ front. front ++ position_text text c.args.place) chars-nil
+    ∙ ap (λ t. position_text t c.args.place) found.ensures.text
