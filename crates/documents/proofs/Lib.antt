@@ -1,6 +1,7 @@
 pub mod BridgeLaws
 pub mod ChangeLaws
 pub mod ClearedLaws
+pub mod FindLaws
 pub mod JournalLaws
 pub mod KeyLaws
 pub mod KeyedLaws
