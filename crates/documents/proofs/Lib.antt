@@ -1,6 +1,7 @@
 pub mod BridgeLaws
 pub mod ChangeLaws
 pub mod ClearedLaws
+pub mod FindLaws
 pub mod InsertionLaws
 pub mod JournalLaws
 pub mod KeyLaws
