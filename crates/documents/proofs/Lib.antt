@@ -22,6 +22,7 @@ pub mod ReorderLaws
 pub mod ReplacementLaws
 pub mod ReversalLaws
 pub mod SeatLaws
+pub mod SeatedLaws
 pub mod SlotLaws
 pub mod SpanLaws
 pub mod StateLaws

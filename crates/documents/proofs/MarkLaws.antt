@@ -62,7 +62,7 @@ there-put places number place other there =
       | false ↦ there
     ]
 
-stand-put : (content : Content) (number : ℕ) (place : Place) → MarksStand content → place.offset ≤ length content.cells → MarksStand (put_in number place content)
+pub stand-put : (content : Content) (number : ℕ) (place : Place) → MarksStand content → place.offset ≤ length content.cells → MarksStand (put_in number place content)
 stand-put content number place stand within other found is =
     by (eq_by_cmp nat_cmp other number) (sym (finite.get-insert nat_cmp_total content.marks number place other) ∙ is)
   where
@@ -70,10 +70,10 @@ stand-put content number place stand within other found is =
     by true same = subst (λ (p : Place). p.offset ≤ length content.cells) (same_Some place found same) within
     by false same = stand other found same
 
-mark_of-put : (places : Marks) (number : ℕ) (place : Place) → mark_of (finite.insert places number place) number ≡ place
+pub mark_of-put : (places : Marks) (number : ℕ) (place : Place) → mark_of (finite.insert places number place) number ≡ place
 mark_of-put places number place = ap (λ found. unwrap_or found new_mark) (get-put places number place)
 
-mark_of-put_other : (places : Marks) (number : ℕ) (place : Place) (other : ℕ) → other ≢ number → mark_of (finite.insert places number place) other ≡ mark_of places other
+pub mark_of-put_other : (places : Marks) (number : ℕ) (place : Place) (other : ℕ) → other ≢ number → mark_of (finite.insert places number place) other ≡ mark_of places other
 mark_of-put_other places number place other apart = ap (λ found. unwrap_or found new_mark) (get-put_other places number place other apart)
 
 mapped-at : {A B : Type 0} (f : A → B) (xs : List A) (at : ℕ) (x : A) → slice_get xs at ≡ Some x → slice_get (map f xs) at ≡ Some (f x)
@@ -115,7 +115,7 @@ own-alike one other (seat ∷ seats) alike low own =
       own-alike one other seats alike (λ at. low (suc at)) own.1,
     )
 
-own-put : (places : Marks) (number : ℕ) (place : Place) (seats : List Named) → AllByRecursion (HasOwnMarks places) seats → AllByRecursion (HasOwnMarks (finite.insert places number place)) seats
+pub own-put : (places : Marks) (number : ℕ) (place : Place) (seats : List Named) → AllByRecursion (HasOwnMarks places) seats → AllByRecursion (HasOwnMarks (finite.insert places number place)) seats
 own-put places number place [] own = tt
 own-put places number place (seat ∷ seats) own = (
   record { insert = there-put places number place (2 * seat.number) own.0.insert; current = there-put places number place (2 * seat.number + 1) own.0.current },
@@ -196,7 +196,7 @@ widgets-put after journal put places name slot change (seat ∷ seats) have one 
     ] refl in
     ap₂ (λ (widget : Widget) widgets. widget ∷ widgets) here (widgets-put after journal put places name slot change seats (λ at. have (suc at)) one others)
 
-shared-alike : (table : SharedMarks) (places : Marks) (number : ℕ) (place : Place) → AreMarks table → number < first_number → AreAlike (finite.insert places number place) places table.marks
+pub shared-alike : (table : SharedMarks) (places : Marks) (number : ℕ) (place : Place) → AreMarks table → number < first_number → AreAlike (finite.insert places number place) places table.marks
 shared-alike table places number place are own at mark is =
     let shared = shared-number table at mark are is in
     get-put_other places number place mark.number (λ same. omega (arith, shared, own, same))
