@@ -36,17 +36,17 @@ module _ (parts : Parts) (document : Document) (place slot : ℕ) (content : Con
       ∙ ap (λ n. shown_flags document widget (key_named n name)) (ap (λ (w : Widget). w.name) (sym seen.sits.widget))
 
   -- the flags of a tag that is known
-  pub flags-known : (name : List ℕ) (tag : ℕ) → known_tags parts.tags.tags slot name ≡ Some tag → view.shown_flags tag content first behind ≡ flags_of document widget name
+  pub flags-known : (name : List ℕ) (tag : ℕ) → Some tag ≡ known_tags parts.tags.tags slot name → view.shown_flags tag content first behind ≡ flags_of document widget name
   flags-known name tag known =
-      flags-seen name tag known
-      ∙ sym (ap (λ b. if b then shown_flags document widget (key_named widget.name name) else []) (among-kept name ∙ slot_known name parts.tags.tags slot tag known))
+      flags-seen name tag (sym known)
+      ∙ sym (ap (λ b. if b then shown_flags document widget (key_named widget.name name) else []) (among-kept name ∙ slot_known name parts.tags.tags slot tag (sym known)))
 
 -- and of one that isn't
-pub flags-unknown : (parts : Parts) (document : Document) (place slot : ℕ) → Stands parts document → (name : List ℕ) → known_tags parts.tags.tags slot name ≡ None → [] ≡ flags_of document (widget_at document place) name
+pub flags-unknown : (parts : Parts) (document : Document) (place slot : ℕ) → Stands parts document → (name : List ℕ) → None ≡ known_tags parts.tags.tags slot name → [] ≡ flags_of document (widget_at document place) name
 flags-unknown parts document place slot stands name unknown =
     let widget = widget_at document place in
     sym (ap (λ b. if b then shown_flags document widget (key_named widget.name name) else [])
-    (ap (λ (d : Document). is_among name d.tags) (sym stands.is) ∙ slot_unknown name parts.tags.tags slot unknown))
+    (ap (λ (d : Document). is_among name d.tags) (sym stands.is) ∙ slot_unknown name parts.tags.tags slot (sym unknown)))
 
 -- ---- the tags of one character
 

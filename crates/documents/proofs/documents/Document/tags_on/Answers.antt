@@ -1,4 +1,4 @@
-use Rattle.std.proofs.Common.{◌<◌, ◌+◌, ap, sym, ◌∙◌, subst, length, arith}
+use Rattle.std.proofs.Common.{◌<◌, ◌+◌, ap, ◌∙◌, subst, length, arith}
 use Rattle.std.specs.FinSet as set
 use Rattle.std.specs.Prelude.{string_bytes, chars, filter}
 use Rattle.std.proofs.lemmas.Str.{IsUtf8-string_bytes, chars-nil}
