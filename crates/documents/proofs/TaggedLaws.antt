@@ -1,6 +1,6 @@
 -- Which characters of a widget's view have a tag.
-use Rattle.std.proofs.Common.{◌≡◌, ℕ, zero, suc, ◌+◌, ◌-◌, ◌<◌, ◌≤◌, Bool, true, false, cond, List, [], ◌∷◌, length, drop, take, map, refl, sym, ap, ap₂, ◌∙◌, arith}
-use Rattle.std.specs.Prelude.{None, Some, filter, get_or, slice_get, slice_range, if◌then◌else◌}
+use Rattle.std.proofs.Common.{◌≡◌, ℕ, zero, suc, ◌+◌, ◌-◌, ◌<◌, ◌≤◌, Bool, true, false, cond, List, [], ◌∷◌, length, drop, refl, sym, ap, ◌∙◌, arith}
+use Rattle.std.specs.Prelude.{None, Some, filter, slice_get, slice_range, if◌then◌else◌}
 use Rattle.std.specs.FinSet as set
 use Rattle.std.proofs.lemmas.List.{get_or-drop, get_or-take, length-drop, length-map, length-take}
 use Rattle.std.proofs.lemmas.Option.{get_or_from_slice_get, none-some}
@@ -9,7 +9,7 @@ use Rattle.tag_table.specs.Tags.{Tag, names_of}
 use Rattle.text_index.specs.Views as view
 use Rattle.text_model.specs.declared.cells.Cell.{Cell}
 use Rattle.text_model.specs.Changes.{flag_at}
-use Rattle.text_model.specs.Content.{Content, Slots, characters, flags, slot_sets}
+use Rattle.text_model.specs.Content.{Content, Slots, flags, slot_sets}
 use Rattle.command_parts.specs.Tagging.{own_slot}
 use Rattle.command_parts.specs.Words.{is_among}
 use Rattle.documents.specs.Documents.{Document, KeyedCell, Parts, Widget, widget_at}

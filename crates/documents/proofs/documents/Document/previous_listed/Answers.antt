@@ -56,8 +56,12 @@ push_previous-requires-clause-within g c =
     let content = g.S.TextStore.content found.result.store.now in
     let seen = see parts document c.args.widget c.number-number.result content found.result.s found.result.e c.deref.result.now stands c.number-number.ensures.value c.deref.ensures.value found.ensures.start found.ensures.end
     found.ensures.store in
-    omega (arith, length-found parts document c.args.widget c.number-number.result content found.result.s found.result.e seen, ordered-found parts document c.args.widget c.number-number.result content found.result.s found.result.e seen,
-    c.requires.within)
+    omega (
+      arith,
+      length-found parts document c.args.widget c.number-number.result content found.result.s found.result.e seen,
+      ordered-found parts document c.args.widget c.number-number.result content found.result.s found.result.e seen,
+      c.requires.within,
+    )
 
 pub returns : goal.returns
 returns g c =
