@@ -1,15 +1,13 @@
 -- A document after texts with tag lists are put in, or where that is refused.
-use Rattle.std.proofs.Common.{◌≡◌, ℕ, ◌+◌, ◌<◌, ◌≤◌, true, false, List, [], ◌∷◌, None, Some, Ok, map, length, refl, sym, ap, ap₂, subst, ◌∙◌, arith}
-use Rattle.std.specs.Prelude.{Bool, nat_lt, if◌then◌else◌}
+use Rattle.std.proofs.Common.{◌≡◌, ℕ, ◌+◌, ◌<◌, ◌≤◌, true, false, List, None, Some, Ok, map, length, refl, sym, ap, ap₂, subst, ◌∙◌, arith}
+use Rattle.std.specs.Prelude.{nat_lt, if◌then◌else◌}
 use Rattle.std.specs.Char.{IsScalar}
 use Rattle.std.specs.List.{All}
 use Rattle.std.proofs.lemmas.Bool.Decides.{nat_tests}
 use Rattle.std.proofs.lemmas.List.{length-map}
 use Rattle.tag_table.specs.Tags.{AreTags, Tag, Tags, names_of}
-use Rattle.text_model.specs.Content.{characters}
 use Rattle.text_model.specs.LimitTable.{AreLimits, LimitTable}
 use Rattle.undo_stack.specs.declared.actions.EditKind.TheVariants.{Insert}
-use Rattle.undo_stack.specs.Fits.{FitsText}
 use Rattle.edit_ops.specs.Insertions.{inserted_texts}
 use Rattle.edit_ops.specs.States.{State}
 use Rattle.edit_ops.specs.declared.pieces.Piece.{Piece}
@@ -25,14 +23,13 @@ use Rattle.command_parts.specs.Words.{is_among}
 use Rattle.documents.specs.Documents.{Document, Parts, Widget, document_of, widget_at}
 use Rattle.documents.specs.Edits.{with_texts}
 use Rattle.documents.specs.Kept.{Stands}
-use Rattle.documents.specs.Keys.{keyed}
 use Rattle.documents.specs.Promise.{Change, answered, refused}
 use Rattle.documents.specs.Texts.{insert_at, keyed_text, tags_with, within_limits}
 use Rattle.documents.proofs.ChangeLaws.{Leaves, does-changed}
 use Rattle.documents.proofs.KeyedLaws.{keyed-more}
 use Rattle.documents.proofs.KnownLaws.{IsKnownPiece, known-front}
 use Rattle.documents.proofs.NamedLaws.{among-made, keyed-pieces, keyed_piece, known-pieces, total-pieces}
-use Rattle.documents.proofs.PartsLaws.{Sits, cells-kept, pairs_of, tags-kept}
+use Rattle.documents.proofs.PartsLaws.{Sits, cells-kept, pairs_of}
 use Rattle.documents.proofs.StateLaws.{stands-texts, state_in, with_state}
 
 -- what there is no reason to refuse is within the limits

@@ -1,6 +1,7 @@
 pub mod BridgeLaws
 pub mod ChangeLaws
 pub mod ClearedLaws
+pub mod FindLaws
 pub mod InsertionLaws
 pub mod JournalLaws
 pub mod KeyLaws
@@ -18,7 +19,10 @@ pub mod PlacedLaws
 pub mod QueryLaws
 pub mod RemovalLaws
 pub mod ReorderLaws
+pub mod ReplacementLaws
+pub mod ReversalLaws
 pub mod SeatLaws
+pub mod SeatedLaws
 pub mod SlotLaws
 pub mod SpanLaws
 pub mod StateLaws
@@ -27,3 +31,4 @@ pub mod TagLaws
 pub mod TaggedLaws
 pub mod ViewLaws
 pub mod WellFormedLaws
+pub mod WidgetLaws

@@ -62,7 +62,7 @@ there-put places number place other there =
       | false ↦ there
     ]
 
-stand-put : (content : Content) (number : ℕ) (place : Place) → MarksStand content → place.offset ≤ length content.cells → MarksStand (put_in number place content)
+pub stand-put : (content : Content) (number : ℕ) (place : Place) → MarksStand content → place.offset ≤ length content.cells → MarksStand (put_in number place content)
 stand-put content number place stand within other found is =
     by (eq_by_cmp nat_cmp other number) (sym (finite.get-insert nat_cmp_total content.marks number place other) ∙ is)
   where
@@ -70,10 +70,10 @@ stand-put content number place stand within other found is =
     by true same = subst (λ (p : Place). p.offset ≤ length content.cells) (same_Some place found same) within
     by false same = stand other found same
 
-mark_of-put : (places : Marks) (number : ℕ) (place : Place) → mark_of (finite.insert places number place) number ≡ place
+pub mark_of-put : (places : Marks) (number : ℕ) (place : Place) → mark_of (finite.insert places number place) number ≡ place
 mark_of-put places number place = ap (λ found. unwrap_or found new_mark) (get-put places number place)
 
-mark_of-put_other : (places : Marks) (number : ℕ) (place : Place) (other : ℕ) → other ≢ number → mark_of (finite.insert places number place) other ≡ mark_of places other
+pub mark_of-put_other : (places : Marks) (number : ℕ) (place : Place) (other : ℕ) → other ≢ number → mark_of (finite.insert places number place) other ≡ mark_of places other
 mark_of-put_other places number place other apart = ap (λ found. unwrap_or found new_mark) (get-put_other places number place other apart)
 
 mapped-at : {A B : Type 0} (f : A → B) (xs : List A) (at : ℕ) (x : A) → slice_get xs at ≡ Some x → slice_get (map f xs) at ≡ Some (f x)
@@ -115,7 +115,7 @@ own-alike one other (seat ∷ seats) alike low own =
       own-alike one other seats alike (λ at. low (suc at)) own.1,
     )
 
-own-put : (places : Marks) (number : ℕ) (place : Place) (seats : List Named) → AllByRecursion (HasOwnMarks places) seats → AllByRecursion (HasOwnMarks (finite.insert places number place)) seats
+pub own-put : (places : Marks) (number : ℕ) (place : Place) (seats : List Named) → AllByRecursion (HasOwnMarks places) seats → AllByRecursion (HasOwnMarks (finite.insert places number place)) seats
 own-put places number place [] own = tt
 own-put places number place (seat ∷ seats) own = (
   record { insert = there-put places number place (2 * seat.number) own.0.insert; current = there-put places number place (2 * seat.number + 1) own.0.current },
@@ -161,11 +161,11 @@ leaves-remarked limits old table places document change stands marked stand own 
 -- ---- a mark of a widget's own
 
 -- of these seats that of a name has a slot, and no other one
-record HasSlot (name : List ℕ) (slot : ℕ) (seat : Named) : Type 0 where
+pub record HasSlot (name : List ℕ) (slot : ℕ) (seat : Named) : Type 0 where
   pub same : is_same name seat.name ≡ true → seat.number ≡ slot
   pub other : is_same name seat.name ≡ false → seat.number ≢ slot
 
-abbrev HaveSlot : List ℕ → ℕ → List Named → Type 0
+abbrev pub HaveSlot : List ℕ → ℕ → List Named → Type 0
 HaveSlot name slot seats = (at : ℕ) (seat : Named) → slice_get seats at ≡ Some seat → HasSlot name slot seat
 
 have-slot : (seats : List Named) (place : ℕ) (one : Named) → AreSeats seats → slice_get seats place ≡ Some one → HaveSlot one.name one.number seats
@@ -181,22 +181,22 @@ have-slot seats place one seated stands at seat is = record {
 }
 
 -- the widget of a slot changes alone
-widgets-put : (journal : Journal) (put places : Marks) (name : List ℕ) (slot : ℕ) (change : Widget → Widget) (seats : List Named) → HaveSlot name slot seats
-    → ((seat : Named) → seat.number ≡ slot → widget_of journal put seat ≡ change (widget_of journal places seat))
-    → ((seat : Named) → seat.number ≢ slot → widget_of journal put seat ≡ widget_of journal places seat)
-    → map (widget_of journal put) seats ≡ map (λ (other : Widget). if is_same name other.name then change other else other) (map (widget_of journal places) seats)
-widgets-put journal put places name slot change [] have one others = refl
-widgets-put journal put places name slot change (seat ∷ seats) have one others =
+pub widgets-put : (after journal : Journal) (put places : Marks) (name : List ℕ) (slot : ℕ) (change : Widget → Widget) (seats : List Named) → HaveSlot name slot seats
+    → ((seat : Named) → seat.number ≡ slot → widget_of after put seat ≡ change (widget_of journal places seat))
+    → ((seat : Named) → seat.number ≢ slot → widget_of after put seat ≡ widget_of journal places seat)
+    → map (widget_of after put) seats ≡ map (λ (other : Widget). if is_same name other.name then change other else other) (map (widget_of journal places) seats)
+widgets-put after journal put places name slot change [] have one others = refl
+widgets-put after journal put places name slot change (seat ∷ seats) have one others =
     let this = have 0 seat refl in
     let old : Widget = widget_of journal places seat in
-    let here : widget_of journal put seat ≡ (if is_same name seat.name then change old else old) =
-    elim (is_same name seat.name) as (λ b. is_same name seat.name ≡ b → widget_of journal put seat ≡ (if b then change old else old)) [
+    let here : widget_of after put seat ≡ (if is_same name seat.name then change old else old) =
+    elim (is_same name seat.name) as (λ b. is_same name seat.name ≡ b → widget_of after put seat ≡ (if b then change old else old)) [
       | true ↦ λ same. one seat (this.same same)
       | false ↦ λ other. others seat (this.other other)
     ] refl in
-    ap₂ (λ (widget : Widget) widgets. widget ∷ widgets) here (widgets-put journal put places name slot change seats (λ at. have (suc at)) one others)
+    ap₂ (λ (widget : Widget) widgets. widget ∷ widgets) here (widgets-put after journal put places name slot change seats (λ at. have (suc at)) one others)
 
-shared-alike : (table : SharedMarks) (places : Marks) (number : ℕ) (place : Place) → AreMarks table → number < first_number → AreAlike (finite.insert places number place) places table.marks
+pub shared-alike : (table : SharedMarks) (places : Marks) (number : ℕ) (place : Place) → AreMarks table → number < first_number → AreAlike (finite.insert places number place) places table.marks
 shared-alike table places number place are own at mark is =
     let shared = shared-number table at mark are is in
     get-put_other places number place mark.number (λ same. omega (arith, shared, own, same))
@@ -215,7 +215,7 @@ leaves-own limits old document number place change stands low within is =
     })
     (stand-put old.content number place stands.sound.kept.marks within) (own-put old.content.marks number place old.seats.entries stands.sound.kept.own) (λ few. few) is
 
-slot-there : (parts : Parts) (document : Document) (place slot : ℕ) → Stands parts document → (sits : Sits parts document place slot) → HaveSlot sits.seat.name slot parts.seats.entries
+pub slot-there : (parts : Parts) (document : Document) (place slot : ℕ) → Stands parts document → (sits : Sits parts document place slot) → HaveSlot sits.seat.name slot parts.seats.entries
 slot-there parts document place slot stands sits = subst (λ n. HaveSlot sits.seat.name n parts.seats.entries) sits.number (have-slot parts.seats.entries place sits.seat stands.sound.kept.seats sits.stands)
 
 pub leaves-insert : (limits : LimitTable) (old : Parts) (document : Document) (place slot : ℕ) (target : Place) (changed : Content) → Stands old document → Sits old document place slot
@@ -229,7 +229,7 @@ leaves-insert limits old document place slot target changed stands sits within i
     let low : 2 * slot < first_number = omega (arith, less) in
     let lone : Document = document_of old in
     let widgets : map (widget_of old.journal put) old.seats.entries ≡ (with_insert lone (widget_of old.journal places sits.seat) target).widgets =
-    widgets-put old.journal put places sits.seat.name slot (λ (widget : Widget). record widget { insert = target }) old.seats.entries (slot-there old document place slot stands sits)
+    widgets-put old.journal old.journal put places sits.seat.name slot (λ (widget : Widget). record widget { insert = target }) old.seats.entries (slot-there old document place slot stands sits)
     (λ seat same.
     let insert : mark_of put (2 * seat.number) ≡ target = ap (λ n. mark_of put (2 * n)) same ∙ mark_of-put places (2 * slot) target in
     let current : mark_of put (2 * seat.number + 1) ≡ mark_of places (2 * seat.number + 1) = mark_of-put_other places (2 * slot) target (2 * seat.number + 1) (λ one. omega (arith, one, same)) in
@@ -255,7 +255,7 @@ leaves-current limits old document place slot target changed stands sits within 
     let low : 2 * slot + 1 < first_number = omega (arith, less) in
     let lone : Document = document_of old in
     let widgets : map (widget_of old.journal put) old.seats.entries ≡ (with_current lone (widget_of old.journal places sits.seat) target).widgets =
-    widgets-put old.journal put places sits.seat.name slot (λ (widget : Widget). record widget { current = target }) old.seats.entries (slot-there old document place slot stands sits)
+    widgets-put old.journal old.journal put places sits.seat.name slot (λ (widget : Widget). record widget { current = target }) old.seats.entries (slot-there old document place slot stands sits)
     (λ seat same.
     let insert : mark_of put (2 * seat.number) ≡ mark_of places (2 * seat.number) = mark_of-put_other places (2 * slot + 1) target (2 * seat.number) (λ one. omega (arith, one, same)) in
     let current : mark_of put (2 * seat.number + 1) ≡ target = ap (λ n. mark_of put (2 * n + 1)) same ∙ mark_of-put places (2 * slot + 1) target in

@@ -1,10 +1,10 @@
 -- What is found of the marks of a document.
-use Rattle.std.proofs.Common.{◌≡◌, ℕ, zero, suc, ◌+◌, ◌-◌, ◌*◌, ◌≤◌, Bool, true, false, List, [], ◌∷◌, length, refl, sym, ap, ap₂, ◌∙◌, arith, inl, inr}
+use Rattle.std.proofs.Common.{◌≡◌, ℕ, zero, suc, ◌+◌, ◌-◌, ◌*◌, ◌<◌, ◌≤◌, Bool, true, false, List, [], ◌∷◌, length, refl, sym, ap, ap₂, ◌∙◌, arith, inl, inr}
 use Rattle.std.specs.Prelude.{Contains, IfSome, find, slice_get, nat_le, Option, None, Some, is_some, option_map, option_and_then, unwrap_or, ◌&&◌, if◌then◌else◌}
 use Rattle.std.specs.FinMap as finite
 use Rattle.std.specs.List.{AllByRecursion, position_from}
 use Rattle.std.proofs.lemmas.Bool.{false≢true}
-use Rattle.std.proofs.lemmas.List.{length-map}
+use Rattle.std.proofs.lemmas.Bool.Decides.{nat_tests}
 use Rattle.std.proofs.lemmas.Option.{none-some, same_Some}
 use Rattle.name_list.proofs.ListLaws.{Contains-from_stands}
 use Rattle.mark_table.specs.SharedMarks.{Mark, number_of, numbers_of}
@@ -126,6 +126,23 @@ module _ (parts : Parts) (document : Document) (stands : Stands parts document) 
         some-if : (b : Bool) (n : ℕ) → is_some (if b then Some n else None) ≡ b
         some-if true n = refl
         some-if false n = refl
+
+    -- by bounds as they were found: one that stands behind the start, and one that doesn't
+    pub mark-behind : (place number first behind : ℕ) (found : Place) → first ≡ view_start widget → behind ≡ view_end document widget → slice_get (numbers_of parts.marks.marks) place ≡ Some number
+        → finite.get places number ≡ Some found → first ≤ found.offset → nat_le found.offset behind ≡ is_some (mark_place document widget (2 + place))
+    mark-behind place number first behind found starts ends numbered stored after =
+        let test : nat_le first found.offset ≡ true = grind (arith, nat_tests) in
+        sym (ap (λ b. b && nat_le found.offset behind) test)
+        ∙ (λ i. nat_le (starts i) found.offset && nat_le found.offset (ends i))
+        ∙ mark-between place number found numbered stored
+
+    pub mark-before : (place number first : ℕ) (found : Place) → first ≡ view_start widget → slice_get (numbers_of parts.marks.marks) place ≡ Some number
+        → finite.get places number ≡ Some found → found.offset < first → nat_le first found.offset ≡ is_some (mark_place document widget (2 + place))
+    mark-before place number first found starts numbered stored before =
+        let test : nat_le first found.offset ≡ false = grind (arith, nat_tests) in
+        test ∙ sym (ap (λ b. b && nat_le found.offset (view_end document widget)) test)
+        ∙ (λ i. nat_le (starts i) found.offset && nat_le found.offset (view_end document widget))
+        ∙ mark-between place number found numbered stored
 
     pub mark-unknown : (place number : ℕ) → slice_get (numbers_of parts.marks.marks) place ≡ Some number → finite.get places number ≡ None → ⊥
     mark-unknown place number numbered stored =

@@ -12,13 +12,12 @@ use Rattle.text_model.specs.Splices.{changed}
 use Rattle.text_model.specs.Steps.{after_step, without_slots}
 use Rattle.text_model.proofs.CellLaws.{characters-without_slots}
 use Rattle.text_model.proofs.SpliceLaws.{length-changed}
-use Rattle.undo_stack.specs.Fits.{FitsText}
 use Rattle.undo_stack.specs.declared.actions.EditKind.{EditKind}
 use Rattle.undo_stack.specs.declared.actions.EditKind.TheVariants.{Delete}
 use Rattle.edit_ops.specs.Anchors.{AreAnchored}
 use Rattle.edit_ops.specs.Deletions.{AreApart, delete_set, deleted, in_spans, removed_spans, runs_below}
 use Rattle.edit_ops.specs.Removals.{removed_span}
-use Rattle.edit_ops.specs.States.{State, state_of}
+use Rattle.edit_ops.specs.States.{State}
 use Rattle.edit_ops.specs.Tagging.{SpanFits}
 use Rattle.edit_ops.specs.declared.spans.Span.{Span}
 use Rattle.edit_ops.proofs.KeepLaws.{deleted-kept, deleted-runs}
@@ -27,12 +26,12 @@ use Rattle.command_parts.specs.Ranges.{spans_of}
 use Rattle.command_parts.specs.Settings.{recording_of}
 use Rattle.command_parts.proofs.PairLaws.{spans_of-fit}
 use Rattle.documents.specs.Deletions.{delete_places, delete_spans, deleted_runs, last_bare}
-use Rattle.documents.specs.Documents.{Document, Parts, Widget, characters, document_of, widget_at}
+use Rattle.documents.specs.Documents.{Document, Parts, Widget, document_of, widget_at}
 use Rattle.documents.specs.Edits.{with_bare, without_spans}
 use Rattle.documents.specs.Kept.{HasKnownSlots, Stands}
 use Rattle.documents.specs.Promise.{answered}
 use Rattle.documents.specs.Ranges.{spans_shown}
-use Rattle.documents.specs.View.{is_idle, shown, view_end, view_start}
+use Rattle.documents.specs.View.{is_idle, shown}
 use Rattle.documents.proofs.ChangeLaws.{Leaves, does-changed}
 use Rattle.documents.proofs.KeyedLaws.{keyed-bare}
 use Rattle.documents.proofs.KnownLaws.{known-empty}

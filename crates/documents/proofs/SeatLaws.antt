@@ -57,7 +57,7 @@ left-out seats names place name is among =
     let found = seat-named seats place name is in
     filter-out (λ (seat : Named). not (is_among seat.name names)) seats place found.seat found.stands (ap (λ n. not (is_among n names)) found.named ∙ ap not among)
 
-take_rest : {A : Type 0} (xs : List A) (place : ℕ) → take place xs ++ drop place xs ≡ xs
+pub take_rest : {A : Type 0} (xs : List A) (place : ℕ) → take place xs ++ drop place xs ≡ xs
 take_rest [] zero = refl
 take_rest [] (suc place) = refl
 take_rest (x ∷ xs) zero = refl

@@ -2,7 +2,6 @@
 use Rattle.std.proofs.Common.{◌≡◌, ℕ, ◌+◌, ◌-◌, ◌*◌, ◌<◌, ◌≤◌, true, false, List, [], ◌∷◌, Option, None, Some, map, length, take, drop, get_or, ◌++◌, refl, sym, ap, ap₂, subst, ◌∙◌, arith, eqb-true}
 use Rattle.std.specs.Prelude.{Bool, option_map, slice_range, ◌==◌, if◌then◌else◌}
 use Rattle.std.specs.Char.{IsScalar}
-use Rattle.std.specs.FinMap as finite
 use Rattle.std.specs.List.{All, AllByRecursion}
 use Rattle.std.proofs.lemmas.List.{append-nil, drop_all, get_or-map, length-map, take_all}
 use Rattle.std.proofs.lemmas.List.Elements.{All-append, All-drop, All-head, All-tail, All-take}
@@ -14,7 +13,7 @@ use Rattle.text_model.specs.declared.places.Place.{Place}
 use Rattle.text_model.specs.Content as model
 use Rattle.text_model.specs.Content.{Content, Marks, Slots, map_marks}
 use Rattle.text_model.specs.Documents.{IsDocument}
-use Rattle.text_model.specs.Splices.{drawn, inserted, moved, removed}
+use Rattle.text_model.specs.Splices.{drawn, inserted, moved}
 use Rattle.text_model.specs.Steps.{after_insertion, after_removal, cells_of}
 use Rattle.text_model.proofs.CellLaws.{characters-inserted, characters-removed}
 use Rattle.text_model.proofs.DocumentLaws.{IsDocument-inserted, IsDocument-removed}
@@ -36,9 +35,9 @@ use Rattle.edit_ops.proofs.AnchoredLaws.{all-moved, all-removed, anchored-stand}
 use Rattle.edit_ops.proofs.InsertLaws.{total-cons}
 use Rattle.edit_ops.proofs.StartLaws.{text-end-begins}
 use Rattle.command_parts.specs.Settings.{recording_of}
-use Rattle.documents.specs.Documents.{Document, Journal, KeyedCell, Parts, SharedMark, Widget, anchors_at, characters, document_of, mark_of, placed, whole, widget_of}
+use Rattle.documents.specs.Documents.{Document, Journal, KeyedCell, Parts, SharedMark, Widget, characters, document_of, placed, whole, widget_of}
 use Rattle.documents.specs.Edits.{keys_between, keys_or, with_action, with_cells, with_text, with_texts, without_cells, without_span}
-use Rattle.documents.specs.Kept.{AreKnown, AreSeats, HasKnownSlots, HasOwnMarks, IsSeated, Stands}
+use Rattle.documents.specs.Kept.{AreKnown, HasKnownSlots, HasOwnMarks, IsSeated, Stands}
 use Rattle.documents.specs.Keys.{Keys, keyed, keys_of}
 use Rattle.documents.proofs.KeyedLaws.{keyed-inserted, keyed-removed, keyed-shared}
 use Rattle.documents.proofs.KnownLaws.{IsKnownPiece, known-inserted, known-put}
@@ -247,11 +246,11 @@ stands-noted parts document kind action stands =
 
 -- ---- texts
 
-keys_put : (parts : Parts) (document : Document) (at : ℕ) (slots : Option Slots) → Stands parts document → at < length parts.content.cells
+pub keys-put : (parts : Parts) (document : Document) (at : ℕ) (slots : Option Slots) → Stands parts document → at < length parts.content.cells
     → keys_of (pairs_of parts) (slots_or slots (shared_slots at parts.content.cells)) ≡ keys_or (option_map (keys_of (pairs_of parts)) slots) (keys_between document.cells at)
-keys_put parts document at None stands within =
+keys-put parts document at None stands within =
     keyed-shared parts.seats.entries parts.tags stands.sound.kept.seats stands.sound.kept.tags at parts.content.cells within ∙ ap (λ (d : Document). keys_between d.cells at) stands.is
-keys_put parts document at (Some slots) stands within = refl
+keys-put parts document at (Some slots) stands within = refl
 
 -- one text
 pub stands-text : (parts : Parts) (document : Document) (kind : EditKind) (at : ℕ) (piece : Piece) → Stands parts document → at < length parts.content.cells
@@ -263,7 +262,7 @@ stands-text parts document kind at piece stands within short known =
     let slots = slots_or piece.slots (shared_slots at parts.content.cells) in
     let keys = keys_or (option_map (keys_of (pairs_of parts)) piece.slots) (keys_between document.cells at) in
     let put = stands-put parts document at piece.text slots keys stands within short known.text
-    (known-put parts.seats.entries parts.tags.tags at piece.slots parts.content.cells known.slots stands.sound.kept.known within) (keys_put parts document at piece.slots stands within) in
+    (known-put parts.seats.entries parts.tags.tags at piece.slots parts.content.cells known.slots stands.sound.kept.known within) (keys-put parts document at piece.slots stands within) in
     let made : State = state_of (after_insertion at piece.text slots parts.content) (map (anchors_moved at (length piece.text)) parts.journal.anchors) (log_noted recording kind action parts.journal.log) in
     elim (length piece.text == 0) as (λ b. Stands (with_state parts (if b then state_in parts else made)) (if b then document else with_action kind action (with_cells at (cells_with piece.text keys) document))) [
       | true ↦ stands

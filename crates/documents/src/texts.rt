@@ -48,7 +48,12 @@ impl<S: TextStore> Document<S> {
     }
 
     /// Deletes the ranges between pairs of places.
-    pub fn delete_places(&mut self, limits: &Limits, widget: usize, places: &[usize]) -> Result<Answer, Fault>
+    pub fn delete_places(
+        &mut self,
+        limits: &Limits,
+        widget: usize,
+        places: &[usize],
+    ) -> Result<Answer, Fault>
         requires shown { widget < length self.old.widgets }
         requires active { is_idle self.old (widget_at self.old widget) ≡ false }
         requires within { All (λ place. place ≤ length (shown self.old (widget_at self.old widget))) places.now }

@@ -64,7 +64,8 @@ fn anchor_at<S: TextStore>(store: &S, line: Option<usize>) -> Option<usize>
 
 /// The number of the line that begins at an anchor, counted from 1.
 fn line_at<S: TextStore>(store: &S, anchor: Option<usize>) -> Option<usize>
-    requires { IfSome anchor (λ anchor. anchor ≤ length (S.content store.now).cells) }
+    requires within { IfSome anchor (λ anchor. anchor ≤ length (S.content store.now).cells) }
+    requires short { length (S.content store.now).cells < usize.MAX }
     ensures { result ≡ option_map (λ anchor. line_of (model.characters (S.content store.now).cells) anchor + 1) anchor }
 {
     let anchor = anchor?;

@@ -1,4 +1,4 @@
-use Rattle.std.proofs.Common.{◌<◌, ◌-◌, ap, ap₂, arith, take, drop, length, ◌++◌}
+use Rattle.std.proofs.Common.{◌-◌, ap, ap₂, arith, take, drop, length, ◌++◌}
 use Rattle.edit_ops.specs.Deletions.{deleted}
 use Rattle.edit_ops.specs.States.{log_of, state_of}
 use Rattle.command_parts.specs.Settings.{recording_of}

@@ -1,4 +1,4 @@
-use Rattle.std.proofs.Common.{◌≡◌, ap, ap₂, ◌∙◌, arith, map, take, drop, length, ◌++◌}
+use Rattle.std.proofs.Common.{ap, ap₂, ◌∙◌, arith, map, take, drop, length, ◌++◌}
 use Rattle.tag_table.specs.Tags.{sel, slot_of}
 use Rattle.undo_stack.specs.declared.actions.EditKind.TheVariants.{Insert}
 use Rattle.edit_ops.specs.Insertions.{inserted_texts}
