@@ -7,6 +7,7 @@ pub mod KeyLaws
 pub mod KeyedLaws
 pub mod KnownLaws
 pub mod LookupLaws
+pub mod MarkOrderLaws
 pub mod MarkQueryLaws
 pub mod MeaningLaws
 pub mod NamedLaws
