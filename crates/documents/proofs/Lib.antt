@@ -14,6 +14,7 @@ pub mod NamedLaws
 pub mod PartsLaws
 pub mod PlacedLaws
 pub mod QueryLaws
+pub mod SeenLaws
 pub mod SlotLaws
 pub mod ViewLaws
 pub mod WellFormedLaws
