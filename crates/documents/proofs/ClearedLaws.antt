@@ -14,9 +14,8 @@ use Rattle.edit_ops.specs.Tagging.{cell_without}
 use Rattle.command_parts.specs.Tagging.{slot_taken, slots_deleted, stays, tags_left}
 use Rattle.command_parts.specs.Words.{is_among, is_same}
 use Rattle.documents.specs.Kept.{AreSeats, HasKnownSlots}
-use Rattle.documents.specs.Keys.{Key, key_pairs, numbers_gone, seats_left, selection_stays}
+use Rattle.documents.specs.Keys.{Key, key_pairs, keyed, numbers_gone, seats_left, selection_stays}
 use Rattle.documents.specs.Tags.{key_stays, without_tags}
-use Rattle.documents.specs.Documents.{keyed}
 use Rattle.documents.proofs.KeyedLaws.{keyed-left, with_staying}
 use Rattle.documents.proofs.KnownLaws.{known-without}
 use Rattle.documents.proofs.LookupLaws.{AreApart-filter, filter_stands, filter_stood, looked-filter, one_passes}

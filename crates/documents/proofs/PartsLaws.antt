@@ -71,7 +71,7 @@ at-place P [] place x each is = absurd (none-some x is)
 at-place P (y ∷ ys) zero x each is = subst P (same_Some y x is) each.0
 at-place P (y ∷ ys) (suc place) x each is = at-place P ys place x each.1 is
 
-mapped-at : {A B : Type 0} (f : A → B) (xs : List A) (place : ℕ) (x : A) → slice_get xs place ≡ Some x → slice_get (map f xs) place ≡ Some (f x)
+pub mapped-at : {A B : Type 0} (f : A → B) (xs : List A) (place : ℕ) (x : A) → slice_get xs place ≡ Some x → slice_get (map f xs) place ≡ Some (f x)
 mapped-at f [] place x is = absurd (none-some x is)
 mapped-at f (y ∷ ys) zero x is = ap (option_map f) is
 mapped-at f (y ∷ ys) (suc place) x is = mapped-at f ys place x is

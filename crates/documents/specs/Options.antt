@@ -1,5 +1,5 @@
 -- The options of a document and of its widgets (text(n), "WIDGET-SPECIFIC OPTIONS").
-use Rattle.std.specs.Prelude.{ℕ, ◌+◌, ◌-◌, List, option_map}
+use Rattle.std.specs.Prelude.{ℕ, ◌+◌, ◌-◌, ◌<◌, ◌≤◌, IfSome, List, option_map}
 use Rattle.text_model.specs.Lines.{line_of, line_start}
 use Rattle.command_parts.specs.declared.settings.DocumentSettings.{DocumentSettings}
 use Rattle.command_parts.specs.declared.settings.Settings.{Settings}
@@ -43,3 +43,12 @@ widget_set document settings widget = record widget {
 -- the document and a widget of it with options
 abbrev pub with_settings : Widget → Settings → Document → Document
 with_settings widget settings document = with_shared_settings settings.document (with_widget document widget (widget_set document settings))
+
+-- a line of a document of so many, by its number counted from 1, or the one behind the last
+abbrev pub IsLine : ℕ → ℕ → Type 0
+IsLine lines line = (0 < line) × (line ≤ lines + 1)
+
+-- the lines of a view, in a document of so many
+pub record AreLines (lines : ℕ) (settings : Settings) : Type 0 where
+  pub start : IfSome settings.start (IsLine lines)
+  pub end : IfSome settings.end (IsLine lines)

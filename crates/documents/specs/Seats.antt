@@ -1,7 +1,6 @@
--- The names of widgets, of which one asks for the others.
-use Rattle.std.specs.Prelude.{ℕ, ◌++◌, ◌+◌, List, drop, take}
-use Rattle.name_list.specs.Names.{Named, names_of}
+-- What is kept by the slots of widgets.
+use Rattle.std.specs.Prelude.{◌≡◌, ℕ, ◌++◌, List, replicate}
 
--- the names of all but the one at a place
-abbrev pub other_names : ℕ → List Named → List (List ℕ)
-other_names place seats = names_of (take place seats) ++ names_of (drop (place + 1) seats)
+-- a list with a value behind it so many times
+abbrev pub IsLonger : {A : Type 0} → A → List A → List A → Type 0
+IsLonger value old new = (count : ℕ) × (new ≡ old ++ replicate count value)

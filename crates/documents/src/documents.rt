@@ -4,7 +4,7 @@ ghost use Rattle.text_model.specs.LimitTable.{LimitTable, AreLimits};
 ghost use Rattle.text_index.specs.Positions.{position_text};
 ghost use Rattle.documents.specs.Documents.{widget_at};
 ghost use Rattle.documents.specs.View.{is_idle, shown, view_end, view_start};
-ghost use Rattle.documents.specs.Widgets.{is_kept, new_document, widget_named, with_peer, without_widgets};
+ghost use Rattle.documents.specs.Widgets.{bare_document, is_kept, new_document, widget_named, with_peer, without_widgets};
 ghost use Rattle.documents.specs.Kept.{is_window_name};
 ghost use Rattle.documents.specs.WellFormed.{IsWellFormedDocument, window_names};
 ghost use Rattle.command_parts.specs.Faults.{at_position};
@@ -32,7 +32,14 @@ ghost use Rattle.command_parts.specs.Words.{is_among};
 ghost use Rattle.mark_table.specs.Order.{next_mark, previous_mark, rank_of};
 ghost use Rattle.command_parts.specs.declared.answers.Answer.TheVariants.{Empty};
 ghost use Rattle.documents.specs.History.{edit_reset, edit_separator, modified_set};
-ghost use Rattle.documents.specs.Options.{settings_of, with_settings};
+ghost use Rattle.documents.specs.Options.{AreLines, IsLine, settings_of, with_settings};
+ghost use Rattle.command_parts.specs.Settings.{is_behind};
+ghost use Rattle.text_model.specs.Lines.{line_of, line_start, lines};
+ghost use Rattle.text_model.specs.Content as model;
+ghost use Rattle.text_model.specs.declared.limits.TheConstants.Limits.{MOST_WIDGETS};
+ghost use Rattle.documents.specs.Documents.{characters};
+ghost use Rattle.command_parts.specs.Words.{is_same};
+ghost use Rattle.std.specs.Prelude.{false, filter, not};
 ghost use Rattle.documents.specs.Reversals.{edit_redo, edit_undo};
 ghost use Rattle.undo_stack.specs.Modified.{is_modified};
 ghost use Rattle.documents.specs.Names.{mark_number, mark_place};
@@ -124,6 +131,7 @@ impl<S: TextStore> Document<S> {
     pub fn new(alloc: Global, name: &str, settings: Settings) -> Result<Document<S>, AllocError>
         requires named { is_window_name (chars name.now) ≡ true }
         requires lines { AreLines 1 settings }
+        requires ordered { is_behind settings.start settings.end ≡ false }
         ensures value { IfOk result (λ document. document ≡ new_document (chars name.now) settings) }
         ensures well_formed { IfOk result (λ document.
             (limits : LimitTable) → AreLimits limits → IsWellFormedDocument limits document) }

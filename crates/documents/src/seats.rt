@@ -1,16 +1,16 @@
 //! The names of widgets with their slots, and what is kept by slot.
 
-ghost use Rattle.std.specs.Prelude.{◌≡◌, ◌<◌, ◌≤◌, ◌++◌, ◌∷◌, [], length, take, drop, map, filter, filter_map, not, nat_lt, chars, string_bytes, IfOk, OnOk, OnErr};
+ghost use Rattle.std.specs.Prelude.{◌≡◌, false, ◌<◌, ◌≤◌, ◌++◌, ◌∷◌, [], length, take, drop, map, filter, filter_map, not, nat_lt, chars, string_bytes, IfOk, OnOk, OnErr};
 ghost use Rattle.std.specs.List.{All};
 ghost use Rattle.text_model.specs.declared.limits.TheConstants.Limits.{MOST_WIDGETS};
-ghost use Rattle.name_list.specs.Names.{AreNames, IsLeastFree, Named, numbers_of, place_of};
+ghost use Rattle.name_list.specs.Names.{AreNames, IsLeastFree, Named, names_of, numbers_of, place_of};
 ghost use Rattle.tcl_words.specs.Unread.{texts_of};
 ghost use Rattle.command_parts.specs.Edits.{new_mark, with_own_marks};
-ghost use Rattle.command_parts.specs.Words.{is_among};
+ghost use Rattle.command_parts.specs.Words.{is_among, is_same};
 ghost use Rattle.tcl_words.specs.ListGrowth.{Goes};
 ghost use Rattle.documents.specs.Documents.{whole};
 ghost use Rattle.documents.specs.Keys.{numbers_gone, seats_left};
-ghost use Rattle.documents.specs.Seats.{other_names};
+ghost use Rattle.documents.specs.Seats.{IsLonger};
 
 use command_parts::{is_word, put_widget_marks};
 use edit_ops::Anchors;
@@ -28,11 +28,9 @@ const WHOLE: Anchors = Anchors {
 /// Makes a list long enough for a slot, by adding a value again and again.
 fn make_room<T: Copy>(list: &mut Vec<T>, value: T, slot: u16) -> Result<(), AllocError>
     ensures long { OnOk result (slot < length list.new.items) }
-    ensures longer { length list.old.items ≤ length list.new.items }
-    ensures front { take (length list.old.items) list.new.items ≡ list.old.items }
-    ensures behind { All (λ other. other ≡ value) (drop (length list.old.items) list.new.items) }
+    ensures longer { IsLonger value list.old.items list.new.items }
 {
-    while list.len() <= slot as usize {
+    for _ in list.len()..slot as usize + 1 {
         list.push(value)?;
     }
     Ok(())
@@ -56,14 +54,12 @@ pub fn make_seat<S: TextStore>(
     ensures least { IfOk result (IsLeastFree (numbers_of seats.old.entries)) }
     ensures below { IfOk result (λ slot. slot < MOST_WIDGETS) }
     ensures last { IfOk result (λ slot. seats.new ≡ record seats.old { entries = seats.old.entries ++ record { name = chars name.now; number = slot } ∷ [] }) }
-    ensures sound { AreNames seats.new }
+    ensures sound { OnOk result (AreNames seats.new) }
     ensures store { IfOk result (λ slot. S.content store.new ≡ with_own_marks slot (record new_mark { offset = offset }) (S.content store.old)) }
     ensures room { IfOk result (λ slot. (slot < length disabled.new.items) × (slot < length anchors.new.items)) }
-    ensures disabled { take (length disabled.old.items) disabled.new.items ≡ disabled.old.items }
-    ensures anchors { take (length anchors.old.items) anchors.new.items ≡ anchors.old.items }
-    ensures behind { All (λ other. other ≡ whole) (drop (length anchors.old.items) anchors.new.items) }
-    ensures front { take (length seats.old.entries) seats.new.entries ≡ seats.old.entries }
-    ensures limit { seats.new.limit ≡ seats.old.limit }
+    ensures disabled { IsLonger false disabled.old.items disabled.new.items }
+    ensures anchors { IsLonger whole anchors.old.items anchors.new.items }
+    ensures front { record seats.new { entries = take (length seats.old.entries) seats.new.entries } ≡ seats.old }
     ensures err { OnErr result (S.content store.new ≡ S.content store.old) }
 {
     let Some(slot) = seats.create(String::from_str(alloc, name)?)? else {
@@ -72,6 +68,8 @@ pub fn make_seat<S: TextStore>(
     make_room(disabled, false, slot)?;
     make_room(anchors, WHOLE, slot)?;
     put_widget_marks(alloc, store, TagSlot(slot), offset)?;
+    // Where the names are counted, they are known to be those of a list.
+    let _count = seats.len();
     Ok(slot as usize)
 }
 
@@ -111,13 +109,15 @@ pub fn remove_seats(seats: &mut NameList, names: &[String])
     ensures value { seats.new ≡ record seats.old { entries = seats_left (texts_of names.now) seats.old.entries } }
     ensures sound { AreNames seats.new }
 {
-    let mut place = seats.len();
-    while place > 0 {
-        place -= 1;
+    let mut place = 0;
+    while place < seats.len() {
         if is_among(seats.name(place), names) {
             seats.remove(place);
+        } else {
+            place += 1;
         }
     }
+    // Where the names are counted, they are known to be those of a list.
     let _count = seats.len();
 }
 
@@ -133,14 +133,14 @@ pub fn some_left(seats: &NameList, names: &[String]) -> bool
     false
 }
 
-/// Appends the names of all widgets but the one at a place.
-pub fn push_other_seats(list: &mut String, seats: &NameList, place: usize) -> Result<(), AllocError>
-    requires { place < length seats.now.entries }
-    ensures { OnOk result (Goes (string_bytes list.old) (string_bytes list.new) (other_names place seats.now.entries)) }
+/// Appends the names of all widgets but one.
+pub fn push_other_seats(list: &mut String, seats: &NameList, name: &str) -> Result<(), AllocError>
+    ensures { OnOk result (Goes (string_bytes list.old) (string_bytes list.new)
+        (filter (λ other. not (is_same other (chars name.now))) (names_of seats.now.entries))) }
 {
-    for other in 0..seats.len() {
-        if other != place {
-            push_element(list, seats.name(other))?;
+    for place in 0..seats.len() {
+        if !is_word(seats.name(place), name) {
+            push_element(list, seats.name(place))?;
         }
     }
     Ok(())

@@ -26,6 +26,7 @@ ghost use Rattle.std.specs.Char.{IsScalar};
 ghost use Rattle.tcl_words.specs.ListText.{list_text};
 ghost use Rattle.tcl_words.specs.Unread.{texts_of};
 ghost use Rattle.text_index.specs.Ranges.{tag_ranges, next_range, previous_range};
+ghost use Rattle.documents.specs.Ranges.{spans_shown};
 ghost use Rattle.documents.specs.Tags.{flags_of, tags_on, add_spans, remove_spans, tag_delete, reordered, raised, lowered};
 ghost use Rattle.command_parts.specs.Listing.{range_words, begun};
 ghost use Rattle.command_parts.specs.Words.{is_among};
@@ -40,11 +41,12 @@ ghost use Rattle.command_parts.specs.Marking.{gravity_word as spec_gravity_word}
 ghost use Rattle.documents.specs.Marks.{mark_names, mark_offset, mark_unset, place_named, set_found, usable_marks, with_current, with_insert, with_mark, with_shared};
 
 use crate::documents::Document;
-use crate::views::{end_of, start_of, view_of};
+use crate::views::view_of;
 use command_parts::{
     Answer, Fault, clear_slots, delete_names, deleted_slots, find_tag, push_names, push_names_in, push_next, push_previous,
     push_ranges, set_slot, spans_of, tag_spans,
 };
+use edit_ops::Span;
 use std::alloc::AllocError;
 use tag_table::NoSuchTag;
 use text_model::{Limits, TagSlot, Text, TextStore};
@@ -66,12 +68,13 @@ impl<S: TextStore> Document<S> {
         ensures { IfOk result (λ list. list ≡ list_text (tags_on self.now (widget_at self.now widget) place)) }
     {
         let mut list = String::new(self.alloc);
-        let slot = self.seats.number(widget);
-        let offset = start_of(&self.anchors, slot) + place;
-        if offset == end_of(&self.anchors, slot, self.store.len()) {
+        let number = self.seats.number(widget);
+        let view = view_of(&self.store, &self.anchors, number);
+        let offset = view.s + place;
+        if offset == view.e {
             return Ok(Text::new(list));
         }
-        push_names_in(&mut list, &self.tags, TagSlot(slot), self.store.tags_at(offset))?;
+        push_names_in(&mut list, &self.tags, TagSlot(number), view.store.tags_at(offset))?;
         Ok(Text::new(list))
     }
 
@@ -127,6 +130,17 @@ impl<S: TextStore> Document<S> {
 }
 
 impl<S: TextStore> Document<S> {
+    /// Pairs of places that a widget shows as ranges of the document.
+    fn spans_at(&self, widget: usize, places: &[usize]) -> Result<Vec<Span>, AllocError>
+        requires shown { widget < length self.now.widgets }
+        requires within { All (λ place. place ≤ length (shown self.now (widget_at self.now widget))) places.now }
+        ensures value { IfOk result (λ spans. spans.items ≡ spans_shown self.now (widget_at self.now widget) places.now) }
+        ensures fit { IfOk result (λ spans. All (SpanFits (length self.now.cells)) spans.items) }
+    {
+        let view = view_of(&self.store, &self.anchors, self.seats.number(widget));
+        spans_of(self.alloc, view.s, view.e - view.s, places)
+    }
+
     /// Puts a tag on the ranges between pairs of places, and makes it if it is new.
     pub fn add_spans(
         &mut self,
@@ -140,9 +154,7 @@ impl<S: TextStore> Document<S> {
         ensures { Does limits.now self.old self.new result (add_spans limits.now self.old (widget_at self.old widget) (chars name.now) places.now) }
     {
         let number = self.seats.number(widget);
-        let start = start_of(&self.anchors, number);
-        let len = end_of(&self.anchors, number, self.store.len()) - start;
-        let spans = spans_of(self.alloc, start, len, places)?;
+        let spans = self.spans_at(widget, places)?;
         let front = self.tags.len();
         let tagged = tag_spans(
             self.alloc,
@@ -179,9 +191,7 @@ impl<S: TextStore> Document<S> {
         let Some(slot) = find_tag(&self.tags, TagSlot(number), name) else {
             return Ok(Answer::Empty);
         };
-        let start = start_of(&self.anchors, number);
-        let len = end_of(&self.anchors, number, self.store.len()) - start;
-        let spans = spans_of(self.alloc, start, len, places)?;
+        let spans = self.spans_at(widget, places)?;
         match set_slot(
             self.alloc,
             &mut self.store,

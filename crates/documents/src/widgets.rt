@@ -4,7 +4,7 @@ ghost use Rattle.text_model.specs.LimitTable.{LimitTable, AreLimits};
 ghost use Rattle.text_index.specs.Positions.{position_text};
 ghost use Rattle.documents.specs.Documents.{widget_at};
 ghost use Rattle.documents.specs.View.{is_idle, shown, view_end, view_start};
-ghost use Rattle.documents.specs.Widgets.{is_kept, new_document, widget_named, with_peer, without_widgets};
+ghost use Rattle.documents.specs.Widgets.{bare_document, is_kept, new_document, widget_named, with_peer, without_widgets};
 ghost use Rattle.documents.specs.Kept.{is_window_name};
 ghost use Rattle.documents.specs.WellFormed.{IsWellFormedDocument, window_names};
 ghost use Rattle.command_parts.specs.Faults.{at_position};
@@ -32,7 +32,14 @@ ghost use Rattle.command_parts.specs.Words.{is_among};
 ghost use Rattle.mark_table.specs.Order.{next_mark, previous_mark, rank_of};
 ghost use Rattle.command_parts.specs.declared.answers.Answer.TheVariants.{Empty};
 ghost use Rattle.documents.specs.History.{edit_reset, edit_separator, modified_set};
-ghost use Rattle.documents.specs.Options.{settings_of, with_settings};
+ghost use Rattle.documents.specs.Options.{AreLines, IsLine, settings_of, with_settings};
+ghost use Rattle.command_parts.specs.Settings.{is_behind};
+ghost use Rattle.text_model.specs.Lines.{line_of, line_start, lines};
+ghost use Rattle.text_model.specs.Content as model;
+ghost use Rattle.text_model.specs.declared.limits.TheConstants.Limits.{MOST_WIDGETS};
+ghost use Rattle.documents.specs.Documents.{characters};
+ghost use Rattle.command_parts.specs.Words.{is_same};
+ghost use Rattle.std.specs.Prelude.{false, filter, not};
 ghost use Rattle.documents.specs.Reversals.{edit_redo, edit_undo};
 ghost use Rattle.undo_stack.specs.Modified.{is_modified};
 ghost use Rattle.documents.specs.Names.{mark_number, mark_place};
@@ -48,8 +55,8 @@ use text_model::{Limits, Text, TextStore};
 
 /// Where a line begins, by its number counted from 1.
 fn anchor_at<S: TextStore>(store: &S, line: Option<usize>) -> Option<usize>
-    requires { IfSome line (λ line. line ≤ lines (characters (S.content store.now).cells) + 1) }
-    ensures { result ≡ option_map (λ line. line_start (line - 1) (characters (S.content store.now).cells)) line }
+    requires { IfSome line (IsLine (lines (model.characters (S.content store.now).cells))) }
+    ensures { result ≡ option_map (λ line. line_start (line - 1) (model.characters (S.content store.now).cells)) line }
 {
     let line = line?;
     Some(store.line_start(line - 1))
@@ -57,8 +64,9 @@ fn anchor_at<S: TextStore>(store: &S, line: Option<usize>) -> Option<usize>
 
 /// The number of the line that begins at an anchor, counted from 1.
 fn line_at<S: TextStore>(store: &S, anchor: Option<usize>) -> Option<usize>
-    requires { IfSome anchor (λ anchor. anchor ≤ length (S.content store.now).cells) }
-    ensures { result ≡ option_map (λ anchor. line_of (characters (S.content store.now).cells) anchor + 1) anchor }
+    requires within { IfSome anchor (λ anchor. anchor ≤ length (S.content store.now).cells) }
+    requires short { length (S.content store.now).cells < usize.MAX }
+    ensures { result ≡ option_map (λ anchor. line_of (model.characters (S.content store.now).cells) anchor + 1) anchor }
 {
     let anchor = anchor?;
     Some(store.line_of(anchor) + 1)
@@ -109,7 +117,7 @@ impl<S: TextStore> Document<S> {
     pub fn add_widget(&mut self, name: &str, settings: Settings) -> Result<(), AllocError>
         requires named { is_window_name (chars name.now) ≡ true }
         requires new { is_among (chars name.now) (window_names self.old) ≡ false }
-        requires few { length self.old.widgets < Limits.MOST_WIDGETS }
+        requires few { length self.old.widgets < MOST_WIDGETS }
         requires lines { AreLines (lines (characters self.old.cells)) settings }
         requires ordered { is_behind settings.start settings.end ≡ false }
         ensures ok { OnOk result (self.new ≡ with_peer (chars name.now) settings self.old) }
@@ -149,7 +157,7 @@ impl<S: TextStore> Document<S> {
         ensures { IfOk result (λ list. list ≡ list_text (filter (λ name. not (is_same name (widget_at self.now widget).name)) (window_names self.now))) }
     {
         let mut list = String::new(self.alloc);
-        push_other_seats(&mut list, &self.seats, widget)?;
+        push_other_seats(&mut list, &self.seats, self.seats.name(widget))?;
         Ok(Text::new(list))
     }
 

@@ -6,8 +6,9 @@ ghost use Rattle.peers.specs.Options.{cget, configure};
 ghost use Rattle.documents.specs.Promise.{Does, Gives};
 ghost use Rattle.documents.specs.Documents.{widget_at};
 ghost use Rattle.std.specs.Prelude.{◌≡◌, ◌<◌, false, IfOk};
-ghost use Rattle.command_parts.specs.Settings.{AreLines, is_behind, settings_checked, settings_read};
+ghost use Rattle.command_parts.specs.Settings.{is_behind, settings_checked, settings_read};
 ghost use Rattle.command_parts.specs.Faults.{with_value};
+ghost use Rattle.documents.specs.Options.{AreLines};
 
 use command_parts::{Answer, Fault, Settings, one};
 use documents::Document;

@@ -1,0 +1,177 @@
+-- A widget that is made.
+use Rattle.std.proofs.Common.{◌≡◌, ◌≢◌, ℕ, zero, suc, ◌+◌, ◌*◌, ◌<◌, ◌≤◌, Bool, true, false, set, List, [], ◌∷◌, ◌++◌, Ok, length, map, get_or, refl, sym, ap, ap₂, subst, ◌∙◌, arith}
+use Rattle.std.specs.Prelude.{slice_get, is_some, option_map, unwrap_or, Contains, Some, None, Option}
+use Rattle.std.specs.FinMap as finite
+use Rattle.std.specs.List.{All, AllByRecursion}
+use Rattle.std.proofs.Math.ListN.{replicate}
+use Rattle.std.proofs.lemmas.List.{length-append, length-set, map-append, get_or-set_other}
+use Rattle.std.proofs.lemmas.List.Elements.{All-append, All-replicate, All-set}
+use Rattle.std.proofs.lemmas.Grind.{get_or-set_at}
+use Rattle.text_model.specs.declared.limits.TheConstants.Limits.{MOST_WIDGETS}
+use Rattle.text_model.specs.declared.places.Place.{Place}
+use Rattle.text_model.specs.Content as model
+use Rattle.text_model.specs.Content.{Content, Marks}
+use Rattle.text_model.specs.LimitTable.{LimitTable}
+use Rattle.text_model.specs.Lines.{lines}
+use Rattle.undo_stack.specs.Fits.{FitsText}
+use Rattle.undo_stack.specs.History.{limit_of}
+use Rattle.undo_stack.specs.Rings.{Kept}
+use Rattle.name_list.specs.Names.{AreNames, IsLeastFree, Named, Names, numbers_of}
+use Rattle.mark_table.specs.SharedMarks.{first_number}
+use Rattle.edit_ops.specs.Anchors.{AreAnchored}
+use Rattle.edit_ops.specs.declared.anchors.Anchors.{Anchors}
+use Rattle.command_parts.specs.Edits.{new_mark, with_own_marks}
+use Rattle.command_parts.specs.Settings.{history_under, is_behind}
+use Rattle.command_parts.specs.declared.settings.Settings.{Settings}
+use Rattle.documents.specs.Documents.{Document, Journal, Parts, Widget, characters, document_of, mark_of, placed, whole, widget_of}
+use Rattle.documents.specs.Kept.{HasOwnMarks, IsSeated, IsSound, Stands, is_window_name}
+use Rattle.documents.specs.Options.{AreLines, anchor_at}
+use Rattle.documents.specs.Seats.{IsLonger}
+use Rattle.documents.specs.WellFormed.{IsWellFormedDocument}
+use Rattle.documents.specs.Widgets.{new_widget, with_peer}
+use Rattle.documents.proofs.JournalLaws.{fits-under, orderly-under, with_kept}
+use Rattle.documents.proofs.KeyedLaws.{keyed-seated}
+use Rattle.documents.proofs.KnownLaws.{known-seated}
+use Rattle.documents.proofs.MarkLaws.{get-put, get-put_other, mark_of-put, mark_of-put_other, own-put, shared-alike, stand-put}
+use Rattle.documents.proofs.PartsLaws.{characters-kept, characters-keyed, marks-kept, pairs_of, tags-kept}
+use Rattle.documents.proofs.PlacedLaws.{marked-alike, placed-alike}
+use Rattle.documents.proofs.SlotLaws.{AreSeats-names}
+use Rattle.documents.proofs.WellFormedLaws.{IsWellFormedDocument-kept, fits-kept}
+use Rattle.documents.proofs.WidgetLaws.{journal_set, line_anchor, lines-anchored}
+
+-- what became of the fields
+pub record IsSeatMade (old : Parts) (before after : Kept) (name : List ℕ) (slot : ℕ) (settings : Settings) (seats : Names) (disabled : List Bool) (anchors : List Anchors) (own : Anchors) (content : Content) : Type 0 where
+  pub named : is_window_name name ≡ true
+  pub sound : AreNames seats
+  pub seats_is : seats ≡ record old.seats { entries = old.seats.entries ++ record { name = name; number = slot } ∷ [] }
+  pub fresh : IsLeastFree (numbers_of old.seats.entries) slot
+  pub below : slot < MOST_WIDGETS
+  pub disabled_longer : IsLonger false old.journal.disabled disabled
+  pub anchors_longer : IsLonger whole old.journal.anchors anchors
+  pub flagged : slot < length disabled
+  pub anchored : slot < length anchors
+  pub own_is : own ≡ record { start = line_anchor (model.characters old.content.cells) settings.start; end = line_anchor (model.characters old.content.cells) settings.end }
+  pub content_is : content ≡ with_own_marks slot (record new_mark { offset = unwrap_or own.start 0 }) old.content
+  pub history : after.history ≡ history_under settings.document before.history
+  pub modified : after.modified ≡ before.modified
+  pub most : after.most ≡ limit_of settings.document.most_undo
+
+-- ---- lists that are longer
+
+longer-at : {A : Type 0} (value : A) (old new : List A) (at : ℕ) (d : A) → IsLonger value old new → at < length old → get_or new at d ≡ get_or old at d
+longer-at value [] new at d longer within = absurd (omega (arith, within))
+longer-at value (x ∷ old) new zero d longer within = ap (λ xs. get_or xs 0 d) longer.1
+longer-at value (x ∷ old) new (suc at) d longer within =
+    ap (λ xs. get_or xs (suc at) d) longer.1 ∙ longer-at value old (old ++ replicate longer.0 value) at d (longer.0, refl) (omega (arith, within))
+
+longer-length : {A : Type 0} (value : A) (old new : List A) → IsLonger value old new → length old ≤ length new
+longer-length value old new longer = (let counted = ap length longer.1 ∙ length-append old (replicate longer.0 value) in omega (arith, counted))
+
+longer-all : (P : Anchors → Type 0) (value : Anchors) (old new : List Anchors) → IsLonger value old new → P value → All P old → All P new
+longer-all P value old new longer one all = subst (All P) (sym longer.1) (All-append P old (replicate longer.0 value) all (All-replicate P longer.0 value one))
+
+all-append : (P : Named → Type 0) (xs ys : List Named) → AllByRecursion P xs → AllByRecursion P ys → AllByRecursion P (xs ++ ys)
+all-append P [] ys left right = right
+all-append P (x ∷ xs) ys left right = (left.0, all-append P xs ys left.1 right)
+
+-- ---- the others stay as they are
+
+-- a number that stands among some isn't a free one
+free-apart : (seats : List Named) (slot : ℕ) → ¬ Contains (numbers_of seats) slot → AllByRecursion (λ (seat : Named). seat.number ≢ slot) seats
+free-apart [] slot free = tt
+free-apart (seat ∷ seats) slot free = (λ same. free (inl same), free-apart seats slot (λ there. free (inr there)))
+
+same-marks : (places : Marks) (slot : ℕ) (mark : Place) (number : ℕ) → number ≢ 2 * slot → number ≢ 2 * slot + 1
+    → mark_of (finite.insert (finite.insert places (2 * slot) mark) (2 * slot + 1) mark) number ≡ mark_of places number
+same-marks places slot mark number one two = mark_of-put_other (finite.insert places (2 * slot) mark) (2 * slot + 1) mark number two ∙ mark_of-put_other places (2 * slot) mark number one
+
+same-widget : (old new : Journal) (places : Marks) (slot : ℕ) (mark : Place) (seat : Named) → seat.number ≢ slot
+    → get_or new.anchors seat.number whole ≡ get_or old.anchors seat.number whole → get_or new.disabled seat.number false ≡ get_or old.disabled seat.number false
+    → widget_of new (finite.insert (finite.insert places (2 * slot) mark) (2 * slot + 1) mark) seat ≡ widget_of old places seat
+same-widget old new places slot mark seat apart anchors disabled =
+    let insert = same-marks places slot mark (2 * seat.number) (λ same. apart (omega (arith, same))) (λ same. omega (arith, same)) in
+    let current = same-marks places slot mark (2 * seat.number + 1) (λ same. omega (arith, same)) (λ same. apart (omega (arith, same))) in
+    λ i. record (widget_of old places seat) { start = (anchors i).start; end = (anchors i).end; disabled = disabled i; insert = insert i; current = current i }
+
+same-widgets : (old : Journal) (places : Marks) (slot : ℕ) (mark : Place) (disabled : List Bool) (anchors : List Anchors) (settings : Settings) (own : Anchors) (kept : Kept) (seats : List Named)
+    → IsLonger false old.disabled disabled → IsLonger whole old.anchors anchors → AllByRecursion (λ (seat : Named). seat.number ≢ slot) seats → AllByRecursion (IsSeated old.anchors old.disabled) seats
+    → map (widget_of (journal_set (record old { disabled = disabled; anchors = anchors }) slot settings own kept) (finite.insert (finite.insert places (2 * slot) mark) (2 * slot + 1) mark)) seats
+    ≡ map (widget_of old places) seats
+same-widgets old places slot mark disabled anchors settings own kept [] flags longer apart seated = refl
+same-widgets old places slot mark disabled anchors settings own kept (seat ∷ seats) flags longer apart seated =
+    let new = journal_set (record old { disabled = disabled; anchors = anchors }) slot settings own kept in
+    let there = get_or-set_other anchors slot seat.number own whole apart.0 ∙ longer-at whole old.anchors anchors seat.number whole longer seated.0.anchored in
+    let flag = get_or-set_other disabled slot seat.number settings.disabled false apart.0 ∙ longer-at false old.disabled disabled seat.number false flags seated.0.flagged in
+    ap₂ (λ (w : Widget) ws. w ∷ ws) (same-widget old new places slot mark seat apart.0 there flag)
+    (same-widgets old places slot mark disabled anchors settings own kept seats flags longer apart.1 seated.1)
+
+seated-longer : (old : Journal) (disabled : List Bool) (anchors : List Anchors) (slot : ℕ) (flag : Bool) (own : Anchors) (seats : List Named) → IsLonger false old.disabled disabled → IsLonger whole old.anchors anchors
+    → AllByRecursion (IsSeated old.anchors old.disabled) seats → AllByRecursion (IsSeated (set anchors slot own) (set disabled slot flag)) seats
+seated-longer old disabled anchors slot flag own [] flags longer seated = tt
+seated-longer old disabled anchors slot flag own (seat ∷ seats) flags longer seated =
+    let one = seated.0.anchored in
+    let two = seated.0.flagged in
+    let more = longer-length whole old.anchors anchors longer in
+    let most = longer-length false old.disabled disabled flags in
+    (record { anchored = omega (arith, one, more, length-set anchors slot own); flagged = omega (arith, two, most, length-set disabled slot flag) }, seated-longer old disabled anchors slot flag own seats flags longer seated.1)
+
+-- ---- all of it
+
+abbrev seated_parts : Parts → Kept → List ℕ → ℕ → Settings → List Bool → List Anchors → Anchors → Parts
+seated_parts old after name slot settings disabled anchors own = record {
+  seats = record old.seats { entries = old.seats.entries ++ record { name = name; number = slot } ∷ [] };
+  tags = old.tags;
+  marks = old.marks;
+  journal = journal_set (record old.journal { disabled = disabled; anchors = anchors }) slot settings own after;
+  content = with_own_marks slot (record new_mark { offset = unwrap_or own.start 0 }) old.content;
+}
+
+-- what holds of a document at any time holds then, the widgets are those before and one more
+seated-sound : (old : Parts) (before after : Kept) (document : Document) (name : List ℕ) (slot : ℕ) (settings : Settings) (seats : Names) (disabled : List Bool) (anchors : List Anchors) (own : Anchors) (content : Content)
+    → Stands (with_kept old before) document → AreLines (lines (characters document.cells)) settings → is_behind settings.start settings.end ≡ false
+    → IsSeatMade old before after name slot settings seats disabled anchors own content → IsSound (seated_parts old after name slot settings disabled anchors own)
+seated-sound old before after document name slot settings seats disabled anchors own content stands are ordered made =
+    let new : Parts = seated_parts old after name slot settings disabled anchors own in
+    let text = model.characters old.content.cells in
+    let mark : Place = record new_mark { offset = unwrap_or own.start 0 } in
+    let seat : Named = record { name = name; number = slot } in
+    let one = finite.insert old.content.marks (2 * slot) mark in
+    let less = made.below in
+    let low : 2 * slot < first_number = omega (arith, less) in
+    let low_too : 2 * slot + 1 < first_number = omega (arith, less) in
+    let sound : AreNames new.seats = subst AreNames made.seats_is made.sound in
+    let limit = stands.sound.kept.slots in
+    let seated = AreSeats-names new.seats sound (omega (arith, limit)) in
+    let stand : AreAnchored text own =
+    subst (AreAnchored text) (sym made.own_is) (lines-anchored text settings (subst (λ t. AreLines (lines t) settings) (characters-kept (with_kept old before) document stands.is) are) ordered) in
+    let within : mark.offset ≤ length old.content.cells = ? in
+    let marked = stands.sound.marked in
+    let first = marked-alike one old.content.marks old.marks.marks (shared-alike old.marks old.content.marks (2 * slot) mark marked.marks low) marked.each in
+    let both = marked-alike (finite.insert one (2 * slot + 1) mark) one old.marks.marks (shared-alike old.marks one (2 * slot + 1) mark marked.marks low_too) first in
+    let insert : is_some (finite.get (finite.insert one (2 * slot + 1) mark) (2 * slot)) ≡ true =
+    ap is_some (get-put_other one (2 * slot + 1) mark (2 * slot) (λ same. omega (arith, same)) ∙ get-put old.content.marks (2 * slot) mark) in
+    let current : is_some (finite.get (finite.insert one (2 * slot + 1) mark) (2 * slot + 1)) ≡ true = ap is_some (get-put one (2 * slot + 1) mark) in
+    record {
+      kept = record {
+        seats = seated;
+        slots = limit;
+        named = all-append (λ (s : Named). is_window_name s.name ≡ true) old.seats.entries (seat ∷ []) stands.sound.kept.named (made.named, tt);
+        text = stands.sound.kept.text;
+        short = stands.sound.kept.short;
+        marks = stand-put (record old.content { marks = one }) (2 * slot + 1) mark (stand-put old.content (2 * slot) mark stands.sound.kept.marks within) within;
+        own = all-append (HasOwnMarks new.content.marks) old.seats.entries (seat ∷ []) (own-put one (2 * slot + 1) mark old.seats.entries (own-put old.content.marks (2 * slot) mark old.seats.entries stands.sound.kept.own))
+            (record { insert = insert; current = current }, tt);
+        known = known-seated old.seats.entries (seat ∷ []) old.tags stands.sound.kept.seats stands.sound.kept.tags old.content.cells stands.sound.kept.known;
+        tags = stands.sound.kept.tags;
+        roomy = stands.sound.kept.roomy;
+      };
+      marked = record { marks = marked.marks; roomy = marked.roomy; each = both };
+      orderly = orderly-under settings.document new.journal before after made.history made.most;
+      views = record {
+        anchored = All-set (AreAnchored text) anchors slot own stand
+            (longer-all (AreAnchored text) whole old.journal.anchors anchors made.anchors_longer (record { start = tt; end = tt; ordered = omega arith }) stands.sound.views.anchored);
+        seated = all-append (IsSeated new.journal.anchors new.journal.disabled) old.seats.entries (seat ∷ [])
+            (seated-longer old.journal disabled anchors slot settings.disabled own old.seats.entries made.disabled_longer made.anchors_longer stands.sound.views.seated)
+            ((let a = made.anchored in let f = made.flagged in record { anchored = omega (arith, a, length-set anchors slot own); flagged = omega (arith, f, length-set disabled slot settings.disabled) }), tt);
+      };
+    }

@@ -1,0 +1,95 @@
+-- A document after its tags are put in another order or deleted.
+use Rattle.std.proofs.Common.{◌≡◌, ℕ, ◌≤◌, Bool, true, false, List, [], ◌∷◌, Option, Err, Ok, cond, filter, length, map, refl, sym, ap, ap₂, subst, ◌∙◌, arith}
+use Rattle.std.proofs.lemmas.List.{length-map}
+use Rattle.text_model.proofs.SpliceLaws.{map-map}
+use Rattle.tag_table.specs.declared.faults.NoSuchTag as table_fault
+use Rattle.tag_table.specs.Tags.{AreTags, Tag, Tags, names_of}
+use Rattle.text_model.specs.declared.cells.Cell.{Cell}
+use Rattle.text_model.specs.Content.{Content, characters}
+use Rattle.text_model.specs.LimitTable.{LimitTable}
+use Rattle.edit_ops.specs.States.{Log}
+use Rattle.edit_ops.specs.Tagging.{cell_without, cleared}
+use Rattle.command_parts.specs.declared.answers.Answer.TheVariants.{Empty}
+use Rattle.command_parts.specs.declared.answers.Fault.TheVariants.{NoSuchTag}
+use Rattle.command_parts.specs.Tagging.{slots_deleted, tags_left, stays}
+use Rattle.documents.specs.Documents.{Document, Parts, document_of}
+use Rattle.documents.specs.Kept.{Stands}
+use Rattle.documents.specs.Promise.{Change, Does, answered}
+use Rattle.documents.specs.Tags.{reordered, tag_delete, without_tags}
+use Rattle.documents.proofs.ChangeLaws.{Leaves, does-left, stands-same}
+use Rattle.documents.proofs.ClearedLaws.{keyed-deleted, known-deleted, names_left}
+use Rattle.documents.proofs.KeyedLaws.{keyed-reordered}
+use Rattle.documents.proofs.KnownLaws.{known-reordered}
+use Rattle.documents.proofs.OrderLaws.{IsOrdered, Order}
+use Rattle.documents.proofs.PartsLaws.{pairs_of}
+use Rattle.documents.proofs.ReorderLaws.{IsUnknown, reordered-made, reordered-unknown, unknown_at}
+use Rattle.documents.proofs.TableLaws.{leaves-relogged, leaves-retagged, relogged, retagged, retagged-is}
+
+-- ---- another order
+
+pub leaves-ordered : (limits : LimitTable) (old : Parts) (new : Tags) (document : Document) (at : ℕ) (order : Order) (word : List ℕ) (other : Option (List ℕ)) → Stands old document
+    → IsOrdered order word other old.tags.tags new.tags → AreTags new → new.limit ≡ old.tags.limit → length (order (names_of old.tags.tags) word other) ≡ length (names_of old.tags.tags)
+    → Leaves limits (record old { tags = new }) document (Ok Empty) (reordered document at order (word, other))
+leaves-ordered limits old new document at order word other stands ordered sound limit many =
+    let seats = old.seats.entries in
+    let kept = stands.sound.kept in
+    let cells = keyed-reordered seats old.tags.tags new.tags old.content.cells kept.seats.names_apart kept.tags.names_apart sound.names_apart ordered.slots in
+    let tags : document.tags ≡ names_of old.tags.tags = ap (λ (d : Document). d.tags) (sym stands.is) in
+    let count : length new.tags ≡ length old.tags.tags = sym (length-map new.tags (λ (tag : Tag). tag.name)) ∙ ap length ordered.names ∙ many ∙ length-map old.tags.tags (λ (tag : Tag). tag.name) in
+    let whole = retagged-is old new old.content (document_of old).cells refl cells ∙ ap (λ (d : Document). record d { tags = names_of new.tags }) stands.is in
+    leaves-retagged limits old new old.content document (reordered document at order (word, other)) stands
+    (record { tags = sound; limit = limit; known = known-reordered seats old.tags new.tags kept.seats kept.tags ordered.slots old.content.cells kept.known; marks = refl; same = refl })
+    (λ few. omega (arith, count, few)) (reordered-made document at order word other old.tags.tags new.tags tags ordered ∙ ap (λ (d : Document). answered d Empty) (sym whole))
+
+-- one that isn't known
+pub does-unordered : (limits : LimitTable) (old : Parts) (new : Tags) (document : Document) (at : ℕ) (order : Order) (word : List ℕ) (other : Option (List ℕ)) (fault : table_fault.NoSuchTag) → Stands old document
+    → new ≡ old.tags → IsUnknown word other old.tags.tags fault
+    → Leaves limits (record old { tags = new }) document (Err (NoSuchTag (unknown_at at fault))) (reordered document at order (word, other))
+does-unordered limits old new document at order word other fault stands same unknown =
+    let left = stands-same old (record old { tags = new }) document stands (ap (λ (t : Tags). record old { tags = t }) same) in
+    let tags : document.tags ≡ names_of old.tags.tags = ap (λ (d : Document). d.tags) (sym stands.is) in
+    record {
+      sound = left.sound;
+      does = does-left limits document (document_of (record old { tags = new })) (NoSuchTag (unknown_at at fault)) (reordered document at order (word, other)) left.is
+          (λ _. reordered-unknown document at order word other old.tags.tags fault tags unknown);
+    }
+
+-- ---- tags that are deleted
+
+filter-shorter : {A : Type 0} (p : A → Bool) (xs : List A) → length (filter p xs) ≤ length xs
+filter-shorter p [] = omega arith
+filter-shorter p (x ∷ xs) =
+    let rest = filter-shorter p xs in
+    elim (p x) as (λ b. length (cond b (x ∷ filter p xs) (filter p xs)) ≤ length (x ∷ xs)) [
+      | true ↦ omega (arith, rest)
+      | false ↦ omega (arith, rest)
+    ]
+
+pub leaves-deleted : (limits : LimitTable) (old : Parts) (new : Tags) (content : Content) (log : Log) (document : Document) (names : List (List ℕ)) (slots : List ℕ) → Stands old document → AreTags new
+    → new ≡ record old.tags { tags = tags_left names old.tags.tags } → slots ≡ slots_deleted old.tags.tags names → content ≡ cleared slots old.content → log ≡ old.journal.log
+    → Leaves limits (relogged (retagged old new content) log) document (Ok Empty) (tag_delete document names)
+leaves-deleted limits old new content log document names slots stands sound table gone clear same =
+    let seats = old.seats.entries in
+    let kept = stands.sound.kept in
+    let left : Tags = record old.tags { tags = tags_left names old.tags.tags } in
+    let store : Content = cleared (slots_deleted old.tags.tags names) old.content in
+    let content_is : content ≡ store = clear ∙ ap (λ ss. cleared ss old.content) gone in
+    let lone : Document = document_of old in
+    let cells = keyed-deleted seats old.tags names old.content.cells kept.seats kept.tags in
+    let with_left : Document → Document = λ document. record document { tags = filter (stays names) document.tags; cells = map (without_tags names) document.cells } in
+    let made : document_of (retagged old left store) ≡ with_left lone =
+    retagged-is old left store (map (without_tags names) lone.cells) refl cells
+    ∙ ap (λ ts. record lone { tags = ts; cells = map (without_tags names) lone.cells }) (names_left names old.tags.tags) in
+    let whole = made ∙ ap with_left stands.is in
+    let count : length left.tags ≤ length old.tags.tags = filter-shorter (λ (tag : Tag). stays names tag.name) old.tags.tags in
+    let done = leaves-retagged limits old left store document (tag_delete document names) stands
+    (record {
+      tags = subst AreTags table sound;
+      limit = refl;
+      known = known-deleted seats old.tags names old.content.cells kept.seats kept.tags kept.known;
+      marks = refl;
+      same = map-map (λ (cell : Cell). cell.character) (cell_without (slots_deleted old.tags.tags names)) old.content.cells;
+    })
+    (λ few. omega (arith, count, few)) (ap (λ (d : Document). answered d Empty) (sym whole)) in
+    leaves-relogged limits (retagged old new content) log document (tag_delete document names) same
+    (subst (λ (p : Parts). Leaves limits p document (Ok Empty) (tag_delete document names)) (λ i. retagged old (sym table i) (sym content_is i)) done)

@@ -1,0 +1,98 @@
+use Rattle.std.proofs.Common.{◌≡◌, ℕ, true, length, sym, subst, ap, ◌∙◌}
+use Rattle.std.specs.Prelude.{chars, take}
+use Rattle.std.specs.List.{All}
+use Rattle.index_grammar.specs.Names.{known_tags}
+use Rattle.tag_table.specs.Tags.{sel, slot_of}
+use Rattle.edit_ops.specs.States.{log_of}
+use Rattle.edit_ops.specs.Tagging.{SpanFits, tagged}
+use Rattle.documents.specs.Documents.{document_of, parts_of, widget_at}
+use Rattle.documents.specs.Kept.{Stands}
+use Rattle.documents.specs.Promise.{refused}
+use Rattle.documents.specs.Tags.{add_spans}
+use Rattle.documents.proofs.ChangeLaws.{does-left, stands-same, table-back}
+use Rattle.documents.proofs.PartsLaws.{cells-kept, sits}
+use Rattle.documents.proofs.SpanLaws.{IsTagged, added-left, found_by, leaves-added}
+use Rattle.documents.proofs.TableLaws.{relogged, retagged}
+use Rattle.documents.proofs.documents.Document.add_spans.Goals as goal
+
+pub tag_spans-tagged-requires-clause-spans : goal.tag_spans-tagged-requires-clause-spans
+tag_spans-tagged-requires-clause-spans g c =
+    let old = c.self.inside in
+    let document = c.args.self.now in
+    let parts = parts_of old.seats old.tags old.marks old.settings old.disabled.items old.anchors.items old.history (g.S.TextStore.content old.store) in
+    let stands : Stands parts document = record { sound = c.self.invariant; is = c.self.view_is } in
+    subst (λ (n : ℕ). All (SpanFits n) c.deref.result.now) (cells-kept parts document stands.is) (subst (All (SpanFits (length document.cells))) (sym c.deref.ensures.value) c.in_ok-spans.ensures.fit)
+
+pub truncate-requires : goal.truncate-requires
+truncate-requires g c =
+    ap (λ n. slot_of sel (take n c.tag_spans-tagged.new.tags.tags)) c.len-front.ensures.value ∙ ap (slot_of sel) c.in-Err.ensures.front.tags ∙ c.len-front.ensures.sound.selection
+
+pub invariant_of-self : goal.invariant_of-self
+invariant_of-self g c =
+    let old = c.self.inside in
+    let document = c.args.self.now in
+    let parts = parts_of old.seats old.tags old.marks old.settings old.disabled.items old.anchors.items old.history (g.S.TextStore.content old.store) in
+    let stands : Stands parts document = record { sound = c.self.invariant; is = c.self.view_is } in
+    let new = c.tag_spans-tagged.new in
+    let word = chars c.args.name.now in
+    let given = c.deref.result.now in
+    let spans : given ≡ c.in_ok-spans.spans.items = c.deref.ensures.value in
+    let widget = c.number-number.result in
+    let seat = sits parts document c.args.widget widget stands c.number-number.ensures.value in
+    let content = g.S.TextStore.content new.store in
+    let fit = subst (λ (n : ℕ). All (SpanFits n) given) (cells-kept parts document stands.is) (subst (All (SpanFits (length document.cells))) (sym spans) c.in_ok-spans.ensures.fit) in
+    let found = found_by (λ slot. tagged slot true given parts.content) (known_tags new.tags.tags widget word) content c.in-Ok.ensures.ok in
+    let made : IsTagged parts new.tags content widget word true given = record { slot = found.0; front = c.in-Ok.ensures.front; sound = c.in-Ok.ensures.sound; is = found.1; fit = fit; content_is = found.2 } in
+    let leaves = leaves-added c.args.limits.now parts new.tags content (log_of new.history) document c.args.widget widget word c.args.places.now given stands seat made c.in-Ok.ensures.log
+    (spans ∙ c.in_ok-spans.ensures.value) c.in-Ok.ensures.made c.in-Ok.ensures.room in
+    leaves.sound
+
+pub returns-in-Ok : goal.returns-in-Ok
+returns-in-Ok g c =
+    let old = c.self.inside in
+    let document = c.args.self.now in
+    let parts = parts_of old.seats old.tags old.marks old.settings old.disabled.items old.anchors.items old.history (g.S.TextStore.content old.store) in
+    let stands : Stands parts document = record { sound = c.self.invariant; is = c.self.view_is } in
+    let new = c.tag_spans-tagged.new in
+    let word = chars c.args.name.now in
+    let given = c.deref.result.now in
+    let spans : given ≡ c.in_ok-spans.spans.items = c.deref.ensures.value in
+    let widget = c.number-number.result in
+    let seat = sits parts document c.args.widget widget stands c.number-number.ensures.value in
+    let content = g.S.TextStore.content new.store in
+    let fit = subst (λ (n : ℕ). All (SpanFits n) given) (cells-kept parts document stands.is) (subst (All (SpanFits (length document.cells))) (sym spans) c.in_ok-spans.ensures.fit) in
+    let found = found_by (λ slot. tagged slot true given parts.content) (known_tags new.tags.tags widget word) content c.in-Ok.ensures.ok in
+    let made : IsTagged parts new.tags content widget word true given = record { slot = found.0; front = c.in-Ok.ensures.front; sound = c.in-Ok.ensures.sound; is = found.1; fit = fit; content_is = found.2 } in
+    let leaves = leaves-added c.args.limits.now parts new.tags content (log_of new.history) document c.args.widget widget word c.args.places.now given stands seat made c.in-Ok.ensures.log
+    (spans ∙ c.in_ok-spans.ensures.value) c.in-Ok.ensures.made c.in-Ok.ensures.room in
+    leaves.does
+
+pub invariant_of-self-in-Err : goal.invariant_of-self-in-Err
+invariant_of-self-in-Err g c =
+    let old = c.self.inside in
+    let document = c.args.self.now in
+    let parts = parts_of old.seats old.tags old.marks old.settings old.disabled.items old.anchors.items old.history (g.S.TextStore.content old.store) in
+    let stands : Stands parts document = record { sound = c.self.invariant; is = c.self.view_is } in
+    let new = c.tag_spans-tagged.new in
+    let content = g.S.TextStore.content new.store in
+    let tags = table-back old.tags new.tags c.truncate.new.self c.len-front.result c.len-front.ensures.value c.in-Err.ensures.front c.truncate.ensures in
+    let same : relogged (retagged parts c.truncate.new.self content) (log_of new.history) ≡ parts = λ i. relogged (retagged parts (tags i) (c.in-Err.ensures.err i)) (c.in-Err.ensures.log i) in
+    let left = stands-same parts (relogged (retagged parts c.truncate.new.self content) (log_of new.history)) document stands same in
+    left.sound
+
+pub returns : goal.returns
+returns g c =
+    let old = c.self.inside in
+    let document = c.args.self.now in
+    let parts = parts_of old.seats old.tags old.marks old.settings old.disabled.items old.anchors.items old.history (g.S.TextStore.content old.store) in
+    let stands : Stands parts document = record { sound = c.self.invariant; is = c.self.view_is } in
+    let new = c.tag_spans-tagged.new in
+    let content = g.S.TextStore.content new.store in
+    let tags = table-back old.tags new.tags c.truncate.new.self c.len-front.result c.len-front.ensures.value c.in-Err.ensures.front c.truncate.ensures in
+    let same : relogged (retagged parts c.truncate.new.self content) (log_of new.history) ≡ parts = λ i. relogged (retagged parts (tags i) (c.in-Err.ensures.err i)) (c.in-Err.ensures.log i) in
+    let left = stands-same parts (relogged (retagged parts c.truncate.new.self content) (log_of new.history)) document stands same in
+    does-left c.args.limits.now document (document_of (relogged (retagged parts c.truncate.new.self content) (log_of new.history))) c.in-Err.fault
+    (add_spans c.args.limits.now document (widget_at document c.args.widget) (chars c.args.name.now) c.args.places.now) left.is
+    (λ other.
+    let fault = c.in-Err.ensures.fault other in
+    added-left c.args.limits.now parts document c.args.widget (chars c.args.name.now) c.args.places.now stands fault.1 ∙ ap (refused document) (sym fault.0))

@@ -1,0 +1,22 @@
+use Rattle.std.proofs.Common.{◌∷◌, ap, ◌∙◌, subst}
+use Rattle.std.specs.Prelude.{string_bytes}
+use Rattle.std.proofs.lemmas.Str.{IsUtf8-string_bytes}
+use Rattle.mark_table.specs.SharedMarks.{names_of}
+use Rattle.tcl_words.specs.ListGrowth.{Goes}
+use Rattle.tcl_words.specs.ListText.{list_text}
+use Rattle.command_parts.specs.Words.{literal}
+use Rattle.documents.specs.Documents.{parts_of}
+use Rattle.documents.specs.Kept.{Stands}
+use Rattle.documents.proofs.ListedLaws.{marks-listed, written}
+use Rattle.documents.proofs.documents.Document.all_marks.Goals as goal
+
+pub returns : goal.returns
+returns g c =
+    let old = c.self.inside in
+    let document = c.args.self.now in
+    let parts = parts_of old.seats old.tags old.marks old.settings old.disabled.items old.anchors.items old.history (g.S.TextStore.content old.store) in
+    let stands : Stands parts document = record { sound = c.self.invariant; is = c.self.view_is } in
+    let names = literal "insert" ∷ literal "current" ∷ names_of parts.marks.marks in
+    let new = c.push_mark_names.new.list in
+    c.new.ensures ∙ written (string_bytes new) names (IsUtf8-string_bytes new) (subst (λ bytes. Goes bytes (string_bytes new) names) c.new-list.ensures.bytes c.in_ok-push_mark_names.ensures)
+    ∙ ap list_text (marks-listed parts document stands)

@@ -1,0 +1,21 @@
+use Rattle.std.proofs.Common.{ap, ◌∙◌, subst}
+use Rattle.std.specs.Prelude.{string_bytes}
+use Rattle.std.proofs.lemmas.Str.{IsUtf8-string_bytes}
+use Rattle.tag_table.specs.Tags.{names_of}
+use Rattle.tcl_words.specs.ListGrowth.{Goes}
+use Rattle.tcl_words.specs.ListText.{list_text}
+use Rattle.documents.specs.Documents.{parts_of}
+use Rattle.documents.specs.Kept.{Stands}
+use Rattle.documents.proofs.ListedLaws.{tags-listed, written}
+use Rattle.documents.proofs.documents.Document.all_tags.Goals as goal
+
+pub returns : goal.returns
+returns g c =
+    let old = c.self.inside in
+    let document = c.args.self.now in
+    let parts = parts_of old.seats old.tags old.marks old.settings old.disabled.items old.anchors.items old.history (g.S.TextStore.content old.store) in
+    let stands : Stands parts document = record { sound = c.self.invariant; is = c.self.view_is } in
+    let names = names_of parts.tags.tags in
+    let new = c.push_names.new.list in
+    c.new.ensures ∙ written (string_bytes new) names (IsUtf8-string_bytes new) (subst (λ bytes. Goes bytes (string_bytes new) names) c.new-list.ensures.bytes c.in_ok-push_names.ensures)
+    ∙ ap list_text (tags-listed parts document stands)

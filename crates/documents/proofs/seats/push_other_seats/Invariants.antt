@@ -1,0 +1,8 @@
+use Rattle.std.specs.Prelude.{chars, filter, not, string_bytes, take}
+use Rattle.name_list.specs.Names.{names_of}
+use Rattle.command_parts.specs.Words.{is_same}
+use Rattle.tcl_words.specs.ListGrowth.{Goes}
+use Rattle.documents.proofs.seats.push_other_seats.Given as goal
+
+abbrev pub invariant-loop-place : goal.invariant-loop-place
+invariant-loop-place l = Goes (string_bytes l.fn.list) (string_bytes l.list) (filter (λ other. not (is_same other (chars l.name))) (take l.place (names_of l.seats.entries)))
