@@ -6,7 +6,6 @@ use Rattle.mark_table.specs.SharedMarks.{names_of as mark_names_of, numbers_of}
 use Rattle.mark_table.specs.declared.order.Shown.{Shown}
 use Rattle.tag_table.specs.Tags.{Tag, names_of}
 use Rattle.text_index.specs.Ranges.{tag_ranges}
-use Rattle.text_index.specs.Views as view
 use Rattle.text_model.specs.Content.{Content}
 use Rattle.text_model.proofs.SpliceLaws.{map-alike, map-map}
 use Rattle.search_dump.specs.Dump as dump
@@ -17,7 +16,7 @@ use Rattle.documents.specs.Keys.{key_named}
 use Rattle.documents.specs.Kept.{Stands}
 use Rattle.documents.specs.Marks.{mark_names, usable_marks}
 use Rattle.documents.specs.Queries.{mark_seen, seen, tag_seen}
-use Rattle.documents.specs.View.{shown, shown_flags}
+use Rattle.documents.specs.View.{shown_flags}
 use Rattle.documents.proofs.MarkOrderLaws.{shifted, usable-is}
 use Rattle.documents.proofs.MeaningLaws.{current_bytes, insert_bytes, name-is}
 use Rattle.documents.proofs.PartsLaws.{Sits}

@@ -149,7 +149,7 @@ impl<S: TextStore> Document<S> {
         Ok(Text::new(String::from_str(self.alloc, name)?))
     }
 
-    /// The mark behind another one in the order of marks, or the first at or behind a place.
+    /// The mark behind another one in the order of marks, or the first at or behind a place of the view.
     pub fn next_mark(&self, widget: usize, origin: Origin) -> Option<WidgetMark>
         requires shown { widget < length self.now.widgets }
         ensures { result ≡ next_mark origin (usable_marks self.now (widget_at self.now widget)) }
@@ -158,7 +158,7 @@ impl<S: TextStore> Document<S> {
         self.marks.next(&self.store, view, origin_in(view.start, origin))
     }
 
-    /// The mark before another one in the order of marks, or the last before a place.
+    /// The mark before another one in the order of marks, or the last before a place of the view.
     pub fn previous_mark(&self, widget: usize, origin: Origin) -> Option<WidgetMark>
         requires shown { widget < length self.now.widgets }
         ensures { result ≡ previous_mark origin (usable_marks self.now (widget_at self.now widget)) }

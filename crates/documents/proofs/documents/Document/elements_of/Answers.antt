@@ -1,4 +1,4 @@
-use Rattle.std.proofs.Common.{◌+◌, ◌<◌, ◌≤◌, length, ap, ◌∙◌, arith}
+use Rattle.std.proofs.Common.{length, ap, ◌∙◌, arith}
 use Rattle.tcl_words.specs.ListText.{list_text}
 use Rattle.search_dump.specs.Dump.{dump_elements, seen_by}
 use Rattle.documents.specs.Documents.{parts_of}

@@ -1,10 +1,6 @@
-use Rattle.std.proofs.Common.{ℕ, ◌<◌, length, refl, ap, ◌∙◌, arith}
-use Rattle.mark_table.specs.Order.{next_mark, usable}
-use Rattle.mark_table.specs.SharedMarks.{numbers_of}
-use Rattle.mark_table.specs.declared.order.MarkView.{MarkView}
-use Rattle.documents.specs.Documents.{parts_of, widget_at}
+use Rattle.std.proofs.Common.{length, ap, arith}
+use Rattle.documents.specs.Documents.{parts_of}
 use Rattle.documents.specs.Kept.{Stands}
-use Rattle.documents.specs.Marks.{usable_marks}
 use Rattle.documents.proofs.MarkOrderLaws.{next-found}
 use Rattle.documents.proofs.PartsLaws.{sits}
 use Rattle.documents.proofs.documents.Document.next_mark.Goals as goal
