@@ -1,5 +1,6 @@
 pub mod ArgumentLaws
 pub mod GotLaws
 pub mod NameLaws
+pub mod PlaceLaws
 pub mod PromiseLaws
 pub mod SwitchLaws

@@ -4,7 +4,7 @@ use Rattle.std.proofs.lemmas.List.Elements.{All-append, All-cons, All-nil}
 use Rattle.documents.specs.Indices.{place_at}
 use Rattle.documents.specs.View.{shown}
 use Rattle.documents.specs.Documents.{widget_at}
-use Rattle.documents.proofs.PlaceLaws.{found-more, found-fault}
+use Rattle.peers.proofs.PlaceLaws.{found-more, found-fault}
 use Rattle.peers.proofs.PromiseLaws.{fault-defined, value-defined}
 use Rattle.peers.proofs.ranges.places_at.Goals as goal
 
