@@ -4,3 +4,4 @@ pub mod NameLaws
 pub mod PlaceLaws
 pub mod PromiseLaws
 pub mod SwitchLaws
+pub mod WorldLaws
