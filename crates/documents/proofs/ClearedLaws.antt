@@ -1,5 +1,5 @@
 -- Slots that are taken off all cells with their keys: those of tags that are deleted, and of seats that are given up.
-use Rattle.std.proofs.Common.{◌≡◌, ◌≢◌, ℕ, zero, suc, Bool, true, false, cond, not, ◌||◌, List, [], ◌∷◌, Option, None, Some, filter, map, slice_get, refl, sym, ap, ap₂, subst, ◌∙◌, true≢false, arith, eqb-true, eq-eqb, ne_eqb}
+use Rattle.std.proofs.Common.{◌≡◌, ◌≢◌, ℕ, zero, suc, Bool, true, false, cond, not, ◌<◌, ◌||◌, List, [], ◌∷◌, Option, None, Some, filter, map, slice_get, refl, sym, ap, ap₂, subst, ◌∙◌, true≢false, arith, eqb-true, eq-eqb, ne_eqb}
 use Rattle.std.specs.Prelude.{remove, bytes_eq, option_map, ◌==◌, if◌then◌else◌}
 use Rattle.std.specs.Cmp.{both_ways}
 use Rattle.std.specs.List.{All, cons_option}
@@ -10,6 +10,7 @@ use Rattle.name_list.specs.Names.{Named, numbers_of}
 use Rattle.name_list.proofs.ListLaws.{Stands, stands_map, stood_at}
 use Rattle.tag_table.specs.Tags.{AreTags, Tag, Tags, names_of as tag_names, sel, slot_of}
 use Rattle.text_model.specs.declared.cells.Cell.{Cell}
+use Rattle.text_model.specs.declared.limits.TheConstants.Limits.{MOST_WIDGETS}
 use Rattle.edit_ops.specs.Tagging.{cell_without}
 use Rattle.command_parts.specs.Tagging.{slot_taken, slots_deleted, stays, tags_left}
 use Rattle.command_parts.specs.Words.{is_among, is_same}
@@ -18,7 +19,7 @@ use Rattle.documents.specs.Keys.{Key, key_pairs, keyed, numbers_gone, seats_left
 use Rattle.documents.specs.Tags.{key_stays, without_tags}
 use Rattle.documents.proofs.KeyedLaws.{keyed-left, with_staying}
 use Rattle.documents.proofs.KnownLaws.{known-without}
-use Rattle.documents.proofs.LookupLaws.{AreApart-filter, filter_stands, filter_stood, looked-filter, one_passes}
+use Rattle.documents.proofs.LookupLaws.{AreApart-filter, filter_stands, filter_stood, looked-filter}
 use Rattle.documents.proofs.SlotLaws.{GoWith, is_in, number_low, same_slot, seat_stands, slot_for, slot_high, tag_slot-is}
 
 not_not : (a : Bool) → a ≡ not (not a)
@@ -176,6 +177,17 @@ numbers_go seats names at seat seated is =
     let number = stands_map (λ (s : Named). s.number) (filter (is_given_up names) seats) seat left in
     stands_in (numbers_gone names seats) number.0 seat.number number.1)
 
+-- the slot of a seat that stays is none of those that go, and all of these are widgets' own
+pub gone-apart : (seats : List Named) (names : List (List ℕ)) (at : ℕ) (seat : Named) → AreSeats seats → slice_get seats at ≡ Some seat → is_among seat.name names ≡ false
+    → (k slot : ℕ) → slice_get (numbers_gone names seats) k ≡ Some slot → slot ≢ seat.number
+gone-apart seats names at seat seated is stays k slot there same =
+    true≢false (sym (stands_in (numbers_gone names seats) k seat.number (there ∙ ap Some same)) ∙ numbers_go seats names at seat seated is ∙ stays)
+
+pub gone-low : (seats : List Named) (names : List (List ℕ)) (k slot : ℕ) → AreSeats seats → slice_get (numbers_gone names seats) k ≡ Some slot → slot < MOST_WIDGETS
+gone-low seats names k slot seated there =
+    let found = number_goes seats names slot (stands_in (numbers_gone names seats) k slot there) in
+    seated.below found.0 slot (number_at seats found.0 found.1 found.2 ∙ ap Some found.3)
+
 pub GoWith-unseated : (seats : List Named) (table : Tags) (names : List (List ℕ)) → AreSeats seats → AreTags table
     → GoWith (numbers_gone names seats) (selection_stays names) seats table.tags (seats_left names seats) table.tags
 GoWith-unseated seats table names seated sound = record {
@@ -223,32 +235,3 @@ pub known-unseated : (seats : List Named) (table : Tags) (names : List (List ℕ
     → All (HasKnownSlots (seats_left names seats) table.tags) (map (cell_without (numbers_gone names seats)) cells)
 known-unseated seats table names cells seated sound known =
     known-without (numbers_gone names seats) (selection_stays names) seats table (seats_left names seats) table.tags (GoWith-unseated seats table names seated sound) seated sound cells known
-
--- ---- one seat that is given up
-
-one_seat : (seats : List Named) (at : ℕ) (seat : Named) → AreSeats seats → slice_get seats at ≡ Some seat
-    → (numbers_gone (seat.name ∷ []) seats ≡ seat.number ∷ []) × (seats_left (seat.name ∷ []) seats ≡ remove seats at)
-one_seat seats at seat seated is =
-    let named : is_given_up (seat.name ∷ []) seat ≡ true = or_left (bytes_eq seat.name seat.name) false ((bytes_eq-Decides seat.name seat.name).1 refl) in
-    let only = one_passes (is_given_up (seat.name ∷ [])) seats at seat is named (λ k other there also.
-    let same : other.name ≡ seat.name = (bytes_eq-Decides other.name seat.name).0 (sym (or_none (bytes_eq other.name seat.name)) ∙ also) in
-    seated.names_apart k at seat.name (slice_get-map (λ (s : Named). s.name) seats k ∙ ap (option_map (λ (s : Named). s.name)) there ∙ ap Some same)
-    (slice_get-map (λ (s : Named). s.name) seats at ∙ ap (option_map (λ (s : Named). s.name)) is)) in
-    (ap numbers_of only.0, only.1)
-  where
-    or_none : (b : Bool) → (b || false) ≡ b
-    or_none true = refl
-    or_none false = refl
-
-pub keyed-one_less : (seats : List Named) (table : Tags) (at : ℕ) (seat : Named) (cells : List Cell) → AreSeats seats → AreTags table → slice_get seats at ≡ Some seat
-    → keyed (key_pairs (remove seats at) table.tags) (map (cell_without (seat.number ∷ [])) cells) ≡ map (with_staying (selection_stays (seat.name ∷ []))) (keyed (key_pairs seats table.tags) cells)
-keyed-one_less seats table at seat cells seated sound is =
-    let one = one_seat seats at seat seated is in
-    ap₂ (λ left gone. keyed (key_pairs left table.tags) (map (cell_without gone) cells)) (sym one.1) (sym one.0) ∙ keyed-unseated seats table (seat.name ∷ []) cells seated sound
-
-pub known-one_less : (seats : List Named) (table : Tags) (at : ℕ) (seat : Named) (cells : List Cell) → AreSeats seats → AreTags table → slice_get seats at ≡ Some seat → All (HasKnownSlots seats table.tags) cells
-    → All (HasKnownSlots (remove seats at) table.tags) (map (cell_without (seat.number ∷ [])) cells)
-known-one_less seats table at seat cells seated sound is known =
-    let one = one_seat seats at seat seated is in
-    subst (λ left. All (HasKnownSlots left table.tags) (map (cell_without (seat.number ∷ [])) cells)) one.1
-    (subst (λ gone. All (HasKnownSlots (seats_left (seat.name ∷ []) seats) table.tags) (map (cell_without gone) cells)) one.0 (known-unseated seats table (seat.name ∷ []) cells seated sound known))

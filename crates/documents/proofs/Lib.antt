@@ -31,6 +31,7 @@ pub mod StateLaws
 pub mod TableLaws
 pub mod TagLaws
 pub mod TaggedLaws
+pub mod UnseatedLaws
 pub mod ViewLaws
 pub mod WellFormedLaws
 pub mod WidgetLaws

@@ -47,7 +47,7 @@ pub get-put_other : (places : Marks) (number : ℕ) (place : Place) (other : ℕ
 get-put_other places number place other apart =
     finite.get-insert nat_cmp_total places number place other ∙ ap (λ b. cond b (Some place) (finite.get places other)) (other_number other number apart)
 
-get-take_other : (places : Marks) (number other : ℕ) → other ≢ number → finite.get (finite.remove places number) other ≡ finite.get places other
+pub get-take_other : (places : Marks) (number other : ℕ) → other ≢ number → finite.get (finite.remove places number) other ≡ finite.get places other
 get-take_other places number other apart =
     finite.get-remove nat_cmp_total places number other ∙ ap (λ b. cond b None (finite.get places other)) (other_number other number apart)
 
@@ -80,7 +80,7 @@ mapped-at : {A B : Type 0} (f : A → B) (xs : List A) (at : ℕ) (x : A) → sl
 mapped-at f xs at x is = slice_get-map f xs at ∙ ap (option_map f) is
 
 -- the number of a mark is one for shared marks
-shared-number : (table : SharedMarks) (at : ℕ) (mark : Mark) → AreMarks table → slice_get table.marks at ≡ Some mark → first_number ≤ mark.number
+pub shared-number : (table : SharedMarks) (at : ℕ) (mark : Mark) → AreMarks table → slice_get table.marks at ≡ Some mark → first_number ≤ mark.number
 shared-number table at mark are is = (are.numbers at mark.number (mapped-at (λ (m : Mark). m.number) table.marks at mark is)).0
 
 -- ---- the widgets' own marks
@@ -518,7 +518,7 @@ shorter names (mark ∷ marks) =
       | false ↦ omega (arith, rest)
     ]
 
-stand-taken : (numbers : List ℕ) (content : Content) → MarksStand content → MarksStand (record content { marks = taken numbers content.marks })
+pub stand-taken : (numbers : List ℕ) (content : Content) → MarksStand content → MarksStand (record content { marks = taken numbers content.marks })
 stand-taken [] content stand = stand
 stand-taken (number ∷ numbers) content stand =
     stand-taken numbers (record content { marks = finite.remove content.marks number }) (λ other found is.
