@@ -2,6 +2,7 @@ pub mod BridgeLaws
 pub mod ChangeLaws
 pub mod ClearedLaws
 pub mod FindLaws
+pub mod FirstLaws
 pub mod InsertionLaws
 pub mod JournalLaws
 pub mod KeyLaws

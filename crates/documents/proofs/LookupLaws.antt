@@ -1,6 +1,6 @@
 -- Elements of a list that are found by their names.
 use Rattle.std.proofs.Common.{◌≡◌, ℕ, zero, suc, Bool, true, false, cond, ◌&&◌, ◌||◌, List, [], ◌∷◌, ◌++◌, Option, None, Some, filter, map, slice_get, refl, sym, ap, ap₂, ◌∙◌, true≢false, arith}
-use Rattle.std.specs.Prelude.{remove, not, find, bytes_eq, option_map}
+use Rattle.std.specs.Prelude.{find, bytes_eq, option_map}
 use Rattle.std.specs.FinSet as set
 use Rattle.std.specs.List.{list_any}
 use Rattle.std.proofs.lemmas.Bool.{false_from_ne_true}
@@ -63,27 +63,6 @@ AreApart-filter f p (x ∷ xs) apart =
       | true ↦ AreApart-insert (map f (filter p xs)) 0 (f x) (omega arith) new rest
       | false ↦ rest
     ]
-
-none_pass : {A : Type 0} (p : A → Bool) (xs : List A) → ((k : ℕ) (y : A) → slice_get xs k ≡ Some y → p y ≡ false) → (filter p xs ≡ []) × (filter (λ y. not (p y)) xs ≡ xs)
-none_pass p [] none = (refl, refl)
-none_pass p (x ∷ xs) none =
-    let rest = none_pass p xs (λ k y is. none (suc k) y is) in
-    let here = none 0 x refl in
-    (ap (λ b. cond b (x ∷ filter p xs) (filter p xs)) here ∙ rest.0, ap (λ b. cond (not b) (x ∷ filter (λ y. not (p y)) xs) (filter (λ y. not (p y)) xs)) here ∙ ap (λ ys. x ∷ ys) rest.1)
-
--- a list of which one element alone passes
-pub one_passes : {A : Type 0} (p : A → Bool) (xs : List A) (at : ℕ) (x : A) → slice_get xs at ≡ Some x → p x ≡ true → ((k : ℕ) (y : A) → slice_get xs k ≡ Some y → p y ≡ true → k ≡ at)
-    → (filter p xs ≡ x ∷ []) × (filter (λ y. not (p y)) xs ≡ remove xs at)
-one_passes p [] at x is passes only = absurd (none-some x is)
-one_passes p (y ∷ xs) zero x is passes only =
-    let one : y ≡ x = same_Some y x is in
-    let here : p y ≡ true = ap p one ∙ passes in
-    let rest = none_pass p xs (λ k z there. false_from_ne_true (p z) (λ also. let never : suc k ≡ zero = only (suc k) z there also in absurd (cc))) in
-    (ap (λ b. cond b (y ∷ filter p xs) (filter p xs)) here ∙ ap₂ (λ z zs. z ∷ zs) one rest.0, ap (λ b. cond (not b) (y ∷ filter (λ z. not (p z)) xs) (filter (λ z. not (p z)) xs)) here ∙ rest.1)
-one_passes p (y ∷ xs) (suc at) x is passes only =
-    let here : p y ≡ false = false_from_ne_true (p y) (λ also. let never : zero ≡ suc at = only 0 y refl also in absurd (cc)) in
-    let rest = one_passes p xs at x is passes (λ k z there also. let next : suc k ≡ suc at = only (suc k) z there also in cc) in
-    (ap (λ b. cond b (y ∷ filter p xs) (filter p xs)) here ∙ rest.0, ap (λ b. cond (not b) (y ∷ filter (λ z. not (p z)) xs) (filter (λ z. not (p z)) xs)) here ∙ ap (λ zs. y ∷ zs) rest.1)
 
 -- elements with a name and a slot each
 module _ {A : Type 0} (name_of : A → List ℕ) (slot_of : A → ℕ) where

@@ -28,13 +28,12 @@ use Rattle.edit_ops.specs.States.{Log, State}
 use Rattle.edit_ops.proofs.ReversalLaws.{group-redone-text, group-undone-text, guarded, redone-kept, redone-text, undone-kept}
 use Rattle.text_cursor.specs.Around.{shared_slots}
 use Rattle.command_parts.specs.declared.answers.Answer.TheVariants.{Empty}
-use Rattle.command_parts.specs.declared.answers.Fault.TheVariants.{NothingToRedo, NothingToUndo}
 use Rattle.command_parts.specs.Settings.{recording_of}
 use Rattle.documents.specs.Deletions.{with_clipped}
 use Rattle.documents.specs.Documents.{Document, Parts, Widget, document_of, widget_at}
 use Rattle.documents.specs.Edits.{keys_between, without_cells}
 use Rattle.documents.specs.Kept.{Stands}
-use Rattle.documents.specs.Promise.{answered, refused}
+use Rattle.documents.specs.Promise.{answered}
 use Rattle.documents.specs.Reversals.{action_again, action_back, edit_redo, edit_undo, group_again, group_back, redo_found, redone, text_back, undo_found, undone, with_end}
 use Rattle.documents.specs.View.{is_idle}
 use Rattle.documents.specs.WellFormed.{IsWellFormedDocument}
@@ -335,29 +334,3 @@ leaves-redone limits old state document place slot group can is reverts formed s
       marks = λ few. few;
       seats = refl;
     }))
-
--- ---- where nothing is done
-
-pub undo-off : (document : Document) (widget : Widget) → document.undo ≡ false → edit_undo document widget ≡ answered document Empty
-undo-off document widget off = ap (λ b. if b then undo_found document widget (next_undo document.history) else answered document Empty) off
-
-pub redo-off : (document : Document) (widget : Widget) → document.undo ≡ false → edit_redo document widget ≡ answered document Empty
-redo-off document widget off = ap (λ b. if b then redo_found document widget (next_redo document.history) else answered document Empty) off
-
-pub undo-none : (document : Document) (widget : Widget) → document.undo ≡ true → next_undo document.history ≡ None → edit_undo document widget ≡ refused document NothingToUndo
-undo-none document widget on none = ap (λ b. if b then undo_found document widget (next_undo document.history) else answered document Empty) on ∙ ap (undo_found document widget) none
-
-pub redo-none : (document : Document) (widget : Widget) → document.undo ≡ true → next_redo document.history ≡ None → edit_redo document widget ≡ refused document NothingToRedo
-redo-none document widget on none = ap (λ b. if b then redo_found document widget (next_redo document.history) else answered document Empty) on ∙ ap (redo_found document widget) none
-
-pub undo-idle : (document : Document) (widget : Widget) (group : List Action) → document.undo ≡ true → next_undo document.history ≡ Some group → is_idle document widget ≡ true
-    → edit_undo document widget ≡ answered document Empty
-undo-idle document widget group on is idle =
-    ap (λ b. if b then undo_found document widget (next_undo document.history) else answered document Empty) on ∙ ap (undo_found document widget) is
-    ∙ ap (λ b. answered (if b then document else undone widget group document) Empty) idle
-
-pub redo-idle : (document : Document) (widget : Widget) (group : List Action) → document.undo ≡ true → next_redo document.history ≡ Some group → is_idle document widget ≡ true
-    → edit_redo document widget ≡ answered document Empty
-redo-idle document widget group on is idle =
-    ap (λ b. if b then redo_found document widget (next_redo document.history) else answered document Empty) on ∙ ap (redo_found document widget) is
-    ∙ ap (λ b. answered (if b then document else redone widget group document) Empty) idle
