@@ -34,7 +34,7 @@ numbered (pos number) = elim (nat_lt 0 number) as (λ b. nat_lt 0 number ≡ b �
 numbered (negsuc n) = tt
 
 abbrev lines_found : Option ℤ → Option (Option ℕ)
-lines_found found = option_and_then found (λ number. option_map (λ line. Some line) (line_numbered number))
+lines_found found = option_and_then (λ number. option_map (λ line. Some line) (line_numbered number)) found
 
 some-line : (line : Option ℕ) → IfSome line IsPositive → IfSome (option_map (λ l. Some l) line) (λ l. IfSome l IsPositive)
 some-line None positive = tt

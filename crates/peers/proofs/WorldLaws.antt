@@ -1,5 +1,5 @@
 -- A world with one document, or none.
-use Rattle.std.proofs.Common.{◌≡◌, ◌≢◌, ℕ, ◌<◌, ◌≤◌, Bool, true, false, List, [], ◌∷◌, ◌++◌, length, refl, sym, ap, ap₂, subst, ◌∙◌, arith}
+use Rattle.std.proofs.Common.{◌≡◌, ◌≢◌, ℕ, ◌<◌, ◌≤◌, Bool, true, false, cond, List, [], ◌∷◌, ◌++◌, length, refl, sym, ap, ap₂, subst, ◌∙◌, arith}
 use Rattle.std.specs.Prelude.{Option, None, Some, Result, Ok, Err, IfErr, IfSome, filter, map, nat_lt, is_some, if◌then◌else◌}
 use Rattle.std.proofs.lemmas.List.{append-nil, length-map}
 use Rattle.std.proofs.lemmas.Bool.Decides.{nat_tests}
@@ -74,8 +74,8 @@ steps-command limits old new result name words widget formed named does =
 
 pub destroyed-some : (limits : LimitTable) (document : Document) (names : List (List ℕ)) → nat_lt 0 (length (without_widgets names document).widgets) ≡ true
     → (destroy (with_one limits document) names).world ≡ with_one limits (without_widgets names document)
-destroyed-some limits document names some = ap (λ b. record { limits = limits; documents = elim b [ true ↦ without_widgets names document ∷ [] | false ↦ [] ] }) some
+destroyed-some limits document names some = ap (λ b. record { limits = limits; documents = cond b (without_widgets names document ∷ []) [] }) some
 
 pub destroyed-all : (limits : LimitTable) (document : Document) (names : List (List ℕ)) → nat_lt 0 (length (without_widgets names document).widgets) ≡ false
     → (destroy (with_one limits document) names).world ≡ record { limits = limits; documents = [] }
-destroyed-all limits document names none = ap (λ b. record { limits = limits; documents = elim b [ true ↦ without_widgets names document ∷ [] | false ↦ [] ] }) none
+destroyed-all limits document names none = ap (λ b. record { limits = limits; documents = cond b (without_widgets names document ∷ []) [] }) none

@@ -3,9 +3,6 @@ use Rattle.std.specs.Prelude.{ℕ, ◌+◌, ◌-◌, nat_lt, List, length, map, 
 use Rattle.text_model.specs.LimitTable.{LimitTable}
 use Rattle.text_model.specs.declared.places.Place.{Place}
 use Rattle.undo_stack.specs.declared.actions.EditKind.TheVariants as kind
-use Rattle.edit_ops.specs.declared.spans.Span.{Span}
-use Rattle.edit_ops.specs.Deletions.{delete_set, in_spans, runs_below}
-use Rattle.edit_ops.specs.Removals.{clipped}
 use Rattle.command_parts.specs.declared.answers.Answer.TheVariants.{Empty}
 use Rattle.command_parts.specs.declared.answers.Fault.TheVariants.{IndexOrder}
 use Rattle.command_parts.specs.Arguments.{first_two_of}

@@ -5,7 +5,6 @@ use Rattle.mark_table.specs.declared.order.Origin.TheVariants.{Mark, Place as Of
 use Rattle.mark_table.specs.declared.order.Shown.{Shown}
 use Rattle.mark_table.specs.declared.order.WidgetMark.{WidgetMark}
 use Rattle.mark_table.specs.Order.{mark_of, next_mark, previous_mark, rank_of}
-use Rattle.text_index.specs.Views.{shared_place}
 use Rattle.text_model.specs.declared.places.Gravity.{Gravity}
 use Rattle.text_model.specs.declared.places.Gravity.TheVariants.{Right}
 use Rattle.text_model.specs.declared.places.Place.{Place}

@@ -5,7 +5,6 @@ use Rattle.command_table.specs.Words.{is_character}
 use Rattle.index_grammar.specs.declared.indices.Direction.{Direction}
 use Rattle.index_grammar.specs.declared.indices.Direction.TheVariants.{Forward, Back}
 use Rattle.mark_table.specs.declared.order.Shown.{Shown}
-use Rattle.text_index.specs.Ranges.{tag_ranges}
 use Rattle.search_dump.specs.Counts.{counted}
 use Rattle.search_dump.specs.Dump.{Marked, Seen, Tagged, dump_elements}
 use Rattle.search_dump.specs.Matches.{search_result}

@@ -1,6 +1,5 @@
 -- The ranges that a command's indices make.
 use Rattle.std.specs.Prelude.{ℕ, suc, List, [], ◌∷◌, length, Result, Ok}
-use Rattle.edit_ops.specs.declared.spans.Span.{Span}
 use Rattle.command_parts.specs.declared.answers.Fault.{Fault}
 use Rattle.command_parts.specs.Faults.{with_value}
 use Rattle.documents.specs.Indices.{place_at}

@@ -1,12 +1,9 @@
 -- Commands on tags.
 use Rattle.std.specs.Prelude.{ℕ, ◌+◌, nat_lt, nat_le, Bool, true, false, not, ◌||◌, List, [], ◌∷◌, ◌++◌, length, map, filter, Option, None, Some, Result, Ok, if◌then◌else◌}
 use Rattle.std.specs.FinSet as set
-use Rattle.name_list.specs.Moves.{without, put_behind, put_before}
 use Rattle.text_model.specs.Changes.{flag_at}
 use Rattle.text_model.specs.LimitTable.{LimitTable}
 use Rattle.tcl_words.specs.ListText.{list_text}
-use Rattle.text_index.specs.Ranges.{tag_ranges, next_range, previous_range}
-use Rattle.text_index.specs.declared.ranges.TagRange.{TagRange}
 use Rattle.command_parts.specs.declared.answers.Answer.{Answer}
 use Rattle.command_parts.specs.declared.answers.Answer.TheVariants.{Empty, Text}
 use Rattle.command_parts.specs.declared.answers.Fault.{Fault}
@@ -27,6 +24,8 @@ use Rattle.documents.specs.Documents.{Document, Widget, KeyedCell}
 use Rattle.command_parts.specs.Listing.{begun, range_words}
 use Rattle.command_parts.specs.Tagging.{stays}
 use Rattle.documents.specs.Tags.{add_spans, remove_spans, key_stays, without_tags, tag_delete, tags_on, flags_of, raised, lowered, known_or, reordered}
+use Rattle.text_index.specs.Ranges.{tag_ranges, next_range, previous_range}
+use Rattle.text_index.specs.declared.ranges.TagRange.{TagRange}
 
 -- ---- on characters
 

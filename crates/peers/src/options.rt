@@ -1,11 +1,10 @@
-ghost use Rattle.std.specs.Prelude.{◌≡◌, ◌+◌, ◌≤◌, length, chars, Ok};
+ghost use Rattle.std.specs.Prelude.{◌≡◌, ◌+◌, ◌≤◌, length, chars, Ok, ◌<◌, false, IfOk, IfSome};
 ghost use Rattle.tcl_words.specs.Unread.{texts_of};
 ghost use Rattle.command_parts.specs.Settings.{setting_answer};
 ghost use Rattle.documents.specs.Options.{settings_of};
 ghost use Rattle.peers.specs.Options.{cget, configure};
 ghost use Rattle.documents.specs.Promise.{Does, Gives};
 ghost use Rattle.documents.specs.Documents.{widget_at};
-ghost use Rattle.std.specs.Prelude.{◌≡◌, ◌<◌, false, IfOk};
 ghost use Rattle.command_parts.specs.Settings.{is_behind, settings_checked, settings_read};
 ghost use Rattle.command_parts.specs.Faults.{with_value};
 ghost use Rattle.documents.specs.Options.{AreLines};

@@ -1,4 +1,4 @@
-ghost use Rattle.std.specs.Prelude.{◌≡◌, chars};
+ghost use Rattle.std.specs.Prelude.{◌≡◌, chars, ◌<◌, IfOk, IfSome, false};
 ghost use Rattle.documents.specs.Kept.{is_window_name};
 ghost use Rattle.command_parts.specs.Words.{is_same};
 

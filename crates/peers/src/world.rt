@@ -1,4 +1,4 @@
-ghost use Rattle.std.specs.Prelude.{◌≡◌, ◌≢◌, ◌<◌, [], false, true, length, chars, string_bytes, IfErr, ◌+◌, ◌≤◌};
+ghost use Rattle.std.specs.Prelude.{◌≡◌, ◌≢◌, ◌<◌, [], false, true, length, chars, string_bytes, IfErr, ◌+◌, ◌≤◌, option_to_list, IfOk, IfSome};
 ghost use Rattle.tcl_words.specs.Unread.{texts_of};
 ghost use Rattle.command_table.specs.Reading.{reading};
 ghost use Rattle.command_parts.specs.Settings.{is_behind};
@@ -28,8 +28,7 @@ pub struct World<S: TextStore> {
 }
 
 impl<S: TextStore> Model for World<S> {
-    ghost use Rattle.std.specs.Prelude.{option_to_list};
-    ghost use Rattle.std.specs.Coded.{codes};
+        ghost use Rattle.std.specs.Coded.{codes};
     ghost use Rattle.std.specs.FinSet as set;
     ghost use Rattle.text_model.specs.contracts.places.Place as place;
     ghost use Rattle.documents.specs.Keys.{key_cmp, key_code};
