@@ -79,13 +79,13 @@ does-changed limits old new document change stands changed =
     let after = widgets-kept new (document_of new) refl in
     let count = changed.seats in
     record {
-    sound = changed.sound;
-    does = does-answered limits document (document_of new) (document_of new) change refl changed.is
-    (λ formed.
-    let few = formed.tag_count in
-    let many = formed.mark_count in
-    let tags = tags-kept old document stands.is in
-    let marks = marks-kept old document stands.is in
-    IsWellFormedDocument-kept limits new changed.sound (changed.fits (fits-kept limits old document stands.is formed)) (changed.tags (omega (arith, few, tags))) (changed.marks (omega (arith, many, marks))))
-    (omega (arith, before, after, count));
+      sound = changed.sound;
+      does = does-answered limits document (document_of new) (document_of new) change refl changed.is
+          (λ formed.
+          let few = formed.tag_count in
+          let many = formed.mark_count in
+          let tags = tags-kept old document stands.is in
+          let marks = marks-kept old document stands.is in
+          IsWellFormedDocument-kept limits new changed.sound (changed.fits (fits-kept limits old document stands.is formed)) (changed.tags (omega (arith, few, tags))) (changed.marks (omega (arith, many, marks))))
+          (omega (arith, before, after, count));
     }

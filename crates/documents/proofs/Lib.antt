@@ -11,6 +11,7 @@ pub mod KnownLaws
 pub mod ListedLaws
 pub mod LookupLaws
 pub mod MarkLaws
+pub mod MarkOrderLaws
 pub mod MarkQueryLaws
 pub mod MeaningLaws
 pub mod NamedLaws
@@ -24,6 +25,7 @@ pub mod ReplacementLaws
 pub mod ReversalLaws
 pub mod SeatLaws
 pub mod SeatedLaws
+pub mod SeenLaws
 pub mod SlotLaws
 pub mod SpanLaws
 pub mod StateLaws

@@ -13,7 +13,7 @@ use Rattle.text_model.specs.Content.{Marks}
 use Rattle.text_index.specs.Views.{shared_place}
 use Rattle.command_parts.specs.Edits.{new_mark}
 use Rattle.command_parts.specs.Words.{is_same, literal}
-use Rattle.documents.specs.Documents.{Document, Parts, SharedMark, Widget, document_of, mark_of, placed, widget_at}
+use Rattle.documents.specs.Documents.{Document, Parts, SharedMark, Widget, mark_of, placed, widget_at}
 use Rattle.documents.specs.Kept.{IsMarked, Stands}
 use Rattle.documents.specs.Marks.{place_named}
 use Rattle.documents.specs.Names.{mark_number, mark_place}

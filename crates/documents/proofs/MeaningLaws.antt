@@ -1,5 +1,5 @@
 -- What names mean to a widget, and the places of its words.
-use Rattle.std.proofs.Common.{◌≡◌, ◌≢◌, ℕ, suc, [], ◌+◌, ◌-◌, ◌*◌, ◌<◌, ◌≤◌, true, false, List, length, refl, sym, ap, ap₂, subst, ◌∙◌, arith, inl, inr}
+use Rattle.std.proofs.Common.{◌≡◌, ◌≢◌, ℕ, suc, [], ◌+◌, ◌-◌, ◌*◌, ◌<◌, ◌≤◌, true, false, List, refl, sym, ap, ◌∙◌, arith, inl, inr}
 use Rattle.std.specs.Prelude.{IfOk, slice_get, Option, None, Some, Result, Ok, Err, is_some, option_map, option_and_then, unwrap_or, codes, bytes_eq, get_or, nat_lt, if◌then◌else◌, ◌==◌}
 use Rattle.std.specs.Str.{chars}
 use Rattle.std.specs.FinMap as finite
@@ -11,7 +11,7 @@ use Rattle.text_model.specs.declared.limits.TheConstants.Limits.{MOST_WIDGETS}
 use Rattle.text_model.specs.declared.places.Place.{Place}
 use Rattle.text_model.specs.Content.{Content}
 use Rattle.mark_table.specs.SharedMarks.{SharedMarks, first_number, number_of}
-use Rattle.tag_table.specs.Tags.{Tags, names_of}
+use Rattle.tag_table.specs.Tags.{names_of}
 use Rattle.index_grammar.specs.Names.{known_marks, known_tags}
 use Rattle.index_grammar.specs.declared.faults.IndexFault.{IndexFault}
 use Rattle.index_grammar.specs.declared.faults.IndexFault.TheVariants as index

@@ -1,6 +1,6 @@
 -- A widget that is made.
-use Rattle.std.proofs.Common.{◌≡◌, ◌≢◌, ℕ, zero, suc, ◌+◌, ◌*◌, ◌<◌, ◌≤◌, Bool, true, false, set, List, [], ◌∷◌, ◌++◌, Ok, length, map, get_or, refl, sym, ap, ap₂, subst, ◌∙◌, arith}
-use Rattle.std.specs.Prelude.{slice_get, is_some, option_map, unwrap_or, Contains, Some, None, Option}
+use Rattle.std.proofs.Common.{◌≡◌, ◌≢◌, ℕ, zero, suc, ◌+◌, ◌*◌, ◌<◌, ◌≤◌, Bool, true, false, set, List, [], ◌∷◌, ◌++◌, Ok, length, map, get_or, refl, sym, ap, ap₂, subst, ◌∙◌, true≢false, arith}
+use Rattle.std.specs.Prelude.{slice_get, is_some, option_map, unwrap_or, IfSome, Some, None, Option}
 use Rattle.std.specs.FinMap as finite
 use Rattle.std.specs.List.{All, AllByRecursion}
 use Rattle.std.proofs.Math.ListN.{replicate}
@@ -12,23 +12,26 @@ use Rattle.text_model.specs.declared.places.Place.{Place}
 use Rattle.text_model.specs.Content as model
 use Rattle.text_model.specs.Content.{Content, Marks}
 use Rattle.text_model.specs.LimitTable.{LimitTable}
-use Rattle.text_model.specs.Lines.{lines}
+use Rattle.text_model.specs.Lines.{IsLineStart, lines}
 use Rattle.undo_stack.specs.Fits.{FitsText}
 use Rattle.undo_stack.specs.History.{limit_of}
 use Rattle.undo_stack.specs.Rings.{Kept}
-use Rattle.name_list.specs.Names.{AreNames, IsLeastFree, Named, Names, numbers_of}
+use Rattle.name_list.proofs.ListLaws.{Contains-from_stands}
+use Rattle.name_list.specs.Names.{AreNames, IsLeastFree, Named, Names, numbers_of, place_of}
 use Rattle.mark_table.specs.SharedMarks.{first_number}
 use Rattle.edit_ops.specs.Anchors.{AreAnchored}
 use Rattle.edit_ops.specs.declared.anchors.Anchors.{Anchors}
 use Rattle.command_parts.specs.Edits.{new_mark, with_own_marks}
+use Rattle.command_parts.specs.Words.{is_among}
 use Rattle.command_parts.specs.Settings.{history_under, is_behind}
 use Rattle.command_parts.specs.declared.settings.Settings.{Settings}
 use Rattle.documents.specs.Documents.{Document, Journal, Parts, Widget, characters, document_of, mark_of, placed, whole, widget_of}
 use Rattle.documents.specs.Kept.{HasOwnMarks, IsSeated, IsSound, Stands, is_window_name}
 use Rattle.documents.specs.Options.{AreLines, anchor_at}
 use Rattle.documents.specs.Seats.{IsLonger}
-use Rattle.documents.specs.WellFormed.{IsWellFormedDocument}
+use Rattle.documents.specs.WellFormed.{IsWellFormedDocument, window_names}
 use Rattle.documents.specs.Widgets.{new_widget, with_peer}
+use Rattle.documents.proofs.FindLaws.{widget-among}
 use Rattle.documents.proofs.JournalLaws.{fits-under, orderly-under, with_kept}
 use Rattle.documents.proofs.KeyedLaws.{keyed-seated}
 use Rattle.documents.proofs.KnownLaws.{known-seated}
@@ -36,6 +39,7 @@ use Rattle.documents.proofs.MarkLaws.{get-put, get-put_other, mark_of-put, mark_
 use Rattle.documents.proofs.PartsLaws.{characters-kept, characters-keyed, marks-kept, pairs_of, tags-kept}
 use Rattle.documents.proofs.PlacedLaws.{marked-alike, placed-alike}
 use Rattle.documents.proofs.SlotLaws.{AreSeats-names}
+use Rattle.documents.proofs.ViewLaws.{counted}
 use Rattle.documents.proofs.WellFormedLaws.{IsWellFormedDocument-kept, fits-kept}
 use Rattle.documents.proofs.WidgetLaws.{journal_set, line_anchor, lines-anchored}
 
@@ -77,9 +81,21 @@ all-append P (x ∷ xs) ys left right = (left.0, all-append P xs ys left.1 right
 -- ---- the others stay as they are
 
 -- a number that stands among some isn't a free one
-free-apart : (seats : List Named) (slot : ℕ) → ¬ Contains (numbers_of seats) slot → AllByRecursion (λ (seat : Named). seat.number ≢ slot) seats
+free-apart : (seats : List Named) (slot : ℕ) → ((at : ℕ) → slice_get (numbers_of seats) at ≡ Some slot → ⊥) → AllByRecursion (λ (seat : Named). seat.number ≢ slot) seats
 free-apart [] slot free = tt
-free-apart (seat ∷ seats) slot free = (λ same. free (inl same), free-apart seats slot (λ there. free (inr there)))
+free-apart (seat ∷ seats) slot free = (λ same. free 0 (ap Some same), free-apart seats slot (λ at. free (suc at)))
+
+start-within : (text : List ℕ) (start : Option ℕ) → IfSome start (IsLineStart text) → unwrap_or start 0 ≤ length text
+start-within text None line = omega arith
+start-within text (Some start) line = line.within
+
+pub own-within : (parts : Parts) (document : Document) (settings : Settings) (own : Anchors) → Stands parts document → AreLines (lines (characters document.cells)) settings → is_behind settings.start settings.end ≡ false
+    → own ≡ record { start = line_anchor (model.characters parts.content.cells) settings.start; end = line_anchor (model.characters parts.content.cells) settings.end }
+    → AreAnchored (model.characters parts.content.cells) own × (unwrap_or own.start 0 ≤ length parts.content.cells)
+own-within parts document settings own stands are ordered is =
+    let text = model.characters parts.content.cells in
+    let stand : AreAnchored text own = subst (AreAnchored text) (sym is) (lines-anchored text settings (subst (λ t. AreLines (lines t) settings) (characters-kept parts document stands.is) are) ordered) in
+    (stand, (let h = start-within text own.start stand.start in let long = counted parts.content in omega (arith, h, long)))
 
 same-marks : (places : Marks) (slot : ℕ) (mark : Place) (number : ℕ) → number ≢ 2 * slot → number ≢ 2 * slot + 1
     → mark_of (finite.insert (finite.insert places (2 * slot) mark) (2 * slot + 1) mark) number ≡ mark_of places number
@@ -142,9 +158,9 @@ seated-sound old before after document name slot settings seats disabled anchors
     let sound : AreNames new.seats = subst AreNames made.seats_is made.sound in
     let limit = stands.sound.kept.slots in
     let seated = AreSeats-names new.seats sound (omega (arith, limit)) in
-    let stand : AreAnchored text own =
-    subst (AreAnchored text) (sym made.own_is) (lines-anchored text settings (subst (λ t. AreLines (lines t) settings) (characters-kept (with_kept old before) document stands.is) are) ordered) in
-    let within : mark.offset ≤ length old.content.cells = ? in
+    let own_stand = own-within (with_kept old before) document settings own stands are ordered made.own_is in
+    let stand = own_stand.0 in
+    let within : mark.offset ≤ length old.content.cells = own_stand.1 in
     let marked = stands.sound.marked in
     let first = marked-alike one old.content.marks old.marks.marks (shared-alike old.marks old.content.marks (2 * slot) mark marked.marks low) marked.each in
     let both = marked-alike (finite.insert one (2 * slot + 1) mark) one old.marks.marks (shared-alike old.marks one (2 * slot + 1) mark marked.marks low_too) first in
@@ -175,3 +191,121 @@ seated-sound old before after document name slot settings seats disabled anchors
             ((let a = made.anchored in let f = made.flagged in record { anchored = omega (arith, a, length-set anchors slot own); flagged = omega (arith, f, length-set disabled slot settings.disabled) }), tt);
       };
     }
+
+-- the document is the one before, with a widget more
+seated-is : (old : Parts) (before after : Kept) (name : List ℕ) (slot : ℕ) (settings : Settings) (seats : Names) (disabled : List Bool) (anchors : List Anchors) (own : Anchors) (content : Content)
+    → IsSound (with_kept old before) → IsSound (seated_parts old after name slot settings disabled anchors own) → IsSeatMade old before after name slot settings seats disabled anchors own content
+    → document_of (seated_parts old after name slot settings disabled anchors own) ≡ with_peer name settings (document_of (with_kept old before))
+seated-is old before after name slot settings seats disabled anchors own content sound new_sound made =
+    let parts : Parts = with_kept old before in
+    let new : Parts = seated_parts old after name slot settings disabled anchors own in
+    let lone : Document = document_of parts in
+    let places = old.content.marks in
+    let mark : Place = record new_mark { offset = unwrap_or own.start 0 } in
+    let one = finite.insert places (2 * slot) mark in
+    let seat : Named = record { name = name; number = slot } in
+    let less = made.below in
+    let same : model.characters old.content.cells ≡ characters lone.cells = sym (characters-keyed (pairs_of parts) old.content.cells) in
+    let cells = keyed-seated old.seats.entries (seat ∷ []) old.tags old.content.cells sound.kept.seats new_sound.kept.seats sound.kept.tags sound.kept.known in
+    let apart = free-apart old.seats.entries slot (λ at is. made.fresh.free (Contains-from_stands (numbers_of old.seats.entries) slot (at, is))) in
+    let others = same-widgets old.journal places slot mark disabled anchors settings own after old.seats.entries made.disabled_longer made.anchors_longer apart sound.views.seated in
+    let there = get_or-set_at anchors slot slot own whole refl made.anchored in
+    let flag = get_or-set_at disabled slot slot settings.disabled false refl made.flagged in
+    let start : (get_or (set anchors slot own) slot whole).start ≡ option_map (anchor_at lone) settings.start =
+    ap (λ (a : Anchors). a.start) (there ∙ made.own_is) ∙ ap (λ t. line_anchor t settings.start) same in
+    let end : (get_or (set anchors slot own) slot whole).end ≡ option_map (anchor_at lone) settings.end =
+    ap (λ (a : Anchors). a.end) (there ∙ made.own_is) ∙ ap (λ t. line_anchor t settings.end) same in
+    let own_start : own.start ≡ option_map (anchor_at lone) settings.start = ap (λ (a : Anchors). a.start) made.own_is ∙ ap (λ t. line_anchor t settings.start) same in
+    let target : mark ≡ record new_mark { offset = unwrap_or (option_map (anchor_at lone) settings.start) 0 } = ap (λ s. record new_mark { offset = unwrap_or s 0 }) own_start in
+    let insert : mark_of (finite.insert one (2 * slot + 1) mark) (2 * slot) ≡ record new_mark { offset = unwrap_or (option_map (anchor_at lone) settings.start) 0 } =
+    mark_of-put_other one (2 * slot + 1) mark (2 * slot) (λ is. omega (arith, is)) ∙ mark_of-put places (2 * slot) mark ∙ target in
+    let current : mark_of (finite.insert one (2 * slot + 1) mark) (2 * slot + 1) ≡ record new_mark { offset = unwrap_or (option_map (anchor_at lone) settings.start) 0 } =
+    mark_of-put one (2 * slot + 1) mark ∙ target in
+    let newest : widget_of new.journal new.content.marks seat ≡ new_widget lone name settings =
+    λ i. record { name = name; start = start i; end = end i; disabled = flag i; insert = insert i; current = current i } in
+    let widgets : map (widget_of new.journal new.content.marks) new.seats.entries ≡ lone.widgets ++ new_widget lone name settings ∷ [] =
+    map-append (widget_of new.journal new.content.marks) old.seats.entries (seat ∷ []) ∙ ap₂ (λ ws (w : Widget). ws ++ w ∷ []) others newest in
+    let shared : placed new.content.marks old.marks.marks ≡ placed places old.marks.marks =
+    placed-alike (finite.insert one (2 * slot + 1) mark) one old.marks.marks (shared-alike old.marks one (2 * slot + 1) mark sound.marked.marks (omega (arith, less)))
+    ∙ placed-alike one places old.marks.marks (shared-alike old.marks places (2 * slot) mark sound.marked.marks (omega (arith, less))) in
+    let history = made.history in
+    let modified = made.modified in
+    λ i. record (document_of new) { cells = cells i; widgets = widgets i; marks = shared i; history = history i; modified = modified i }
+
+-- what the fields give
+pub record Seats (old : Parts) (new : Parts) (document : Document) (name : List ℕ) (settings : Settings) : Type 0 where
+  pub sound : IsSound new
+  pub is : document_of new ≡ with_peer name settings document
+  pub formed : (limits : LimitTable) → IsWellFormedDocument limits document → IsWellFormedDocument limits (document_of new)
+
+pub seated-made : (old : Parts) (before after : Kept) (document : Document) (name : List ℕ) (slot : ℕ) (settings : Settings) (seats : Names) (disabled : List Bool) (anchors : List Anchors) (own : Anchors) (content : Content)
+    → Stands (with_kept old before) document → AreLines (lines (characters document.cells)) settings → is_behind settings.start settings.end ≡ false
+    → IsSeatMade old before after name slot settings seats disabled anchors own content
+    → Seats old (record { seats = seats; tags = old.tags; marks = old.marks; journal = journal_set (record old.journal { disabled = disabled; anchors = anchors }) slot settings own after; content = content }) document name settings
+seated-made old before after document name slot settings seats disabled anchors own content stands are ordered made =
+    let parts : Parts = with_kept old before in
+    let new : Parts = seated_parts old after name slot settings disabled anchors own in
+    let sound = seated-sound old before after document name slot settings seats disabled anchors own content stands are ordered made in
+    let is = seated-is old before after name slot settings seats disabled anchors own content stands.sound sound made in
+    let fits : (limits : LimitTable) → IsWellFormedDocument limits document → IsWellFormedDocument limits (document_of new) = λ limits formed.
+    let few = formed.tag_count in
+    let many = formed.mark_count in
+    let tags = tags-kept parts document stands.is in
+    let marks = marks-kept parts document stands.is in
+    IsWellFormedDocument-kept limits new sound
+    (subst (FitsText limits.chars (model.characters old.content.cells)) (sym made.history) (fits-under limits.chars settings.document before.history (model.characters old.content.cells) (fits-kept limits parts document stands.is formed)))
+    (omega (arith, few, tags)) (omega (arith, many, marks)) in
+    subst (λ (f : Names × Content).
+    Seats old (record { seats = f.0; tags = old.tags; marks = old.marks; journal = journal_set (record old.journal { disabled = disabled; anchors = anchors }) slot settings own after; content = f.1 }) document name settings)
+    (λ i. (sym made.seats_is i, sym made.content_is i))
+    (record { sound = sound; is = is ∙ ap (with_peer name settings) stands.is; formed = fits })
+
+-- ---- a widget that isn't made
+
+longer-widgets : (old : Journal) (places : Marks) (disabled : List Bool) (anchors : List Anchors) (seats : List Named) → IsLonger false old.disabled disabled → IsLonger whole old.anchors anchors
+    → AllByRecursion (IsSeated old.anchors old.disabled) seats → map (widget_of (record old { disabled = disabled; anchors = anchors }) places) seats ≡ map (widget_of old places) seats
+longer-widgets old places disabled anchors [] flags longer seated = refl
+longer-widgets old places disabled anchors (seat ∷ seats) flags longer seated =
+    let there = longer-at whole old.anchors anchors seat.number whole longer seated.0.anchored in
+    let flag = longer-at false old.disabled disabled seat.number false flags seated.0.flagged in
+    ap₂ (λ (w : Widget) ws. w ∷ ws) (λ i. record (widget_of old places seat) { start = (there i).start; end = (there i).end; disabled = flag i }) (longer-widgets old places disabled anchors seats flags longer seated.1)
+
+longer-seated : (old : Journal) (disabled : List Bool) (anchors : List Anchors) (seats : List Named) → IsLonger false old.disabled disabled → IsLonger whole old.anchors anchors
+    → AllByRecursion (IsSeated old.anchors old.disabled) seats → AllByRecursion (IsSeated anchors disabled) seats
+longer-seated old disabled anchors [] flags longer seated = tt
+longer-seated old disabled anchors (seat ∷ seats) flags longer seated =
+    let one = seated.0.anchored in
+    let two = seated.0.flagged in
+    let more = longer-length whole old.anchors anchors longer in
+    let most = longer-length false old.disabled disabled flags in
+    (record { anchored = omega (arith, one, more); flagged = omega (arith, two, most) }, longer-seated old disabled anchors seats flags longer seated.1)
+
+-- longer lists are all that is left of it
+pub unseated : (old : Parts) (document : Document) (seats : Names) (disabled : List Bool) (anchors : List Anchors) (content : Content) → Stands old document → seats ≡ old.seats → IsLonger false old.journal.disabled disabled
+    → IsLonger whole old.journal.anchors anchors → content ≡ old.content
+    → Stands (record old { seats = seats; journal = record old.journal { disabled = disabled; anchors = anchors }; content = content }) document
+unseated old document seats disabled anchors content stands names flags longer same =
+    let new : Parts = record old { journal = record old.journal { disabled = disabled; anchors = anchors } } in
+    let widgets = longer-widgets old.journal old.content.marks disabled anchors old.seats.entries flags longer stands.sound.views.seated in
+    subst (λ (f : Names × Content). Stands (record old { seats = f.0; journal = record old.journal { disabled = disabled; anchors = anchors }; content = f.1 }) document) (λ i. (sym names i, sym same i)) (record {
+      sound = record {
+        kept = stands.sound.kept;
+        marked = stands.sound.marked;
+        orderly = record { most = stands.sound.orderly.most; groups = stands.sound.orderly.groups; undone = stands.sound.orderly.undone };
+        views = record {
+          anchored = longer-all (AreAnchored (model.characters old.content.cells)) whole old.journal.anchors anchors longer (record { start = tt; end = tt; ordered = omega arith }) stands.sound.views.anchored;
+          seated = longer-seated old.journal disabled anchors old.seats.entries flags longer stands.sound.views.seated;
+        };
+      };
+      is = (λ i. record (document_of new) { widgets = widgets i }) ∙ stands.is;
+    })
+
+-- no seat has a name that no window has
+pub unnamed : (parts : Parts) (document : Document) (name : List ℕ) → Stands parts document → is_among name (window_names document) ≡ false → place_of name parts.seats.entries ≡ None
+unnamed parts document name stands new =
+    let found = place_of name parts.seats.entries in
+    none found (widget-among parts document name stands found refl ∙ new)
+  where
+    none : (found : Option ℕ) → is_some found ≡ false → found ≡ None
+    none None is = refl
+    none (Some place) is = absurd (true≢false is)

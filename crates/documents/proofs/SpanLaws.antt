@@ -1,5 +1,5 @@
 -- A document after a tag is put on spans or taken off them, or where that is refused.
-use Rattle.std.proofs.Common.{◌≡◌, ℕ, ◌+◌, ◌-◌, ◌<◌, ◌≤◌, Bool, true, false, List, [], ◌∷◌, Option, None, Some, Ok, length, refl, sym, ap, ap₂, subst, ◌∙◌, arith}
+use Rattle.std.proofs.Common.{◌≡◌, ℕ, ◌+◌, ◌-◌, ◌<◌, ◌≤◌, Bool, true, false, List, Option, None, Some, Ok, length, refl, sym, ap, ap₂, subst, ◌∙◌, arith}
 use Rattle.std.specs.Prelude.{◌==◌, nat_lt, option_map, if◌then◌else◌}
 use Rattle.std.proofs.lemmas.Option.{none-some, same_Some}
 use Rattle.std.specs.List.{All}
@@ -35,7 +35,7 @@ use Rattle.documents.proofs.PartsLaws.{Sits, cells-kept}
 use Rattle.documents.proofs.TableLaws.{characters-tagged, known-tagged, leaves-relogged, leaves-retagged, marks-tagged, relogged, retagged, retagged-is}
 use Rattle.documents.proofs.ViewLaws.{end_in, ordered-is, shown-length, start-is, start_in, within-is}
 
-pub found_by : {A B : Type 0} (f : A → B) (found : Option A) (made : B) → option_map f found ≡ Some made → (x : A) × (found ≡ Some x) × (made ≡ f x)
+pub found_by : {A B : Type 0} (f : A → B) (found : Option A) (made : B) → option_map f found ≡ Some made → (x : A) × (Some x ≡ found) × (made ≡ f x)
 found_by f None made is = absurd (none-some made is)
 found_by f (Some x) made is = (x, refl, sym (same_Some (f x) made is))
 
@@ -61,7 +61,7 @@ pub record IsTagged (old : Parts) (new : Tags) (content : Content) (widget : ℕ
   pub slot : ℕ
   pub front : IsFront old.tags new
   pub sound : AreTags new
-  pub is : known_tags new.tags widget word ≡ Some slot
+  pub is : Some slot ≡ known_tags new.tags widget word
   pub fit : All (SpanFits (length old.content.cells)) spans
   pub content_is : content ≡ tagged slot on spans old.content
 
@@ -75,7 +75,7 @@ leaves-spans limits old new content log document place widget word on spans chan
     let kept = stands.sound.kept in
     let slot = made.slot in
     let store : Content = tagged slot on spans old.content in
-    let known : known_tags new.tags sits.seat.number word ≡ Some slot = ap (λ n. known_tags new.tags n word) sits.number ∙ made.is in
+    let known : known_tags new.tags sits.seat.number word ≡ Some slot = ap (λ n. known_tags new.tags n word) sits.number ∙ sym made.is in
     let front = known-front seats old.tags new kept.seats kept.tags made.front old.content.cells kept.known in
     let one = known-slot seats new kept.seats made.sound place sits.seat sits.stands word slot known in
     let cells = keyed-tagged seats new kept.seats made.sound place sits.seat sits.stands word slot known on spans old.content
@@ -129,11 +129,11 @@ places-within old document place widget start end places stands sits starts ends
 
 -- ---- the commands
 
-pub leaves-added : (limits : LimitTable) (old : Parts) (new : Tags) (content : Content) (log : Log) (document : Document) (place widget : ℕ) (word : List ℕ) (places : List ℕ) (spans : List Span) → Stands old document
-    → Sits old document place widget → IsTagged old new content widget word true spans → log ≡ old.journal.log → spans ≡ spans_shown document (widget_at document place) places
+pub leaves-added : (limits : LimitTable) (old : Parts) (new : Tags) (content : Content) (log : Log) (document : Document) (place widget : ℕ) (word : List ℕ) (places : List ℕ) (spans given : List Span) → Stands old document
+    → Sits old document place widget → IsTagged old new content widget word true spans → log ≡ old.journal.log → spans ≡ given → given ≡ spans_shown document (widget_at document place) places
     → names_of new.tags ≡ with_name (names_of old.tags.tags) word → length (with_name (names_of old.tags.tags) word) ≤ limits.tags + 1
     → Leaves limits (relogged (retagged old new content) log) document (Ok Empty) (add_spans limits document (widget_at document place) word places)
-leaves-added limits old new content log document place widget word places spans stands sits made log_is same names few =
+leaves-added limits old new content log document place widget word places spans given stands sits made log_is held same names few =
     let shown_by = widget_at document place in
     let before : document.tags ≡ names_of old.tags.tags = ap (λ (d : Document). d.tags) (sym stands.is) in
     let tags : length new.tags ≡ length (with_name (names_of old.tags.tags) word) = sym (length-map new.tags (λ (tag : Tag). tag.name)) ∙ ap length names in
@@ -142,7 +142,7 @@ leaves-added limits old new content log document place widget word places spans 
     let change : add_spans limits document shown_by word places ≡ answered (spans_made document (names_of new.tags) (key_named shown_by.name word) true spans) Empty =
     ap (λ b. if b then refused document TooManyTags else answered (spans_made document (with_name document.tags word) (key_named shown_by.name word) true (spans_shown document shown_by places)) Empty)
     (ap (λ ts. nat_lt (limits.tags + 1) (length (with_name ts word))) before ∙ room)
-    ∙ ap₂ (λ ts ss. answered (spans_made document ts (key_named shown_by.name word) true ss) Empty) (ap (λ ts. with_name ts word) before ∙ sym names) (sym same) in
+    ∙ ap₂ (λ ts ss. answered (spans_made document ts (key_named shown_by.name word) true ss) Empty) (ap (λ ts. with_name ts word) before ∙ sym names) (sym (held ∙ same)) in
     leaves-spans limits old new content log document place widget word true spans (add_spans limits document shown_by word places) stands sits made log_is (λ _. omega (arith, tags, few)) change
 
 pub added-left : (limits : LimitTable) (old : Parts) (document : Document) (place : ℕ) (word : List ℕ) (places : List ℕ) → Stands old document → limits.tags + 1 < length (with_name (names_of old.tags.tags) word)
@@ -155,24 +155,24 @@ added-left limits old document place word places stands many =
     ap (λ b. if b then refused document TooManyTags else answered (spans_made document (with_name document.tags word) (key_named shown_by.name word) true (spans_shown document shown_by places)) Empty)
     (ap (λ ts. nat_lt (limits.tags + 1) (length (with_name ts word))) before ∙ full)
 
-pub leaves-removed : (limits : LimitTable) (old : Parts) (content : Content) (log : Log) (document : Document) (place widget : ℕ) (word : List ℕ) (places : List ℕ) (spans : List Span) → Stands old document
-    → Sits old document place widget → IsTagged old old.tags content widget word false spans → log ≡ old.journal.log → spans ≡ spans_shown document (widget_at document place) places
+pub leaves-removed : (limits : LimitTable) (old : Parts) (content : Content) (log : Log) (document : Document) (place widget : ℕ) (word : List ℕ) (places : List ℕ) (spans given : List Span) → Stands old document
+    → Sits old document place widget → IsTagged old old.tags content widget word false spans → log ≡ old.journal.log → spans ≡ given → given ≡ spans_shown document (widget_at document place) places
     → Leaves limits (relogged (retagged old old.tags content) log) document (Ok Empty) (remove_spans document (widget_at document place) word places)
-leaves-removed limits old content log document place widget word places spans stands sits made log_is same =
+leaves-removed limits old content log document place widget word places spans given stands sits made log_is held same =
     let shown_by = widget_at document place in
     let before : document.tags ≡ names_of old.tags.tags = ap (λ (d : Document). d.tags) (sym stands.is) in
     let key : Key = key_named shown_by.name word in
-    let there : is_among word document.tags ≡ true = ap (is_among word) before ∙ slot_known word old.tags.tags widget made.slot made.is in
+    let there : is_among word document.tags ≡ true = ap (is_among word) before ∙ slot_known word old.tags.tags widget made.slot (sym made.is) in
     let change : remove_spans document shown_by word places ≡ answered (spans_made document (names_of old.tags.tags) key false spans) Empty =
     ap (λ b. answered (if b then record document { cells = with_tag key false (spans_shown document shown_by places) document.cells } else document) Empty) there
-    ∙ ap₂ (λ ts ss. answered (spans_made document ts key false ss) Empty) before (sym same) in
+    ∙ ap₂ (λ ts ss. answered (spans_made document ts key false ss) Empty) before (sym (held ∙ same)) in
     leaves-spans limits old old.tags content log document place widget word false spans (remove_spans document shown_by word places) stands sits made log_is (λ few. few) change
 
 -- an unknown tag is taken off nothing
-pub does-remove_none : (limits : LimitTable) (old : Parts) (document : Document) (place widget : ℕ) (word : List ℕ) (places : List ℕ) → Stands old document → known_tags old.tags.tags widget word ≡ None
+pub does-remove_none : (limits : LimitTable) (old : Parts) (document : Document) (place widget : ℕ) (word : List ℕ) (places : List ℕ) → Stands old document → None ≡ known_tags old.tags.tags widget word
     → Does limits document document (Ok Empty) (remove_spans document (widget_at document place) word places)
 does-remove_none limits old document place widget word places stands none =
     let shown_by = widget_at document place in
-    let absent : is_among word document.tags ≡ false = ap (λ (d : Document). is_among word d.tags) (sym stands.is) ∙ slot_unknown word old.tags.tags widget none in
+    let absent : is_among word document.tags ≡ false = ap (λ (d : Document). is_among word d.tags) (sym stands.is) ∙ slot_unknown word old.tags.tags widget (sym none) in
     does-nothing limits document (remove_spans document shown_by word places)
     (ap (λ b. answered (if b then record document { cells = with_tag (key_named shown_by.name word) false (spans_shown document shown_by places) document.cells } else document) Empty) absent)

@@ -1,11 +1,11 @@
 -- A document after its tags are put in another order or deleted.
-use Rattle.std.proofs.Common.{◌≡◌, ℕ, ◌≤◌, Bool, true, false, List, [], ◌∷◌, Option, Err, Ok, cond, filter, length, map, refl, sym, ap, ap₂, subst, ◌∙◌, arith}
+use Rattle.std.proofs.Common.{◌≡◌, ℕ, ◌≤◌, Bool, true, false, List, [], ◌∷◌, Option, Err, Ok, cond, filter, length, map, refl, sym, ap, subst, ◌∙◌, arith}
 use Rattle.std.proofs.lemmas.List.{length-map}
 use Rattle.text_model.proofs.SpliceLaws.{map-map}
 use Rattle.tag_table.specs.declared.faults.NoSuchTag as table_fault
 use Rattle.tag_table.specs.Tags.{AreTags, Tag, Tags, names_of}
 use Rattle.text_model.specs.declared.cells.Cell.{Cell}
-use Rattle.text_model.specs.Content.{Content, characters}
+use Rattle.text_model.specs.Content.{Content}
 use Rattle.text_model.specs.LimitTable.{LimitTable}
 use Rattle.edit_ops.specs.States.{Log}
 use Rattle.edit_ops.specs.Tagging.{cell_without, cleared}
@@ -14,14 +14,13 @@ use Rattle.command_parts.specs.declared.answers.Fault.TheVariants.{NoSuchTag}
 use Rattle.command_parts.specs.Tagging.{slots_deleted, tags_left, stays}
 use Rattle.documents.specs.Documents.{Document, Parts, document_of}
 use Rattle.documents.specs.Kept.{Stands}
-use Rattle.documents.specs.Promise.{Change, Does, answered}
+use Rattle.documents.specs.Promise.{answered}
 use Rattle.documents.specs.Tags.{reordered, tag_delete, without_tags}
 use Rattle.documents.proofs.ChangeLaws.{Leaves, does-left, stands-same}
 use Rattle.documents.proofs.ClearedLaws.{keyed-deleted, known-deleted, names_left}
 use Rattle.documents.proofs.KeyedLaws.{keyed-reordered}
 use Rattle.documents.proofs.KnownLaws.{known-reordered}
 use Rattle.documents.proofs.OrderLaws.{IsOrdered, Order}
-use Rattle.documents.proofs.PartsLaws.{pairs_of}
 use Rattle.documents.proofs.ReorderLaws.{IsUnknown, reordered-made, reordered-unknown, unknown_at}
 use Rattle.documents.proofs.TableLaws.{leaves-relogged, leaves-retagged, relogged, retagged, retagged-is}
 

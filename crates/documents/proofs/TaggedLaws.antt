@@ -1,6 +1,6 @@
 -- Which characters of a widget's view have a tag.
-use Rattle.std.proofs.Common.{◌≡◌, ℕ, zero, suc, ◌+◌, ◌-◌, ◌<◌, ◌≤◌, Bool, true, false, cond, List, [], ◌∷◌, length, drop, take, map, refl, sym, ap, ap₂, ◌∙◌, arith}
-use Rattle.std.specs.Prelude.{None, Some, filter, get_or, slice_get, slice_range, if◌then◌else◌}
+use Rattle.std.proofs.Common.{◌≡◌, ℕ, zero, suc, ◌+◌, ◌-◌, ◌<◌, ◌≤◌, Bool, true, false, cond, List, [], ◌∷◌, length, drop, refl, sym, ap, ◌∙◌, arith}
+use Rattle.std.specs.Prelude.{None, Some, filter, slice_get, slice_range, if◌then◌else◌}
 use Rattle.std.specs.FinSet as set
 use Rattle.std.proofs.lemmas.List.{get_or-drop, get_or-take, length-drop, length-map, length-take}
 use Rattle.std.proofs.lemmas.Option.{get_or_from_slice_get, none-some}
@@ -9,7 +9,7 @@ use Rattle.tag_table.specs.Tags.{Tag, names_of}
 use Rattle.text_index.specs.Views as view
 use Rattle.text_model.specs.declared.cells.Cell.{Cell}
 use Rattle.text_model.specs.Changes.{flag_at}
-use Rattle.text_model.specs.Content.{Content, Slots, characters, flags, slot_sets}
+use Rattle.text_model.specs.Content.{Content, Slots, flags, slot_sets}
 use Rattle.command_parts.specs.Tagging.{own_slot}
 use Rattle.command_parts.specs.Words.{is_among}
 use Rattle.documents.specs.Documents.{Document, KeyedCell, Parts, Widget, widget_at}
@@ -36,17 +36,17 @@ module _ (parts : Parts) (document : Document) (place slot : ℕ) (content : Con
       ∙ ap (λ n. shown_flags document widget (key_named n name)) (ap (λ (w : Widget). w.name) (sym seen.sits.widget))
 
   -- the flags of a tag that is known
-  pub flags-known : (name : List ℕ) (tag : ℕ) → known_tags parts.tags.tags slot name ≡ Some tag → view.shown_flags tag content first behind ≡ flags_of document widget name
+  pub flags-known : (name : List ℕ) (tag : ℕ) → Some tag ≡ known_tags parts.tags.tags slot name → view.shown_flags tag content first behind ≡ flags_of document widget name
   flags-known name tag known =
-      flags-seen name tag known
-      ∙ sym (ap (λ b. if b then shown_flags document widget (key_named widget.name name) else []) (among-kept name ∙ slot_known name parts.tags.tags slot tag known))
+      flags-seen name tag (sym known)
+      ∙ sym (ap (λ b. if b then shown_flags document widget (key_named widget.name name) else []) (among-kept name ∙ slot_known name parts.tags.tags slot tag (sym known)))
 
 -- and of one that isn't
-pub flags-unknown : (parts : Parts) (document : Document) (place slot : ℕ) → Stands parts document → (name : List ℕ) → known_tags parts.tags.tags slot name ≡ None → [] ≡ flags_of document (widget_at document place) name
+pub flags-unknown : (parts : Parts) (document : Document) (place slot : ℕ) → Stands parts document → (name : List ℕ) → None ≡ known_tags parts.tags.tags slot name → [] ≡ flags_of document (widget_at document place) name
 flags-unknown parts document place slot stands name unknown =
     let widget = widget_at document place in
     sym (ap (λ b. if b then shown_flags document widget (key_named widget.name name) else [])
-    (ap (λ (d : Document). is_among name d.tags) (sym stands.is) ∙ slot_unknown name parts.tags.tags slot unknown))
+    (ap (λ (d : Document). is_among name d.tags) (sym stands.is) ∙ slot_unknown name parts.tags.tags slot (sym unknown)))
 
 -- ---- the tags of one character
 

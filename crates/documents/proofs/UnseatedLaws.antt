@@ -185,12 +185,12 @@ leaves-others old document names seats content stands seats_is content_is =
       sound = sound;
       is = unseated-is old names stands.sound ∙ ap (widgets.without_widgets names) stands.is;
       formed = λ limits formed.
-      let few = formed.tag_count in
-      let many = formed.mark_count in
-      let tags = tags-kept old document stands.is in
-      let marks = marks-kept old document stands.is in
-      IsWellFormedDocument-kept limits (parts_left names old) sound
-      (subst (λ text. FitsText limits.chars text old.journal.log.history) (sym (characters-gone gone old.content)) (fits-kept limits old document stands.is formed)) (omega (arith, few, tags)) (omega (arith, many, marks));
+          let few = formed.tag_count in
+          let many = formed.mark_count in
+          let tags = tags-kept old document stands.is in
+          let marks = marks-kept old document stands.is in
+          IsWellFormedDocument-kept limits (parts_left names old) sound
+          (subst (λ text. FitsText limits.chars text old.journal.log.history) (sym (characters-gone gone old.content)) (fits-kept limits old document stands.is formed)) (omega (arith, few, tags)) (omega (arith, many, marks));
     } in
     subst (λ (p : Parts). IsLeft names p document) (λ i. record old { seats = sym seats_is i; content = sym content_is i }) left
 

@@ -13,10 +13,9 @@ use Rattle.text_model.specs.Lines.{IsLineStart}
 use Rattle.text_index.specs.Views as view
 use Rattle.text_index.specs.Views.{IsView}
 use Rattle.index_grammar.specs.Names.{known_tags}
-use Rattle.edit_ops.specs.Anchors.{AreAnchored}
 use Rattle.edit_ops.specs.declared.anchors.Anchors.{Anchors}
 use Rattle.edit_ops.proofs.StartLaws.{is-start, text-end-begins}
-use Rattle.documents.specs.Documents.{Document, KeyedCell, Parts, Widget, anchors_at, characters, whole, widget_at, widget_of}
+use Rattle.documents.specs.Documents.{Document, KeyedCell, Parts, Widget, anchors_at, whole, widget_at}
 use Rattle.documents.specs.Keys.{Key, key_named}
 use Rattle.documents.specs.Kept.{Stands}
 use Rattle.documents.specs.View.{is_idle, shown, shown_flags, view_end, view_start}

@@ -148,8 +148,7 @@ anchors-within parts document place slot found sits is =
     elim anchor as (λ o. IfSome o (IsLineStart text) → IfSome o (λ a. a ≤ length parts.content.cells)) [
       | None ↦ λ _. tt
       | Some a ↦ λ (line : IsLineStart text a). (let h = line.within in omega (arith, h, long))
-    ] is in
-    (
+    ] is in (
       same,
       subst (λ (a : Anchors). IfSome a.start (λ x. x ≤ length parts.content.cells)) (sym same) (one (anchors_at parts.journal slot).start sits.anchored.start),
       subst (λ (a : Anchors). IfSome a.end (λ x. x ≤ length parts.content.cells)) (sym same) (one (anchors_at parts.journal slot).end sits.anchored.end),
@@ -169,11 +168,13 @@ seats-set : (journal : Journal) (slot : ℕ) (settings : Settings) (anchors : An
 seats-set journal slot settings anchors kept [] seated = tt
 seats-set journal slot settings anchors kept (seat ∷ seats) seated =
     let one = seated.0.anchored in
-    let two = seated.0.flagged in
-    (record {
-      anchored = omega (arith, one, length-set journal.anchors slot anchors);
-      flagged = omega (arith, two, length-set journal.disabled slot settings.disabled);
-    }, seats-set journal slot settings anchors kept seats seated.1)
+    let two = seated.0.flagged in (
+      record {
+        anchored = omega (arith, one, length-set journal.anchors slot anchors);
+        flagged = omega (arith, two, length-set journal.disabled slot settings.disabled);
+      },
+      seats-set journal slot settings anchors kept seats seated.1,
+    )
 
 -- a widget is given options
 pub leaves-settings : (limits : LimitTable) (old : Parts) (before after : Kept) (document : Document) (place slot : ℕ) (settings : Settings) (anchors : Anchors) → Stands (with_kept old before) document

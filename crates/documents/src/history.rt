@@ -138,4 +138,3 @@ impl<S: TextStore> Document<S> {
         }
     }
 }
-

@@ -42,7 +42,10 @@ ghost use Rattle.documents.specs.Marks.{mark_names, mark_offset, mark_unset, pla
 
 use crate::documents::Document;
 use crate::views::mark_view_of;
-use command_parts::{Answer, Fault, gravity_word, is_word, make_mark, numbers_named, push_mark_names, put_mark, take_marks, turn_mark, unset_names};
+use command_parts::{
+    Answer, Fault, gravity_word, is_word, make_mark, numbers_named, push_mark_names, put_mark,
+    take_marks, turn_mark, unset_names,
+};
 use mark_table::{Origin, WidgetMark};
 use std::alloc::AllocError;
 use text_model::{Gravity, Limits, MarkNo, Place, Text, TextStore};
@@ -100,7 +103,9 @@ impl<S: TextStore> Document<S> {
             return self.store.mark_place(MarkNo(2 * self.seats.number(widget)));
         }
         if is_word(name, "current") {
-            return self.store.mark_place(MarkNo(2 * self.seats.number(widget) + 1));
+            return self
+                .store
+                .mark_place(MarkNo(2 * self.seats.number(widget) + 1));
         }
         self.store.mark_place(self.marks.find(name)?)
     }
@@ -149,22 +154,24 @@ impl<S: TextStore> Document<S> {
         Ok(Text::new(String::from_str(self.alloc, name)?))
     }
 
-    /// The mark behind another one in the order of marks, or the first at or behind a place.
+    /// The mark behind another one in the order of marks, or the first at or behind a place of the view.
     pub fn next_mark(&self, widget: usize, origin: Origin) -> Option<WidgetMark>
         requires shown { widget < length self.now.widgets }
         ensures { result ≡ next_mark origin (usable_marks self.now (widget_at self.now widget)) }
     {
         let view = mark_view_of(&self.anchors, self.seats.number(widget), self.store.len());
-        self.marks.next(&self.store, view, origin_in(view.start, origin))
+        self.marks
+            .next(&self.store, view, origin_in(view.start, origin))
     }
 
-    /// The mark before another one in the order of marks, or the last before a place.
+    /// The mark before another one in the order of marks, or the last before a place of the view.
     pub fn previous_mark(&self, widget: usize, origin: Origin) -> Option<WidgetMark>
         requires shown { widget < length self.now.widgets }
         ensures { result ≡ previous_mark origin (usable_marks self.now (widget_at self.now widget)) }
     {
         let view = mark_view_of(&self.anchors, self.seats.number(widget), self.store.len());
-        self.marks.previous(&self.store, view, origin_in(view.start, origin))
+        self.marks
+            .previous(&self.store, view, origin_in(view.start, origin))
     }
 }
 
@@ -175,7 +182,12 @@ impl<S: TextStore> Document<S> {
         requires stands { place.offset ≤ length self.old.cells }
         ensures { Does limits.now self.old self.new result (answered (with_insert self.old (widget_at self.old widget) place) Empty) }
     {
-        match put_mark(self.alloc, &mut self.store, MarkNo(2 * self.seats.number(widget)), place) {
+        match put_mark(
+            self.alloc,
+            &mut self.store,
+            MarkNo(2 * self.seats.number(widget)),
+            place,
+        ) {
             Err(_) => Err(Fault::Memory),
             Ok(()) => Ok(Answer::Empty),
         }
@@ -187,7 +199,12 @@ impl<S: TextStore> Document<S> {
         requires stands { place.offset ≤ length self.old.cells }
         ensures { Does limits.now self.old self.new result (answered (with_current self.old (widget_at self.old widget) place) Empty) }
     {
-        match put_mark(self.alloc, &mut self.store, MarkNo(2 * self.seats.number(widget) + 1), place) {
+        match put_mark(
+            self.alloc,
+            &mut self.store,
+            MarkNo(2 * self.seats.number(widget) + 1),
+            place,
+        ) {
             Err(_) => Err(Fault::Memory),
             Ok(()) => Ok(Answer::Empty),
         }
@@ -215,7 +232,13 @@ impl<S: TextStore> Document<S> {
     }
 
     /// Puts the mark of a name at a place, if there is one.
-    pub fn put_mark(&mut self, limits: &Limits, widget: usize, name: &str, place: Place) -> Result<Answer, Fault>
+    pub fn put_mark(
+        &mut self,
+        limits: &Limits,
+        widget: usize,
+        name: &str,
+        place: Place,
+    ) -> Result<Answer, Fault>
         requires shown { widget < length self.old.widgets }
         requires stands { place.offset ≤ length self.old.cells }
         ensures { Does limits.now self.old self.new result (answered (with_mark self.old (widget_at self.old widget) (chars name.now) place) Empty) }
@@ -230,7 +253,13 @@ impl<S: TextStore> Document<S> {
     }
 
     /// Makes a shared mark at an offset, with right gravity, unless there are too many.
-    pub fn make_mark(&mut self, limits: &Limits, widget: usize, name: &str, offset: usize) -> Result<Answer, Fault>
+    pub fn make_mark(
+        &mut self,
+        limits: &Limits,
+        widget: usize,
+        name: &str,
+        offset: usize,
+    ) -> Result<Answer, Fault>
         requires shown { widget < length self.old.widgets }
         requires within { offset ≤ length self.old.cells }
         requires new { place_named self.old (widget_at self.old widget) (chars name.now) ≡ None }
@@ -263,4 +292,3 @@ impl<S: TextStore> Document<S> {
         }
     }
 }
-

@@ -129,4 +129,3 @@ impl<S: TextStore> Document<S> {
         (view.s + place).min(view.e - 1)
     }
 }
-

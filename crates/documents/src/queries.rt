@@ -66,7 +66,13 @@ impl<S: TextStore> Document<S> {
     }
 
     /// How much further one place is than another, as a list of numbers.
-    pub fn counts_of(&self, widget: usize, options: &[Counted], from: usize, to: usize) -> Result<Text, AllocError>
+    pub fn counts_of(
+        &self,
+        widget: usize,
+        options: &[Counted],
+        from: usize,
+        to: usize,
+    ) -> Result<Text, AllocError>
         requires shown { widget < length self.now.widgets }
         requires from { from ≤ length (shown self.now (widget_at self.now widget)) }
         requires to { to ≤ length (shown self.now (widget_at self.now widget)) }
@@ -77,7 +83,13 @@ impl<S: TextStore> Document<S> {
     }
 
     /// The tags, marks and texts from one place to another, as a list.
-    pub fn elements_of(&self, widget: usize, listed: Listed, from: usize, to: usize) -> Result<Text, AllocError>
+    pub fn elements_of(
+        &self,
+        widget: usize,
+        listed: Listed,
+        from: usize,
+        to: usize,
+    ) -> Result<Text, AllocError>
         requires shown { widget < length self.now.widgets }
         requires from { from ≤ length (shown self.now (widget_at self.now widget)) }
         requires to { to ≤ length (shown self.now (widget_at self.now widget)) }
@@ -93,4 +105,3 @@ impl<S: TextStore> Document<S> {
         Ok(Text::new(dump(self.alloc, &view, &names, listed, from, to)?))
     }
 }
-

@@ -43,8 +43,8 @@ ghost use Rattle.documents.specs.Marks.{mark_names, mark_offset, mark_unset, pla
 use crate::documents::Document;
 use crate::views::view_of;
 use command_parts::{
-    Answer, Fault, clear_slots, delete_names, deleted_slots, find_tag, push_names, push_names_in, push_next, push_previous,
-    push_ranges, set_slot, spans_of, tag_spans,
+    Answer, Fault, clear_slots, delete_names, deleted_slots, find_tag, push_names, push_names_in,
+    push_next, push_previous, push_ranges, set_slot, spans_of, tag_spans,
 };
 use edit_ops::Span;
 use std::alloc::AllocError;
@@ -74,7 +74,12 @@ impl<S: TextStore> Document<S> {
         if offset == view.e {
             return Ok(Text::new(list));
         }
-        push_names_in(&mut list, &self.tags, TagSlot(number), view.store.tags_at(offset))?;
+        push_names_in(
+            &mut list,
+            &self.tags,
+            TagSlot(number),
+            view.store.tags_at(offset),
+        )?;
         Ok(Text::new(list))
     }
 
@@ -95,7 +100,13 @@ impl<S: TextStore> Document<S> {
     }
 
     /// Where the first range of a tag begins and ends that begins at a place or behind it, as a list, if it begins before another.
-    pub fn next_listed(&self, widget: usize, name: &str, from: usize, to: usize) -> Result<Text, AllocError>
+    pub fn next_listed(
+        &self,
+        widget: usize,
+        name: &str,
+        from: usize,
+        to: usize,
+    ) -> Result<Text, AllocError>
         requires shown { widget < length self.now.widgets }
         requires within { from ≤ length (shown self.now (widget_at self.now widget)) }
         ensures { IfOk result (λ list. list ≡ list_text (range_words (shown self.now (widget_at self.now widget))
@@ -112,7 +123,13 @@ impl<S: TextStore> Document<S> {
     }
 
     /// Where the last range of a tag begins and ends that begins before a place, as a list, if it doesn't begin before another.
-    pub fn previous_listed(&self, widget: usize, name: &str, from: usize, to: usize) -> Result<Text, AllocError>
+    pub fn previous_listed(
+        &self,
+        widget: usize,
+        name: &str,
+        from: usize,
+        to: usize,
+    ) -> Result<Text, AllocError>
         requires shown { widget < length self.now.widgets }
         requires within { from ≤ length (shown self.now (widget_at self.now widget)) }
         ensures { IfOk result (λ list. list ≡ list_text (range_words (shown self.now (widget_at self.now widget))
@@ -267,4 +284,3 @@ impl<S: TextStore> Document<S> {
         }
     }
 }
-

@@ -46,9 +46,9 @@ pub fn view_of<'a, S: TextStore>(store: &'a S, anchors: &[Anchors], slot: u16) -
 pub fn mark_view_of(anchors: &[Anchors], slot: u16, len: usize) -> MarkView
     requires { slot < length anchors.now }
     ensures { result ≡ record {
-        widget = record { 0 = slot };
-        start = unwrap_or (get_or anchors.now slot whole).start 0;
-        end = unwrap_or (get_or anchors.now slot whole).end len;
+      widget = record { 0 = slot };
+      start = unwrap_or (get_or anchors.now slot whole).start 0;
+      end = unwrap_or (get_or anchors.now slot whole).end len;
     } }
 {
     MarkView {

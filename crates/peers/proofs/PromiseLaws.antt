@@ -54,7 +54,8 @@ does-same limits old new result one other same does = record {
   document = λ not. does.document not ∙ ap (λ (c : Change). c.document) (same not);
   refused = does.refused;
   well_formed = does.well_formed;
-  widgets = does.widgets;
+  shown = does.shown;
+  few = does.few;
 }
 
 pub does-through : {A : Type 0} (limits : LimitTable) (old new : Document) (result : Result Answer Fault) (found defined : Result A Fault) (next : A → Change) → Gives found defined
@@ -76,7 +77,7 @@ does-both limits old new result (Ok value) defined also known next first second 
 -- a command that only reads leaves the document
 pub does-nothing : (limits : LimitTable) (document : Document) (result defined : Result Answer Fault) → Gives result defined → IfErr result (λ _. document ≡ document)
     → Does limits document document result (record { reply = defined; document = document })
-does-nothing limits document result defined gives same = record { reply = gives; document = λ _. refl; refused = same; well_formed = λ is. is; widgets = refl }
+does-nothing limits document result defined gives same = record { reply = gives; document = λ _. refl; refused = same; well_formed = λ is. is; shown = λ some. some; few = λ few. few }
 
 -- a value that was found goes on, and a fault refuses the command
 pub gives-found : {A B : Type 0} (defined : Result A Fault) (value : A) (next : A → Result B Fault) (result : Result B Fault) → defined ≡ Ok value → Gives result (next value) → Gives result (with_value defined next)
@@ -98,7 +99,8 @@ does-refused limits old defined fault next is = record {
   document = λ other. ap (λ found. (change_with old found next).document) (sym (is (λ memory. other (ap (λ f. refusal Answer f) memory))));
   refused = refl;
   well_formed = λ formed. formed;
-  widgets = refl;
+  shown = λ some. some;
+  few = λ few. few;
 }
 
 -- the fault that was found is the one that is defined

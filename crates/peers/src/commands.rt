@@ -8,13 +8,15 @@ ghost use Rattle.command_parts.specs.declared.answers.Fault.TheVariants.{Memory}
 ghost use Rattle.documents.specs.WellFormed.{IsWellFormedDocument, window_names};
 
 use crate::deletions::{delete, replace};
-use crate::history::{edit_modified};
+use crate::history::edit_modified;
 use crate::indices::{compare, index};
 use crate::marks::{mark_gravity, mark_names, mark_next, mark_previous, mark_set};
 use crate::options::{cget, configure};
 use crate::peers::{peer_create, peer_names};
 use crate::queries::{count, dump, search};
-use crate::tags::{tag_add, tag_lower, tag_names, tag_nextrange, tag_prevrange, tag_raise, tag_ranges, tag_remove};
+use crate::tags::{
+    tag_add, tag_lower, tag_names, tag_nextrange, tag_prevrange, tag_raise, tag_ranges, tag_remove,
+};
 use crate::texts::{get, insert};
 use command_parts::{Answer, Fault};
 use command_table::{Command, shape};
@@ -22,7 +24,10 @@ use documents::Document;
 use text_model::{Limits, TextStore};
 
 /// A command of a widget with its switches, and its arguments and options, which stand from a position on.
-fn carry_out<S: TextStore>(document: &mut Document<S>, limits: &Limits, widget: usize,
+fn carry_out<S: TextStore>(
+    document: &mut Document<S>,
+    limits: &Limits,
+    widget: usize,
     command: Command,
     switches: &[String],
     at: usize,
@@ -74,7 +79,12 @@ fn carry_out<S: TextStore>(document: &mut Document<S>, limits: &Limits, widget: 
 }
 
 /// A command of a widget, of all its words.
-pub fn command<S: TextStore>(document: &mut Document<S>, limits: &Limits, widget: usize, words: &[String]) -> Result<Answer, Fault>
+pub fn command<S: TextStore>(
+    document: &mut Document<S>,
+    limits: &Limits,
+    widget: usize,
+    words: &[String],
+) -> Result<Answer, Fault>
     requires shown { widget < length document.old.widgets }
     requires formed { IsWellFormedDocument limits.now document.old }
     requires some { 0 < length words.now }
@@ -83,9 +93,14 @@ pub fn command<S: TextStore>(document: &mut Document<S>, limits: &Limits, widget
 {
     match shape(words) {
         Err(fault) => Err(Fault::of_shape(fault)),
-        Ok(shape) => carry_out(document, limits, widget, shape.command,
+        Ok(shape) => carry_out(
+            document,
+            limits,
+            widget,
+            shape.command,
             &words[shape.switches..shape.arguments],
             shape.arguments,
-            &words[shape.arguments..]),
+            &words[shape.arguments..],
+        ),
     }
 }

@@ -9,13 +9,18 @@ ghost use Rattle.documents.specs.Texts.{insertion_offset};
 ghost use Rattle.documents.specs.Promise.{Does, change_with, unless_idle};
 ghost use Rattle.documents.specs.Documents.{widget_at};
 
-use crate::ranges::{places_at};
+use crate::ranges::places_at;
 use command_parts::{Answer, Fault, Pair, first_two, pairs_at};
 use documents::Document;
 use text_model::{Limits, TextStore};
 
 /// Deletes the ranges between pairs of places, unless the widget is disabled.
-fn delete_found<S: TextStore>(document: &mut Document<S>, limits: &Limits, widget: usize, places: &[usize]) -> Result<Answer, Fault>
+fn delete_found<S: TextStore>(
+    document: &mut Document<S>,
+    limits: &Limits,
+    widget: usize,
+    places: &[usize],
+) -> Result<Answer, Fault>
     requires shown { widget < length document.old.widgets }
     requires within { All (λ place. place ≤ length (shown document.old (widget_at document.old widget))) places.now }
     ensures { Does limits.now document.old document.new result
@@ -28,7 +33,10 @@ fn delete_found<S: TextStore>(document: &mut Document<S>, limits: &Limits, widge
 }
 
 /// `W delete I ?I ..?` (text(n), "delete"). The arguments stand from a position on.
-pub fn delete<S: TextStore>(document: &mut Document<S>, limits: &Limits, widget: usize,
+pub fn delete<S: TextStore>(
+    document: &mut Document<S>,
+    limits: &Limits,
+    widget: usize,
     at: usize,
     arguments: &[String],
 ) -> Result<Answer, Fault>
@@ -43,7 +51,10 @@ pub fn delete<S: TextStore>(document: &mut Document<S>, limits: &Limits, widget:
 }
 
 /// Puts texts in the place of the characters between two places, unless the widget is disabled.
-fn replace_ordered<S: TextStore>(document: &mut Document<S>, limits: &Limits, widget: usize,
+fn replace_ordered<S: TextStore>(
+    document: &mut Document<S>,
+    limits: &Limits,
+    widget: usize,
     from: usize,
     to: usize,
     pairs: Vec<Pair>,
@@ -62,7 +73,10 @@ fn replace_ordered<S: TextStore>(document: &mut Document<S>, limits: &Limits, wi
 }
 
 /// Puts texts in the place of the characters between two places, of which the second is the word at a position.
-fn replace_places<S: TextStore>(document: &mut Document<S>, limits: &Limits, widget: usize,
+fn replace_places<S: TextStore>(
+    document: &mut Document<S>,
+    limits: &Limits,
+    widget: usize,
     second: usize,
     from: usize,
     to: usize,
@@ -78,7 +92,10 @@ fn replace_places<S: TextStore>(document: &mut Document<S>, limits: &Limits, wid
     replace_ordered(document, limits, widget, from, to, pairs)
 }
 
-fn replace_found<S: TextStore>(document: &mut Document<S>, limits: &Limits, widget: usize,
+fn replace_found<S: TextStore>(
+    document: &mut Document<S>,
+    limits: &Limits,
+    widget: usize,
     at: usize,
     from: Result<usize, Fault>,
     to: Result<usize, Fault>,
@@ -105,7 +122,10 @@ fn replace_found<S: TextStore>(document: &mut Document<S>, limits: &Limits, widg
     }
 }
 
-fn replace_words<S: TextStore>(document: &mut Document<S>, limits: &Limits, widget: usize,
+fn replace_words<S: TextStore>(
+    document: &mut Document<S>,
+    limits: &Limits,
+    widget: usize,
     at: usize,
     first: &str,
     second: &str,
@@ -122,7 +142,10 @@ fn replace_words<S: TextStore>(document: &mut Document<S>, limits: &Limits, widg
 }
 
 /// `W replace A B chars ?tagList chars ..?` (text(n), "replace"). The arguments stand from a position on.
-pub fn replace<S: TextStore>(document: &mut Document<S>, limits: &Limits, widget: usize,
+pub fn replace<S: TextStore>(
+    document: &mut Document<S>,
+    limits: &Limits,
+    widget: usize,
     at: usize,
     arguments: &[String],
 ) -> Result<Answer, Fault>
@@ -132,6 +155,8 @@ pub fn replace<S: TextStore>(document: &mut Document<S>, limits: &Limits, widget
 {
     match first_two(arguments) {
         Err(fault) => Err(fault),
-        Ok((first, second, words)) => replace_words(document, limits, widget, at, first, second, words),
+        Ok((first, second, words)) => replace_words(
+            document, limits, widget, at, first, second, words,
+        ),
     }
 }

@@ -11,7 +11,12 @@ use documents::Document;
 use text_model::{Limits, TextStore};
 
 /// Says whether the text is modified, by the word at a position.
-fn set_modified_by<S: TextStore>(document: &mut Document<S>, limits: &Limits, at: usize, word: &str) -> Result<Answer, Fault>
+fn set_modified_by<S: TextStore>(
+    document: &mut Document<S>,
+    limits: &Limits,
+    at: usize,
+    word: &str,
+) -> Result<Answer, Fault>
     ensures does { Does limits.now document.old document.new result
         (change_with document.old (ok_or (boolean_of (chars word.now)) (BadBoolean at)) (modified_set document.old)) }
     ensures sure { result ≢ Err Memory }
@@ -22,7 +27,9 @@ fn set_modified_by<S: TextStore>(document: &mut Document<S>, limits: &Limits, at
     }
 }
 
-fn modified_word<S: TextStore>(document: &mut Document<S>, limits: &Limits,
+fn modified_word<S: TextStore>(
+    document: &mut Document<S>,
+    limits: &Limits,
     at: usize,
     word: Option<&str>,
 ) -> Result<Answer, Fault>
@@ -36,7 +43,9 @@ fn modified_word<S: TextStore>(document: &mut Document<S>, limits: &Limits,
 }
 
 /// `W edit modified ?bool?` (text(n), "edit modified"). The argument stands at a position.
-pub fn edit_modified<S: TextStore>(document: &mut Document<S>, limits: &Limits,
+pub fn edit_modified<S: TextStore>(
+    document: &mut Document<S>,
+    limits: &Limits,
     at: usize,
     arguments: &[String],
 ) -> Result<Answer, Fault>

@@ -38,7 +38,11 @@ fn compared(
 }
 
 /// A place as `line.char`.
-fn show_place<S: TextStore>(document: &Document<S>, widget: usize, place: Result<usize, Fault>) -> Result<Answer, Fault>
+fn show_place<S: TextStore>(
+    document: &Document<S>,
+    widget: usize,
+    place: Result<usize, Fault>,
+) -> Result<Answer, Fault>
     requires shown { widget < length document.now.widgets }
     requires within { IfOk place (λ place. place ≤ length (shown document.now (widget_at document.now widget))) }
     ensures { Gives result (with_value place (position_answer document.now (widget_at document.now widget))) }
@@ -49,7 +53,12 @@ fn show_place<S: TextStore>(document: &Document<S>, widget: usize, place: Result
     }
 }
 
-fn index_of<S: TextStore>(document: &Document<S>, widget: usize, at: usize, word: &str) -> Result<Answer, Fault>
+fn index_of<S: TextStore>(
+    document: &Document<S>,
+    widget: usize,
+    at: usize,
+    word: &str,
+) -> Result<Answer, Fault>
     requires shown { widget < length document.now.widgets }
     ensures { Gives result (index_of document.now (widget_at document.now widget) at (chars word.now)) }
 {
@@ -57,7 +66,12 @@ fn index_of<S: TextStore>(document: &Document<S>, widget: usize, at: usize, word
 }
 
 /// `W index I` (text(n), "index"). The argument stands at a position.
-pub fn index<S: TextStore>(document: &Document<S>, widget: usize, at: usize, arguments: &[String]) -> Result<Answer, Fault>
+pub fn index<S: TextStore>(
+    document: &Document<S>,
+    widget: usize,
+    at: usize,
+    arguments: &[String],
+) -> Result<Answer, Fault>
     requires shown { widget < length document.now.widgets }
     ensures { Gives result (index document.now (widget_at document.now widget) at (texts_of arguments.now)) }
 {
@@ -67,7 +81,10 @@ pub fn index<S: TextStore>(document: &Document<S>, widget: usize, at: usize, arg
     }
 }
 
-fn compared_at<S: TextStore>(document: &Document<S>, widget: usize, at: usize,
+fn compared_at<S: TextStore>(
+    document: &Document<S>,
+    widget: usize,
+    at: usize,
     left: &str,
     operator: &str,
     right: &str,
@@ -84,7 +101,12 @@ fn compared_at<S: TextStore>(document: &Document<S>, widget: usize, at: usize,
 }
 
 /// `W compare A op B` (text(n), "compare"). The arguments stand from a position on.
-pub fn compare<S: TextStore>(document: &Document<S>, widget: usize, at: usize, arguments: &[String]) -> Result<Answer, Fault>
+pub fn compare<S: TextStore>(
+    document: &Document<S>,
+    widget: usize,
+    at: usize,
+    arguments: &[String],
+) -> Result<Answer, Fault>
     requires shown { widget < length document.now.widgets }
     requires near { at + 2 ≤ usize.MAX }
     ensures { Gives result (compare document.now (widget_at document.now widget) at (texts_of arguments.now)) }

@@ -12,12 +12,18 @@ ghost use Rattle.documents.specs.Names.{mark_place};
 ghost use Rattle.peers.specs.Marks.{origin_marked};
 
 use command_parts::{Answer, Fault, one, one_or_two, read_gravity, two};
-use mark_table::{Origin, WidgetMark};
 use documents::Document;
+use mark_table::{Origin, WidgetMark};
 use text_model::{Gravity, Limits, Place, TextStore};
 
 /// Sets the mark of a name to a place of the view.
-fn set_at<S: TextStore>(document: &mut Document<S>, limits: &Limits, widget: usize, name: &str, place: usize) -> Result<Answer, Fault>
+fn set_at<S: TextStore>(
+    document: &mut Document<S>,
+    limits: &Limits,
+    widget: usize,
+    name: &str,
+    place: usize,
+) -> Result<Answer, Fault>
     requires shown { widget < length document.old.widgets }
     requires within { place ≤ length (shown document.old (widget_at document.old widget)) }
     ensures { Does limits.now document.old document.new result (set_at limits.now document.old (widget_at document.old widget) (chars name.now) place) }
@@ -35,7 +41,10 @@ fn set_at<S: TextStore>(document: &mut Document<S>, limits: &Limits, widget: usi
     }
 }
 
-fn set_place<S: TextStore>(document: &mut Document<S>, limits: &Limits, widget: usize,
+fn set_place<S: TextStore>(
+    document: &mut Document<S>,
+    limits: &Limits,
+    widget: usize,
     name: &str,
     place: Result<usize, Fault>,
 ) -> Result<Answer, Fault>
@@ -50,7 +59,10 @@ fn set_place<S: TextStore>(document: &mut Document<S>, limits: &Limits, widget: 
     }
 }
 
-fn set_words<S: TextStore>(document: &mut Document<S>, limits: &Limits, widget: usize,
+fn set_words<S: TextStore>(
+    document: &mut Document<S>,
+    limits: &Limits,
+    widget: usize,
     at: usize,
     name: &str,
     word: &str,
@@ -65,7 +77,10 @@ fn set_words<S: TextStore>(document: &mut Document<S>, limits: &Limits, widget: 
 }
 
 /// `W mark set M I` (text(n), "mark set"). The arguments stand from a position on.
-pub fn mark_set<S: TextStore>(document: &mut Document<S>, limits: &Limits, widget: usize,
+pub fn mark_set<S: TextStore>(
+    document: &mut Document<S>,
+    limits: &Limits,
+    widget: usize,
     at: usize,
     arguments: &[String],
 ) -> Result<Answer, Fault>
@@ -80,7 +95,11 @@ pub fn mark_set<S: TextStore>(document: &mut Document<S>, limits: &Limits, widge
 }
 
 /// The gravity of the mark that stands at a place, if there is one.
-fn gravity_asked<S: TextStore>(document: &Document<S>, at: usize, place: Option<Place>) -> Result<Answer, Fault>
+fn gravity_asked<S: TextStore>(
+    document: &Document<S>,
+    at: usize,
+    place: Option<Place>,
+) -> Result<Answer, Fault>
     ensures { Gives result (gravity_asked document.now at place).reply }
 {
     match place {
@@ -90,7 +109,10 @@ fn gravity_asked<S: TextStore>(document: &Document<S>, at: usize, place: Option<
 }
 
 /// Gives the mark of a name, which stands at a place, another gravity.
-fn gravity_given<S: TextStore>(document: &mut Document<S>, limits: &Limits, widget: usize,
+fn gravity_given<S: TextStore>(
+    document: &mut Document<S>,
+    limits: &Limits,
+    widget: usize,
     at: usize,
     name: &str,
     gravity: Option<Gravity>,
@@ -113,7 +135,10 @@ fn gravity_given<S: TextStore>(document: &mut Document<S>, limits: &Limits, widg
     }
 }
 
-fn gravity_words<S: TextStore>(document: &mut Document<S>, limits: &Limits, widget: usize,
+fn gravity_words<S: TextStore>(
+    document: &mut Document<S>,
+    limits: &Limits,
+    widget: usize,
     at: usize,
     name: &str,
     word: Option<&str>,
@@ -130,7 +155,10 @@ fn gravity_words<S: TextStore>(document: &mut Document<S>, limits: &Limits, widg
 }
 
 /// `W mark gravity M ?left or right?` (text(n), "mark gravity"). The arguments stand from a position on.
-pub fn mark_gravity<S: TextStore>(document: &mut Document<S>, limits: &Limits, widget: usize,
+pub fn mark_gravity<S: TextStore>(
+    document: &mut Document<S>,
+    limits: &Limits,
+    widget: usize,
     at: usize,
     arguments: &[String],
 ) -> Result<Answer, Fault>
@@ -152,7 +180,10 @@ pub fn mark_names<S: TextStore>(document: &Document<S>) -> Result<Answer, Fault>
 }
 
 /// The name of a mark, if there is one.
-fn mark_answer<S: TextStore>(document: &Document<S>, mark: Option<WidgetMark>) -> Result<Answer, Fault>
+fn mark_answer<S: TextStore>(
+    document: &Document<S>,
+    mark: Option<WidgetMark>,
+) -> Result<Answer, Fault>
     ensures { Gives result (mark_answer document.now mark) }
 {
     match mark {
@@ -179,7 +210,12 @@ fn origin_marked<S: TextStore>(
 }
 
 /// Where a walk begins: at the mark whose name the whole word is, else at the place of the index.
-fn origin_at<S: TextStore>(document: &Document<S>, widget: usize, at: usize, word: &str) -> Result<Origin, Fault>
+fn origin_at<S: TextStore>(
+    document: &Document<S>,
+    widget: usize,
+    at: usize,
+    word: &str,
+) -> Result<Origin, Fault>
     requires shown { widget < length document.now.widgets }
     ensures { Gives result (origin_at document.now (widget_at document.now widget) at (chars word.now)) }
 {
@@ -192,7 +228,11 @@ fn origin_at<S: TextStore>(document: &Document<S>, widget: usize, at: usize, wor
     }
 }
 
-fn next_from<S: TextStore>(document: &Document<S>, widget: usize, origin: Result<Origin, Fault>) -> Result<Answer, Fault>
+fn next_from<S: TextStore>(
+    document: &Document<S>,
+    widget: usize,
+    origin: Result<Origin, Fault>,
+) -> Result<Answer, Fault>
     requires shown { widget < length document.now.widgets }
     ensures { Gives result (with_value origin (next_from document.now (widget_at document.now widget))) }
 {
@@ -202,7 +242,11 @@ fn next_from<S: TextStore>(document: &Document<S>, widget: usize, origin: Result
     }
 }
 
-fn previous_from<S: TextStore>(document: &Document<S>, widget: usize, origin: Result<Origin, Fault>) -> Result<Answer, Fault>
+fn previous_from<S: TextStore>(
+    document: &Document<S>,
+    widget: usize,
+    origin: Result<Origin, Fault>,
+) -> Result<Answer, Fault>
     requires shown { widget < length document.now.widgets }
     ensures { Gives result (with_value origin (previous_from document.now (widget_at document.now widget))) }
 {
@@ -212,14 +256,24 @@ fn previous_from<S: TextStore>(document: &Document<S>, widget: usize, origin: Re
     }
 }
 
-fn next_at<S: TextStore>(document: &Document<S>, widget: usize, at: usize, word: &str) -> Result<Answer, Fault>
+fn next_at<S: TextStore>(
+    document: &Document<S>,
+    widget: usize,
+    at: usize,
+    word: &str,
+) -> Result<Answer, Fault>
     requires shown { widget < length document.now.widgets }
     ensures { Gives result (next_at document.now (widget_at document.now widget) at (chars word.now)) }
 {
     next_from(document, widget, origin_at(document, widget, at, word))
 }
 
-fn previous_at<S: TextStore>(document: &Document<S>, widget: usize, at: usize, word: &str) -> Result<Answer, Fault>
+fn previous_at<S: TextStore>(
+    document: &Document<S>,
+    widget: usize,
+    at: usize,
+    word: &str,
+) -> Result<Answer, Fault>
     requires shown { widget < length document.now.widgets }
     ensures { Gives result (previous_at document.now (widget_at document.now widget) at (chars word.now)) }
 {
@@ -227,7 +281,12 @@ fn previous_at<S: TextStore>(document: &Document<S>, widget: usize, at: usize, w
 }
 
 /// `W mark next I` (text(n), "mark next"). The argument stands at a position.
-pub fn mark_next<S: TextStore>(document: &Document<S>, widget: usize, at: usize, arguments: &[String]) -> Result<Answer, Fault>
+pub fn mark_next<S: TextStore>(
+    document: &Document<S>,
+    widget: usize,
+    at: usize,
+    arguments: &[String],
+) -> Result<Answer, Fault>
     requires shown { widget < length document.now.widgets }
     ensures { Gives result (mark_next document.now (widget_at document.now widget) at (texts_of arguments.now)) }
 {
@@ -238,7 +297,12 @@ pub fn mark_next<S: TextStore>(document: &Document<S>, widget: usize, at: usize,
 }
 
 /// `W mark previous I` (text(n), "mark previous"). The argument stands at a position.
-pub fn mark_previous<S: TextStore>(document: &Document<S>, widget: usize, at: usize, arguments: &[String]) -> Result<Answer, Fault>
+pub fn mark_previous<S: TextStore>(
+    document: &Document<S>,
+    widget: usize,
+    at: usize,
+    arguments: &[String],
+) -> Result<Answer, Fault>
     requires shown { widget < length document.now.widgets }
     ensures { Gives result (mark_previous document.now (widget_at document.now widget) at (texts_of arguments.now)) }
 {

@@ -53,15 +53,27 @@ pub fn configure<S: TextStore>(
 }
 
 /// The value of an option. The name is one of the options.
-fn setting<S: TextStore>(document: &Document<S>, widget: usize, option: &str) -> Result<Answer, Fault>
+fn setting<S: TextStore>(
+    document: &Document<S>,
+    widget: usize,
+    option: &str,
+) -> Result<Answer, Fault>
     requires shown { widget < length document.now.widgets }
     ensures { Gives result (Ok (setting_answer (chars option.now) (settings_of document.now (widget_at document.now widget)))) }
 {
-    Ok(document.settings(widget).answer(document.allocator(), option)?)
+    Ok(
+        document
+            .settings(widget)
+            .answer(document.allocator(), option)?,
+    )
 }
 
 /// `W cget option` (text(n), "cget").
-pub fn cget<S: TextStore>(document: &Document<S>, widget: usize, words: &[String]) -> Result<Answer, Fault>
+pub fn cget<S: TextStore>(
+    document: &Document<S>,
+    widget: usize,
+    words: &[String],
+) -> Result<Answer, Fault>
     requires shown { widget < length document.now.widgets }
     ensures { Gives result (cget document.now (widget_at document.now widget) (texts_of words.now)) }
 {

@@ -25,13 +25,13 @@ ghost use Rattle.peers.specs.Tags.{place_or};
 ghost use Rattle.documents.specs.View.{shown};
 ghost use Rattle.documents.specs.Documents.{widget_at};
 
-use crate::tags::{place_or};
+use crate::tags::place_or;
 use command_parts::{Answer, Fault, is_word, one_or_two, two, two_or_three};
 use command_table::abbreviates;
+use documents::Document;
 use index_grammar::Direction;
 use search_dump::{Counted, Listed, SearchSwitches, Wanted};
 use std::alloc::{AllocError, Global};
-use documents::Document;
 use text_model::TextStore;
 
 /// Whether one of some words stands for a switch.
@@ -128,7 +128,12 @@ fn listed_by(words: &[String]) -> Listed
 }
 
 /// The place of a stop, if there is one.
-fn stop_at<S: TextStore>(document: &Document<S>, widget: usize, at: usize, word: Option<&str>) -> Result<Option<usize>, Fault>
+fn stop_at<S: TextStore>(
+    document: &Document<S>,
+    widget: usize,
+    at: usize,
+    word: Option<&str>,
+) -> Result<Option<usize>, Fault>
     requires shown { widget < length document.now.widgets }
     ensures value { Gives result (stop_at document.now (widget_at document.now widget) at (option_map (λ word. chars word.now) word.entry)) }
     ensures within { IfOk result (λ stop. IfSome stop (λ place. place ≤ length (shown document.now (widget_at document.now widget)))) }
@@ -143,7 +148,10 @@ fn stop_at<S: TextStore>(document: &Document<S>, widget: usize, at: usize, word:
 }
 
 /// The matches of a pattern from a place on, up to a stop.
-fn searched<S: TextStore>(document: &Document<S>, widget: usize, switches: SearchSwitches,
+fn searched<S: TextStore>(
+    document: &Document<S>,
+    widget: usize,
+    switches: SearchSwitches,
     pattern: &str,
     from: Result<usize, Fault>,
     stop: Result<Option<usize>, Fault>,
@@ -156,11 +164,16 @@ fn searched<S: TextStore>(document: &Document<S>, widget: usize, switches: Searc
     match (from, stop) {
         (Err(fault), _) => Err(fault),
         (Ok(_), Err(fault)) => Err(fault),
-        (Ok(from), Ok(stop)) => Ok(Answer::Text(document.matches_of(widget, switches, pattern, from, stop)?)),
+        (Ok(from), Ok(stop)) => Ok(Answer::Text(document.matches_of(
+            widget, switches, pattern, from, stop,
+        )?)),
     }
 }
 
-fn search_words<S: TextStore>(document: &Document<S>, widget: usize, switches: SearchSwitches,
+fn search_words<S: TextStore>(
+    document: &Document<S>,
+    widget: usize,
+    switches: SearchSwitches,
     at: usize,
     pattern: &str,
     first: &str,
@@ -177,7 +190,10 @@ fn search_words<S: TextStore>(document: &Document<S>, widget: usize, switches: S
 }
 
 /// `W search ?switch ..? pattern I ?J?` (text(n), "search"). The arguments stand from a position on.
-pub fn search<S: TextStore>(document: &Document<S>, widget: usize, switches: &[String],
+pub fn search<S: TextStore>(
+    document: &Document<S>,
+    widget: usize,
+    switches: &[String],
     at: usize,
     arguments: &[String],
 ) -> Result<Answer, Fault>
@@ -188,13 +204,24 @@ pub fn search<S: TextStore>(document: &Document<S>, widget: usize, switches: &[S
     match two_or_three(arguments) {
         Err(fault) => Err(fault),
         Ok((pattern, first, last)) => {
-            search_words(document, widget, search_switches(switches), at, pattern, first, last)
+            search_words(
+                document,
+                widget,
+                search_switches(switches),
+                at,
+                pattern,
+                first,
+                last,
+            )
         }
     }
 }
 
 /// How much further one place is than another.
-fn count_between<S: TextStore>(document: &Document<S>, widget: usize, options: &[Counted],
+fn count_between<S: TextStore>(
+    document: &Document<S>,
+    widget: usize,
+    options: &[Counted],
     from: Result<usize, Fault>,
     to: Result<usize, Fault>,
 ) -> Result<Answer, Fault>
@@ -210,7 +237,10 @@ fn count_between<S: TextStore>(document: &Document<S>, widget: usize, options: &
     }
 }
 
-fn count_words<S: TextStore>(document: &Document<S>, widget: usize, options: &[Counted],
+fn count_words<S: TextStore>(
+    document: &Document<S>,
+    widget: usize,
+    options: &[Counted],
     at: usize,
     first: &str,
     second: &str,
@@ -225,7 +255,10 @@ fn count_words<S: TextStore>(document: &Document<S>, widget: usize, options: &[C
 }
 
 /// `W count ?option ..? A B` (text(n), "count"). The arguments stand from a position on.
-pub fn count<S: TextStore>(document: &Document<S>, widget: usize, options: &[String],
+pub fn count<S: TextStore>(
+    document: &Document<S>,
+    widget: usize,
+    options: &[String],
     at: usize,
     arguments: &[String],
 ) -> Result<Answer, Fault>
@@ -254,7 +287,10 @@ fn place_behind<S: TextStore>(document: &Document<S>, widget: usize, place: usiz
 }
 
 /// What stands from one place to another, the last of which is the word at a position, if there is one.
-fn dump_from<S: TextStore>(document: &Document<S>, widget: usize, listed: Listed,
+fn dump_from<S: TextStore>(
+    document: &Document<S>,
+    widget: usize,
+    listed: Listed,
     from: Result<usize, Fault>,
     at: usize,
     last: Option<&str>,
@@ -268,13 +304,25 @@ fn dump_from<S: TextStore>(document: &Document<S>, widget: usize, listed: Listed
     match from {
         Err(fault) => Err(fault),
         Ok(from) => {
-            let to = place_or(document, widget, place_behind(document, widget, from), at, last);
+            let to = place_or(
+                document,
+                widget,
+                place_behind(document, widget, from),
+                at,
+                last,
+            );
             dumped(document, widget, listed, from, to)
         }
     }
 }
 
-fn dumped<S: TextStore>(document: &Document<S>, widget: usize, listed: Listed, from: usize, to: Result<usize, Fault>) -> Result<Answer, Fault>
+fn dumped<S: TextStore>(
+    document: &Document<S>,
+    widget: usize,
+    listed: Listed,
+    from: usize,
+    to: Result<usize, Fault>,
+) -> Result<Answer, Fault>
     requires shown { widget < length document.now.widgets }
     requires from { from ≤ length (shown document.now (widget_at document.now widget)) }
     requires to { IfOk to (λ to. to ≤ length (shown document.now (widget_at document.now widget))) }
@@ -286,7 +334,10 @@ fn dumped<S: TextStore>(document: &Document<S>, widget: usize, listed: Listed, f
     }
 }
 
-fn dump_words<S: TextStore>(document: &Document<S>, widget: usize, listed: Listed,
+fn dump_words<S: TextStore>(
+    document: &Document<S>,
+    widget: usize,
+    listed: Listed,
     at: usize,
     first: &str,
     last: Option<&str>,
@@ -300,7 +351,10 @@ fn dump_words<S: TextStore>(document: &Document<S>, widget: usize, listed: Liste
 }
 
 /// `W dump ?switch ..? A ?B?` (text(n), "dump"). The arguments stand from a position on.
-pub fn dump<S: TextStore>(document: &Document<S>, widget: usize, switches: &[String],
+pub fn dump<S: TextStore>(
+    document: &Document<S>,
+    widget: usize,
+    switches: &[String],
     at: usize,
     arguments: &[String],
 ) -> Result<Answer, Fault>

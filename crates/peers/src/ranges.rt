@@ -11,7 +11,12 @@ use documents::Document;
 use text_model::TextStore;
 
 /// The places of indices, the first of which stands at a position.
-pub fn places_at<S: TextStore>(document: &Document<S>, widget: usize, at: usize, words: &[String]) -> Result<Vec<usize>, Fault>
+pub fn places_at<S: TextStore>(
+    document: &Document<S>,
+    widget: usize,
+    at: usize,
+    words: &[String],
+) -> Result<Vec<usize>, Fault>
     requires shown { widget < length document.now.widgets }
     requires near { at + length words.now ≤ usize.MAX }
     ensures ok { IfOk result (λ places. places_at document.now (widget_at document.now widget) at (texts_of words.now) ≡ Ok places.items) }

@@ -6,12 +6,15 @@ ghost use Rattle.command_parts.specs.Faults.{with_value};
 ghost use Rattle.documents.specs.Promise.{Gives, Does};
 ghost use Rattle.peers.specs.Tags.{add_words, tag_add, remove_words, tag_remove, names_on, names_at_word, tag_names, tag_ranges_of, ranges_of, place_or, next_between, next_words, tag_nextrange, previous_between, previous_words, tag_prevrange, tag_raise, tag_lower};
 
-use crate::ranges::{places_at};
+use crate::ranges::places_at;
 use command_parts::{Answer, Fault, first, none_or_one, one, one_or_two, two_or_three};
 use documents::Document;
 use text_model::{Limits, TextStore};
 
-fn add_words<S: TextStore>(document: &mut Document<S>, limits: &Limits, widget: usize,
+fn add_words<S: TextStore>(
+    document: &mut Document<S>,
+    limits: &Limits,
+    widget: usize,
     at: usize,
     name: &str,
     words: &[String],
@@ -27,7 +30,10 @@ fn add_words<S: TextStore>(document: &mut Document<S>, limits: &Limits, widget: 
 }
 
 /// `W tag add T I ?I ..?` (text(n), "tag add"). The arguments stand from a position on.
-pub fn tag_add<S: TextStore>(document: &mut Document<S>, limits: &Limits, widget: usize,
+pub fn tag_add<S: TextStore>(
+    document: &mut Document<S>,
+    limits: &Limits,
+    widget: usize,
     at: usize,
     arguments: &[String],
 ) -> Result<Answer, Fault>
@@ -41,7 +47,10 @@ pub fn tag_add<S: TextStore>(document: &mut Document<S>, limits: &Limits, widget
     }
 }
 
-fn remove_words<S: TextStore>(document: &mut Document<S>, limits: &Limits, widget: usize,
+fn remove_words<S: TextStore>(
+    document: &mut Document<S>,
+    limits: &Limits,
+    widget: usize,
     at: usize,
     name: &str,
     words: &[String],
@@ -57,7 +66,10 @@ fn remove_words<S: TextStore>(document: &mut Document<S>, limits: &Limits, widge
 }
 
 /// `W tag remove T I ?I ..?` (text(n), "tag remove"). The arguments stand from a position on.
-pub fn tag_remove<S: TextStore>(document: &mut Document<S>, limits: &Limits, widget: usize,
+pub fn tag_remove<S: TextStore>(
+    document: &mut Document<S>,
+    limits: &Limits,
+    widget: usize,
     at: usize,
     arguments: &[String],
 ) -> Result<Answer, Fault>
@@ -72,7 +84,11 @@ pub fn tag_remove<S: TextStore>(document: &mut Document<S>, limits: &Limits, wid
 }
 
 /// The tags of the character at a place.
-fn names_on<S: TextStore>(document: &Document<S>, widget: usize, place: Result<usize, Fault>) -> Result<Answer, Fault>
+fn names_on<S: TextStore>(
+    document: &Document<S>,
+    widget: usize,
+    place: Result<usize, Fault>,
+) -> Result<Answer, Fault>
     requires shown { widget < length document.now.widgets }
     requires within { IfOk place (λ place. place ≤ length (shown document.now (widget_at document.now widget))) }
     ensures { Gives result (with_value place (names_on document.now (widget_at document.now widget))) }
@@ -83,7 +99,12 @@ fn names_on<S: TextStore>(document: &Document<S>, widget: usize, place: Result<u
     }
 }
 
-fn names_at_word<S: TextStore>(document: &Document<S>, widget: usize, at: usize, word: Option<&str>) -> Result<Answer, Fault>
+fn names_at_word<S: TextStore>(
+    document: &Document<S>,
+    widget: usize,
+    at: usize,
+    word: Option<&str>,
+) -> Result<Answer, Fault>
     requires shown { widget < length document.now.widgets }
     ensures { Gives result (names_at_word document.now (widget_at document.now widget) at (option_map (λ word. chars word.now) word.entry)) }
 {
@@ -94,7 +115,12 @@ fn names_at_word<S: TextStore>(document: &Document<S>, widget: usize, at: usize,
 }
 
 /// `W tag names ?I?` (text(n), "tag names"). The arguments stand from a position on.
-pub fn tag_names<S: TextStore>(document: &Document<S>, widget: usize, at: usize, arguments: &[String]) -> Result<Answer, Fault>
+pub fn tag_names<S: TextStore>(
+    document: &Document<S>,
+    widget: usize,
+    at: usize,
+    arguments: &[String],
+) -> Result<Answer, Fault>
     requires shown { widget < length document.now.widgets }
     ensures { Gives result (tag_names document.now (widget_at document.now widget) at (texts_of arguments.now)) }
 {
@@ -104,7 +130,11 @@ pub fn tag_names<S: TextStore>(document: &Document<S>, widget: usize, at: usize,
     }
 }
 
-fn listed_ranges<S: TextStore>(document: &Document<S>, widget: usize, name: &str) -> Result<Answer, Fault>
+fn listed_ranges<S: TextStore>(
+    document: &Document<S>,
+    widget: usize,
+    name: &str,
+) -> Result<Answer, Fault>
     requires shown { widget < length document.now.widgets }
     ensures { Gives result (ranges_of document.now (widget_at document.now widget) (chars name.now)) }
 {
@@ -112,7 +142,11 @@ fn listed_ranges<S: TextStore>(document: &Document<S>, widget: usize, name: &str
 }
 
 /// `W tag ranges T` (text(n), "tag ranges").
-pub fn tag_ranges<S: TextStore>(document: &Document<S>, widget: usize, arguments: &[String]) -> Result<Answer, Fault>
+pub fn tag_ranges<S: TextStore>(
+    document: &Document<S>,
+    widget: usize,
+    arguments: &[String],
+) -> Result<Answer, Fault>
     requires shown { widget < length document.now.widgets }
     ensures { Gives result (tag_ranges_of document.now (widget_at document.now widget) (texts_of arguments.now)) }
 {
@@ -123,7 +157,13 @@ pub fn tag_ranges<S: TextStore>(document: &Document<S>, widget: usize, arguments
 }
 
 /// The place of a last index, or another one where it is left out.
-pub fn place_or<S: TextStore>(document: &Document<S>, widget: usize, place: usize, at: usize, word: Option<&str>) -> Result<usize, Fault>
+pub fn place_or<S: TextStore>(
+    document: &Document<S>,
+    widget: usize,
+    place: usize,
+    at: usize,
+    word: Option<&str>,
+) -> Result<usize, Fault>
     requires shown { widget < length document.now.widgets }
     requires within { place ≤ length (shown document.now (widget_at document.now widget)) }
     ensures value { Gives result (place_or document.now (widget_at document.now widget) place at (option_map (λ word. chars word.now) word.entry)) }
@@ -136,7 +176,10 @@ pub fn place_or<S: TextStore>(document: &Document<S>, widget: usize, place: usiz
 }
 
 /// The first range of a tag from one place on, if it begins before another.
-fn next_between<S: TextStore>(document: &Document<S>, widget: usize, name: &str,
+fn next_between<S: TextStore>(
+    document: &Document<S>,
+    widget: usize,
+    name: &str,
     from: Result<usize, Fault>,
     to: Result<usize, Fault>,
 ) -> Result<Answer, Fault>
@@ -151,7 +194,10 @@ fn next_between<S: TextStore>(document: &Document<S>, widget: usize, name: &str,
     }
 }
 
-fn next_words<S: TextStore>(document: &Document<S>, widget: usize, at: usize,
+fn next_words<S: TextStore>(
+    document: &Document<S>,
+    widget: usize,
+    at: usize,
     name: &str,
     first: &str,
     last: Option<&str>,
@@ -167,7 +213,12 @@ fn next_words<S: TextStore>(document: &Document<S>, widget: usize, at: usize,
 }
 
 /// `W tag nextrange T A ?B?` (text(n), "tag nextrange"). The arguments stand from a position on.
-pub fn tag_nextrange<S: TextStore>(document: &Document<S>, widget: usize, at: usize, arguments: &[String]) -> Result<Answer, Fault>
+pub fn tag_nextrange<S: TextStore>(
+    document: &Document<S>,
+    widget: usize,
+    at: usize,
+    arguments: &[String],
+) -> Result<Answer, Fault>
     requires shown { widget < length document.now.widgets }
     requires near { at + 2 ≤ usize.MAX }
     ensures { Gives result (tag_nextrange document.now (widget_at document.now widget) at (texts_of arguments.now)) }
@@ -179,7 +230,10 @@ pub fn tag_nextrange<S: TextStore>(document: &Document<S>, widget: usize, at: us
 }
 
 /// The last range of a tag that begins before one place, if it doesn't begin before another.
-fn previous_between<S: TextStore>(document: &Document<S>, widget: usize, name: &str,
+fn previous_between<S: TextStore>(
+    document: &Document<S>,
+    widget: usize,
+    name: &str,
     from: Result<usize, Fault>,
     to: Result<usize, Fault>,
 ) -> Result<Answer, Fault>
@@ -194,7 +248,10 @@ fn previous_between<S: TextStore>(document: &Document<S>, widget: usize, name: &
     }
 }
 
-fn previous_words<S: TextStore>(document: &Document<S>, widget: usize, at: usize,
+fn previous_words<S: TextStore>(
+    document: &Document<S>,
+    widget: usize,
+    at: usize,
     name: &str,
     first: &str,
     last: Option<&str>,
@@ -210,7 +267,12 @@ fn previous_words<S: TextStore>(document: &Document<S>, widget: usize, at: usize
 }
 
 /// `W tag prevrange T A ?B?` (text(n), "tag prevrange"). The arguments stand from a position on.
-pub fn tag_prevrange<S: TextStore>(document: &Document<S>, widget: usize, at: usize, arguments: &[String]) -> Result<Answer, Fault>
+pub fn tag_prevrange<S: TextStore>(
+    document: &Document<S>,
+    widget: usize,
+    at: usize,
+    arguments: &[String],
+) -> Result<Answer, Fault>
     requires shown { widget < length document.now.widgets }
     requires near { at + 2 ≤ usize.MAX }
     ensures { Gives result (tag_prevrange document.now (widget_at document.now widget) at (texts_of arguments.now)) }
@@ -222,7 +284,9 @@ pub fn tag_prevrange<S: TextStore>(document: &Document<S>, widget: usize, at: us
 }
 
 /// `W tag raise T ?U?` (text(n), "tag raise"). The arguments stand from a position on.
-pub fn tag_raise<S: TextStore>(document: &mut Document<S>, limits: &Limits,
+pub fn tag_raise<S: TextStore>(
+    document: &mut Document<S>,
+    limits: &Limits,
     at: usize,
     arguments: &[String],
 ) -> Result<Answer, Fault>
@@ -236,7 +300,9 @@ pub fn tag_raise<S: TextStore>(document: &mut Document<S>, limits: &Limits,
 }
 
 /// `W tag lower T ?U?` (text(n), "tag lower"). The arguments stand from a position on.
-pub fn tag_lower<S: TextStore>(document: &mut Document<S>, limits: &Limits,
+pub fn tag_lower<S: TextStore>(
+    document: &mut Document<S>,
+    limits: &Limits,
     at: usize,
     arguments: &[String],
 ) -> Result<Answer, Fault>

@@ -10,14 +10,17 @@ ghost use Rattle.documents.specs.Texts.{insert_at, insertion_offset};
 ghost use Rattle.peers.specs.Texts.{insert_pairs, insert_words, insert, texts_of_places, got, get};
 ghost use Rattle.command_parts.specs.Listing.{is_filled};
 
-use crate::ranges::{places_at};
+use crate::ranges::places_at;
 use command_parts::{Answer, Fault, Pair, first, pairs_at, push_filled};
-use std::alloc::AllocError;
 use documents::Document;
+use std::alloc::AllocError;
 use text_model::{Limits, Text, TextStore};
 
 /// Puts texts in at a place, or just before the last newline where that is the end, unless the widget is disabled.
-fn insert_pairs<S: TextStore>(document: &mut Document<S>, limits: &Limits, widget: usize,
+fn insert_pairs<S: TextStore>(
+    document: &mut Document<S>,
+    limits: &Limits,
+    widget: usize,
     place: usize,
     pairs: Vec<Pair>,
 ) -> Result<Answer, Fault>
@@ -30,11 +33,19 @@ fn insert_pairs<S: TextStore>(document: &mut Document<S>, limits: &Limits, widge
     if document.is_idle(widget) {
         return Ok(Answer::Empty);
     }
-    document.insert_at(limits, widget, document.insertion_offset(widget, place), pairs)
+    document.insert_at(
+        limits,
+        widget,
+        document.insertion_offset(widget, place),
+        pairs,
+    )
 }
 
 /// Puts texts in at a place, or just before the last newline where that is the end.
-fn insert_place<S: TextStore>(document: &mut Document<S>, limits: &Limits, widget: usize,
+fn insert_place<S: TextStore>(
+    document: &mut Document<S>,
+    limits: &Limits,
+    widget: usize,
     place: Result<usize, Fault>,
     at: usize,
     words: &[String],
@@ -55,7 +66,10 @@ fn insert_place<S: TextStore>(document: &mut Document<S>, limits: &Limits, widge
     }
 }
 
-fn insert_words<S: TextStore>(document: &mut Document<S>, limits: &Limits, widget: usize,
+fn insert_words<S: TextStore>(
+    document: &mut Document<S>,
+    limits: &Limits,
+    widget: usize,
     at: usize,
     index: &str,
     words: &[String],
@@ -69,7 +83,10 @@ fn insert_words<S: TextStore>(document: &mut Document<S>, limits: &Limits, widge
 }
 
 /// `W insert I chars ?tagList chars ..?` (text(n), "insert"). The arguments stand from a position on.
-pub fn insert<S: TextStore>(document: &mut Document<S>, limits: &Limits, widget: usize,
+pub fn insert<S: TextStore>(
+    document: &mut Document<S>,
+    limits: &Limits,
+    widget: usize,
     at: usize,
     arguments: &[String],
 ) -> Result<Answer, Fault>
@@ -84,7 +101,11 @@ pub fn insert<S: TextStore>(document: &mut Document<S>, limits: &Limits, widget:
 }
 
 /// The texts of ranges as a list, without those that are empty.
-fn got_list<S: TextStore>(document: &Document<S>, widget: usize, places: &[usize]) -> Result<Text, AllocError>
+fn got_list<S: TextStore>(
+    document: &Document<S>,
+    widget: usize,
+    places: &[usize],
+) -> Result<Text, AllocError>
     requires shown { widget < length document.now.widgets }
     requires within { All (λ place. place ≤ length (shown document.now (widget_at document.now widget))) places.now }
     ensures { IfOk result (λ list. list ≡ list_text (filter is_filled (texts_of_places document.now (widget_at document.now widget) places.now))) }
@@ -103,7 +124,11 @@ fn got_list<S: TextStore>(document: &Document<S>, widget: usize, places: &[usize
 }
 
 /// The text of the places of ranges.
-fn got<S: TextStore>(document: &Document<S>, widget: usize, places: &[usize]) -> Result<Answer, Fault>
+fn got<S: TextStore>(
+    document: &Document<S>,
+    widget: usize,
+    places: &[usize],
+) -> Result<Answer, Fault>
     requires shown { widget < length document.now.widgets }
     requires within { All (λ place. place ≤ length (shown document.now (widget_at document.now widget))) places.now }
     ensures { Gives result (Ok (got document.now (widget_at document.now widget) places.now)) }
@@ -121,7 +146,12 @@ fn got<S: TextStore>(document: &Document<S>, widget: usize, places: &[usize]) ->
 }
 
 /// `W get I ?I ..?` (text(n), "get"). The arguments stand from a position on.
-pub fn get<S: TextStore>(document: &Document<S>, widget: usize, at: usize, arguments: &[String]) -> Result<Answer, Fault>
+pub fn get<S: TextStore>(
+    document: &Document<S>,
+    widget: usize,
+    at: usize,
+    arguments: &[String],
+) -> Result<Answer, Fault>
     requires shown { widget < length document.now.widgets }
     requires near { at + length arguments.now ≤ usize.MAX }
     ensures { Gives result (get document.now (widget_at document.now widget) at (texts_of arguments.now)) }

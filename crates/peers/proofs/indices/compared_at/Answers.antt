@@ -4,13 +4,13 @@ use Rattle.command_parts.specs.declared.answers.Answer.TheVariants.{Flag}
 use Rattle.documents.specs.Indices.{place_at}
 use Rattle.peers.specs.Indices.{compared}
 use Rattle.command_parts.specs.Comparisons.{comparison_at, comparison_of, holds}
-use Rattle.documents.specs.Documents.{lone_widget}
+use Rattle.documents.specs.Documents.{widget_at}
 use Rattle.peers.proofs.PromiseLaws.{gives-three}
 use Rattle.peers.proofs.indices.compared_at.Goals as goal
 
 pub returns : goal.returns
 returns g c =
-    let document = c.args.self.now in let widget = lone_widget document in
+    let document = c.args.document.now in let widget = widget_at document c.args.widget in
     let from = c.place_at-from.result in let to = c.place_at-to.result in
     gives-three from (place_at document widget c.args.at (chars c.args.left.now)) (comparison_at (c.args.at + 1) (comparison_of (chars c.args.operator.now)))
     to (place_at document widget (c.args.at + 2) (chars c.args.right.now)) c.compared.result (λ a comparison b. Ok (Flag (holds comparison a b)))

@@ -1,13 +1,13 @@
 use Rattle.std.specs.Prelude.{◌+◌, chars}
 use Rattle.documents.specs.Indices.{place_at}
 use Rattle.peers.specs.Marks.{set_at}
-use Rattle.documents.specs.Documents.{lone_widget}
+use Rattle.documents.specs.Documents.{widget_at}
 use Rattle.peers.proofs.PromiseLaws.{does-through}
 use Rattle.peers.proofs.marks.set_words.Goals as goal
 
 pub returns : goal.returns
 returns g c =
-    let document = c.args.self.now in let widget = lone_widget document in
-    does-through c.args.limits.now document c.set_place.new.self c.set_place.result c.place_at-place.result
+    let document = c.args.document.now in let widget = widget_at document c.args.widget in
+    does-through c.args.limits.now document c.set_place.new.document c.set_place.result c.place_at-place.result
     (place_at document widget (c.args.at + 1) (chars c.args.word.now)) (set_at c.args.limits.now document widget (chars c.args.name.now))
     c.place_at-place.ensures.value c.set_place.ensures

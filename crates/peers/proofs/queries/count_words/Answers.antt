@@ -1,13 +1,13 @@
 use Rattle.std.specs.Prelude.{◌+◌, chars}
 use Rattle.documents.specs.Indices.{place_at}
 use Rattle.peers.specs.Queries.{count_between}
-use Rattle.documents.specs.Documents.{lone_widget}
+use Rattle.documents.specs.Documents.{widget_at}
 use Rattle.peers.proofs.PromiseLaws.{gives-both}
 use Rattle.peers.proofs.queries.count_words.Goals as goal
 
 pub returns : goal.returns
 returns g c =
-    let document = c.args.self.now in let widget = lone_widget document in
+    let document = c.args.document.now in let widget = widget_at document c.args.widget in
     gives-both c.place_at-from.result (place_at document widget c.args.at (chars c.args.first.now))
     c.place_at-to.result (place_at document widget (c.args.at + 1) (chars c.args.second.now)) c.count_between.result
     (count_between document widget c.args.options.now) c.place_at-from.ensures.value c.place_at-to.ensures.value c.count_between.ensures

@@ -4,13 +4,13 @@ use Rattle.command_parts.specs.Faults.{with_value}
 use Rattle.documents.specs.Indices.{place_at}
 use Rattle.documents.specs.Promise.{Gives}
 use Rattle.peers.specs.Tags.{next_between, place_or}
-use Rattle.documents.specs.Documents.{lone_widget}
+use Rattle.documents.specs.Documents.{widget_at}
 use Rattle.peers.proofs.PromiseLaws.{gives-both}
 use Rattle.peers.proofs.tags.next_words.Goals as goal
 
 pub returns : goal.returns
 returns g c =
-    let document = c.args.self.now in let widget = lone_widget document in
+    let document = c.args.document.now in let widget = widget_at document c.args.widget in
     let last = option_map (λ word. chars word.now) c.args.last in
     let from = place_at document widget (c.args.at + 1) (chars c.args.first.now) in
     let next = next_between document widget (chars c.args.name.now) in

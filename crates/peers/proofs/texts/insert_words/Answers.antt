@@ -3,14 +3,14 @@ use Rattle.tcl_words.specs.Unread.{texts_of}
 use Rattle.documents.specs.Indices.{place_at}
 use Rattle.command_parts.specs.Lists.{pairs_at}
 use Rattle.peers.specs.Texts.{insert_pairs}
-use Rattle.documents.specs.Documents.{lone_widget}
+use Rattle.documents.specs.Documents.{widget_at}
 use Rattle.peers.proofs.PromiseLaws.{does-through}
 use Rattle.peers.proofs.texts.insert_words.Goals as goal
 
 pub returns : goal.returns
 returns g c =
-    let document = c.args.self.now in let widget = lone_widget document in
-    does-through c.args.limits.now document c.insert_place.new.self c.insert_place.result c.place_at-place.result
+    let document = c.args.document.now in let widget = widget_at document c.args.widget in
+    does-through c.args.limits.now document c.insert_place.new.document c.insert_place.result c.place_at-place.result
     (place_at document widget c.args.at (chars c.args.index.now))
     (insert_pairs c.args.limits.now document widget (pairs_at (c.args.at + 1) (texts_of c.args.words.now)))
     c.place_at-place.ensures.value c.insert_place.ensures

@@ -43,8 +43,8 @@ invariant_of-self g c =
     let fit = subst (λ (n : ℕ). All (SpanFits n) given) (cells-kept parts document stands.is) (subst (All (SpanFits (length document.cells))) (sym spans) c.in_ok-spans.ensures.fit) in
     let found = found_by (λ slot. tagged slot true given parts.content) (known_tags new.tags.tags widget word) content c.in-Ok.ensures.ok in
     let made : IsTagged parts new.tags content widget word true given = record { slot = found.0; front = c.in-Ok.ensures.front; sound = c.in-Ok.ensures.sound; is = found.1; fit = fit; content_is = found.2 } in
-    let leaves = leaves-added c.args.limits.now parts new.tags content (log_of new.history) document c.args.widget widget word c.args.places.now given stands seat made c.in-Ok.ensures.log
-    (spans ∙ c.in_ok-spans.ensures.value) c.in-Ok.ensures.made c.in-Ok.ensures.room in
+    let leaves = leaves-added c.args.limits.now parts new.tags content (log_of new.history) document c.args.widget widget word c.args.places.now given c.in_ok-spans.spans.items stands seat made c.in-Ok.ensures.log
+    spans c.in_ok-spans.ensures.value c.in-Ok.ensures.made c.in-Ok.ensures.room in
     leaves.sound
 
 pub returns-in-Ok : goal.returns-in-Ok
@@ -63,8 +63,8 @@ returns-in-Ok g c =
     let fit = subst (λ (n : ℕ). All (SpanFits n) given) (cells-kept parts document stands.is) (subst (All (SpanFits (length document.cells))) (sym spans) c.in_ok-spans.ensures.fit) in
     let found = found_by (λ slot. tagged slot true given parts.content) (known_tags new.tags.tags widget word) content c.in-Ok.ensures.ok in
     let made : IsTagged parts new.tags content widget word true given = record { slot = found.0; front = c.in-Ok.ensures.front; sound = c.in-Ok.ensures.sound; is = found.1; fit = fit; content_is = found.2 } in
-    let leaves = leaves-added c.args.limits.now parts new.tags content (log_of new.history) document c.args.widget widget word c.args.places.now given stands seat made c.in-Ok.ensures.log
-    (spans ∙ c.in_ok-spans.ensures.value) c.in-Ok.ensures.made c.in-Ok.ensures.room in
+    let leaves = leaves-added c.args.limits.now parts new.tags content (log_of new.history) document c.args.widget widget word c.args.places.now given c.in_ok-spans.spans.items stands seat made c.in-Ok.ensures.log
+    spans c.in_ok-spans.ensures.value c.in-Ok.ensures.made c.in-Ok.ensures.room in
     leaves.does
 
 pub invariant_of-self-in-Err : goal.invariant_of-self-in-Err

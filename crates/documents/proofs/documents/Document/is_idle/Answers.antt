@@ -1,8 +1,8 @@
-use Rattle.std.proofs.Common.{◌≡◌, ℕ, true, false, ◌<◌, length, get_or, sym, ap, ap₂, ◌∙◌, arith}
-use Rattle.std.specs.Prelude.{Bool, ◌||◌, ◌==◌, slice_index_or}
+use Rattle.std.proofs.Common.{◌≡◌, true, false, length, get_or, sym, ap, ap₂, ◌∙◌, arith}
+use Rattle.std.specs.Prelude.{◌||◌, ◌==◌}
 use Rattle.documents.specs.Documents.{parts_of}
 use Rattle.documents.specs.Kept.{Stands}
-use Rattle.documents.proofs.PartsLaws.{Sits, sits}
+use Rattle.documents.proofs.PartsLaws.{sits}
 use Rattle.documents.proofs.ViewLaws.{end-found, end_in, flag-at, idle-is, start-found, start_in}
 use Rattle.documents.proofs.documents.Document.is_idle.Goals as goal
 

@@ -1,7 +1,6 @@
-use Rattle.std.proofs.Common.{◌≡◌, ap, sym, ◌∙◌, subst, length, arith}
-use Rattle.std.specs.Prelude.{string_bytes, chars, None, Some}
+use Rattle.std.proofs.Common.{ap, ◌∙◌, subst, length, arith}
+use Rattle.std.specs.Prelude.{string_bytes, chars}
 use Rattle.std.proofs.lemmas.Str.{IsUtf8-string_bytes, chars-nil}
-use Rattle.index_grammar.specs.Names.{known_tags}
 use Rattle.tcl_words.specs.ListText.{list_text}
 use Rattle.tcl_words.specs.ListGrowth.{Goes}
 use Rattle.text_index.specs.Views as view
@@ -24,7 +23,7 @@ returns-in_default g c =
     let stands : Stands parts document = record { sound = c.self.invariant; is = c.self.view_is } in
     c.new.ensures ∙ ap chars c.new-list.ensures.bytes ∙ chars-nil
     ∙ ap (λ flags. list_text (range_words (shown document (widget_at document c.args.widget)) (tag_ranges flags)))
-    (flags-unknown parts document c.args.widget c.number-number.result stands (chars c.args.name.now) (sym c.in_default.ensures.value))
+    (flags-unknown parts document c.args.widget c.number-number.result stands (chars c.args.name.now) c.in_default.ensures.value)
 
 pub view_of-view-requires : goal.view_of-view-requires
 view_of-view-requires g c =
@@ -58,8 +57,7 @@ returns g c =
     let seen = see parts document c.args.widget c.number-number.result content found.result.s found.result.e c.deref.result.now stands c.number-number.ensures.value c.deref.ensures.value found.ensures.start found.ensures.end
     found.ensures.store in
     let text = shown-found parts document c.args.widget c.number-number.result content found.result.s found.result.e seen in
-    let known : known_tags parts.tags.tags c.number-number.result (chars c.args.name.now) ≡ Some c.in-Some.slot.0 = sym c.in-Some.ensures.value in
-    let flags = flags-known parts document c.args.widget c.number-number.result content found.result.s found.result.e seen (chars c.args.name.now) c.in-Some.slot.0 known in
+    let flags = flags-known parts document c.args.widget c.number-number.result content found.result.s found.result.e seen (chars c.args.name.now) c.in-Some.slot.0 c.in-Some.ensures.value in
     let new = c.push_ranges.new.list in
     let words = range_words (view.shown content found.result.s found.result.e) (tag_ranges (view.shown_flags c.in-Some.slot.0 content found.result.s found.result.e)) in
     c.new-2.ensures ∙ written (string_bytes new) words (IsUtf8-string_bytes new) (subst (λ bytes. Goes bytes (string_bytes new) words) c.new-list.ensures.bytes c.in_ok-push_ranges.ensures)

@@ -1,4 +1,4 @@
-use Rattle.std.proofs.Common.{◌≡◌, ℕ, false, length, sym, subst, ◌∙◌}
+use Rattle.std.proofs.Common.{◌≡◌, ℕ, false, length, sym, subst}
 use Rattle.std.specs.Prelude.{chars}
 use Rattle.std.specs.List.{All}
 use Rattle.edit_ops.specs.States.{log_of}
@@ -16,7 +16,7 @@ returns-in_default g c =
     let document = c.args.self.now in
     let parts = parts_of old.seats old.tags old.marks old.settings old.disabled.items old.anchors.items old.history (g.S.TextStore.content old.store) in
     let stands : Stands parts document = record { sound = c.self.invariant; is = c.self.view_is } in
-    does-remove_none c.args.limits.now parts document c.args.widget c.number-number.result (chars c.args.name.now) c.args.places.now stands (sym c.in_default.ensures.value)
+    does-remove_none c.args.limits.now parts document c.args.widget c.number-number.result (chars c.args.name.now) c.args.places.now stands c.in_default.ensures.value
 
 pub set_slot-requires-clause-spans : goal.set_slot-requires-clause-spans
 set_slot-requires-clause-spans g c =
@@ -41,9 +41,9 @@ invariant_of-self g c =
     let content = g.S.TextStore.content new.store in
     let fit = subst (λ (n : ℕ). All (SpanFits n) given) (cells-kept parts document stands.is) (subst (All (SpanFits (length document.cells))) (sym spans) c.in_ok-spans.ensures.fit) in
     let made : IsTagged parts parts.tags content widget word false given =
-    record { slot = c.in-Some.slot.0; front = front_same parts.tags; sound = stands.sound.kept.tags; is = sym c.in-Some.ensures.value; fit = fit; content_is = c.in-Ok.ensures.ok } in
-    let leaves = leaves-removed c.args.limits.now parts content (log_of new.history) document c.args.widget widget word c.args.places.now given stands seat made c.in-Ok.ensures.log
-    (spans ∙ c.in_ok-spans.ensures.value) in
+    record { slot = c.in-Some.slot.0; front = front_same parts.tags; sound = stands.sound.kept.tags; is = c.in-Some.ensures.value; fit = fit; content_is = c.in-Ok.ensures.ok } in
+    let leaves = leaves-removed c.args.limits.now parts content (log_of new.history) document c.args.widget widget word c.args.places.now given c.in_ok-spans.spans.items stands seat made c.in-Ok.ensures.log
+    spans c.in_ok-spans.ensures.value in
     leaves.sound
 
 pub returns-in-Ok : goal.returns-in-Ok
@@ -61,7 +61,7 @@ returns-in-Ok g c =
     let content = g.S.TextStore.content new.store in
     let fit = subst (λ (n : ℕ). All (SpanFits n) given) (cells-kept parts document stands.is) (subst (All (SpanFits (length document.cells))) (sym spans) c.in_ok-spans.ensures.fit) in
     let made : IsTagged parts parts.tags content widget word false given =
-    record { slot = c.in-Some.slot.0; front = front_same parts.tags; sound = stands.sound.kept.tags; is = sym c.in-Some.ensures.value; fit = fit; content_is = c.in-Ok.ensures.ok } in
-    let leaves = leaves-removed c.args.limits.now parts content (log_of new.history) document c.args.widget widget word c.args.places.now given stands seat made c.in-Ok.ensures.log
-    (spans ∙ c.in_ok-spans.ensures.value) in
+    record { slot = c.in-Some.slot.0; front = front_same parts.tags; sound = stands.sound.kept.tags; is = c.in-Some.ensures.value; fit = fit; content_is = c.in-Ok.ensures.ok } in
+    let leaves = leaves-removed c.args.limits.now parts content (log_of new.history) document c.args.widget widget word c.args.places.now given c.in_ok-spans.spans.items stands seat made c.in-Ok.ensures.log
+    spans c.in_ok-spans.ensures.value in
     leaves.does

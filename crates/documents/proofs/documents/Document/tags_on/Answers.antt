@@ -1,4 +1,4 @@
-use Rattle.std.proofs.Common.{◌<◌, ◌+◌, ap, sym, ◌∙◌, subst, length, arith}
+use Rattle.std.proofs.Common.{◌<◌, ◌+◌, ap, ◌∙◌, subst, length, arith}
 use Rattle.std.specs.FinSet as set
 use Rattle.std.specs.Prelude.{string_bytes, chars, filter}
 use Rattle.std.proofs.lemmas.Str.{IsUtf8-string_bytes, chars-nil}
@@ -34,8 +34,14 @@ tags_at-requires g c =
     let seen = see parts document c.args.widget c.number-number.result content found.result.s found.result.e c.deref.result.now stands c.number-number.ensures.value c.deref.ensures.value found.ensures.start found.ensures.end
     found.ensures.store in
     let long = length-found parts document c.args.widget c.number-number.result content found.result.s found.result.e seen in
-    omega (arith, long, ends-found parts document c.args.widget c.number-number.result content found.result.s found.result.e seen, ordered-found parts document c.args.widget c.number-number.result content found.result.s found.result.e seen,
-    c.requires.within, c.if-offset-view.false)
+    omega (
+      arith,
+      long,
+      ends-found parts document c.args.widget c.number-number.result content found.result.s found.result.e seen,
+      ordered-found parts document c.args.widget c.number-number.result content found.result.s found.result.e seen,
+      c.requires.within,
+      c.if-offset-view.false,
+    )
 
 pub returns-then-offset-view : goal.returns-then-offset-view
 returns-then-offset-view g c =

@@ -1,4 +1,4 @@
-use Rattle.std.proofs.Common.{◌<◌, length, ap, arith}
+use Rattle.std.proofs.Common.{length, ap, arith}
 use Rattle.documents.specs.Documents.{parts_of}
 use Rattle.documents.specs.Kept.{Stands}
 use Rattle.documents.proofs.PartsLaws.{sits}

@@ -1,6 +1,5 @@
-use Rattle.std.proofs.Common.{sym, ap, ◌∙◌}
 use Rattle.std.specs.Prelude.{chars}
-use Rattle.documents.specs.Documents.{Widget, parts_of}
+use Rattle.documents.specs.Documents.{parts_of}
 use Rattle.documents.specs.Kept.{Stands}
 use Rattle.documents.proofs.FindLaws.{named-at}
 use Rattle.documents.proofs.documents.Document.widget_name.Goals as goal
