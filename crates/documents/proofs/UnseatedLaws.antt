@@ -1,12 +1,10 @@
 -- Widgets that go.
-use Rattle.std.proofs.Common.{◌≡◌, ◌≢◌, ℕ, zero, suc, ◌+◌, ◌*◌, ◌<◌, ◌≤◌, Bool, true, false, cond, not, filter, List, [], ◌∷◌, Some, length, map, refl, sym, ap, ap₂, subst, ◌∙◌, true≢false, arith}
+use Rattle.std.proofs.Common.{◌≡◌, ◌≢◌, ℕ, suc, ◌+◌, ◌*◌, true, false, cond, not, filter, List, [], ◌∷◌, Some, length, map, refl, sym, ap, ap₂, subst, ◌∙◌, arith}
 use Rattle.std.specs.Prelude.{slice_get, nat_lt, is_some, unwrap_or}
 use Rattle.std.specs.FinMap as finite
 use Rattle.std.specs.List.{All, AllByRecursion}
 use Rattle.std.proofs.lemmas.List.{length-map, map-id}
 use Rattle.text_model.specs.declared.cells.Cell.{Cell}
-use Rattle.text_model.specs.declared.limits.TheConstants.Limits.{MOST_WIDGETS}
-use Rattle.text_model.specs.declared.places.Place.{Place}
 use Rattle.text_model.specs.Content as model
 use Rattle.text_model.specs.Content.{Content, Marks}
 use Rattle.text_model.specs.Documents.{IsDocument, MarksStand}

@@ -15,5 +15,5 @@ returns-in-Err g c =
 pub returns-in-Ok : goal.returns-in-Ok
 returns-in-Ok g c =
     let document = c.args.document.now in let widget = widget_at document c.args.widget in
-    does-found c.args.limits.now document c.add_spans.new.document c.add_spans.result (places_at document widget (c.args.at + 1) (texts_of c.args.words.now)) c.deref.result.now (add_spans c.args.limits.now document widget (chars c.args.name.now))
+    does-found c.args.limits.now document c.add_spans.new.self c.add_spans.result (places_at document widget (c.args.at + 1) (texts_of c.args.words.now)) c.deref.result.now (add_spans c.args.limits.now document widget (chars c.args.name.now))
     (c.in-Ok.ensures.ok ∙ ap Ok (sym c.deref.ensures.value)) c.add_spans.ensures

@@ -1,7 +1,4 @@
 use Rattle.std.proofs.Common.{◌≡◌, [], sym, ap, subst, ◌∙◌}
-use Rattle.name_list.specs.Names.{Names}
-use Rattle.mark_table.specs.SharedMarks.{SharedMarks}
-use Rattle.tag_table.specs.Tags.{Tags}
 use Rattle.text_model.specs.declared.limits.TheConstants.Limits.{MOST_MARKS, MOST_TAGS}
 use Rattle.documents.specs.Documents.{Parts, document_of, parts_of}
 use Rattle.documents.specs.Kept.{IsSound}

@@ -2,7 +2,7 @@ use Rattle.std.proofs.Common.{List, map, ap, ◌∙◌}
 use Rattle.text_model.specs.declared.places.TagSlot.{TagSlot}
 use Rattle.tcl_words.specs.Unread.{texts_of}
 use Rattle.command_parts.specs.Edits.{without_widgets}
-use Rattle.documents.specs.Documents.{Parts, parts_of}
+use Rattle.documents.specs.Documents.{parts_of}
 use Rattle.documents.specs.Kept.{Stands}
 use Rattle.documents.proofs.UnseatedLaws.{leaves-others}
 use Rattle.documents.proofs.documents.Document.drop_widgets.Goals as goal
