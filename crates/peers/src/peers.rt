@@ -30,6 +30,8 @@ fn add_peer<S: TextStore>(
     ensures { Does limits.now document.old document.new result
         (peer_with limits.now (window_names document.old) document.old at (chars name.now) settings) }
 {
+    // Where one of the limits is read, all are known to be in their bounds.
+    let _chars = limits.chars();
     if document.find_widget(name).is_some() {
         return Err(Fault::WindowExists(at));
     }
