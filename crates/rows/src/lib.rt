@@ -10,6 +10,8 @@ mod edit_rows;
 mod faults;
 #[cfg(test)]
 mod mark_rows;
+#[cfg(test)]
+mod peer_rows;
 mod readers;
 #[cfg(test)]
 mod scripts;

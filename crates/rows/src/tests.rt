@@ -1,6 +1,7 @@
 use crate::command_rows::{PLACES, TEXTS, WIDGETS};
 use crate::edit_rows::{DELETIONS, REPLACEMENTS};
 use crate::mark_rows::{GRAVITIES, MARK_ORDERS, MARKS};
+use crate::peer_rows::{PEERS, VIEWS};
 use crate::readers::Pieces;
 use crate::scripts::SCRIPTS;
 use crate::search_rows::{COUNTS, DUMPS, SEARCHES};
@@ -156,4 +157,14 @@ fn counts_on_the_plain_store(rt: HostRuntime) -> Result<(), AllocError> {
 #[test]
 fn dumps_on_the_plain_store(rt: HostRuntime) -> Result<(), AllocError> {
     check_rows::<PlainStore>(&rt, rt.alloc(), &DUMPS)
+}
+
+#[test]
+fn peers_on_the_plain_store(rt: HostRuntime) -> Result<(), AllocError> {
+    check_rows::<PlainStore>(&rt, rt.alloc(), &PEERS)
+}
+
+#[test]
+fn views_on_the_plain_store(rt: HostRuntime) -> Result<(), AllocError> {
+    check_rows::<PlainStore>(&rt, rt.alloc(), &VIEWS)
 }

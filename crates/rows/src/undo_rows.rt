@@ -120,7 +120,7 @@ pub static MODIFIED_TEXTS: [Row; 4] = [
     },
     Row {
         name: "below zero what is made again goes back, and what is new doesn't",
-        script: b"text .t -undo 1; .t insert 1.0 a; .t edit separator; .t insert 1.1 b; .t edit modified 0; .t edit undo; .t edit undo; .t edit modified; .t edit redo; .t edit modified; .t edit redo; .t edit modified; .t edit undo; .t replace 1.0 1.1 c; .t edit modified; .t edit undo; .t edit modified; .t edit redo; .t edit redo; .t edit modified; .t edit modified 0; .t edit undo; .t edit redo; .t edit modified",
+        script: b"text .t -undo 1; .t insert 1.0 a; .t edit separator; .t insert 1.1 b; .t edit modified 0; .t edit undo; .t edit undo; .t edit modified; .t edit redo; .t edit modified; .t edit redo; .t edit modified; .t edit undo; .t insert 1.0 c; .t edit modified; .t edit undo; .t edit modified; .t edit redo; .t edit redo; .t edit modified; .t edit modified 0; .t edit undo; .t edit redo; .t edit modified",
         numbers: AMPLE,
         output: ".t\n\n\n\n\n\n\n1\n\n1\n\n0\n\n\n1\n\n1\n\nerror: nothing to redo\n1\n\n\n\n0\n",
         status: 1,
