@@ -1202,6 +1202,84 @@ def views():
     ]
 
 
+def lower_views():
+    """Commands of a widget whose view begins below the first line, and ends above the last."""
+    return [
+        Row(
+            "marks from places of a view",
+            b'text .t; .t insert 1.0 "ab\ncd\nef\ngh"; .t mark set a 1.1; .t mark set b 2.1; .t mark set c 3.1; .t mark set d 4.1; .t mark set insert 2.1; '
+            b".t peer create .p -startline 2 -endline 4; .p mark next 1.0; .p mark next 1.1; .p mark next 2.0; .p mark next 2.1; .p mark next 2.2; "
+            b".p mark previous end; .p mark previous 2.1; .p mark previous 1.1; .p mark previous 1.0; .p mark previous 2.2; .p index a; .p index b; .p index c",
+            lines(".t", "", "", "", "", "", "", ".p", "insert", "b", "c", "c", "", "c", "b", "current", "", "c", bad_index("a"), "1.1", "2.1"),
+            1,
+        ),
+        Row(
+            "marks from marks in a view, and at its end",
+            b'text .t; .t insert 1.0 "ab\ncd\nef\ngh"; .t mark set a 1.1; .t mark set b 2.1; .t mark set c 3.1; .t mark set d 4.1; '
+            b".t peer create .p -startline 2 -endline 4; .p mark next insert; .p mark next current; .p mark next b; .p mark next c; .p mark next d; "
+            b".p mark previous c; .p mark previous b; .p mark previous current; .p mark previous insert; .p mark previous a; .t mark set e 4.0; "
+            b".p index e; .p mark next c; .p mark next end; .p mark previous e; .p mark previous end; .p mark set insert 2.1; .p mark next b; "
+            b".p mark next insert; .t mark next a; .t mark next c",
+            lines(".t", "", "", "", "", "", ".p", "current", "b", "c", "", bad_index("d"), "b", "current", "insert", "", bad_index("a"), "", "3.0",
+                  "e", "e", "c", "c", "", "insert", "c", "b", "e"),
+            1,
+        ),
+        Row(
+            "ranges of a tag from places of a view",
+            b'text .t; .t insert 1.0 "ab\ncd\nef\ngh"; .t tag add x 1.1 2.1 3.1 4.1; .t peer create .p -startline 2 -endline 4; .p tag ranges x; '
+            b".p tag nextrange x 1.0; .p tag nextrange x 1.1; .p tag nextrange x 1.0 1.0; .p tag nextrange x 1.1 2.1; .p tag nextrange x 1.1 2.2; "
+            b".p tag nextrange x 2.2; .p tag prevrange x end; .p tag prevrange x 2.1; .p tag prevrange x 1.0; .p tag prevrange x end 2.1; "
+            b".p tag prevrange x 2.1 1.1; .t tag nextrange x 2.0; .t tag prevrange x 3.1; .p tag names 1.0; .p tag names 1.1; .p tag names end; "
+            b".p index x.last; .p tag remove x 1.0; .p tag ranges x; .t tag ranges x",
+            lines(".t", "", "", ".p", "1.0 1.1 2.1 3.0", "1.0 1.1", "2.1 3.0", "", "", "2.1 3.0", "", "2.1 3.0", "1.0 1.1", "", "2.1 3.0", "", "3.1 4.1",
+                  "1.1 2.1", "x", "", "", "3.0", "", "2.1 3.0", "1.1 2.0 3.1 4.1"),
+            0,
+        ),
+        Row(
+            "searches and counts from places of a view",
+            b'text .t; .t insert 1.0 "ax\nay\naa\nax"; .t peer create .p -startline 2 -endline 4; .p search a 1.0; .p search a 1.1; .p search a 2.2; '
+            b".p search x 1.0; .p search -all a 1.0; .p search -all a 2.1; .p search -backwards a 2.0; .p search -backwards a 1.0; "
+            b'.p search "a\na" 1.0; .t search "a\na" 1.0; .p search "y\na" 2.0; .p search a 1.1 2.0; .p search a 1.1 2.1; '
+            b".p search -strictlimits aa 1.0 2.1; .p search aa 1.0 2.1; .p search -strictlimits aa 1.0 2.2; .p search {} end; "
+            b'.p search -backwards -all "\n" 1.1; .p count -chars -lines 2.0 1.0; .p count 1.1 end; .p count -lines 1.0 end',
+            lines(".t", "", ".p", "1.0", "2.0", "1.0", "", "1.0 2.0 2.1", "2.1 1.0 2.0", "1.0", "2.1", "", "3.1", "1.1", "", "2.0", "", "2.0", "2.0",
+                  "1.0", "2.2 1.2", "-3 -1", "5", "2"),
+            0,
+        ),
+        Row(
+            "dumps from places of a view",
+            b'text .t; .t insert 1.0 "ab\ncd\nef\ngh"; .t tag add x 1.1 2.1 3.1 4.1; .t mark set k 1.0; .t mark set m 3.0; '
+            b".t peer create .p -startline 2 -endline 4; .p tag add sel 2.0 2.1; .p dump 1.0 end; .p dump -text 1.1 2.1; .p dump 2.0; "
+            b".p dump -mark 1.0 end; .p dump -tag 1.1 2.1; .p dump end; .t dump -text 2.0 3.0",
+            lines(".t", "", "", "", "", ".p", "",
+                  "tagon x 1.0 mark insert 1.0 mark current 1.0 text c 1.0 tagoff x 1.1 text {d", "} 1.1 tagon sel 2.0 mark m 2.0 text e 2.0 "
+                  "tagoff sel 2.1 tagon x 2.1 text {f", "} 2.1 tagoff x 3.0", "text {d", "} 1.1 text e 2.0", "tagon sel 2.0 mark m 2.0 text e 2.0",
+                  "mark insert 1.0 mark current 1.0 mark m 2.0", "tagoff x 1.1 tagon sel 2.0", "tagoff x 3.0", "text c 2.0 text {d", "} 2.1"),
+            0,
+        ),
+        Row(
+            "deletions at a view's last newline, undone",
+            b'text .t -undo 1; .t insert 1.0 "ab\ncd\nef\ngh"; .t tag add x 1.0 end; .t peer create .p -startline 2 -endline 4; .p delete 2.2; '
+            b".p get 1.0 end; .t tag ranges x; .p delete 2.1 end; .p get 1.0 end; .p delete 2.0 end; .p get 1.0 end; .p cget -endline; "
+            b".p delete end-1c; .t get 1.0 end-1c; .p index end; .p edit undo; .p get 1.0 end; .p cget -endline; .p index insert; .p edit redo; "
+            b".t get 1.0 end-1c; .p index insert; .p edit undo; .p delete 1.0 2.1 2.2; .p get 1.0 end; .t get 1.0 end-1c",
+            lines(".t", "", "", ".p", "", "cd", "ef\n", "1.0 3.2 4.0 5.0", "", "cd", "e\n", "", "cd\n", "3", "", "ab", "cd", "gh", "2.0", "", "cd",
+                  "ef\n", "4", "2.2", "", "ab", "cd", "gh", "1.2", "", "", "f\n", "ab", "f", "gh"),
+            0,
+        ),
+        Row(
+            "insertions at a view's end, undone",
+            b'text .t -undo 1; .t insert 1.0 "ab\ncd\nef\ngh"; .t edit reset; .t peer create .p -startline 2 -endline 4; .p insert end X; '
+            b'.p get 1.0 end; .p insert 9.9 "\nY"; .p get 1.0 end; .p cget -endline; .p edit undo; .p get 1.0 end; .p index insert; .p edit redo; '
+            b".p get 1.0 end; .p index insert; .p edit separator; .t delete 1.0; .p edit undo; .p index insert; .t get 1.0 2.0; "
+            b".p insert insert Z; .p get 1.0 2.0; .p edit undo; .p index insert; .p get 1.0 2.0; .p edit undo; .p edit undo",
+            lines(".t", "", "", ".p", "", "cd", "efX\n", "", "cd", "efX", "Y\n", "5", "", "cd", "ef\n", "2.2", "", "cd", "efX", "Y\n", "3.1", "", "",
+                  "", "1.0", "ab\n", "", "Zcd\n", "", "1.0", "cd\n", "", NOTHING_TO_UNDO),
+            1,
+        ),
+    ]
+
+
 def most_widgets():
     """As many widgets as there may be, and one more."""
     names = [f".w{number}" for number in range(63)]
@@ -1536,7 +1614,7 @@ def script_faults():
 
 ROWS = (
     whole_runs() + places() + tag_lists() + tags() + marks() + deletions() + replacements() + histories() + modified_texts()
-    + options() + searches() + counts() + dumps() + peers() + views() + quoting() + command_faults() + script_faults()
+    + options() + searches() + counts() + dumps() + peers() + views() + lower_views() + quoting() + command_faults() + script_faults()
 )
 
 # Rows of so many commands that they aren't run once for each growth.
