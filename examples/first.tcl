@@ -17,7 +17,12 @@ text .t
 .t insert 2.0 "so: " {bold em}
 .t tag ranges bold
 .t get bold.first "bold.first wordend" em.first em.last
-.t replace 1.0 1.5 goodbye em
-.t delete 2.0 end
-.t get 1.0 end-1c
-.t tag ranges em
+# a second widget that shows the text from its second line on
+.t configure -undo 1
+.t peer create .p -startline 2
+.p replace 1.0 1.4 and:
+.p tag add sel 1.1 1.7
+.p dump 1.0 end
+.t search -all brace 1.0
+.t edit undo
+.p get 1.0 end-1c

@@ -146,6 +146,27 @@ def spelled_words(before, after, piece):
 LINE = "a lazy dog, and\n"
 NEEDLE = "haystack"
 
+WIDGETS = 64
+
+
+def with_peers(commands):
+    """These commands behind those that make a text of `size` characters in short lines, and 63 peers, each with a view of its own."""
+    return lambda size: (
+        ["text .t", ".t insert end {" + LINE * (size // len(LINE)) + "}"]
+        + [f".t peer create .w{number} -startline {number} -endline {2 * number}" for number in range(1, WIDGETS)]
+        + commands(size)
+    )
+
+
+def peer_inserts(size):
+    """Insertions before all views and in each of them."""
+    return [command for number in range(size // 16) for command in (".t insert 1.0 x", f".w{1 + number % (WIDGETS - 1)} insert 1.0 y")]
+
+
+def peer_queries(size):
+    """Places asked for by each widget."""
+    return [f".w{1 + number % (WIDGETS - 1)} index end" for number in range(size)]
+
 
 def with_lines(commands):
     """These commands behind those that make a text of `size` short lines, of which one near the end has a rare word."""
@@ -205,6 +226,8 @@ KINDS = [
     Kind("dump all of many lines", with_tagged_lines(lambda size: [".t dump 1.0 end-1c"] * 3), lambda size: 3 * size),
     Kind("dump their tags", with_tagged_lines(lambda size: [".t dump -tag 1.0 end"] * 3)),
     Kind("dump each tenth line", with_tagged_lines(line_dumps)),
+    Kind("64 widgets: insert", with_peers(peer_inserts)),
+    Kind("64 widgets: index", with_peers(peer_queries)),
     Kind("a refused command", refused_commands),
     Kind("20 words of that length", long_words),
     Kind("20 bare words, 20 x", spelled_words("", "", PROSE.replace(" ", "_"))),
@@ -344,7 +367,12 @@ def measure_size(program, first, command, length):
 # What a script is made of whose size is measured: its name, its first command, the one that follows, and its lengths in bytes.
 SIZED_SCRIPTS = [
     ("short commands", b"text .t\n", b".t index end\n", [1_000_000, 4_000_000, 16_000_000]),
-    ("edits of which 1,000 groups are kept", b"text .t -undo 1 -maxundo 1000\n", b".t insert 1.0 x\n.t delete 1.0\n", [300_000, 1_500_000, 6_000_000]),
+    (
+        "edits of which 1,000 groups are kept",
+        b"text .t -undo 1 -maxundo 1000\n",
+        b".t insert 1.0 x\n.t delete 1.0\n",
+        [300_000, 1_500_000, 6_000_000],
+    ),
 ]
 
 

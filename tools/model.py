@@ -558,6 +558,10 @@ def bad_integer(word):
     return Fault(f'expected integer but got "{word}"')
 
 
+def line_order():
+    return Fault("-startline must be less than or equal to -endline")
+
+
 def nothing_to_undo():
     return Fault("nothing to undo")
 
@@ -1478,6 +1482,31 @@ def is_disabled_of(word):
     return word == "disabled"
 
 
+def line_of(word):
+    """The line that a word names, from 1 on, or None for the empty text."""
+    if word == "":
+        return None
+    if integer_of(word) < 1:
+        raise bad_integer(word)
+    return int(word)
+
+
+def start_anchor(line, characters):
+    """Where the view of a widget begins whose first line this is; behind the last line, the length."""
+    return None if line is None else line_begin(min(line - 1, len(newlines(characters))), characters)
+
+
+def end_anchor(line, characters):
+    """Where the view of a widget ends that ends before this line; behind the last line there is no anchor."""
+    return None if line is None or line > len(newlines(characters)) else line_begin(line - 1, characters)
+
+
+def anchor_text(anchor, document):
+    """An anchor as a line's number, or the empty text."""
+    characters = [cell.character for cell in document.cells]
+    return "" if anchor is None else str(1 + len(newlines(characters[:anchor])))
+
+
 class Option(NamedTuple):
     """An option: how a word for its value is read, and how its value is printed."""
 
@@ -1490,6 +1519,8 @@ OPTIONS = {
     "-maxundo": Option(integer_of, lambda document, widget: str(document.max_undo)),
     "-autoseparators": Option(boolean_of, lambda document, widget: str(int(document.auto_separators))),
     "-state": Option(is_disabled_of, lambda document, widget: "disabled" if widget.disabled else "normal"),
+    "-startline": Option(line_of, lambda document, widget: anchor_text(widget.start, document)),
+    "-endline": Option(line_of, lambda document, widget: anchor_text(widget.end, document)),
 }
 
 
@@ -1498,8 +1529,19 @@ def settings_of(words):
     return {name: OPTIONS[name].read(word) for name, word in zip(words[0::2], words[1::2])}
 
 
+def with_settings(document, widget, settings):
+    """A widget with the values of some options of its own; its view may not end before it begins."""
+    characters = [cell.character for cell in document.cells]
+    start = start_anchor(settings["-startline"], characters) if "-startline" in settings else widget.start
+    end = end_anchor(settings["-endline"], characters) if "-endline" in settings else widget.end
+    if start is not None and end is not None and start > end:
+        raise line_order()
+    return replace(widget, start=start, end=end, disabled=settings.get("-state", widget.disabled))
+
+
 def configured(document, widget, settings):
     """The document with the values of some options; `-undo` set to false takes the history away."""
+    changed = with_settings(document, widget, settings)
     history = History() if settings.get("-undo") is False else document.history
     limit = settings.get("-maxundo", document.max_undo)
     document = replace(
@@ -1509,7 +1551,7 @@ def configured(document, widget, settings):
         auto_separators=settings.get("-autoseparators", document.auto_separators),
         history=replace(history, groups=newest(history.groups, limit)),
     )
-    return with_widget(document, widget, replace(widget, disabled=settings.get("-state", widget.disabled)))
+    return with_widget(document, widget, changed)
 
 
 # ---------------------------------------------------------------------------------------------------
@@ -1537,6 +1579,19 @@ def with_document(world, old, new):
 def is_window_name(word):
     """A window's name is a dot and at least one more character."""
     return len(word) >= 2 and word[0] == "."
+
+
+def count_widgets(world):
+    """How many widgets there are."""
+    return sum(len(document.widgets) for document in world.documents)
+
+
+def with_new_widget(document, widget, settings):
+    """The document with one widget more, last, which has these options; its own marks stand where its view begins."""
+    document = configured(replace(document, widgets=document.widgets + (widget,)), widget, settings)
+    *others, widget = document.widgets
+    mark = Mark(view(document, widget).start)
+    return replace(document, widgets=(*others, replace(widget, insert=mark, current=mark)))
 
 
 class Options(NamedTuple):
@@ -1597,16 +1652,46 @@ def text_command(world, words):
     name = arguments[0]
     if not is_window_name(name):
         raise invalid_command_name(name)
-    settings = settings_of(arguments[1:])
+    document = with_new_widget(Document(), Widget(name), settings_of(arguments[1:]))
     if find_widget(world, name) is not None:
         raise window_exists(name)
     if world.documents:
         raise document_exists()
-    if world.limits.widgets < 1:
+    if count_widgets(world) >= world.limits.widgets:
         raise too_many_widgets()
-    widget = Widget(name)
-    document = configured(Document(widgets=(widget,)), widget, settings)
     return replace(world, documents=world.documents + (document,)), name
+
+
+def without_widgets(document, names):
+    """The document without some widgets, and without the keys of their selections."""
+    keys = {key_of("sel", widget) for widget in document.widgets if widget.name in names}
+    cells = tuple(cell._replace(keys=cell.keys - keys) for cell in document.cells)
+    widgets = tuple(widget for widget in document.widgets if widget.name not in names)
+    return replace(document, cells=cells, widgets=widgets)
+
+
+def destroy_command(world, words):
+    """`destroy ?W ..?`: takes widgets away, and each document whose last one goes.  Other names are skipped."""
+    documents = [without_widgets(document, words[1:]) for document in world.documents]
+    return replace(world, documents=tuple(document for document in documents if document.widgets)), ""
+
+
+def peer_create_command(world, document, widget, arguments):
+    """`W peer create V ?option value ..?`: a further widget, which begins with W's anchors.  The answer is V."""
+    name = arguments[0]
+    if not is_window_name(name):
+        raise invalid_command_name(name)
+    changed = with_new_widget(document, Widget(name, widget.start, widget.end), settings_of(arguments[1:]))
+    if find_widget(world, name) is not None:
+        raise window_exists(name)
+    if count_widgets(world) >= world.limits.widgets:
+        raise too_many_widgets()
+    return with_document(world, document, changed), name
+
+
+def peer_names_command(world, document, widget, arguments):
+    """`W peer names`: the other widgets of the document, by their creation."""
+    return world, list_text([other.name for other in document.widgets if other is not widget])
 
 
 def list_of(word):
@@ -2007,6 +2092,8 @@ SUBCOMMANDS = {
     ("edit", "reset"): Subcommand(edit_reset_command, 0, 0),
     ("edit", "separator"): Subcommand(edit_separator_command, 0, 0),
     ("edit", "undo"): Subcommand(edit_undo_command, 0, 0),
+    ("peer", "create"): Subcommand(peer_create_command, 1, None, Options(1, True)),
+    ("peer", "names"): Subcommand(peer_names_command, 0, 0),
     ("configure",): Subcommand(configure_command, 2, None, Options(0, True)),
     ("cget",): Subcommand(cget_command, 1, 1, Options(0, False)),
     ("search",): Subcommand(search_command, 2, 3, None, SEARCH_SWITCHES),
@@ -2053,6 +2140,8 @@ def step(world, words):
     """One command of at least one word: the new world and the answer.  A refused one raises Fault."""
     if words[0] == "text":
         return text_command(world, words)
+    if words[0] == "destroy":
+        return destroy_command(world, words)
     found = find_widget(world, words[0])
     if found is None:
         raise invalid_command_name(words[0])

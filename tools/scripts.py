@@ -15,6 +15,13 @@ from typing import NamedTuple
 import indices
 import model
 
+
+class Chance(random.Random):
+    """Where all that is random comes from, and the widgets of the script that is made."""
+
+    widgets = (".t",)
+
+
 # ---------------------------------------------------------------------------------------------------
 # Numbers and texts
 
@@ -250,15 +257,16 @@ def argument_index(chance):
 WIDGETS = [".t", ".u", "..", ".t.u", ".é", ".$", ".1"]
 NO_WINDOW_NAMES = ["t", ".", "a.b", "é.", "$", "-undo", "1.0", "text", "", " .t", "\n"]
 NO_COMMANDS = [
-    "foo", "puts", "destroy", "pack", "Text", "TEXT", "texts", "tex", "insert", "$", "]", "end", "\x00", "", "#", "text .t",
+    "foo", "puts", "destro", "Destroy", "pack", "Text", "TEXT", "texts", "tex", "insert", "$", "]", "end", "\x00", "", "#", "text .t",
 ]
 NO_SUBCOMMANDS = [
-    "foo", "ins", "Insert", "inserts", "del", "deletes", "Replace", "ge", "gets", "ind", "indexes", "edi", "edits", "undo", "peer", "config", "Configure", "cge", "sear",
-    "searches", "Count", "dumps", "ta", "tags", "-undo", "$", "]", "#", ".t", "text", "é", "", " ", "get ", "{", "\\", "names", "gravity",
+    "foo", "ins", "Insert", "inserts", "del", "deletes", "Replace", "ge", "gets", "ind", "indexes", "edi", "edits", "undo", "pee",
+    "peers", "config", "Configure", "cge", "sear", "searches", "Count", "dumps", "ta", "tags", "-undo", "$", "]", "#", ".t",
+    "text", "é", "", " ", "get ", "{", "\\", "names", "gravity",
 ]
 NO_GRAVITIES = ["", "Left", "lef", "right ", "up", "l", "é", "1.0", "leftright"]
 # Words in the place of an option that are none, and in the place of its value.
-NO_OPTIONS = ["-startline", "-endline", "-und", "-undos", "-Undo", "undo", "-", "--", "-wrap", "1", "", "é", "insert"]
+NO_OPTIONS = ["-start", "-endlines", "-und", "-undos", "-Undo", "undo", "-", "--", "-wrap", "1", "", "é", "insert"]
 NO_SWITCHES = ["-", "--", "-x", "-regexp", "-ALL", "-char", "-charss", "-t", "-1", "-é", "-all ", "--all"]
 NO_BOOLEANS = ["", "True", "NO", "y", "t", "2", "00", "maybe", "é", "1 "]
 NO_INTEGERS = ["", "+", "-", "+-1", "1.0", "1 ", " 1", "0x1", "1e2", "1234567890", "٣", "one"]
@@ -267,8 +275,13 @@ NO_COMPARISONS = ["", "=", "<>", "< ", "===", "!", "lt", "é", "1.0", "=<"]
 
 
 def widget(chance):
-    """A widget's name: mostly the one that exists."""
-    return ".t" if chance.random() < 0.95 else chance.choice(WIDGETS)
+    """A widget's name: mostly one of those that the script makes."""
+    return own_widget(chance) if chance.random() < 0.95 else chance.choice(WIDGETS)
+
+
+def own_widget(chance):
+    """A widget that the script makes."""
+    return chance.choice(chance.widgets)
 
 
 def text_command(chance):
@@ -295,7 +308,22 @@ def state_word(chance):
     return chance.choice(["normal", "normal", "disabled"] if chance.random() < 0.9 else NO_STATES)
 
 
-OPTION_WORDS = {"-undo": boolean_word, "-maxundo": integer_word, "-autoseparators": boolean_word, "-state": state_word}
+def line_word(chance):
+    """A word for a line, or for none, or now and then one that is neither."""
+    kind = chance.random()
+    if kind < 0.8:
+        return chance.choice(["1", "2", "2", "3", "4", "5", "", "+2", "003", "99"])
+    return chance.choice(["0", "-1", "-0"] if kind < 0.9 else NO_INTEGERS)
+
+
+OPTION_WORDS = {
+    "-undo": boolean_word,
+    "-maxundo": integer_word,
+    "-autoseparators": boolean_word,
+    "-state": state_word,
+    "-startline": line_word,
+    "-endline": line_word,
+}
 
 
 def option_name(chance):
@@ -320,6 +348,39 @@ def text_with_options(chance):
 
 def configure_command(chance):
     return [widget(chance), "configure"] + option_words(chance)
+
+
+def shown_lines(chance):
+    """Options for the lines that a widget shows, which mostly stand in their order."""
+    first, last = sorted(chance.choices("12345", k=2))
+    return chance.choice([[], ["-startline", first], ["-endline", last], ["-startline", first, "-endline", last], ["-startline", "", "-endline", ""]])
+
+
+def peer_create_command(chance):
+    """`peer create` of a name that is new, taken or none, with options."""
+    name = chance.choice([".p", ".p", ".q", ".r", ".t", *WIDGETS] if chance.random() < 0.9 else NO_WINDOW_NAMES)
+    return [widget(chance), "peer", "create", name] + (shown_lines(chance) if chance.random() < 0.6 else option_words(chance))
+
+
+def peer_names_command(chance):
+    return [widget(chance), "peer", "names"]
+
+
+def peer_alone(chance):
+    """`peer` without a member of it, or with too few or too many words."""
+    rests = [[], ["foo"], [""], ["Create", ".p"], ["creat", ".p"], ["create"], ["create", ".p", "-undo"], ["create", ".p", "1"], ["names", ".p"]]
+    return [widget(chance), "peer"] + chance.choice(rests)
+
+
+def destroy_command(chance):
+    """`destroy` of some widgets, of names of none, and of all of them now and then."""
+    names = [".p", ".q", ".r", ".p", ".q", ".r", ".t", chance.choice(WIDGETS + NO_WINDOW_NAMES)]
+    return ["destroy"] + chance.choices(names, k=chance.choice([0, 1, 1, 1, 2, 3, 4]))
+
+
+def show_command(chance):
+    """`configure` of the lines that a widget shows."""
+    return [widget(chance), "configure"] + (shown_lines(chance) or ["-startline", line_word(chance)])
 
 
 def cget_command(chance):
@@ -530,7 +591,8 @@ def edit_modified_command(chance):
 
 def edit_alone(chance):
     """`edit` without a member of it, with any words after it."""
-    return [widget(chance), "edit"] + chance.choice([[], ["foo"], [""], ["und"], ["Undo"], ["undo", "1"], ["canundo"], ["reset", ""], ["modify", "1"]])
+    rests = [[], ["foo"], [""], ["und"], ["Undo"], ["undo", "1"], ["canundo"], ["reset", ""], ["modify", "1"]]
+    return [widget(chance), "edit"] + chance.choice(rests)
 
 
 def shortened(chance, word):
@@ -614,6 +676,8 @@ def wrong_count_command(chance):
         (["edit", "undo"], [1]),
         (["edit", "redo"], [1]),
         (["edit", "separator"], [1, 2]),
+        (["peer", "create"], [0]),
+        (["peer", "names"], [1, 2]),
         (["configure"], [0]),
         (["configure", "-undo"], [0]),
         (["configure", "-undo", "1", "-state"], [0]),
@@ -693,7 +757,12 @@ COMMANDS = [
     (edit_modified_command, 2.5),
     (edit_alone, 0.3),
     (configure_command, 1.5),
-    (cget_command, 1),
+    (cget_command, 1.5),
+    (show_command, 2),
+    (peer_create_command, 1.5),
+    (peer_names_command, 0.7),
+    (peer_alone, 0.3),
+    (destroy_command, 0.4),
     (search_command, 7),
     (count_command, 3),
     (dump_command, 5),
@@ -717,7 +786,7 @@ FORM_INDICES = indices.bare_indices()
 FORM_TEXTS = ["x", "é€😀", "abcdefghij" * 500]
 
 FORM_WORLD = [
-    "text .t", ".t insert 1.0 abcd", ".t tag add x 1.0 1.1 1.2 1.3", ".t tag add sel 1.1", ".t mark set m 1.2", ".t mark set n end",
+    "text .t", r'.t insert 1.0 "abcd\nefgh"', ".t tag add x 1.0 1.1 1.2 1.3 2.1 2.3", ".t tag add sel 1.1", ".t mark set m 2.2", ".t mark set n end",
 ]
 
 # Names of marks that there are and one more.
@@ -741,23 +810,32 @@ class Form(NamedTuple):
 
 # A world with groups that were made and undone.
 FORM_UNDO_WORLD = [
-    "text .t -undo 1", ".t insert 1.0 abcd", ".t delete 1.0 1.1 1.2 1.3", ".t replace 1.0 1.1 {long text} x y", ".t edit separator",
+    "text .t -undo 1", r'.t insert 1.0 "abcd\nef"', ".t delete 1.0 1.1 1.2 1.3", ".t replace 1.0 1.1 {long text} x y", ".t edit separator",
     ".t insert end z", ".t edit undo",
 ]
 
 # Options with a value of each kind.
 FORM_BOOLEANS = list(model.BOOLEANS)
-FORM_SETTINGS = ["-undo 1", "-undo 0", "-maxundo 0", "-maxundo 1", "-maxundo -5", "-autoseparators no", "-state normal", "-state disabled"]
+FORM_SETTINGS = ["-undo 1", "-undo 0", "-maxundo 0", "-maxundo 1", "-maxundo -5", "-autoseparators no", "-state normal", "-state disabled",
+                 "-startline 1", "-startline {}", "-startline 2", "-endline 2", "-endline 1", "-endline {}"]
 
 # A world with texts to be found, over several lines, and tags of which some range over them.
 FORM_FOUND_WORLD = [
     "text .t", r'.t insert 1.0 "abab\nABab\nk\u212a\u00e9"', ".t tag add x 1.1 2.1 2.2 2.3", ".t tag add sel 1.2 1.3",
-    ".t tag add {a b} 1.0 end", ".t mark set m 1.2", ".t mark set {n o} end",
+    ".t tag add {a b} 1.0 end", ".t mark set m 2.2", ".t mark set {n o} end",
 ]
 FORM_SWITCHES = [name for name in model.SEARCH_SWITCHES.names if name != "--"]
 
 FORMS = [
     Form([], ["text"], [[".t", ".window"]]),
+    Form(FORM_WORLD + [".t peer create .p", "destroy .t .p"], ["text"], [[".t", ".p", ".window"]]),
+    Form(
+        FORM_WORLD + [".t peer create .q -endline 2", ".q tag add sel 1.0 1.2"],
+        ["destroy"],
+        [[None, ".t", ".q", ".u"], [None, ".t", ".q"], [None, ".q"]],
+    ),
+    Form(FORM_WORLD, [".t", "peer", "create"], [[".q", ".window"], [None, *FORM_SETTINGS], [None, *FORM_SETTINGS]]),
+    Form(FORM_WORLD + [".t peer create .q"], [".t", "peer", "names"], []),
     Form([], ["text", ".t"], [FORM_SETTINGS, [None, *FORM_SETTINGS]]),
     Form(FORM_UNDO_WORLD, [".t", "configure"], [FORM_SETTINGS, [None, *FORM_SETTINGS]]),
     Form(FORM_UNDO_WORLD, [".t", "configure"], [["-undo", "-autoseparators"], FORM_BOOLEANS]),
@@ -765,7 +843,11 @@ FORMS = [
     Form(FORM_UNDO_WORLD, [".t", "edit"], [["undo", "redo", "reset", "separator", "modified"]]),
     Form(FORM_UNDO_WORLD, [".t", "edit", "modified"], [FORM_BOOLEANS]),
     Form(FORM_UNDO_WORLD + [".t edit undo"], [".t", "edit"], [["undo", "redo", "reset", "separator", "modified"]]),
-    Form(FORM_UNDO_WORLD + [".t configure -state disabled"], [".t"], [["edit undo", "edit redo", "insert 1.0 a q", "delete 1.0", "replace 1.0 1.1 b q"]]),
+    Form(
+        FORM_UNDO_WORLD + [".t configure -state disabled"],
+        [".t"],
+        [["edit undo", "edit redo", "insert 1.0 a q", "delete 1.0", "replace 1.0 1.1 b q"]],
+    ),
     Form(FORM_UNDO_WORLD, [".t"], [["insert 1.0 a {x q} b", "delete 1.0 1.1 1.2 1.3", "replace 1.0 1.1 a {x q} b"]]),
     Form(FORM_WORLD, [".t", "insert"], [FORM_INDICES, FORM_TEXTS, [None, "{q r}"]]),
     Form(FORM_WORLD, [".t", "insert"], [["1.1"], ["x", "{}"], FORM_LISTS, FORM_TEXTS, [None, *FORM_LISTS]]),
@@ -800,14 +882,22 @@ FORMS = [
     Form(FORM_WORLD, [".t", "mark", "set"], [FORM_MARKS, FORM_INDICES]),
     Form(FORM_WORLD, [".t", "mark", "unset"], [[None, *FORM_MARKS], [None, *FORM_MARKS], [None, "m"]]),
     Form(FORM_WORLD, [".t", "mark", "gravity"], [FORM_MARKS, [None, "left", "right", "up"]]),
-    Form(FORM_FOUND_WORLD, [".t", "search"], [[None, *FORM_SWITCHES], [None, *FORM_SWITCHES], [None, "--"], ["ab", "{}", "\\u212a"], ["1.1"], [None, "2.2"]]),
+    Form(
+        FORM_FOUND_WORLD,
+        [".t", "search"],
+        [[None, *FORM_SWITCHES], [None, *FORM_SWITCHES], [None, "--"], ["ab", "{}", "\\u212a"], ["1.1"], [None, "2.2"]],
+    ),
     Form(FORM_FOUND_WORLD, [".t", "search"], [["-al", "-b", "-e", "-f", "-n", "-o", "-s"], ["a"], ["end"]]),
     Form(FORM_FOUND_WORLD, [".t", "search", "-all", "-nocase", "-overlap"], [["aB", "b\\na", "q"], FORM_INDICES, [None, "end"]]),
     Form(FORM_FOUND_WORLD, [".t", "search", "ab"], [indices.PLACES, FORM_INDICES]),
     Form(FORM_FOUND_WORLD, [".t", "count"], [[None, "-chars", "-indices", "-lines"], [None, "-chars", "-lines"], ["1.1"], indices.PLACES]),
     Form(FORM_FOUND_WORLD, [".t", "count", "-lines"], [["2.1"], FORM_INDICES]),
     Form(FORM_FOUND_WORLD, [".t", "count"], [FORM_INDICES, indices.PLACES]),
-    Form(FORM_FOUND_WORLD, [".t", "dump"], [[None, "-all", "-mark", "-tag", "-text", "-a", "-m", "-ta", "-te"], [None, "-mark", "-tag", "-text"], ["1.0", "end"], [None, "end"]]),
+    Form(
+        FORM_FOUND_WORLD,
+        [".t", "dump"],
+        [[None, "-all", "-mark", "-tag", "-text", "-a", "-m", "-ta", "-te"], [None, "-mark", "-tag", "-text"], ["1.0", "end"], [None, "end"]],
+    ),
     Form(FORM_FOUND_WORLD, [".t", "dump"], [FORM_INDICES, [None, *indices.PLACES]]),
     Form(FORM_FOUND_WORLD, [".t", "dump"], [["1.0"], FORM_INDICES]),
     Form(FORM_WORLD, [".t", "mark", "names"], []),
@@ -919,7 +1009,8 @@ def spelled_command(chance, words):
 def undo_walk(chance):
     """Undo and redo some times in a row, and what they leave."""
     steps = [[widget(chance), "edit", step] for step in chance.choices(["undo", "redo"], k=chance.randrange(2, 7))]
-    return steps + chance.choice([[], [[".t", "get", "1.0", "end"], [".t", "index", "insert"], [".t", "edit", "modified"]]])
+    asked = (["dump", "1.0", "end"], ["index", "insert"], ["edit", "modified"])
+    return steps + [[own_widget(chance), *words] for words in asked if chance.random() < 0.6]
 
 
 def next_commands(chance):
@@ -1023,6 +1114,16 @@ def stretched(chance, script_bytes):
 # Whole scripts
 
 
+def first_peers(chance):
+    """The commands that make the script's further widgets."""
+    return [[".t", "peer", "create", name] + shown_lines(chance) for name in chance.widgets[1:]]
+
+
+def most_peers(chance):
+    """The commands that make as many widgets as there may be, now and then more."""
+    return [[".t", "peer", "create", f".w{number}"] for number in range(chance.choice([63, 64, 66]))]
+
+
 def first_commands(chance):
     """The characters of the first commands: the widget that the others name is made, and mostly has a text of a few lines."""
     words = [["text", ".t"] + (["-undo", "1"] if chance.random() < 0.5 else [])]
@@ -1030,6 +1131,7 @@ def first_commands(chance):
         letters = chance.choice([CHARACTERS + "é€ ", "aabbAB", "ab"])
         first_lines = ["".join(chance.choices(letters, k=chance.randrange(0, 9))) for _ in range(chance.randrange(1, 6))]
         words.append([".t", "insert", "end", "\n".join(first_lines)])
+    words += most_peers(chance) if chance.random() < 0.03 else first_peers(chance)
     return "".join(" ".join(spelled(chance, word) for word in each) + command_end(chance) for each in words)
 
 
@@ -1048,39 +1150,43 @@ def commands(chance):
 
 def valid_commands(chance):
     """The characters of a script in which no command is refused."""
-    words = [["text", ".t"]]
+    words = [["text", ".t"], [".t", "insert", "1.0", lines_text(chance)]] + first_peers(chance)
     for _ in range(chance.randrange(0, 40)):
         words.append(chance.choice([
-            lambda: [".t", "insert", index(chance), text(chance)],
-            lambda: [".t", "insert", index(chance), text(chance), written_list(chance), text(chance)],
-            lambda: [".t", "delete", index(chance), index(chance), *near_span(chance)],
-            lambda: [".t", "replace", *near_span(chance), text(chance), written_list(chance), text(chance)],
-            lambda: [".t", "get", index(chance)],
-            lambda: [".t", "get", index(chance), index(chance)],
-            lambda: [".t", "get", index(chance), index(chance), index(chance)],
-            lambda: [".t", "index", index(chance)],
-            lambda: [".t", "tag", "add", tag_name(chance), near_begin(chance), index(chance)],
-            lambda: [".t", "tag", "remove", tag_name(chance), near_begin(chance)],
-            lambda: [".t", "tag", "nextrange", tag_name(chance), near_begin(chance)],
-            lambda: [".t", "tag", "prevrange", tag_name(chance), index(chance), near_begin(chance)],
-            lambda: [".t", "tag", "delete", tag_name(chance)],
-            lambda: [".t", "tag", "names", near_begin(chance)],
-            lambda: [".t", "tag", "ranges", tag_name(chance)],
-            lambda: [".t", "tag", "raise", "sel"],
-            lambda: [".t", "mark", "set", mark_name(chance), index(chance)],
-            lambda: [".t", "mark", "unset", mark_name(chance), mark_name(chance)],
-            lambda: [".t", "mark", "gravity", own_mark_name(chance), chance.choice(["left", "right"])],
-            lambda: [".t", "mark", "names"],
-            lambda: [".t", "mark", chance.choice(["next", "previous"]), index(chance)],
-            lambda: [".t", "search", "-nocase", "-all", "--", pattern(chance), near_begin(chance)],
-            lambda: [".t", "search", "-backwards", pattern(chance), index(chance), near_begin(chance)],
-            lambda: [".t", "count", "-lines", "-chars", index(chance), index(chance)],
-            lambda: [".t", "dump", near_begin(chance), index(chance)],
-            lambda: [".t", "edit", "modified"],
-            lambda: [".t", "edit", "modified", chance.choice(list(model.BOOLEANS))],
-            lambda: [".t", "edit", chance.choice(["undo", "redo", "separator", "reset"])],
-            lambda: [".t", "configure", "-maxundo", "3", "-autoseparators", chance.choice(list(model.BOOLEANS))],
-            lambda: [".t", "cget", chance.choice(list(OPTION_WORDS))],
+            lambda: [own_widget(chance), "insert", index(chance), text(chance)],
+            lambda: [own_widget(chance), "insert", index(chance), text(chance), written_list(chance), text(chance)],
+            lambda: [own_widget(chance), "delete", index(chance), index(chance), *near_span(chance)],
+            lambda: [own_widget(chance), "replace", *near_span(chance), text(chance), written_list(chance), text(chance)],
+            lambda: [own_widget(chance), "get", index(chance)],
+            lambda: [own_widget(chance), "get", index(chance), index(chance)],
+            lambda: [own_widget(chance), "get", index(chance), index(chance), index(chance)],
+            lambda: [own_widget(chance), "index", index(chance)],
+            lambda: [own_widget(chance), "tag", "add", tag_name(chance), near_begin(chance), index(chance)],
+            lambda: [own_widget(chance), "tag", "remove", tag_name(chance), near_begin(chance)],
+            lambda: [own_widget(chance), "tag", "nextrange", tag_name(chance), near_begin(chance)],
+            lambda: [own_widget(chance), "tag", "prevrange", tag_name(chance), index(chance), near_begin(chance)],
+            lambda: [own_widget(chance), "tag", "delete", tag_name(chance)],
+            lambda: [own_widget(chance), "tag", "names", near_begin(chance)],
+            lambda: [own_widget(chance), "tag", "ranges", tag_name(chance)],
+            lambda: [own_widget(chance), "tag", "raise", "sel"],
+            lambda: [own_widget(chance), "mark", "set", mark_name(chance), index(chance)],
+            lambda: [own_widget(chance), "mark", "unset", mark_name(chance), mark_name(chance)],
+            lambda: [own_widget(chance), "mark", "gravity", own_mark_name(chance), chance.choice(["left", "right"])],
+            lambda: [own_widget(chance), "mark", "names"],
+            lambda: [own_widget(chance), "mark", chance.choice(["next", "previous"]), index(chance)],
+            lambda: [own_widget(chance), "search", "-nocase", "-all", "--", pattern(chance), near_begin(chance)],
+            lambda: [own_widget(chance), "search", "-backwards", "--", pattern(chance), index(chance), near_begin(chance)],
+            lambda: [own_widget(chance), "count", "-lines", "-chars", index(chance), index(chance)],
+            lambda: [own_widget(chance), "dump", near_begin(chance), index(chance)],
+            lambda: [own_widget(chance), "peer", "names"],
+            lambda: [own_widget(chance), "cget", chance.choice(["-startline", "-endline"])],
+            lambda: [own_widget(chance), "configure", *chance.choice([["-startline", ""], ["-endline", ""], ["-startline", "1"]])],
+            lambda: [own_widget(chance), "configure", "-endline", "99"],
+            lambda: [own_widget(chance), "edit", "modified"],
+            lambda: [own_widget(chance), "edit", "modified", chance.choice(list(model.BOOLEANS))],
+            lambda: [own_widget(chance), "edit", chance.choice(["undo", "redo", "separator", "reset"])],
+            lambda: [own_widget(chance), "configure", "-maxundo", "3", "-autoseparators", chance.choice(list(model.BOOLEANS))],
+            lambda: [own_widget(chance), "cget", chance.choice(list(OPTION_WORDS))],
         ])())
     return "".join(blanks(chance).join(spelled(chance, word) for word in each) + command_end(chance) for each in words)
 
@@ -1088,6 +1194,7 @@ def valid_commands(chance):
 def reading_commands(chance):
     """The characters of a script that makes one text with a few tags and marks, and then asks for what stands in it."""
     words = [["text", ".t"], [".t", "insert", "end", "".join(repeated_text(chance) for _ in range(chance.randrange(1, 5)))]]
+    words += first_peers(chance)
     words += [pick(chance, [(tag_add_command, 1), (mark_set_command, 1)]) for _ in range(chance.randrange(0, 5))]
     words += [pick(chance, [(search_command, 6), (dump_command, 2), (count_command, 1)]) for _ in range(chance.randrange(1, 15))]
     return "".join(" ".join(spelled(chance, word) for word in each) + command_end(chance) for each in words)
@@ -1095,7 +1202,8 @@ def reading_commands(chance):
 
 def script(seed):
     """The script of a seed, as bytes."""
-    chance = random.Random(seed)
+    chance = Chance(seed)
+    chance.widgets = chance.choice([(".t",), (".t",), (".t", ".p"), (".t", ".p"), (".t", ".p", ".q"), (".t", ".p", ".q", ".r")])
     if chance.random() < 0.15:
         return valid_commands(chance).encode("utf-8")
     if chance.random() < 0.1:

@@ -15,6 +15,8 @@ import worked
 from harness import Tally
 
 SEEDS = 1_500
+WORLD_SEEDS = 500
+UNDO_SEEDS = 100
 
 # Every fault that a script can bring about under the program's own limits, without a text of millions
 # of characters.
@@ -33,6 +35,8 @@ REACHED_FAULTS = [
     b'error: bad mark gravity "',
     b'error: expected boolean value but got "',
     b'error: expected integer but got "',
+    b"error: -startline must be less than or equal to -endline",
+    b"error: too many widgets",
     b"error: nothing to undo",
     b"error: nothing to redo",
     b"error: a document exists",
@@ -188,8 +192,10 @@ VALUES = {
 WORD_CHARACTERS = [("aZ0_éß漢٣ªǅ", True), (" -.\n²½Ⅷ\u0301€😀‿", False)]
 
 # Characters with the one that stands for each where case doesn't matter.
-FOLDS = [("A", "a"), ("a", "a"), ("ẞ", "ß"), ("ß", "ß"), ("İ", "İ"), ("ı", "ı"), ("ς", "σ"), ("Σ", "σ"), ("\u212a", "k"), ("ſ", "s"), ("ﬅ", "ﬆ"),
-         ("ᾈ", "ᾀ"), ("ꭰ", "Ꭰ"), ("Ꭰ", "Ꭰ"), ("ǅ", "ǆ"), ("ΐ", "ΐ"), ("\u1fd3", "ΐ"), ("\n", "\n")]
+FOLDS = [
+    ("A", "a"), ("a", "a"), ("ẞ", "ß"), ("ß", "ß"), ("İ", "İ"), ("ı", "ı"), ("ς", "σ"), ("Σ", "σ"), ("\u212a", "k"), ("ſ", "s"),
+    ("ﬅ", "ﬆ"), ("ᾈ", "ᾀ"), ("ꭰ", "Ꭰ"), ("Ꭰ", "Ꭰ"), ("ǅ", "ǆ"), ("ΐ", "ΐ"), ("\u1fd3", "ΐ"), ("\n", "\n"),
+]
 
 
 def check_folds(tally):
@@ -245,6 +251,82 @@ def check_refused_command(tally):
     tally.check(run == wanted, f"a refused command: {run!r} is not {wanted!r}")
 
 
+def stands_at_line(anchor, characters):
+    """Whether an anchor is none, or stands where a line begins or at the length."""
+    return anchor is None or anchor in (0, len(characters)) or anchor < len(characters) and characters[anchor - 1] == "\n"
+
+
+def is_well_formed(world):
+    """Whether each document ends with a newline, marks and views lie in it, and keys, actions and names belong to something."""
+    for document in world.documents:
+        characters = [cell.character for cell in document.cells]
+        marks = [mark for _, mark in document.marks] + [mark for widget in document.widgets for mark in (widget.insert, widget.current)]
+        keys = set(document.tags) - {"sel"} | {("sel", widget.name) for widget in document.widgets}
+        views = [(widget.start or 0, len(characters) if widget.end is None else widget.end) for widget in document.widgets]
+        holds = (
+            characters[-1] == "\n"
+            and all(0 <= mark.offset <= len(characters) for mark in marks)
+            and all(stands_at_line(anchor, characters) for widget in document.widgets for anchor in (widget.start, widget.end))
+            and all(start <= end for start, end in views)
+            and all(cell.keys <= keys for cell in document.cells)
+            and len({widget.name for widget in document.widgets}) == len(document.widgets) > 0
+            and all(group for group in document.history.groups + document.history.undone)
+        )
+        if not holds:
+            return False
+    return True
+
+
+def check_worlds(tally):
+    """Each command of random scripts leaves a world that is well formed."""
+    for seed in range(WORLD_SEEDS):
+        world = model.World()
+        for words in model.reads_script(scripts.script(seed))[0]:
+            world, _, _ = model.piece(world, words, False)
+            if not is_well_formed(world):
+                tally.failed(f"seed {seed}: {words!r} leaves a world that isn't well formed")
+                return
+    tally.passed()
+
+
+def text_of(world):
+    """The characters of the document."""
+    return "".join(cell.character for cell in world.documents[0].cells)
+
+
+def keeps_history(words):
+    """Whether a command leaves alone which edits can be undone, but for those that it makes itself."""
+    return words[0] not in ("text", "destroy") and not {"reset", "-undo", "-maxundo"} & set(words)
+
+
+def check_undo_runs(tally):
+    """After random commands of three widgets undo, until nothing is left, gives the text before them, and redo the one behind."""
+    for seed in range(UNDO_SEEDS):
+        chance = scripts.Chance(seed)
+        chance.widgets = (".t", ".p", ".q")
+        given = [
+            ["text", ".t"],
+            [".t", "insert", "end", scripts.lines_text(chance)],
+            [".t", "configure", "-undo", "1"],
+            [".t", "peer", "create", ".whole"],
+            [".t", "peer", "create", ".p", "-startline", "2"],
+            [".t", "peer", "create", ".q", "-endline", "3"],
+        ]
+        world = model.World()
+        for words in given:
+            world, _ = model.step(world, words)
+        before = text_of(world)
+        for words in (scripts.pick(chance, scripts.COMMANDS) for _ in range(30)):
+            world = model.piece(world, words, not keeps_history(words))[0]
+        behind, count = text_of(world), 0
+        while world.documents[0].history.groups:
+            world, count = model.step(world, [".whole", "edit", "undo"])[0], count + 1
+        is_before = text_of(world) == before
+        for _ in range(count):
+            world, _ = model.step(world, [".whole", "edit", "redo"])
+        tally.check(is_before and text_of(world) == behind, f"seed {seed}: {count} groups that are undone and made again give another text")
+
+
 def check_generator(tally):
     """Scripts are the same for the same seed, and reach every fault and every exit status."""
     runs = [model.run_output(scripts.script(seed)) for seed in range(SEEDS)]
@@ -266,6 +348,8 @@ def main():
     check_values(tally)
     check_folds(tally)
     check_refused_command(tally)
+    check_worlds(tally)
+    check_undo_runs(tally)
     check_generator(tally)
     return tally.close()
 

@@ -2,7 +2,7 @@ use peers::Fault;
 use std::test::Fail;
 
 // Faults with their texts.
-const FAULTS: [(Fault, &str); 22] = [
+const FAULTS: [(Fault, &str); 23] = [
     (Fault::BadIndex(2), "bad text index"),
     (
         Fault::NoTaggedCharacters(2, 3),
@@ -15,6 +15,10 @@ const FAULTS: [(Fault, &str); 22] = [
     (Fault::BadList(4), "bad list"),
     (Fault::BadBoolean(3), "expected boolean value"),
     (Fault::BadInteger(3), "expected integer"),
+    (
+        Fault::StartLineAfterEndLine,
+        "-startline must be less than or equal to -endline",
+    ),
     (Fault::NothingToUndo, "nothing to undo"),
     (Fault::NothingToRedo, "nothing to redo"),
     (Fault::BadOption(1), "bad option"),

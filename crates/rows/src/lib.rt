@@ -10,6 +10,10 @@ mod edit_rows;
 mod faults;
 #[cfg(test)]
 mod mark_rows;
+#[cfg(test)]
+mod option_rows;
+#[cfg(test)]
+mod peer_rows;
 mod readers;
 #[cfg(test)]
 mod scripts;
@@ -23,5 +27,7 @@ mod tag_rows;
 mod tests;
 #[cfg(test)]
 mod undo_rows;
+#[cfg(test)]
+mod view_rows;
 
 pub use readers::Pieces;

@@ -46,9 +46,9 @@ pub static SCRIPTS: [Row; 40] = [
     },
     Row {
         name: "invalid command name",
-        script: b"foo; text t; text .; destroy .t; text .t; .u index end",
+        script: b"foo; text t; text .; destro .t; text .t; .u index end",
         numbers: AMPLE,
-        output: "error: invalid command name \"foo\"\nerror: invalid command name \"t\"\nerror: invalid command name \".\"\nerror: invalid command name \"destroy\"\n.t\nerror: invalid command name \".u\"\n",
+        output: "error: invalid command name \"foo\"\nerror: invalid command name \"t\"\nerror: invalid command name \".\"\nerror: invalid command name \"destro\"\n.t\nerror: invalid command name \".u\"\n",
         status: 1,
     },
     Row {

@@ -25,9 +25,9 @@ pub static SEARCHES: [Row; 8] = [
     },
     Row {
         name: "matches that share a character with one that was listed before",
-        script: b"text .t; .t insert 1.0 aaaa; .t search -all aa 1.1; .t search -all -overlap aa 1.1; .t search -all aa 1.0; .t search -all -backwards aa end; .t search -backwards -all aa 1.2; .t search -backwards -all -overlap aa 1.2; .t search -all aaa 1.2; .t search -backwards -all -overlap aaa 1.0; .t search -overlap aa 1.1; .t search -all a 1.2; .t search -all aaaaa 1.0",
+        script: b"text .t; .t insert 1.0 aaaa; .t search -all aa 1.1; .t search -all -overlap aa 1.1; .t search -all aa 1.0; .t search -all -backwards aa end; .t search -backwards -all aa 1.2; .t search -backwards -all -overlap aa 1.2; .t search -all aaa 1.2; .t search -backwards -all -overlap aaa 1.0; .t search -overlap aa 1.1; .t search -all a 1.2; .t search -all aaaaa 1.0; .t insert end a; .t search -all aa 1.1; .t search -all -backwards aa 1.3",
         numbers: AMPLE,
-        output: ".t\n\n1.1\n1.1 1.2 1.0\n1.0 1.2\n1.2 1.0\n1.1\n1.1 1.0 1.2\n1.0\n1.1 1.0\n1.1\n1.2 1.3 1.0 1.1\n\n",
+        output: ".t\n\n1.1\n1.1 1.2 1.0\n1.0 1.2\n1.2 1.0\n1.1\n1.1 1.0 1.2\n1.0\n1.1 1.0\n1.1\n1.2 1.3 1.0 1.1\n\n\n1.1 1.3\n1.2 1.0\n",
         status: 0,
     },
     Row {

@@ -1,12 +1,15 @@
 use crate::command_rows::{PLACES, TEXTS, WIDGETS};
 use crate::edit_rows::{DELETIONS, REPLACEMENTS};
 use crate::mark_rows::{GRAVITIES, MARK_ORDERS, MARKS};
+use crate::option_rows::OPTIONS;
+use crate::peer_rows::PEERS;
 use crate::readers::Pieces;
 use crate::scripts::SCRIPTS;
 use crate::search_rows::{COUNTS, DUMPS, SEARCHES};
 use crate::table::{AMPLE, Row};
 use crate::tag_rows::{LISTS, TAG_COMMANDS, TAGS};
-use crate::undo_rows::{HISTORIES, MODIFIED_TEXTS, OPTIONS};
+use crate::undo_rows::{HISTORIES, MODIFIED_TEXTS};
+use crate::view_rows::{LOWER_VIEWS, VIEWS};
 use script_cli::{Watched, outcome, run};
 use std::alloc::{AllocError, Global};
 use std::process::Abort;
@@ -156,4 +159,19 @@ fn counts_on_the_plain_store(rt: HostRuntime) -> Result<(), AllocError> {
 #[test]
 fn dumps_on_the_plain_store(rt: HostRuntime) -> Result<(), AllocError> {
     check_rows::<PlainStore>(&rt, rt.alloc(), &DUMPS)
+}
+
+#[test]
+fn peers_on_the_plain_store(rt: HostRuntime) -> Result<(), AllocError> {
+    check_rows::<PlainStore>(&rt, rt.alloc(), &PEERS)
+}
+
+#[test]
+fn views_on_the_plain_store(rt: HostRuntime) -> Result<(), AllocError> {
+    check_rows::<PlainStore>(&rt, rt.alloc(), &VIEWS)
+}
+
+#[test]
+fn lower_views_on_the_plain_store(rt: HostRuntime) -> Result<(), AllocError> {
+    check_rows::<PlainStore>(&rt, rt.alloc(), &LOWER_VIEWS)
 }

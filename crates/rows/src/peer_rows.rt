@@ -1,0 +1,107 @@
+use crate::table::{AMPLE, Numbers, Row};
+
+/// Several widgets of one text, and what each has of its own.
+pub static PEERS: [Row; 12] = [
+    Row {
+        name: "a view of two anchors, and edits that move them",
+        script: b"text .t; .t insert 1.0 \"a\nb\nc\nd\"; .t peer create .p -startline 2 -endline 3; .p index end; .t delete 2.1; .p get 1.0 end-1c; .p delete 1.0 end; .t get 1.0 end-1c; .t delete 1.0 end; .p index end; .p insert 1.0 x; .t get 1.0 end-1c; .p cget -endline",
+        numbers: AMPLE,
+        output: ".t\n\n.p\n2.0\n\nbc\n\na\n\nd\n\n1.0\n\n\n1\n",
+        status: 0,
+    },
+    Row {
+        name: "a dump is cut at the widget's own selection",
+        script: b"text .t; .t insert 1.0 abc; .t peer create .p; .p tag add sel 1.1 1.2; .t dump -text 1.0 1.3; .p dump -text 1.0 1.3; .p dump 1.0 end",
+        numbers: AMPLE,
+        output: ".t\n\n.p\n\ntext abc 1.0\ntext a 1.0 text b 1.1 text c 1.2\nmark insert 1.0 mark current 1.0 text a 1.0 tagon sel 1.1 text b 1.1 tagoff sel 1.2 text {c\n} 1.2\n",
+        status: 0,
+    },
+    Row {
+        name: "what is disabled, and a new text once the last widget is gone",
+        script: b"text .t -state disabled; .t insert 1.0 a; .t insert zz a; .t get 1.0 end-1c; .t configure -state normal; .t insert 1.0 a; .t cget -state; destroy .t; .t index end; text .t; .t get 1.0 end-1c",
+        numbers: AMPLE,
+        output: ".t\n\nerror: bad text index \"zz\"\n\n\n\nnormal\n\nerror: invalid command name \".t\"\n.t\n\n",
+        status: 1,
+    },
+    Row {
+        name: "a text that goes in where a view begins is shown by it",
+        script: b"text .t; .t insert 1.0 \"a\nb\"; .t peer create .p -startline 2; .p insert 1.0 \"x\n\"; .p get 1.0 end; .t get 1.0 end-1c; .p cget -startline",
+        numbers: AMPLE,
+        output: ".t\n\n.p\n\nx\nb\n\na\nx\nb\n2\n",
+        status: 0,
+    },
+    Row {
+        name: "lines that go with those before them, and a document that outlives its first widget",
+        script: b"text .t; .t insert 1.0 \"a\nb\nc\nd\"; .t peer create .p -startline 2 -endline 3; .t delete 1.0 3.0; .p index end; .p cget -startline; .p cget -endline; .p configure -startline {} -endline {}; .p get 1.0 end-1c; .t peer names; destroy .t; .p peer names; .p index end",
+        numbers: AMPLE,
+        output: ".t\n\n.p\n\n1.0\n1\n1\n\nc\nd\n.p\n\n\n3.0\n",
+        status: 0,
+    },
+    Row {
+        name: "an edit by a peer is in the one history",
+        script: b"text .t -undo 1; .t insert 1.0 \"a\nb\"; .t peer create .p -startline 2; .p insert 1.0 \"x\n\"; .t edit undo; .t get 1.0 end-1c; .t edit undo; .t edit redo; .t get 1.0 end-1c",
+        numbers: AMPLE,
+        output: ".t\n\n.p\n\n\n\nerror: nothing to undo\n\na\nx\nb\n",
+        status: 1,
+    },
+    Row {
+        name: "marks and tags in an empty view",
+        script: b"text .t; .t mark set m end; .t tag add x 1.0; .t peer create .p -endline 1; .p index end; .p index m; .p index x.first; .p tag names 1.0; .p tag names",
+        numbers: AMPLE,
+        output: ".t\n\n\n.p\n1.0\nerror: bad text index \"m\"\nerror: text doesn't contain any characters tagged with \"x\"\n\nsel x\n",
+        status: 1,
+    },
+    Row {
+        name: "each fault of a command in turn, of every kind",
+        script: b"foo\ntext t\ntext .t\ntext .t\ntext .u\n.t\n.t foo\n.t get\n.t index x.first\n.t tag add x 1.0 1.0\n.t index x.first\n.t tag raise q\n.t mark gravity q left\n.t mark gravity insert up\n.t compare 1.0 <> 1.0\n.t edit undo\n.t configure -undo maybe\n.t configure -startline 0\n.t configure -startline 2 -endline 1\n.t insert 1.0 a \"{\"",
+        numbers: AMPLE,
+        output: "error: invalid command name \"foo\"\nerror: invalid command name \"t\"\n.t\nerror: window name \".t\" already exists\nerror: a document exists\nerror: wrong # args\nerror: bad option \"foo\"\nerror: wrong # args\nerror: bad text index \"x.first\"\n\nerror: text doesn't contain any characters tagged with \"x\"\nerror: tag \"q\" isn't defined in text widget\nerror: there is no mark named \"q\"\nerror: bad mark gravity \"up\"\nerror: bad comparison operator \"<>\"\n\nerror: expected boolean value but got \"maybe\"\nerror: expected integer but got \"0\"\nerror: -startline must be less than or equal to -endline\nerror: bad list \"{\"\n",
+        status: 1,
+    },
+    Row {
+        name: "every limit",
+        script: b"text .t; .t insert 1.0 abcd; .t insert 1.0 abc; .t replace 1.0 1.1 xy; .t replace 1.0 1.2 xy; .t tag add a 1.0; .t tag add b 1.0; .t mark set m 1.0; .t mark set n 1.0; .t peer create .p; .t peer create .q; .t insert 1.0 {} c; .t peer names",
+        numbers: Numbers {
+            chars: 4,
+            tags: 1,
+            marks: 1,
+            widgets: 2,
+            reads: 1_073_741_824,
+        },
+        output: ".t\nerror: text is too long\n\nerror: text is too long\n\n\nerror: too many tags\n\nerror: too many marks\n.p\nerror: too many widgets\nerror: too many tags\n.p\n",
+        status: 1,
+    },
+    Row {
+        name: "no room at all",
+        script: b"text .t; .t insert 1.0 a; .t tag add q 1.0; .t mark set q 1.0; .t peer create .p; .t get 1.0 end",
+        numbers: Numbers {
+            chars: 1,
+            tags: 0,
+            marks: 0,
+            widgets: 1,
+            reads: 1_073_741_824,
+        },
+        output: ".t\nerror: text is too long\nerror: too many tags\nerror: too many marks\nerror: too many widgets\n\n\n",
+        status: 1,
+    },
+    Row {
+        name: "names of widgets, made and destroyed",
+        script: b"text .t; .t peer names; .t peer create .p; .t peer create {.two words}; .p peer create .r; .t peer names; .r peer names; destroy .p .x p; .t peer names; .r peer create .p; .t peer names; destroy; destroy .t .t; .t index end; .r peer names; .r peer create .r; destroy .r .p {.two words}; .p peer names; text .p; .p peer names; .p get 1.0 end",
+        numbers: AMPLE,
+        output: ".t\n\n.p\n.two words\n.r\n.p {.two words} .r\n.t .p {.two words}\n\n{.two words} .r\n.p\n{.two words} .r .p\n\n\nerror: invalid command name \".t\"\n{.two words} .p\nerror: window name \".r\" already exists\n\nerror: invalid command name \".p\"\n.p\n\n\n\n",
+        status: 1,
+    },
+    Row {
+        name: "faults of a new widget in their order, and the limit on widgets",
+        script: b"text .t; .t peer create p -undo maybe; .t peer create .p -undo maybe -startline 0; .t peer create .p -startline 0; .t peer create .t -startline 2 -endline 1; .t peer create .t; .t peer create .p -foo; .t peer create .p -state; .t peer create; .t peer; .t peer foo; .t peer names x; text .t -startline 2 -endline 1; text .t -endline 0; text .u -startline 3; .t peer names; .t peer create .p; .p peer create .q; .p peer create .t; .p peer create .q -startline 2 -endline 1; destroy .t; .p peer create .q; text .t; destroy .p .q; text .q -startline 9; .q cget -startline; .q index end",
+        numbers: Numbers {
+            chars: 16_777_216,
+            tags: 192,
+            marks: 4_096,
+            widgets: 2,
+            reads: 1_073_741_824,
+        },
+        output: ".t\nerror: invalid command name \"p\"\nerror: expected boolean value but got \"maybe\"\nerror: expected integer but got \"0\"\nerror: -startline must be less than or equal to -endline\nerror: window name \".t\" already exists\nerror: bad option \"-foo\"\nerror: wrong # args\nerror: wrong # args\nerror: wrong # args\nerror: bad option \"foo\"\nerror: wrong # args\nerror: -startline must be less than or equal to -endline\nerror: expected integer but got \"0\"\nerror: a document exists\n\n.p\nerror: too many widgets\nerror: window name \".t\" already exists\nerror: -startline must be less than or equal to -endline\n\n.q\nerror: a document exists\n\n.q\n2\n1.0\n",
+        status: 1,
+    },
+];
