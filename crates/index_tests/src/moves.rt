@@ -141,26 +141,31 @@ fn all_are_printed<S: TextStore>(
     Ok(())
 }
 
-#[test]
-fn places_are_printed(rt: HostRuntime) -> Result<(), Fail> {
-    let store: PlainStore = store(&rt, rt.alloc())?;
+// The places of a table, in the view from `s` to `e`.
+fn check_printed(
+    rt: &impl Abort,
+    alloc: Global,
+    s: usize,
+    e: usize,
+    rows: &[(usize, &str)],
+) -> Result<(), Fail> {
+    let store: PlainStore = store(rt, alloc)?;
     let view = View {
         store: &store,
-        s: 0,
-        e: 10,
+        s,
+        e,
     };
-    all_are_printed(&rt, rt.alloc(), &view, &WHOLE)
+    all_are_printed(rt, alloc, &view, rows)
+}
+
+#[test]
+fn places_are_printed(rt: HostRuntime) -> Result<(), Fail> {
+    check_printed(&rt, rt.alloc(), 0, 10, &WHOLE)
 }
 
 #[test]
 fn places_of_a_part_are_printed(rt: HostRuntime) -> Result<(), Fail> {
-    let store: PlainStore = store(&rt, rt.alloc())?;
-    let view = View {
-        store: &store,
-        s: 3,
-        e: 8,
-    };
-    all_are_printed(&rt, rt.alloc(), &view, &PART)
+    check_printed(&rt, rt.alloc(), 3, 8, &PART)
 }
 
 fn is_appended<S: TextStore>(rt: &impl Abort, alloc: Global, store: &S) -> Result<(), Fail> {

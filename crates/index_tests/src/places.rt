@@ -1,3 +1,6 @@
+ghost use Rattle.std.specs.Prelude.{◌<◌, IsTrue};
+ghost use Rattle.text_index.specs.Views.{IsView};
+
 use crate::fixtures::{marks_of, put_mark, set_tag, store_of, tags_of};
 use crate::moves::is_printed;
 use mark_table::MarkTable;
@@ -98,12 +101,19 @@ static FAULTS: [(usize, usize, &str, IndexFault); 7] = [
     (0, 10, "sel.first", IndexFault::NoTaggedCharacters(3)),
 ];
 
+// The marks of these tests, and where they stand.
+static PLACES: [(u16, usize); 4] = [(0, 8), (1, 0), (128, 4), (129, 9)];
+
+fn put_marks<S: TextStore>(rt: &impl Abort, alloc: Global, store: &mut S) -> Result<(), Fail> {
+    for (number, offset) in &PLACES {
+        put_mark(rt, alloc, store, MarkNo(*number), *offset)?;
+    }
+    set_tag(rt, alloc, store, 4, 9, TagSlot(64))
+}
+
 fn store<S: TextStore>(rt: &impl Abort, alloc: Global) -> Result<S, Fail> {
     let mut store: S = store_of(rt, alloc, "ab\ncde\n\nf")?;
-    for (number, offset) in [(0, 8), (1, 0), (128, 4), (129, 9)] {
-        put_mark(rt, alloc, &mut store, MarkNo(number), offset)?;
-    }
-    set_tag(rt, alloc, &mut store, 4, 9, TagSlot(64))?;
+    put_marks(rt, alloc, &mut store)?;
     Ok(store)
 }
 
@@ -140,6 +150,14 @@ impl Scene {
     }
 }
 
+// Whether a view shows whole lines, and the names are those of a widget.
+fn is_known<S: TextStore>(view: &View<'_, S>, names: &Names) -> bool
+    ensures view { IsTrue result → IsView (S.content view.now.store.now) view.now.s view.now.e }
+    ensures widget { IsTrue result → names.now.widget.0 < 64 }
+{
+    names.widget.0 < 64 && view.shows_lines()
+}
+
 // The place of a word.
 fn place_of<S: TextStore>(
     rt: &impl Abort,
@@ -148,8 +166,7 @@ fn place_of<S: TextStore>(
     names: &Names,
     word: &str,
 ) -> Result<usize, IndexFault> {
-    assert!(rt; view.shows_lines());
-    assert!(rt; names.widget.0 < 64);
+    assert!(rt; is_known(view, names));
     let index = parse(alloc, word, names)?;
     resolve(&index, view)
 }
@@ -167,8 +184,22 @@ fn is_found<S: TextStore>(
     Ok(())
 }
 
-// Each word of a table, in the view from `s` to `e`.
 fn are_printed(
+    rt: &impl Abort,
+    alloc: Global,
+    scene: &Scene,
+    s: usize,
+    e: usize,
+    rows: &[(&str, &str)],
+) -> Result<(), Fail> {
+    for (word, wanted) in rows {
+        is_found(rt, alloc, &scene.view(s, e), &scene.names(), word, wanted)?;
+    }
+    Ok(())
+}
+
+// Each word of a table, in the view from `s` to `e`.
+fn check_view(
     rt: &impl Abort,
     alloc: Global,
     s: usize,
@@ -176,46 +207,58 @@ fn are_printed(
     rows: &[(&str, &str)],
 ) -> Result<(), Fail> {
     let scene = Scene::new(rt, alloc)?;
-    for (word, wanted) in rows {
-        is_found(rt, alloc, &scene.view(s, e), &scene.names(), word, wanted)?;
-    }
-    Ok(())
+    are_printed(rt, alloc, &scene, s, e, rows)
+}
+
+fn is_refused<S: TextStore>(
+    rt: &impl Abort,
+    alloc: Global,
+    view: &View<'_, S>,
+    names: &Names,
+    word: &str,
+    fault: IndexFault,
+) {
+    let is_so = match place_of(rt, alloc, view, names, word) {
+        Ok(_) => false,
+        Err(met) => met == fault,
+    };
+    assert!(rt; is_so, "{word}");
 }
 
 fn are_refused(
     rt: &impl Abort,
     alloc: Global,
+    scene: &Scene,
     rows: &[(usize, usize, &str, IndexFault)],
-) -> Result<(), Fail> {
-    let scene = Scene::new(rt, alloc)?;
+) {
     for (s, e, word, fault) in rows {
-        let found = place_of(rt, alloc, &scene.view(*s, *e), &scene.names(), word);
-        assert!(rt; found == Err(*fault), "{word}");
+        is_refused(rt, alloc, &scene.view(*s, *e), &scene.names(), word, *fault);
     }
-    Ok(())
 }
 
 #[test]
 fn words_in_the_whole_text(rt: HostRuntime) -> Result<(), Fail> {
-    are_printed(&rt, rt.alloc(), 0, 10, &WHOLE)
+    check_view(&rt, rt.alloc(), 0, 10, &WHOLE)
 }
 
 #[test]
 fn words_in_one_line(rt: HostRuntime) -> Result<(), Fail> {
-    are_printed(&rt, rt.alloc(), 3, 7, &ONE_LINE)
+    check_view(&rt, rt.alloc(), 3, 7, &ONE_LINE)
 }
 
 #[test]
 fn words_in_two_lines(rt: HostRuntime) -> Result<(), Fail> {
-    are_printed(&rt, rt.alloc(), 3, 8, &TWO_LINES)
+    check_view(&rt, rt.alloc(), 3, 8, &TWO_LINES)
 }
 
 #[test]
 fn words_in_no_line(rt: HostRuntime) -> Result<(), Fail> {
-    are_printed(&rt, rt.alloc(), 3, 3, &NO_LINE)
+    check_view(&rt, rt.alloc(), 3, 3, &NO_LINE)
 }
 
 #[test]
 fn words_without_a_place(rt: HostRuntime) -> Result<(), Fail> {
-    are_refused(&rt, rt.alloc(), &FAULTS)
+    let scene = Scene::new(&rt, rt.alloc())?;
+    are_refused(&rt, rt.alloc(), &scene, &FAULTS);
+    Ok(())
 }

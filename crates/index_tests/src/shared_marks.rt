@@ -1,4 +1,4 @@
-use crate::fixtures::{create_mark, limits, marks_of, put_mark, store_of};
+use crate::fixtures::{create_mark, limits, put_mark, store_of};
 use mark_table::{MarkTable, MarkView, Origin, WidgetMark};
 use std::alloc::Global;
 use std::process::Abort;
@@ -7,19 +7,33 @@ use text_model::{Gravity, MarkNo, PlainStore, TagSlot, TextStore};
 
 // ---- the table
 
-fn stands_at(rt: &impl Abort, marks: &MarkTable, place: usize, name: &str) {
-    assert!(rt; place < marks.len());
+// What is done to a table of marks, and what holds then.
+enum MarkStep {
+    // whether there is room for it
+    Create(&'static str, bool),
+    Unset(&'static str),
+    Turn(&'static str, Gravity),
+    StandAs(&'static [&'static str]),
+    HasNumber(&'static str, u16),
+    IsNoNumber(u16),
+    HasGravity(&'static str, Gravity),
+    IsUnknown(&'static str),
+}
+
+fn stands_at(marks: &MarkTable, place: usize, name: &str) -> bool {
+    if place >= marks.len() {
+        return false;
+    }
     let number = marks.number(place);
-    let is_there = marks.name(place) == name;
-    assert!(rt; is_there, "{name} at {place}");
-    assert!(rt; marks.find(name) == Some(number), "of {name}");
-    assert!(rt; marks.place(number) == Some(place), "of {name}");
+    marks.name(place) == name
+        && marks.find(name) == Some(number)
+        && marks.place(number) == Some(place)
 }
 
 fn check_order(rt: &impl Abort, marks: &MarkTable, names: &[&str]) {
     assert!(rt; marks.len() == names.len());
     for (place, name) in names.iter().enumerate() {
-        stands_at(rt, marks, place, name);
+        assert!(rt; stands_at(marks, place, name), "{name} at {place}");
     }
 }
 
@@ -31,77 +45,137 @@ fn is_no_number(rt: &impl Abort, marks: &MarkTable, number: u16) {
     assert!(rt; marks.place(MarkNo(number)).is_none(), "{number}");
 }
 
-#[test]
-fn marks_stand_by_creation(rt: HostRuntime) -> Result<(), Fail> {
-    let marks = marks_of(&rt, rt.alloc(), &["a", "", "c d"])?;
-    check_order(&rt, &marks, &["a", "", "c d"]);
-    has_number(&rt, &marks, "a", 128);
-    has_number(&rt, &marks, "", 129);
-    has_number(&rt, &marks, "c d", 130);
-    Ok(())
-}
-
-#[test]
-fn a_table_begins_empty(rt: HostRuntime) -> Result<(), Fail> {
-    let marks = marks_of(&rt, rt.alloc(), &[])?;
-    check_order(&rt, &marks, &[]);
-    Ok(())
-}
-
-fn is_full(rt: &impl Abort, alloc: Global, marks: &mut MarkTable) -> Result<(), Fail> {
-    let created = create_mark(rt, alloc, marks, "more")?;
-    assert!(rt; created.is_none());
-    Ok(())
-}
-
-#[test]
-fn a_full_table_takes_no_more(rt: HostRuntime) -> Result<(), Fail> {
-    let mut marks = MarkTable::new(rt.alloc(), &limits(2)?)?;
-    create_mark(&rt, rt.alloc(), &mut marks, "a")?;
-    create_mark(&rt, rt.alloc(), &mut marks, "b")?;
-    is_full(&rt, rt.alloc(), &mut marks)?;
-    check_order(&rt, &marks, &["a", "b"]);
-    Ok(())
-}
-
-#[test]
-fn numbers_are_taken_again(rt: HostRuntime) -> Result<(), Fail> {
-    let mut marks = marks_of(&rt, rt.alloc(), &["a", "", "c d"])?;
-    marks.unset("e");
-    marks.unset("a");
-    is_no_number(&rt, &marks, 128);
-    is_no_number(&rt, &marks, 1);
-    is_no_number(&rt, &marks, u16::MAX);
-    check_order(&rt, &marks, &["", "c d"]);
-    create_mark(&rt, rt.alloc(), &mut marks, "e")?;
-    has_number(&rt, &marks, "e", 128);
-    check_order(&rt, &marks, &["", "c d", "e"]);
+// A mark is created where there is room for it.
+fn creates(
+    rt: &impl Abort,
+    alloc: Global,
+    marks: &mut MarkTable,
+    name: &str,
+    has_room: bool,
+) -> Result<(), Fail> {
+    let created = create_mark(rt, alloc, marks, name)?;
+    assert!(rt; created.is_some() == has_room, "{name}");
     Ok(())
 }
 
 fn has_gravity(rt: &impl Abort, marks: &MarkTable, name: &str, gravity: Gravity) {
-    assert!(rt; marks.gravity(name) == Ok(gravity), "{name}");
+    let is_so = match marks.gravity(name) {
+        Ok(found) => found == gravity,
+        Err(_) => false,
+    };
+    assert!(rt; is_so, "{name}");
 }
+
+fn turns(rt: &impl Abort, marks: &mut MarkTable, name: &str, gravity: Gravity) {
+    assert!(rt; marks.set_gravity(name, gravity).is_ok(), "{name}");
+}
+
+fn is_unknown(rt: &impl Abort, marks: &mut MarkTable, name: &str) {
+    assert!(rt; marks.gravity(name).is_err(), "{name}");
+    assert!(rt; marks.set_gravity(name, Gravity::Left).is_err(), "{name}");
+}
+
+fn carry_out(
+    rt: &impl Abort,
+    alloc: Global,
+    marks: &mut MarkTable,
+    step: &MarkStep,
+) -> Result<(), Fail> {
+    match step {
+        MarkStep::Create(name, has_room) => return creates(rt, alloc, marks, name, *has_room),
+        MarkStep::Unset(name) => marks.unset(name),
+        MarkStep::Turn(name, gravity) => turns(rt, marks, name, *gravity),
+        MarkStep::StandAs(names) => check_order(rt, marks, names),
+        MarkStep::HasNumber(name, number) => has_number(rt, marks, name, *number),
+        MarkStep::IsNoNumber(number) => is_no_number(rt, marks, *number),
+        MarkStep::HasGravity(name, gravity) => has_gravity(rt, marks, name, *gravity),
+        MarkStep::IsUnknown(name) => is_unknown(rt, marks, name),
+    }
+    Ok(())
+}
+
+fn carry_out_all(
+    rt: &impl Abort,
+    alloc: Global,
+    marks: &mut MarkTable,
+    steps: &[MarkStep],
+) -> Result<(), Fail> {
+    for step in steps {
+        carry_out(rt, alloc, marks, step)?;
+    }
+    Ok(())
+}
+
+// Steps with a new table of so many marks.
+fn run(rt: &impl Abort, alloc: Global, most: u16, steps: &[MarkStep]) -> Result<(), Fail> {
+    let mut marks = MarkTable::new(alloc, &limits(most)?)?;
+    carry_out_all(rt, alloc, &mut marks, steps)
+}
+
+static CREATED: [MarkStep; 8] = [
+    MarkStep::StandAs(&[]),
+    MarkStep::Create("a", true),
+    MarkStep::Create("", true),
+    MarkStep::Create("c d", true),
+    MarkStep::StandAs(&["a", "", "c d"]),
+    MarkStep::HasNumber("a", 128),
+    MarkStep::HasNumber("", 129),
+    MarkStep::HasNumber("c d", 130),
+];
+
+#[test]
+fn marks_stand_by_creation(rt: HostRuntime) -> Result<(), Fail> {
+    run(&rt, rt.alloc(), 10, &CREATED)
+}
+
+static FULL: [MarkStep; 4] = [
+    MarkStep::Create("a", true),
+    MarkStep::Create("b", true),
+    MarkStep::Create("more", false),
+    MarkStep::StandAs(&["a", "b"]),
+];
+
+#[test]
+fn a_full_table_takes_no_more(rt: HostRuntime) -> Result<(), Fail> {
+    run(&rt, rt.alloc(), 2, &FULL)
+}
+
+static TAKEN_AGAIN: [MarkStep; 12] = [
+    MarkStep::Create("a", true),
+    MarkStep::Create("", true),
+    MarkStep::Create("c d", true),
+    MarkStep::Unset("e"),
+    MarkStep::Unset("a"),
+    MarkStep::IsNoNumber(128),
+    MarkStep::IsNoNumber(1),
+    MarkStep::IsNoNumber(u16::MAX),
+    MarkStep::StandAs(&["", "c d"]),
+    MarkStep::Create("e", true),
+    MarkStep::HasNumber("e", 128),
+    MarkStep::StandAs(&["", "c d", "e"]),
+];
+
+#[test]
+fn numbers_are_taken_again(rt: HostRuntime) -> Result<(), Fail> {
+    run(&rt, rt.alloc(), 10, &TAKEN_AGAIN)
+}
+
+static TURNED: [MarkStep; 10] = [
+    MarkStep::Create("a", true),
+    MarkStep::Create("b", true),
+    MarkStep::HasGravity("a", Gravity::Right),
+    MarkStep::Turn("a", Gravity::Left),
+    MarkStep::HasGravity("a", Gravity::Left),
+    MarkStep::HasGravity("b", Gravity::Right),
+    MarkStep::Unset("a"),
+    MarkStep::Create("a", true),
+    MarkStep::HasGravity("a", Gravity::Right),
+    MarkStep::IsUnknown("q"),
+];
 
 #[test]
 fn gravity_turns(rt: HostRuntime) -> Result<(), Fail> {
-    let mut marks = marks_of(&rt, rt.alloc(), &["a", "b"])?;
-    has_gravity(&rt, &marks, "a", Gravity::Right);
-    marks.set_gravity("a", Gravity::Left)?;
-    has_gravity(&rt, &marks, "a", Gravity::Left);
-    has_gravity(&rt, &marks, "b", Gravity::Right);
-    marks.unset("a");
-    create_mark(&rt, rt.alloc(), &mut marks, "a")?;
-    has_gravity(&rt, &marks, "a", Gravity::Right);
-    Ok(())
-}
-
-#[test]
-fn gravity_is_of_marks_alone(rt: HostRuntime) -> Result<(), Fail> {
-    let mut marks = marks_of(&rt, rt.alloc(), &["a"])?;
-    assert!(rt; marks.gravity("q").is_err());
-    assert!(rt; marks.set_gravity("q", Gravity::Left).is_err());
-    Ok(())
+    run(&rt, rt.alloc(), 10, &TURNED)
 }
 
 // ---- the walk over a widget's marks
@@ -111,19 +185,6 @@ fn gravity_is_of_marks_alone(rt: HostRuntime) -> Result<(), Fail> {
 struct Scene<S: TextStore> {
     marks: MarkTable,
     store: S,
-}
-
-// A store with `insert` and `current` of the widget at these offsets.
-fn store<S: TextStore>(
-    rt: &impl Abort,
-    alloc: Global,
-    insert: usize,
-    current: usize,
-) -> Result<S, Fail> {
-    let mut store: S = store_of(rt, alloc, "ab")?;
-    put_mark(rt, alloc, &mut store, MarkNo(2), insert)?;
-    put_mark(rt, alloc, &mut store, MarkNo(3), current)?;
-    Ok(store)
 }
 
 fn add<S: TextStore>(
@@ -138,20 +199,27 @@ fn add<S: TextStore>(
     put_mark(rt, alloc, &mut scene.store, number, offset)
 }
 
-fn make_scene<S: TextStore>(
+fn make_scene<S: TextStore>(rt: &impl Abort, alloc: Global) -> Result<Scene<S>, Fail> {
+    let store: S = store_of(rt, alloc, "ab")?;
+    let marks = MarkTable::new(alloc, &limits(4_096)?)?;
+    Ok(Scene { marks, store })
+}
+
+// Puts `insert` and `current` of the widget in at these offsets, and shared marks.
+fn fill<S: TextStore>(
     rt: &impl Abort,
     alloc: Global,
+    scene: &mut Scene<S>,
     insert: usize,
     current: usize,
     names: &[(&str, usize)],
-) -> Result<Scene<S>, Fail> {
-    let marks = MarkTable::new(alloc, &limits(4_096)?)?;
-    let store = store(rt, alloc, insert, current)?;
-    let mut scene = Scene { marks, store };
+) -> Result<(), Fail> {
+    put_mark(rt, alloc, &mut scene.store, MarkNo(2), insert)?;
+    put_mark(rt, alloc, &mut scene.store, MarkNo(3), current)?;
     for (name, offset) in names {
-        add(rt, alloc, &mut scene, name, *offset)?;
+        add(rt, alloc, scene, name, *offset)?;
     }
-    Ok(scene)
+    Ok(())
 }
 
 // The mark behind an origin in a view, and the one before it.
@@ -242,14 +310,23 @@ static MNZ_NEAR: [Row; 5] = [
     (Origin::Place(4), None, Some(WidgetMark::Shared(2))),
 ];
 
+fn check_marks_of_a_text<S: TextStore>(
+    rt: &impl Abort,
+    alloc: Global,
+    scene: &mut Scene<S>,
+) -> Result<(), Fail> {
+    fill(rt, alloc, scene, 2, 2, &MNZ)?;
+    // a mark of another widget
+    put_mark(rt, alloc, &mut scene.store, MarkNo(0), 1)?;
+    check_row(rt, scene, 0, 3, &MNZ_ROW);
+    check_near(rt, scene, 0, 3, &MNZ_NEAR);
+    Ok(())
+}
+
 #[test]
 fn marks_of_a_text(rt: HostRuntime) -> Result<(), Fail> {
-    let mut scene: Scene<PlainStore> = make_scene(&rt, rt.alloc(), 2, 2, &MNZ)?;
-    // a mark of another widget
-    put_mark(&rt, rt.alloc(), &mut scene.store, MarkNo(0), 1)?;
-    check_row(&rt, &scene, 0, 3, &MNZ_ROW);
-    check_near(&rt, &scene, 0, 3, &MNZ_NEAR);
-    Ok(())
+    let mut scene: Scene<PlainStore> = make_scene(&rt, rt.alloc())?;
+    check_marks_of_a_text(&rt, rt.alloc(), &mut scene)
 }
 
 static ABC: [(&str, usize); 3] = [("a", 1), ("b", 1), ("c", 1)];
@@ -262,15 +339,24 @@ static BCD_ROW: [WidgetMark; 5] = [
     WidgetMark::Shared(2),
 ];
 
-#[test]
-fn marks_at_one_place(rt: HostRuntime) -> Result<(), Fail> {
-    let mut scene: Scene<PlainStore> = make_scene(&rt, rt.alloc(), 1, 1, &ABC)?;
+fn check_marks_at_one_place<S: TextStore>(
+    rt: &impl Abort,
+    alloc: Global,
+    scene: &mut Scene<S>,
+) -> Result<(), Fail> {
+    fill(rt, alloc, scene, 1, 1, &ABC)?;
     // `d` takes the number of `a`, and stands last all the same.
     scene.marks.unset("a");
-    add(&rt, rt.alloc(), &mut scene, "d", 1)?;
-    has_number(&rt, &scene.marks, "d", 128);
-    check_row(&rt, &scene, 0, 3, &BCD_ROW);
+    add(rt, alloc, scene, "d", 1)?;
+    has_number(rt, &scene.marks, "d", 128);
+    check_row(rt, scene, 0, 3, &BCD_ROW);
     Ok(())
+}
+
+#[test]
+fn marks_at_one_place(rt: HostRuntime) -> Result<(), Fail> {
+    let mut scene: Scene<PlainStore> = make_scene(&rt, rt.alloc())?;
+    check_marks_at_one_place(&rt, rt.alloc(), &mut scene)
 }
 
 static ABCD: [(&str, usize); 4] = [("a", 0), ("b", 1), ("c", 2), ("d", 3)];
@@ -331,12 +417,21 @@ fn check_shown<S: TextStore>(rt: &impl Abort, scene: &Scene<S>) {
     }
 }
 
+fn check_views<S: TextStore>(
+    rt: &impl Abort,
+    alloc: Global,
+    scene: &mut Scene<S>,
+) -> Result<(), Fail> {
+    fill(rt, alloc, scene, 0, 3, &ABCD)?;
+    check_shown(rt, scene);
+    check_near(rt, scene, 1, 2, &HIDDEN);
+    Ok(())
+}
+
 #[test]
 fn views_hide_marks(rt: HostRuntime) -> Result<(), Fail> {
-    let scene: Scene<PlainStore> = make_scene(&rt, rt.alloc(), 0, 3, &ABCD)?;
-    check_shown(&rt, &scene);
-    check_near(&rt, &scene, 1, 2, &HIDDEN);
-    Ok(())
+    let mut scene: Scene<PlainStore> = make_scene(&rt, rt.alloc())?;
+    check_views(&rt, rt.alloc(), &mut scene)
 }
 
 fn add_many<S: TextStore>(
@@ -376,11 +471,20 @@ static MANY: [Row; 5] = [
     (Origin::Place(3), None, Some(WidgetMark::Shared(4_095))),
 ];
 
+fn check_many<S: TextStore>(
+    rt: &impl Abort,
+    alloc: Global,
+    scene: &mut Scene<S>,
+) -> Result<(), Fail> {
+    fill(rt, alloc, scene, 0, 0, &[])?;
+    add_many(rt, alloc, scene)?;
+    creates(rt, alloc, &mut scene.marks, "more", false)?;
+    check_near(rt, scene, 0, 3, &MANY);
+    Ok(())
+}
+
 #[test]
 fn many_marks(rt: HostRuntime) -> Result<(), Fail> {
-    let mut scene: Scene<PlainStore> = make_scene(&rt, rt.alloc(), 0, 0, &[])?;
-    add_many(&rt, rt.alloc(), &mut scene)?;
-    is_full(&rt, rt.alloc(), &mut scene.marks)?;
-    check_near(&rt, &scene, 0, 3, &MANY);
-    Ok(())
+    let mut scene: Scene<PlainStore> = make_scene(&rt, rt.alloc())?;
+    check_many(&rt, rt.alloc(), &mut scene)
 }

@@ -79,20 +79,30 @@ fn previous<S: TextStore>(rt: &impl Abort, view: &View<'_, S>, place: usize) -> 
     previous_range(view, TagSlot(64), place)
 }
 
-fn finds<S: TextStore>(rt: &impl Abort, view: &View<'_, S>, row: &Row) {
-    assert!(rt; next(rt, view, row.place) == row.next, "from {}", row.place);
-    assert!(rt;
-        previous(rt, view, row.place) == row.previous,
-        "before {}",
-        row.place
-    );
+fn is_next<S: TextStore>(
+    rt: &impl Abort,
+    view: &View<'_, S>,
+    place: usize,
+    wanted: Option<TagRange>,
+) {
+    assert!(rt; next(rt, view, place) == wanted, "from {place}");
+}
+
+fn is_previous<S: TextStore>(
+    rt: &impl Abort,
+    view: &View<'_, S>,
+    place: usize,
+    wanted: Option<TagRange>,
+) {
+    assert!(rt; previous(rt, view, place) == wanted, "before {place}");
 }
 
 fn finds_all<S: TextStore>(rt: &impl Abort, store: &S, rows: &[Row]) {
     let e = store.len();
     let view = View { store, s: 0, e };
     for row in rows {
-        finds(rt, &view, row);
+        is_next(rt, &view, row.place, row.next);
+        is_previous(rt, &view, row.place, row.previous);
     }
 }
 
@@ -109,19 +119,19 @@ static IN_TWO_LINES: [TagRange; 2] = [TagRange { start: 0, end: 1 }, TagRange { 
 fn walks_on<S: TextStore>(rt: &impl Abort, view: &View<'_, S>, ranges: &[TagRange]) {
     let mut place = 0;
     for range in ranges {
-        assert!(rt; next(rt, view, place) == Some(*range));
+        is_next(rt, view, place, Some(*range));
         place = range.end;
     }
-    assert!(rt; next(rt, view, place) == None);
+    is_next(rt, view, place, None);
 }
 
 fn walks_back<S: TextStore>(rt: &impl Abort, view: &View<'_, S>, ranges: &[TagRange]) {
     let mut place = view.e.saturating_sub(view.s);
     for range in ranges.iter().rev() {
-        assert!(rt; previous(rt, view, place) == Some(*range));
+        is_previous(rt, view, place, Some(*range));
         place = range.start;
     }
-    assert!(rt; previous(rt, view, place) == None);
+    is_previous(rt, view, place, None);
 }
 
 fn walks<S: TextStore>(rt: &impl Abort, store: &S, s: usize, e: usize, ranges: &[TagRange]) {

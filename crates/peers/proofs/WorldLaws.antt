@@ -1,6 +1,6 @@
 -- A world with one document, or none.
 use Rattle.std.proofs.Common.{◌≡◌, ◌≢◌, ℕ, ◌<◌, ◌≤◌, Bool, true, false, cond, List, [], ◌∷◌, ◌++◌, length, refl, sym, ap, ap₂, subst, ◌∙◌, arith}
-use Rattle.std.specs.Prelude.{Option, None, Some, Result, Ok, Err, IfErr, IfSome, filter, map, nat_lt, is_some, if◌then◌else◌}
+use Rattle.std.specs.Prelude.{Option, None, Some, Result, Ok, Err, OnErr, OnOk, filter, map, nat_lt, is_some, if◌then◌else◌}
 use Rattle.std.proofs.lemmas.List.{append-nil, length-map}
 use Rattle.std.proofs.lemmas.Bool.Decides.{nat_tests}
 use Rattle.text_model.specs.LimitTable.{AreLimits, LimitTable}
@@ -12,7 +12,7 @@ use Rattle.command_parts.specs.declared.answers.Fault.TheVariants.{Memory}
 use Rattle.documents.specs.Documents.{Document, Widget, widget_at}
 use Rattle.documents.specs.Promise.{Change, Does}
 use Rattle.documents.specs.WellFormed.{IsWellFormedDocument, window_names}
-use Rattle.documents.specs.Widgets.{widget_named, without_widgets}
+use Rattle.documents.specs.Widgets.{is_kept, without_widgets}
 use Rattle.peers.specs.Command.{command}
 use Rattle.peers.specs.Step.{Outcome, changed, destroy, has_widgets, on_found, on_widget}
 use Rattle.peers.specs.WellFormed.{IsWellFormed}
@@ -37,39 +37,6 @@ formed-one limits document bounds some few formed = record {
   widget_count = omega (arith, count-one limits document, few);
 }
 
--- ---- a widget's command
-
--- what a command of a widget promises of its document, it promises of the world
-pub record Steps (old new : World) (result : Result Answer Fault) (outcome : Outcome) : Type 0 where
-  pub reply : result ≢ Err Memory → result ≡ outcome.reply
-  pub world : result ≢ Err Memory → new ≡ outcome.world
-  pub refused : IfErr result (λ _. new ≡ old)
-  pub well_formed : IsWellFormed new
-
-pub steps-command : (limits : LimitTable) (old new : Document) (result : Result Answer Fault) (name : List ℕ) (words : List (List ℕ)) (widget : Widget) → IsWellFormed (with_one limits old)
-    → widget_named name old ≡ Some widget → Does limits old new result (command limits (window_names old) old widget words)
-    → Steps (with_one limits old) (with_one limits new) result (on_widget (with_one limits old) name words (old ∷ []))
-steps-command limits old new result name words widget formed named does =
-    let world = with_one limits old in
-    let windows = windows-one limits old in
-    let done : on_widget world name words (old ∷ []) ≡ changed world [] (command limits (window_names old) old widget words) =
-    ap (λ found. on_found_of world old words found) named ∙ ap (λ names. changed world [] (command limits names old widget words)) windows in
-    let count = count-one limits old in
-    let few = formed.widget_count in
-    record {
-      reply = λ other. does.reply other ∙ ap (λ (o : Outcome). o.reply) (sym done);
-      world = λ other. ap (with_one limits) (does.document other) ∙ ap (λ (o : Outcome). o.world) (sym done);
-      refused = kept result does.refused;
-      well_formed = formed-one limits new formed.limits (does.shown formed.shown.0) (does.few (omega (arith, count, few))) (does.well_formed formed.documents.0);
-    }
-  where
-    on_found_of : World → Document → List (List ℕ) → Option Widget → Outcome
-    on_found_of world document words found = on_found world document [] words found
-
-    kept : (result : Result Answer Fault) → IfErr result (λ _. new ≡ old) → IfErr result (λ _. with_one limits new ≡ with_one limits old)
-    kept (Ok answer) same = tt
-    kept (Err fault) same = ap (with_one limits) same
-
 -- ---- destroy
 
 pub destroyed-some : (limits : LimitTable) (document : Document) (names : List (List ℕ)) → nat_lt 0 (length (without_widgets names document).widgets) ≡ true
@@ -79,3 +46,29 @@ destroyed-some limits document names some = ap (λ b. record { limits = limits; 
 pub destroyed-all : (limits : LimitTable) (document : Document) (names : List (List ℕ)) → nat_lt 0 (length (without_widgets names document).widgets) ≡ false
     → (destroy (with_one limits document) names).world ≡ record { limits = limits; documents = [] }
 destroyed-all limits document names none = ap (λ b. record { limits = limits; documents = cond b (without_widgets names document ∷ []) [] }) none
+
+fewer : {A : Type 0} (passes : A → Bool) (xs : List A) → length (filter passes xs) ≤ length xs
+fewer passes [] = omega arith
+fewer passes (x ∷ xs) =
+    let rest = fewer passes xs in
+    elim (passes x) as (λ b. length (cond b (x ∷ filter passes xs) (filter passes xs)) ≤ length (x ∷ xs)) [
+      | true ↦ omega (arith, rest)
+      | false ↦ omega (arith, rest)
+    ]
+
+-- the world with fewer widgets, but some
+pub formed-left : (limits : LimitTable) (old new : Document) (names : List (List ℕ)) → IsWellFormed (with_one limits old) → nat_lt 0 (length (without_widgets names old).widgets) ≡ true → new ≡ without_widgets names old
+    → IsWellFormedDocument limits new → IsWellFormed (with_one limits new)
+formed-left limits old new names formed some is good =
+    let left : 0 < length (without_widgets names old).widgets = grind (arith, nat_tests, some) in
+    let same = ap (λ (d : Document). length d.widgets) is in
+    let less = fewer (is_kept names) old.widgets in
+    let few = formed.widget_count in
+    let count = count-one limits old in
+    formed-one limits new formed.limits (omega (arith, left, same)) (omega (arith, less, same, few, count)) good
+
+-- the same whether or not they went
+pub formed-after : {A E : Type 0} (limits : LimitTable) (old new : Document) (names : List (List ℕ)) (result : Result A E) → IsWellFormed (with_one limits old) → nat_lt 0 (length (without_widgets names old).widgets) ≡ true
+    → OnOk result (new ≡ without_widgets names old) → OnErr result (new ≡ old) → IsWellFormedDocument limits new → IsWellFormed (with_one limits new)
+formed-after limits old new names (Ok value) formed some gone kept good = formed-left limits old new names formed some gone good
+formed-after limits old new names (Err error) formed some gone kept good = subst (λ d. IsWellFormed (with_one limits d)) (sym kept) formed

@@ -143,11 +143,11 @@ impl<S: TextStore> World<S> {
         let Some(document) = &mut self.document else {
             return Ok(Answer::Empty);
         };
-        if document.keeps_some(names) {
-            document.drop_widgets(names)?;
-        } else {
+        if !document.keeps_some(names) {
             self.document = None;
+            return Ok(Answer::Empty);
         }
+        document.drop_widgets(names)?;
         Ok(Answer::Empty)
     }
 

@@ -207,6 +207,10 @@ impl PlainText {
     }
 }
 
+fn has_cell<S: TextStore>(store: &S, offset: usize, character: char, line: usize) -> bool {
+    offset < store.len() && store.char_at(offset) == character && store.line_of(offset) == line
+}
+
 fn check_cell<S: TextStore>(
     rt: &impl Abort,
     store: &S,
@@ -214,9 +218,7 @@ fn check_cell<S: TextStore>(
     character: char,
     line: usize,
 ) {
-    assert!(rt; offset < store.len());
-    assert!(rt; store.char_at(offset) == character, "at {offset}");
-    assert!(rt; store.line_of(offset) == line, "at {offset}");
+    assert!(rt; has_cell(store, offset, character, line), "at {offset}");
 }
 
 fn check_line_start<S: TextStore>(rt: &impl Abort, store: &S, line: usize, start: usize) {
@@ -273,6 +275,23 @@ fn change_before(cells: &[PlainCell], index: usize, offset: usize, is_on: bool) 
     start
 }
 
+/// Whether a store answers this of a slot at an offset.
+fn has_tag_so<S: TextStore>(
+    store: &S,
+    slot: TagSlot,
+    offset: usize,
+    is_on: bool,
+    start: usize,
+    end: usize,
+) -> bool {
+    slot.0 < TagSet::SLOTS
+        && offset < store.len()
+        && store.has_tag(offset, slot) == is_on
+        && store.tags_at(offset).has(slot) == is_on
+        && store.next_change(offset, slot) == end
+        && store.previous_change(offset + 1, slot) == start
+}
+
 /// Compares what a store answers of one of `SLOTS` at an offset with what is wanted.
 fn check_tag<S: TextStore>(
     rt: &impl Abort,
@@ -283,19 +302,8 @@ fn check_tag<S: TextStore>(
     start: usize,
     end: usize,
 ) {
-    assert!(rt; slot.0 < TagSet::SLOTS && offset < store.len());
-    let is_tagged = store.has_tag(offset, slot) == is_on;
-    assert!(rt; is_tagged, "{slot:?} at {offset}");
-    let is_in_set = store.tags_at(offset).has(slot) == is_on;
-    assert!(rt; is_in_set, "{slot:?} at {offset}");
-    assert!(rt;
-        store.next_change(offset, slot) == end,
-        "{slot:?} at {offset}"
-    );
-    assert!(rt;
-        store.previous_change(offset + 1, slot) == start,
-        "{slot:?} at {offset}"
-    );
+    let is_so = has_tag_so(store, slot, offset, is_on, start, end);
+    assert!(rt; is_so, "{slot:?} at {offset}");
 }
 
 /// Compares what a store answers of one of `SLOTS` with a text.
@@ -549,14 +557,23 @@ fn check_begin<S: TextStore>(rt: &impl Abort, alloc: Global) -> Result<(), Alloc
 }
 
 /// Makes an edit for each step.
-fn check_each_step<S: TextStore>(rt: &impl Abort, alloc: Global) -> Result<(), AllocError> {
-    let mut pair: Pair<S> = make_pair(alloc)?;
-    for step in &EACH {
+fn make_each<S: TextStore>(
+    rt: &impl Abort,
+    alloc: Global,
+    pair: &mut Pair<S>,
+    steps: &[PlainStep],
+) -> Result<(), AllocError> {
+    for step in steps {
         let steps = steps_of(alloc, &[*step])?;
         make_and_check(rt, alloc, &mut pair.store, &mut pair.text, steps)?;
     }
     assert!(rt; pair.store.len() == 1);
     Ok(())
+}
+
+fn check_each_step<S: TextStore>(rt: &impl Abort, alloc: Global) -> Result<(), AllocError> {
+    let mut pair: Pair<S> = make_pair(alloc)?;
+    make_each(rt, alloc, &mut pair, &EACH)
 }
 
 fn is_text<S: TextStore>(rt: &impl Abort, store: &S, text: &str) -> Result<bool, AllocError> {
@@ -651,14 +668,22 @@ fn random_steps(
 }
 
 /// Random edits, of one step to four.
-fn check_random_edits<S: TextStore>(rt: &impl Abort, alloc: Global) -> Result<(), AllocError> {
-    let mut numbers = Numbers(1);
-    let mut pair: Pair<S> = make_pair(alloc)?;
+fn make_random<S: TextStore>(
+    rt: &impl Abort,
+    alloc: Global,
+    pair: &mut Pair<S>,
+    numbers: &mut Numbers,
+) -> Result<(), AllocError> {
     for _ in 0..300 {
-        let steps = random_steps(rt, alloc, &mut numbers, pair.store.len())?;
+        let steps = random_steps(rt, alloc, numbers, pair.store.len())?;
         make_and_check(rt, alloc, &mut pair.store, &mut pair.text, steps)?;
     }
     Ok(())
+}
+
+fn check_random_edits<S: TextStore>(rt: &impl Abort, alloc: Global) -> Result<(), AllocError> {
+    let mut pair: Pair<S> = make_pair(alloc)?;
+    make_random(rt, alloc, &mut pair, &mut Numbers(1))
 }
 
 #[test]

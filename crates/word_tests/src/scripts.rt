@@ -4,10 +4,19 @@ use crate::script_texts::{
     BAD_CHARACTER_CODE, BARE_WORDS, BLANKS, BRACES, BROKEN, COMMENTS, ESCAPES, EXTRA_AFTER_BRACE,
     EXTRA_AFTER_QUOTE, JOINED_LINES, MISSING_BRACE, MISSING_QUOTE, QUOTES, STARS, SUBSTITUTION,
 };
-use std::alloc::Global;
+use std::alloc::{AllocError, Global};
 use std::process::Abort;
 use std::test::Fail;
 use tcl_words::{ScriptFault, Splitter};
+
+// Writes the words of a command, with a bar before each, and a newline.
+fn write_words(text: &mut String, words: &[String]) -> Result<(), AllocError> {
+    for word in words {
+        text.push('|')?;
+        text.push_str(word.as_str())?;
+    }
+    text.push('\n')
+}
 
 // Writes each command that can be given, up to a script fault.
 fn write_commands(splitter: &mut Splitter, text: &mut String) -> Result<(), Fail>
@@ -19,12 +28,26 @@ fn write_commands(splitter: &mut Splitter, text: &mut String) -> Result<(), Fail
             Err(ScriptFault::Memory) => return Err(Fail::from(ScriptFault::Memory)),
             _ => return Ok(()),
         };
-        for word in &words {
-            text.push('|')?;
-            text.push_str(word.as_str())?;
-        }
-        text.push('\n')?;
+        write_words(text, &words)?;
     }
+}
+
+// Feeds the script in pieces of so many bytes, and writes its commands.
+fn feed_pieces(
+    splitter: &mut Splitter,
+    text: &mut String,
+    script: &[u8],
+    size: usize,
+) -> Result<(), Fail>
+    requires some { 0 < size }
+    requires open { splitter.old.finished ≡ false }
+{
+    for piece in script.chunks(size) {
+        splitter.feed(piece)?;
+        write_commands(splitter, text)?;
+    }
+    splitter.finish();
+    write_commands(splitter, text)
 }
 
 // Splits the script in pieces of so many bytes.
@@ -33,12 +56,7 @@ fn split(alloc: Global, script: &[u8], size: usize) -> Result<Made, Fail>
 {
     let mut splitter = Splitter::new(alloc);
     let mut text = String::new(alloc);
-    for piece in script.chunks(size) {
-        splitter.feed(piece)?;
-        write_commands(&mut splitter, &mut text)?;
-    }
-    splitter.finish();
-    write_commands(&mut splitter, &mut text)?;
+    feed_pieces(&mut splitter, &mut text, script, size)?;
     Ok((text, splitter.next_command().err()))
 }
 
