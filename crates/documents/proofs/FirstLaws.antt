@@ -1,5 +1,5 @@
 -- A new document.
-use Rattle.std.proofs.Common.{◌≡◌, ◌≢◌, ℕ, zero, suc, ◌+◌, ◌<◌, ◌≤◌, true, cond, List, [], ◌∷◌, refl, sym, ap, ◌∙◌, true≢false, arith}
+use Rattle.std.proofs.Common.{◌≡◌, ◌≢◌, ℕ, zero, suc, ◌+◌, ◌<◌, ◌≤◌, cond, List, [], ◌∷◌, refl, sym, ap, ◌∙◌, true≢false, arith}
 use Rattle.std.specs.Prelude.{Some, None, slice_get, option_map}
 use Rattle.std.specs.Ordering.{nat_cmp}
 use Rattle.std.specs.FinMap as finite
@@ -8,12 +8,12 @@ use Rattle.std.proofs.lemmas.List.Elements.{All-cons, All-nil}
 use Rattle.std.proofs.lemmas.Option.{none-some, same_Some}
 use Rattle.std.proofs.lemmas.Slice.Eq.{bytes_eq-Decides}
 use Rattle.text_model.specs.declared.limits.TheConstants.Limits.{MOST_MARKS, MOST_TAGS, MOST_WIDGETS}
-use Rattle.text_model.specs.Content.{Marks, new_content}
+use Rattle.text_model.specs.Content.{new_content}
 use Rattle.text_model.specs.Documents.{MarksStand}
 use Rattle.text_model.specs.LimitTable.{AreLimits, LimitTable}
 use Rattle.text_model.proofs.DocumentLaws.{IsDocument-new}
 use Rattle.name_list.specs.Names.{AreApart}
-use Rattle.tag_table.specs.Tags.{AreTags, Tag, Tags, first_slot, sel}
+use Rattle.tag_table.specs.Tags.{AreTags, Tag, first_slot, sel}
 use Rattle.undo_stack.specs.History.{no_history}
 use Rattle.undo_stack.specs.Modified.{unmodified}
 use Rattle.edit_ops.specs.Anchors.{AreAnchored}

@@ -1,5 +1,5 @@
 -- A document after its journal alone is changed.
-use Rattle.std.proofs.Common.{◌≡◌, ℕ, Bool, true, false, List, Ok, length, refl, sym, ap, subst, ◌∙◌, arith, zero, suc, ◌-◌, ◌≤◌, ◌+◌, [], drop}
+use Rattle.std.proofs.Common.{◌≡◌, ℕ, Bool, true, false, List, Ok, refl, sym, ap, subst, ◌∙◌, zero, suc, ◌-◌, [], drop}
 use Rattle.std.specs.Prelude.{◌==◌, if◌then◌else◌}
 use Rattle.text_model.specs.Content as model
 use Rattle.text_model.specs.LimitTable.{LimitTable}

@@ -1,26 +1,20 @@
 -- A document as it is kept: its characters, its widgets, and what of it a change leaves.
-use Rattle.std.proofs.Common.{◌≡◌, ◌≢◌, ℕ, zero, suc, ◌+◌, ◌*◌, ◌<◌, ◌≤◌, true, List, [], ◌∷◌, length, map, refl, sym, ap, subst, ◌∙◌, arith}
-use Rattle.std.specs.Prelude.{◌≢◌, slice_get, get_or, option_map, Option, None, Some, Ok, is_some, unwrap_or}
+use Rattle.std.proofs.Common.{◌≡◌, ℕ, zero, suc, ◌+◌, ◌*◌, ◌<◌, true, List, [], ◌∷◌, length, map, refl, sym, ap, subst, ◌∙◌}
+use Rattle.std.specs.Prelude.{slice_get, option_map, Some, is_some}
 use Rattle.std.specs.FinMap as finite
-use Rattle.std.specs.List.{All, AllByRecursion}
+use Rattle.std.specs.List.{AllByRecursion}
 use Rattle.std.proofs.lemmas.List.{length-map}
 use Rattle.std.proofs.lemmas.Option.{none-some, same_Some, get_or_from_slice_get}
 use Rattle.text_model.specs.declared.cells.Cell.{Cell}
 use Rattle.text_model.specs.declared.limits.TheConstants.Limits.{MOST_WIDGETS}
 use Rattle.text_model.specs.Content as model
 use Rattle.text_model.specs.Content.{Content, Marks}
-use Rattle.text_model.specs.LimitTable.{LimitTable}
-use Rattle.undo_stack.specs.Fits.{FitsText}
-use Rattle.name_list.specs.Names.{Named, Names, numbers_of}
-use Rattle.mark_table.specs.SharedMarks.{Mark}
+use Rattle.name_list.specs.Names.{Named, numbers_of}
 use Rattle.tag_table.specs.Tags.{Tag}
 use Rattle.edit_ops.specs.Anchors.{AreAnchored}
-use Rattle.command_parts.specs.declared.answers.Answer.TheVariants.{Empty}
-use Rattle.documents.specs.Documents.{Document, KeyedCell, Parts, Widget, anchors_at, characters, document_of, mark_of, no_widget, whole, widget_at, widget_of}
-use Rattle.documents.specs.Kept.{HasOwnMarks, IsSeated, IsSound, Stands}
+use Rattle.documents.specs.Documents.{Document, Parts, anchors_at, characters, document_of, no_widget, whole, widget_at, widget_of}
+use Rattle.documents.specs.Kept.{HasOwnMarks, IsSeated, Stands}
 use Rattle.documents.specs.Keys.{Key, key_pairs, keyed}
-use Rattle.documents.specs.Promise.{Change, Does, answered}
-use Rattle.documents.specs.WellFormed.{IsWellFormedDocument}
 use Rattle.documents.proofs.PlacedLaws.{placed-length}
 
 -- ---- its characters and counts

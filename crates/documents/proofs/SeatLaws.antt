@@ -1,10 +1,10 @@
 -- The seats of widgets, as a loop goes over them.
-use Rattle.std.proofs.Common.{◌≡◌, ℕ, Bool, cond, zero, suc, ◌+◌, ◌<◌, true, false, List, [], ◌∷◌, ◌++◌, map, take, drop, length, refl, sym, ap, subst, ◌∙◌, arith}
-use Rattle.std.specs.Prelude.{slice_get, option_map, remove, filter, not, nat_lt, Option, None, Some}
+use Rattle.std.proofs.Common.{◌≡◌, ℕ, Bool, cond, zero, suc, ◌+◌, ◌<◌, true, false, List, [], ◌∷◌, ◌++◌, take, drop, length, refl, sym, ap, subst, ◌∙◌, arith}
+use Rattle.std.specs.Prelude.{slice_get, remove, filter, not, Some}
 use Rattle.std.proofs.lemmas.List.{map-append, length-append, append_assoc}
 use Rattle.std.proofs.lemmas.Option.{none-some, same_Some}
 use Rattle.name_list.specs.Names.{Named, names_of, numbers_of}
-use Rattle.command_parts.specs.Words.{is_among, is_same}
+use Rattle.command_parts.specs.Words.{is_among}
 use Rattle.command_parts.proofs.WrittenLaws.{filter-append, filter-in, filter-out, take-found}
 use Rattle.tcl_words.specs.ListGrowth.{Goes}
 use Rattle.tcl_words.proofs.ListGrowth.{goes_on}

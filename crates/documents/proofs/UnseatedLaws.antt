@@ -13,12 +13,12 @@ use Rattle.text_model.specs.Steps.{with_slot}
 use Rattle.text_model.proofs.SpliceLaws.{map-map}
 use Rattle.undo_stack.specs.Fits.{FitsText}
 use Rattle.name_list.specs.Names.{Named, Names}
-use Rattle.mark_table.specs.SharedMarks.{AreMarks, Mark, SharedMarks}
+use Rattle.mark_table.specs.SharedMarks.{AreMarks, SharedMarks}
 use Rattle.edit_ops.specs.Anchors.{AreAnchored}
 use Rattle.edit_ops.specs.Tagging.{cell_without}
 use Rattle.command_parts.specs.Edits.{new_mark, without_widget, without_widgets}
 use Rattle.command_parts.specs.Words.{is_among}
-use Rattle.documents.specs.Documents.{Document, Journal, Parts, Widget, document_of, mark_of, placed, widget_of}
+use Rattle.documents.specs.Documents.{Document, Journal, Parts, Widget, document_of, mark_of, widget_of}
 use Rattle.documents.specs.Kept.{AreSeats, HasKnownSlots, HasOwnMarks, IsSeated, IsSound, Stands, is_window_name}
 use Rattle.documents.specs.Keys.{key_pairs, keyed, numbers_gone, seats_left}
 use Rattle.documents.specs.WellFormed.{IsWellFormedDocument}

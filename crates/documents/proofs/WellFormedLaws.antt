@@ -1,10 +1,10 @@
 -- A document that is kept soundly is well formed.
-use Rattle.std.proofs.Common.{◌≡◌, ℕ, suc, ◌+◌, ◌*◌, ◌<◌, ◌≤◌, true, false, List, [], ◌∷◌, length, refl, sym, ap, subst, ◌∙◌, arith, inl, inr, ap₂}
+use Rattle.std.proofs.Common.{◌≡◌, ℕ, suc, ◌+◌, ◌*◌, ◌≤◌, true, false, List, [], ◌∷◌, length, refl, sym, ap, subst, ◌∙◌, arith, inl, inr}
 use Rattle.std.proofs.lemmas.Bool.{false_from_ne_true}
 use Rattle.std.proofs.lemmas.List.{length-map}
 use Rattle.std.proofs.lemmas.Slice.Eq.{bytes_eq-Decides}
 use Rattle.std.specs.List.{IsDistinct, AllByRecursion}
-use Rattle.std.specs.Prelude.{◌&&◌, not, map, slice_get, if◌then◌else◌, None, Some, Option, IfSome, unwrap_or}
+use Rattle.std.specs.Prelude.{◌&&◌, not, map, slice_get, if◌then◌else◌, None, Some, IfSome, unwrap_or}
 use Rattle.std.specs.FinMap as finite
 use Rattle.text_model.specs.declared.cells.Cell.{Cell}
 use Rattle.text_model.specs.Content as model
@@ -21,12 +21,12 @@ use Rattle.command_parts.specs.Words.{is_same, is_among}
 use Rattle.command_parts.proofs.LeftLaws.{AreApart-head, AreApart-tail}
 use Rattle.command_parts.proofs.MadeLaws.{found_tag}
 use Rattle.documents.specs.Keys.{Key, keyed}
-use Rattle.documents.specs.Documents.{Document, Journal, Parts, Widget, anchors_at, characters, document_of, sel, whole, widget_of}
+use Rattle.documents.specs.Documents.{Document, Parts, Widget, anchors_at, characters, document_of, sel, whole, widget_of}
 use Rattle.documents.specs.Kept.{IsSeated, IsSound, is_window_name}
 use Rattle.documents.specs.WellFormed.{belongs, HasItsKeys, IsPlaced, IsWellFormedDocument, window_names}
 use Rattle.documents.proofs.BridgeLaws.{is_key_of, keys_of-belongs}
 use Rattle.documents.proofs.PlacedLaws.{offset-within, placed-length, placed-names, placed-within, placed-words}
-use Rattle.documents.proofs.PartsLaws.{characters-keyed, characters-kept, length-keyed, pairs_of}
+use Rattle.documents.proofs.PartsLaws.{characters-keyed, length-keyed, pairs_of}
 
 -- ---- names
 

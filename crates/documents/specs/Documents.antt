@@ -1,7 +1,6 @@
 -- A document with its widgets, and how it is kept.
 use Rattle.std.specs.Prelude.{ℕ, ℤ, Bool, false, List, [], get_or, map, unwrap_or, ◌+◌, ◌*◌, Option, None}
 use Rattle.std.specs.FinMap as finite
-use Rattle.text_model.specs.declared.cells.Cell.{Cell}
 use Rattle.text_model.specs.declared.places.Place.{Place}
 use Rattle.text_model.specs.Content.{Content, Marks}
 use Rattle.name_list.specs.Names.{Named, Names}
@@ -15,7 +14,7 @@ use Rattle.tag_table.specs.Tags.{Tags, names_of}
 use Rattle.mark_table.specs.SharedMarks.{Mark, SharedMarks}
 use Rattle.command_parts.specs.Edits.{new_mark}
 use Rattle.command_parts.specs.declared.settings.DocumentSettings.{DocumentSettings}
-use Rattle.documents.specs.Keys.{Keys, keyed, key_pairs}
+use Rattle.documents.specs.Keys.{keyed, key_pairs}
 pub use Rattle.documents.specs.Keys.{KeyedCell}
 
 -- a widget, which shows the document from its start anchor, if it has one, to its end anchor

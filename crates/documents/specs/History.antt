@@ -1,11 +1,9 @@
 -- Commands on the history and on whether the text is modified: `edit ..`.
-use Rattle.std.specs.Prelude.{ℕ, Bool, List, Option, None, Some, ok_or, if◌then◌else◌}
+use Rattle.std.specs.Prelude.{Bool, if◌then◌else◌}
 use Rattle.undo_stack.specs.History.{no_history, separated}
-use Rattle.undo_stack.specs.Modified.{is_modified, set_to}
-use Rattle.command_parts.specs.declared.answers.Answer.TheVariants.{Empty, Flag}
-use Rattle.command_parts.specs.declared.answers.Fault.TheVariants.{BadBoolean}
-use Rattle.command_parts.specs.Arguments.{none_or_one_of}
-use Rattle.documents.specs.Promise.{Change, answered, change_with}
+use Rattle.undo_stack.specs.Modified.{set_to}
+use Rattle.command_parts.specs.declared.answers.Answer.TheVariants.{Empty}
+use Rattle.documents.specs.Promise.{Change, answered}
 use Rattle.documents.specs.Documents.{Document}
 
 -- `W edit separator`: where actions are kept, the last group takes no more

@@ -1,5 +1,5 @@
 -- The options of a document and of its widgets (text(n), "WIDGET-SPECIFIC OPTIONS").
-use Rattle.std.specs.Prelude.{ℕ, ◌+◌, ◌-◌, ◌<◌, ◌≤◌, IfSome, List, option_map}
+use Rattle.std.specs.Prelude.{ℕ, ◌+◌, ◌-◌, ◌<◌, ◌≤◌, IfSome, option_map}
 use Rattle.text_model.specs.Lines.{line_of, line_start}
 use Rattle.command_parts.specs.declared.settings.DocumentSettings.{DocumentSettings}
 use Rattle.command_parts.specs.declared.settings.Settings.{Settings}

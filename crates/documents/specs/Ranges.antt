@@ -1,9 +1,6 @@
 -- The ranges that a command's indices make.
-use Rattle.std.specs.Prelude.{ℕ, suc, List, [], ◌∷◌, length, Result, Ok}
+use Rattle.std.specs.Prelude.{ℕ, List, length}
 use Rattle.edit_ops.specs.declared.spans.Span.{Span}
-use Rattle.command_parts.specs.declared.answers.Fault.{Fault}
-use Rattle.command_parts.specs.Faults.{with_value}
-use Rattle.documents.specs.Indices.{place_at}
 use Rattle.documents.specs.View.{view_start, shown}
 use Rattle.documents.specs.Documents.{Document, Widget}
 use Rattle.command_parts.specs.Ranges.{spans_of}

@@ -1,16 +1,15 @@
 -- Widgets that a document gets, and loses.
-use Rattle.std.specs.Prelude.{ℕ, Bool, true, false, not, ◌&&◌, List, [], ◌∷◌, ◌++◌, filter, find, map, option_map, pos, unwrap_or, Option}
+use Rattle.std.specs.Prelude.{ℕ, Bool, true, false, not, List, [], ◌∷◌, ◌++◌, filter, find, map, option_map, pos, unwrap_or, Option}
 use Rattle.std.specs.FinSet as set
-use Rattle.std.specs.List.{list_any}
 use Rattle.text_model.specs.declared.places.Gravity.TheVariants.{Right}
 use Rattle.text_model.specs.declared.places.Place.{Place}
-use Rattle.undo_stack.specs.History.{limit_of, no_history}
+use Rattle.undo_stack.specs.History.{no_history}
 use Rattle.undo_stack.specs.Modified.{unmodified}
 use Rattle.command_parts.specs.declared.settings.Settings.{Settings}
 use Rattle.command_parts.specs.Words.{is_among, is_same}
 use Rattle.documents.specs.Keys.{KeyedCell, selection_stays}
 use Rattle.documents.specs.Documents.{Document, Widget, sel}
-use Rattle.documents.specs.Options.{anchor_at, widget_set, with_shared_settings}
+use Rattle.documents.specs.Options.{anchor_at, with_shared_settings}
 
 abbrev pub widget_named : List ℕ → Document → Option Widget
 widget_named name document = find (λ (widget : Widget). is_same widget.name name) document.widgets

@@ -1,9 +1,8 @@
-use Rattle.std.proofs.Common.{◌≡◌, ◌+◌, ◌-◌, ◌<◌, length, sym, ap, subst, ◌∙◌, arith}
-use Rattle.std.specs.Prelude.{chars, remove}
+use Rattle.std.proofs.Common.{sym, ap, ◌∙◌}
+use Rattle.std.specs.Prelude.{chars}
 use Rattle.name_list.specs.Names.{Names}
 use Rattle.tcl_words.specs.Unread.{texts_of}
-use Rattle.documents.specs.Keys.{seats_left}
-use Rattle.documents.proofs.SeatLaws.{left_from, left-kept, left-removed, removed-shorter}
+use Rattle.documents.proofs.SeatLaws.{left_from, left-kept, left-removed}
 use Rattle.documents.proofs.seats.remove_seats.Goals as goal
 
 pub loop-place-preserved-then-is_among : goal.loop-place-preserved-then-is_among

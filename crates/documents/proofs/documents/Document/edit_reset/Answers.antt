@@ -1,4 +1,4 @@
-use Rattle.documents.specs.Documents.{Parts, parts_of}
+use Rattle.documents.specs.Documents.{parts_of}
 use Rattle.documents.specs.Kept.{Stands}
 use Rattle.documents.proofs.JournalLaws.{leaves-reset}
 use Rattle.documents.proofs.documents.Document.edit_reset.Goals as goal

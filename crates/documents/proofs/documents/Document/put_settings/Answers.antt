@@ -1,4 +1,4 @@
-use Rattle.std.proofs.Common.{◌≡◌, refl, ap₂, arith}
+use Rattle.std.proofs.Common.{arith}
 use Rattle.edit_ops.specs.declared.anchors.Anchors.{Anchors}
 use Rattle.documents.specs.Documents.{parts_of}
 use Rattle.documents.specs.Kept.{Stands}

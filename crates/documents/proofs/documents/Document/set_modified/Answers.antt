@@ -1,4 +1,4 @@
-use Rattle.documents.specs.Documents.{Parts, parts_of}
+use Rattle.documents.specs.Documents.{parts_of}
 use Rattle.documents.specs.Kept.{Stands}
 use Rattle.documents.proofs.JournalLaws.{leaves-modified}
 use Rattle.documents.proofs.documents.Document.set_modified.Goals as goal
