@@ -29,7 +29,7 @@ pub struct World<S: TextStore> {
 
 impl<S: TextStore> Model for World<S> {
     ghost use Rattle.std.specs.Prelude.{option_to_list};
-        ghost use Rattle.std.specs.Coded.{codes};
+    ghost use Rattle.std.specs.Coded.{codes};
     ghost use Rattle.std.specs.FinSet as set;
     ghost use Rattle.text_model.specs.contracts.places.Place as place;
     ghost use Rattle.documents.specs.Keys.{key_cmp, key_code};
