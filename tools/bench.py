@@ -27,11 +27,13 @@ SIZE_MARGIN = 256
 
 
 class Kind(NamedTuple):
-    """A kind of script: its name in the table, the commands of a size, and how many newlines stand inside its answers."""
+    """A kind of script: its name in the table, the commands of a size, how many newlines stand inside its answers, and its sizes
+    where they aren't those of the others."""
 
     name: str
     commands: callable
     newlines: callable = lambda size: 0
+    sizes: tuple = ()
 
 
 def appends(size):
@@ -145,6 +147,8 @@ def spelled_words(before, after, piece):
 
 LINE = "a lazy dog, and\n"
 NEEDLE = "haystack"
+# How many lines a text has that is searched and dumped.
+LINES = (5_000, 50_000)
 
 WIDGETS = 64
 
@@ -218,14 +222,14 @@ KINDS = [
     Kind("4,000 marks: next, previous", with_marks(mark_walks)),
     Kind("4,000 marks: index", with_marks(mark_places)),
     Kind("4,000 marks: insert before", with_marks(inserts_before_marks)),
-    Kind("search a rare word", searches(NEEDLE)),
-    Kind("the same with -nocase", searches("-nocase", NEEDLE.upper())),
-    Kind("search -all a common word", searches("-all", "dog")),
-    Kind("the same with -nocase", searches("-all", "-nocase", "Dog")),
+    Kind("search a rare word", searches(NEEDLE), sizes=LINES),
+    Kind("the same with -nocase", searches("-nocase", NEEDLE.upper()), sizes=LINES),
+    Kind("search -all a common word", searches("-all", "dog"), sizes=LINES),
+    Kind("the same with -nocase", searches("-all", "-nocase", "Dog"), sizes=LINES),
     Kind("search a long run, 50 x", hostile_search),
-    Kind("dump all of many lines", with_tagged_lines(lambda size: [".t dump 1.0 end-1c"] * 3), lambda size: 3 * size),
-    Kind("dump their tags", with_tagged_lines(lambda size: [".t dump -tag 1.0 end"] * 3)),
-    Kind("dump each tenth line", with_tagged_lines(line_dumps)),
+    Kind("dump all of many lines", with_tagged_lines(lambda size: [".t dump 1.0 end-1c"] * 3), lambda size: 3 * size, LINES),
+    Kind("dump their tags", with_tagged_lines(lambda size: [".t dump -tag 1.0 end"] * 3), sizes=LINES),
+    Kind("dump each tenth line", with_tagged_lines(line_dumps), sizes=LINES),
     Kind("64 widgets: insert", with_peers(peer_inserts)),
     Kind("64 widgets: index", with_peers(peer_queries)),
     Kind("a refused command", refused_commands),
@@ -323,7 +327,7 @@ def measure(program, sizes, repeat, folder):
     emit(lines, table_row("an empty script", 0, time_script(program, [], repeat, folder), None))
     for kind in KINDS:
         before = None
-        for size in sizes:
+        for size in kind.sizes or sizes:
             timing = time_script(program, kind.commands(size), repeat, folder, kind.newlines(size))
             emit(lines, table_row(kind.name, size, timing, before))
             before = timing

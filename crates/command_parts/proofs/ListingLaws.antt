@@ -1,6 +1,6 @@
 -- Lists of elements as they are written.
 use Rattle.std.proofs.Common.{◌≡◌, ℕ, zero, suc, ◌+◌, Bool, true, false, List, [], ◌∷◌, ◌++◌, chars, length, refl, sym, ap, subst, ◌∙◌, arith}
-use Rattle.std.specs.Prelude.{None, Some, slice_get, take, filter, if◌then◌else◌}
+use Rattle.std.specs.Prelude.{Some, slice_get, take, filter, if◌then◌else◌}
 use Rattle.std.proofs.lemmas.Option.{none-some, same_Some}
 use Rattle.std.proofs.lemmas.Str.{chars-nil}
 use Rattle.tag_table.specs.Tags.{Tag, names_of, slots_of}
@@ -34,11 +34,6 @@ listed-more text flags old between new place range listed later goes = record {
   ranges = listed.ranges ∙ ap (λ rs. listed.done ++ rs) later ∙ sym (append_assoc listed.done (range ∷ []) (ranges_from flags range.end));
   goes = subst (Goes old new) (sym (range_words-append text listed.done (range ∷ []))) (goes_on old between new (range_words text listed.done) _ listed.goes goes);
 }
-
-pub listed-all : (text : List ℕ) (flags : List Bool) (old new : List ℕ) (place : ℕ) → IsListed text flags old new place → ranges_from flags place ≡ and_later flags None
-    → Goes old new (range_words text (tag_ranges flags))
-listed-all text flags old new place listed later =
-    subst (λ rs. Goes old new (range_words text rs)) (sym (listed.ranges ∙ ap (λ rs. listed.done ++ rs) later ∙ append-nil listed.done)) listed.goes
 
 -- a name more
 pub goes_name : (old between new : List ℕ) (names : List (List ℕ)) (at : ℕ) (name : List ℕ) → Goes old between (take at names) → Goes between new (name ∷ []) → slice_get names at ≡ Some name

@@ -3,8 +3,8 @@ use Rattle.std.proofs.Common.{◌≡◌, ℕ, suc, ◌+◌, ◌-◌, ◌<◌, �
 use Rattle.std.specs.List.{All}
 use Rattle.std.proofs.lemmas.List.Elements.{All-cons, All-nil}
 use Rattle.edit_ops.specs.Tagging.{SpanFits}
-use Rattle.std.specs.Prelude.{min, take, Result, Ok, Err, Some, None, String, chars, string_bytes}
-use Rattle.std.proofs.lemmas.List.{take_rest, append_assoc, drop-map, length-map, append-nil, get_or-map}
+use Rattle.std.specs.Prelude.{min, take, Result, Ok, Err, Some, String, chars, string_bytes}
+use Rattle.std.proofs.lemmas.List.{take_rest, append_assoc, drop-map, length-map, get_or-map}
 use Rattle.tcl_words.specs.Unread.{texts_of}
 use Rattle.command_parts.specs.Faults.{with_value}
 use Rattle.command_parts.specs.Lists.{Pair, pair_at, and_pairs, pairs_at}
@@ -18,26 +18,11 @@ spans_of-two start len [] two = absurd (omega arith)
 spans_of-two start len (from ∷ []) two = absurd (omega arith)
 spans_of-two start len (from ∷ to ∷ places) two = refl
 
-pub spans_of-one : (start len : ℕ) (places : List ℕ) → length places ≡ 1
-    → spans_of start len places ≡ span start (get_or places 0 0) (min (suc (get_or places 0 0)) len) ∷ []
-spans_of-one start len [] one = absurd (omega (arith, one))
-spans_of-one start len (from ∷ []) one = refl
-spans_of-one start len (from ∷ to ∷ places) one = absurd (omega (arith, one))
-
-pub spans_of-none : (start len : ℕ) (places : List ℕ) → length places ≡ 0 → spans_of start len places ≡ []
-spans_of-none start len [] none = refl
-spans_of-none start len (from ∷ places) none = absurd (omega (arith, none))
-
 pub pairs_at-two : (at : ℕ) (words : List (List ℕ)) → 2 ≤ length words
     → pairs_at at words ≡ and_pairs (pair_at at (get_or words 0 []) (Some (get_or words 1 []))) (pairs_at (at + 2) (drop 2 words))
 pairs_at-two at [] two = absurd (omega arith)
 pairs_at-two at (text ∷ []) two = absurd (omega arith)
 pairs_at-two at (text ∷ list ∷ words) two = refl
-
-pub pairs_at-one : (at : ℕ) (words : List (List ℕ)) → length words ≡ 1 → pairs_at at words ≡ and_pairs (pair_at at (get_or words 0 []) None) (Ok [])
-pairs_at-one at [] one = absurd (omega (arith, one))
-pairs_at-one at (text ∷ []) one = refl
-pairs_at-one at (text ∷ list ∷ words) one = absurd (omega (arith, one))
 
 -- two more of them are seen
 pub spans_of-more : (start len : ℕ) (places rest : List ℕ) (spans : List Span) → 2 ≤ length rest → spans_of start len places ≡ spans ++ spans_of start len rest
@@ -82,30 +67,3 @@ spans_of-fit start len (from ∷ []) within =
 spans_of-fit start len (from ∷ to ∷ places) within =
     All-cons (SpanFits (start + len)) _ (spans_of start len places) (span-fits start len from to (within 0 0 (omega arith)) (within 1 0 (omega arith)))
     (spans_of-fit start len places (λ k d before. within (suc (suc k)) d (omega arith)))
-
--- the last one of them is seen, and none is left
-pub pairs_at-last : {Z : Type 0} (at position : ℕ) (words : List (List ℕ)) (rest : List (String Z)) (front : List Pair) (pair : Pair) → length rest ≡ 1
-    → pairs_at at words ≡ with_value (pairs_at position (texts_of rest)) (λ ps. Ok (front ++ ps)) → pair_at position (word_or rest 0) None ≡ Ok pair
-    → pairs_at at words ≡ Ok (front ++ pair ∷ [])
-pairs_at-last {Z} at position words rest front pair one is found =
-    let lone : length (texts_of rest) ≡ 1 = length-map rest (λ word. chars (string_bytes word)) ∙ one in
-    is ∙ ap (λ ps. with_value ps (λ qs. Ok (front ++ qs))) (pairs_at-one position (texts_of rest) lone ∙ ap (λ p. and_pairs p (Ok [])) found)
-
-pub pairs_at-fault : {Z : Type 0} (at position : ℕ) (words : List (List ℕ)) (rest : List (String Z)) (front : List Pair) (fault : Fault) → 2 ≤ length rest
-    → pairs_at at words ≡ with_value (pairs_at position (texts_of rest)) (λ ps. Ok (front ++ ps)) → pair_at position (word_or rest 0) (Some (word_or rest 1)) ≡ Err fault
-    → pairs_at at words ≡ Err fault
-pairs_at-fault {Z} at position words rest front fault two is found =
-    let many : 2 ≤ length (texts_of rest) = omega (arith, length-map rest (λ word. chars (string_bytes word))) in
-    is ∙ ap (λ ps. with_value ps (λ qs. Ok (front ++ qs))) (pairs_at-two position (texts_of rest) many ∙ ap (λ p. and_pairs p (pairs_at (position + 2) (drop 2 (texts_of rest)))) found)
-
-pub pairs_at-last_fault : {Z : Type 0} (at position : ℕ) (words : List (List ℕ)) (rest : List (String Z)) (front : List Pair) (fault : Fault) → length rest ≡ 1
-    → pairs_at at words ≡ with_value (pairs_at position (texts_of rest)) (λ ps. Ok (front ++ ps)) → pair_at position (word_or rest 0) None ≡ Err fault
-    → pairs_at at words ≡ Err fault
-pairs_at-last_fault {Z} at position words rest front fault one is found =
-    let lone : length (texts_of rest) ≡ 1 = length-map rest (λ word. chars (string_bytes word)) ∙ one in
-    is ∙ ap (λ ps. with_value ps (λ qs. Ok (front ++ qs))) (pairs_at-one position (texts_of rest) lone ∙ ap (λ p. and_pairs p (Ok [])) found)
-
-pub pairs_at-end : {Z : Type 0} (at position : ℕ) (words : List (List ℕ)) (rest : List (String Z)) (front : List Pair) → length rest ≡ 0
-    → pairs_at at words ≡ with_value (pairs_at position (texts_of rest)) (λ ps. Ok (front ++ ps)) → pairs_at at words ≡ Ok front
-pairs_at-end at position words [] front none is = is ∙ ap Ok (append-nil front)
-pairs_at-end at position words (word ∷ rest) front none is = absurd (omega (arith, none))

@@ -6,7 +6,7 @@ use Rattle.std.proofs.lemmas.Str.{chars-nil}
 use Rattle.command_table.specs.Numbers.{integer_of}
 use Rattle.tcl_words.specs.Unread.{texts_of}
 use Rattle.command_parts.specs.declared.answers.Fault.{Fault}
-use Rattle.command_parts.specs.declared.answers.Fault.TheVariants.{BadInteger, WrongArguments}
+use Rattle.command_parts.specs.declared.answers.Fault.TheVariants.{BadInteger}
 use Rattle.command_parts.specs.declared.settings.Settings.{Settings}
 use Rattle.command_parts.specs.Faults.{with_value}
 use Rattle.command_parts.specs.Settings.{line_numbered, line_of_word, setting_read, settings_read}
@@ -37,16 +37,6 @@ pub settings_read-fault : {Z : Type 0} (lines : ℕ) (all : Result Settings Faul
     → all ≡ settings_read lines position (texts_of rest) settings → found ≡ setting_read lines (position + 1) (word_or rest 0) (word_or rest 1) settings → found ≡ Err fault → all ≡ Err fault
 settings_read-fault {Z} lines all position rest settings fault found two is read err =
     is ∙ settings_read-first lines position rest settings found two read ∙ ap (λ f. with_value f (settings_read lines (position + 2) (texts_of (take (length rest - 2) (drop 2 rest))))) err
-
-pub settings_read-end : {Z : Type 0} (lines position : ℕ) (rest : List (String Z)) (settings : Settings) → length rest ≡ 0 → settings_read lines position (texts_of rest) settings ≡ Ok settings
-settings_read-end lines position [] settings none = refl
-settings_read-end lines position (word ∷ rest) settings none = absurd (omega (arith, none))
-
--- a name without a value
-pub settings_read-odd : {Z : Type 0} (lines position : ℕ) (rest : List (String Z)) (settings : Settings) → length rest ≡ 1 → settings_read lines position (texts_of rest) settings ≡ Err WrongArguments
-settings_read-odd lines position [] settings one = absurd (omega (arith, one))
-settings_read-odd lines position (option ∷ []) settings one = refl
-settings_read-odd lines position (option ∷ value ∷ words) settings one = absurd (omega (arith, one))
 
 -- ---- lines
 

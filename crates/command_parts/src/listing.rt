@@ -1,9 +1,8 @@
-ghost use Rattle.std.specs.Prelude.{◌≡◌, ◌≢◌, ℕ, List, ◌+◌, ◌<◌, ◌≤◌, ◌++◌, ◌∷◌, [], chars, filter, nat_lt, nat_le, string_bytes, encode_utf8_all, OnOk, if◌then◌else◌};
+ghost use Rattle.std.specs.Prelude.{◌+◌, ◌<◌, ◌≤◌, ◌∷◌, [], chars, filter, nat_lt, nat_le, string_bytes, OnOk, if◌then◌else◌};
 ghost use Rattle.std.specs.FinSet as set;
 ghost use Rattle.tag_table.specs.Tags.{names_of};
 ghost use Rattle.mark_table.specs.SharedMarks.{names_of as mark_names_of};
 ghost use Rattle.command_parts.specs.Words.{literal};
-ghost use Rattle.tcl_words.specs.ListText.{list_text};
 ghost use Rattle.text_model.specs.TagBits.{slot_count};
 ghost use Rattle.text_index.specs.Positions.{position_text};
 ghost use Rattle.text_index.specs.Ranges.{tag_ranges, next_range, previous_range};

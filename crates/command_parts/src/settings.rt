@@ -1,4 +1,4 @@
-ghost use Rattle.std.specs.Prelude.{◌≡◌, ◌+◌, ◌≤◌, length, chars, decimal, ok_or, IfOk};
+ghost use Rattle.std.specs.Prelude.{◌≡◌, ◌+◌, ◌≤◌, length, chars, ok_or, IfOk};
 ghost use Rattle.command_table.specs.Numbers.{boolean_of, integer_of};
 ghost use Rattle.tcl_words.specs.Unread.{texts_of};
 ghost use Rattle.command_parts.specs.declared.answers.Fault.TheVariants.{BadBoolean, BadInteger, BadOption};

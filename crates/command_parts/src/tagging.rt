@@ -1,8 +1,8 @@
-ghost use Rattle.std.specs.Prelude.{◌≡◌, ◌≢◌, ℕ, ◌+◌, ◌<◌, ◌≤◌, ◌++◌, [], length, map, take, Some, Err, chars, is_some, option_map, IfOk, IfErr, OnOk, OnErr, IsSome, IfSome};
+ghost use Rattle.std.specs.Prelude.{◌≡◌, ◌≢◌, ◌+◌, ◌<◌, [], length, map, Some, Err, chars, option_map, IfOk, IfErr, OnOk, IfSome};
 ghost use Rattle.std.specs.FinSet as set;
 ghost use Rattle.std.specs.List.{All};
 ghost use Rattle.index_grammar.specs.Names.{known_tags};
-ghost use Rattle.tag_table.specs.Tags.{Tags, slot_of, names_of};
+ghost use Rattle.tag_table.specs.Tags.{slot_of, names_of};
 ghost use Rattle.tcl_words.specs.Unread.{texts_of};
 ghost use Rattle.text_model.specs.TagBits.{slot_count};
 ghost use Rattle.text_model.specs.declared.limits.TheConstants.Limits.{MOST_WIDGETS};

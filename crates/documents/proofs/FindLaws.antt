@@ -7,7 +7,6 @@ use Rattle.std.proofs.lemmas.Iterator.Adapters.{position_from-zero}
 use Rattle.std.proofs.lemmas.Option.{none-some, same_Some}
 use Rattle.std.proofs.lemmas.Slice.Eq.{bytes_eq-Decides}
 use Rattle.name_list.specs.Names.{Named, names_of, place_of}
-use Rattle.name_list.proofs.ListLaws.{stood_at}
 use Rattle.command_parts.specs.Words.{is_among, is_same}
 use Rattle.documents.specs.Documents.{Document, Parts, Widget, widget_at, widget_of}
 use Rattle.documents.specs.Kept.{Stands}
@@ -109,9 +108,3 @@ module _ (parts : Parts) (document : Document) (name : List ℕ) (stands : Stand
         | inr there ↦ ap is_some there.2 ∙ sym there.5
       ]
       ∙ ap (is_among name) (sym names)
-
--- the name of a widget by its place
-pub named-at : (parts : Parts) (document : Document) (place : ℕ) (name : List ℕ) → Stands parts document → slice_get (names_of parts.seats.entries) place ≡ Some name → name ≡ (widget_at document place).name
-named-at parts document place name stands is =
-    let found = stood_at (λ (seat : Named). seat.name) parts.seats.entries place name is in
-    sym found.2 ∙ sym (ap (λ (w : Widget). w.name) (widget-is parts document place found.0 stands.is found.1))

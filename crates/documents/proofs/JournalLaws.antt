@@ -4,7 +4,7 @@ use Rattle.std.specs.Prelude.{◌==◌, if◌then◌else◌}
 use Rattle.text_model.specs.Content as model
 use Rattle.text_model.specs.LimitTable.{LimitTable}
 use Rattle.undo_stack.specs.Fits.{FitsText}
-use Rattle.undo_stack.specs.History.{History, limit_of, limited, newest, no_history, separated}
+use Rattle.undo_stack.specs.History.{History, limit_of, newest, no_history, separated}
 use Rattle.undo_stack.specs.Modified.{set_to}
 use Rattle.undo_stack.specs.Rings.{Kept}
 use Rattle.undo_stack.specs.declared.actions.Action.{Action}
@@ -66,9 +66,6 @@ leaves-separated limits old before after document stands on is =
     (ap (λ b. answered (if b then kept_so made else kept_so before) Empty) on)
     (λ text fits. record { short = fits.short; filled = fits.filled; undone_filled = fits.undone_filled; reverts = fits.reverts; repeats = fits.repeats }))
 
-pub separates-nothing : (document : Document) → document.undo ≡ false → edit_separator document ≡ answered document Empty
-separates-nothing document off = ap (λ b. answered (if b then record document { history = separated document.history } else document) Empty) off
-
 -- no group is left
 pub leaves-reset : (limits : LimitTable) (old : Parts) (before after : Kept) (document : Document) → Stands (with_kept old before) document → after.history ≡ no_history → after.modified ≡ before.modified
     → after.most ≡ before.most → Leaves limits (with_kept old after) document (Ok Empty) (edit_reset document)
@@ -97,14 +94,6 @@ newest_none most = elim (most == 0) as (λ b. (if b then no_groups else drop (0 
   | true ↦ refl
   | false ↦ drop_none (0 - most)
 ]
-
-either_none : (undo : Bool) → (if undo then no_history else no_history) ≡ no_history
-either_none true = refl
-either_none false = refl
-
-pub under-none : (settings : DocumentSettings) → history_under settings no_history ≡ no_history
-under-none settings =
-    ap (limited (limit_of settings.most_undo)) (either_none settings.undo) ∙ ap (λ groups. record no_history { groups = groups }) (newest_none (limit_of settings.most_undo))
 
 -- under options the history is bounded as they say
 pub orderly-under : (settings : DocumentSettings) (journal : Journal) (before after : Kept) → after.history ≡ history_under settings before.history → after.most ≡ limit_of settings.most_undo

@@ -1,7 +1,5 @@
 -- The order of keys, and sets of none.
 use Rattle.std.proofs.Common.{◌≡◌, ℕ, zero, suc, Bool, true, false, List, refl, sym, ap, ◌∙◌}
-use Rattle.std.specs.Prelude.{◌&&◌}
-use Rattle.std.specs.FinSet as set
 use Rattle.std.specs.FinMap.{nat_cmp-IsAntisymmetric, slice_cmp-IsAntisymmetric}
 use Rattle.std.specs.Ordering.{nat_cmp}
 use Rattle.std.specs.Cmp.{IsTotalOrder, nat_cmp_total}
@@ -29,11 +27,3 @@ key_cmp_exact a b alike =
     let selects : a.selects ≡ b.selects = sym (back a.selects) ∙ ap (λ (p : ℕ × List ℕ). is_above p.0) pairs ∙ back b.selects in
     let name : a.name ≡ b.name = ap (λ (p : ℕ × List ℕ). p.1) pairs in
     λ i. record { selects = selects i; name = name i }
-
--- no key is common to two sets of none
-pub intersection-empty : set.intersection (set.empty {R = key_cmp}) set.empty ≡ set.empty
-intersection-empty =
-    set.same_set key_cmp_total key_cmp_exact _ _ (λ key.
-    set.contains-intersection key_cmp_total set.empty set.empty key
-    ∙ ap (λ b. b && set.contains (set.empty {R = key_cmp}) key) (set.contains-empty key_cmp key)
-    ∙ sym (set.contains-empty key_cmp key))

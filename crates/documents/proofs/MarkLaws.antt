@@ -8,7 +8,7 @@ use Rattle.std.specs.Ordering.{nat_cmp, eq_by_cmp}
 use Rattle.std.proofs.lemmas.Bool.{or_left, or_right, true≢false}
 use Rattle.std.proofs.lemmas.Bool.Decides.{nat_tests}
 use Rattle.std.proofs.lemmas.List.{length-map, length-append, map-append}
-use Rattle.std.proofs.lemmas.Option.{none-some, same_Some, slice_get-map}
+use Rattle.std.proofs.lemmas.Option.{none-some, same_Some}
 use Rattle.std.proofs.lemmas.Slice.Eq.{bytes_eq-Decides}
 use Rattle.name_list.specs.Names.{Named}
 use Rattle.name_list.proofs.ListLaws.{Contains-from_stands}
@@ -29,7 +29,7 @@ use Rattle.documents.specs.Kept.{AreMarked, AreSeats, HasOwnMarks, IsMarked, Sta
 use Rattle.documents.specs.Marks.{mark_unset, place_named, set_found, with_current, with_insert, with_shared}
 use Rattle.documents.specs.Promise.{Change, Does, answered, refused}
 use Rattle.documents.proofs.ChangeLaws.{Leaves, does-changed, does-nothing, stands-same}
-use Rattle.documents.proofs.PartsLaws.{Sits, marks-kept}
+use Rattle.documents.proofs.PartsLaws.{Sits, mapped-at, marks-kept}
 use Rattle.documents.proofs.PlacedLaws.{AreAlike, StandsMark, found_mark, marked-alike, placed-alike}
 
 -- ---- one mark of a store
@@ -75,9 +75,6 @@ mark_of-put places number place = ap (λ found. unwrap_or found new_mark) (get-p
 
 pub mark_of-put_other : (places : Marks) (number : ℕ) (place : Place) (other : ℕ) → other ≢ number → mark_of (finite.insert places number place) other ≡ mark_of places other
 mark_of-put_other places number place other apart = ap (λ found. unwrap_or found new_mark) (get-put_other places number place other apart)
-
-mapped-at : {A B : Type 0} (f : A → B) (xs : List A) (at : ℕ) (x : A) → slice_get xs at ≡ Some x → slice_get (map f xs) at ≡ Some (f x)
-mapped-at f xs at x is = slice_get-map f xs at ∙ ap (option_map f) is
 
 -- the number of a mark is one for shared marks
 pub shared-number : (table : SharedMarks) (at : ℕ) (mark : Mark) → AreMarks table → slice_get table.marks at ≡ Some mark → first_number ≤ mark.number
@@ -434,14 +431,6 @@ leaves-made limits old new changed document widget word offset stands within sha
     (stand-put old.content number place stands.sound.kept.marks within) (own-put places number place old.seats.entries stands.sound.kept.own)
     (λ _. omega (arith, count, few)) change in
     subst (λ (p : Parts). Leaves limits p document (Ok Empty) (set_found limits document widget word offset None)) (λ i. record old { marks = sym made.table i; content = sym made.store i }) left
-
--- there are too many
-pub made-left : (limits : LimitTable) (old : Parts) (document : Document) (widget : Widget) (word : List ℕ) (offset : ℕ) → Stands old document → limits.marks ≤ length old.marks.marks
-    → set_found limits document widget word offset None ≡ refused document TooManyMarks
-made-left limits old document widget word offset stands many =
-    let long = marks-kept old document stands.is in
-    ap (λ b. if b then refused document TooManyMarks else answered (record document { marks = document.marks ++ record { name = word; place = record { offset = offset; gravity = Right } } ∷ [] }) Empty)
-    (too_many limits.marks (length document.marks) (omega (arith, long, many)))
 
 abbrev IsIn : List ℕ → ℕ → Type 0
 IsIn numbers number = (at : ℕ) × (slice_get numbers at ≡ Some number)

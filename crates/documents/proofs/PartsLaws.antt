@@ -4,7 +4,7 @@ use Rattle.std.specs.Prelude.{slice_get, option_map, Some, is_some}
 use Rattle.std.specs.FinMap as finite
 use Rattle.std.specs.List.{AllByRecursion}
 use Rattle.std.proofs.lemmas.List.{length-map}
-use Rattle.std.proofs.lemmas.Option.{none-some, same_Some, get_or_from_slice_get}
+use Rattle.std.proofs.lemmas.Option.{none-some, same_Some, get_or_from_slice_get, slice_get-map}
 use Rattle.text_model.specs.declared.cells.Cell.{Cell}
 use Rattle.text_model.specs.declared.limits.TheConstants.Limits.{MOST_WIDGETS}
 use Rattle.text_model.specs.Content as model
@@ -66,9 +66,7 @@ at-place P (y ∷ ys) zero x each is = subst P (same_Some y x is) each.0
 at-place P (y ∷ ys) (suc place) x each is = at-place P ys place x each.1 is
 
 pub mapped-at : {A B : Type 0} (f : A → B) (xs : List A) (place : ℕ) (x : A) → slice_get xs place ≡ Some x → slice_get (map f xs) place ≡ Some (f x)
-mapped-at f [] place x is = absurd (none-some x is)
-mapped-at f (y ∷ ys) zero x is = ap (option_map f) is
-mapped-at f (y ∷ ys) (suc place) x is = mapped-at f ys place x is
+mapped-at f xs place x is = slice_get-map f xs place ∙ ap (option_map f) is
 
 seat-at : (entries : List Named) (place slot : ℕ) → slice_get (numbers_of entries) place ≡ Some slot → (seat : Named) × (slice_get entries place ≡ Some seat) × (seat.number ≡ slot)
 seat-at [] place slot is = absurd (none-some slot is)

@@ -22,22 +22,20 @@ use Rattle.edit_ops.specs.Tagging.{SpanFits}
 use Rattle.edit_ops.specs.declared.spans.Span.{Span}
 use Rattle.edit_ops.proofs.KeepLaws.{deleted-kept, deleted-runs}
 use Rattle.command_parts.specs.declared.answers.Answer.TheVariants.{Empty}
-use Rattle.command_parts.specs.Ranges.{spans_of}
 use Rattle.command_parts.specs.Settings.{recording_of}
-use Rattle.command_parts.proofs.PairLaws.{spans_of-fit}
 use Rattle.documents.specs.Deletions.{delete_places, delete_spans, deleted_runs, last_bare}
 use Rattle.documents.specs.Documents.{Document, Parts, Widget, document_of, widget_at}
 use Rattle.documents.specs.Edits.{with_bare, without_spans}
 use Rattle.documents.specs.Kept.{HasKnownSlots, Stands}
 use Rattle.documents.specs.Promise.{answered}
 use Rattle.documents.specs.Ranges.{spans_shown}
-use Rattle.documents.specs.View.{is_idle, shown}
+use Rattle.documents.specs.View.{is_idle}
 use Rattle.documents.proofs.ChangeLaws.{Leaves, does-changed}
 use Rattle.documents.proofs.KeyedLaws.{keyed-bare}
 use Rattle.documents.proofs.KnownLaws.{known-empty}
 use Rattle.documents.proofs.PartsLaws.{Sits, cells-kept, characters-kept, pairs_of}
 use Rattle.documents.proofs.StateLaws.{length-span, stands-span, state_in, with_state}
-use Rattle.documents.proofs.ViewLaws.{active-is, end-is, end_in, shown-length, start-is, start_in, within-is}
+use Rattle.documents.proofs.ViewLaws.{active-is, end-is, end_in, start-is, start_in, within-is}
 
 -- ---- spans that stand apart, the last first
 
@@ -106,22 +104,6 @@ stands-if parts document at false stands within = (stands, refl)
 
 to-end : (end : ℕ) (spans : List Span) → All (SpanFits end) spans → All (λ (span : Span). span.to ≤ end) spans
 to-end end spans fit = λ k d before. (fit k d before).within
-
--- the spans that places make, and that they are in the view
-pub spans-in : (parts : Parts) (document : Document) (place slot start len : ℕ) (places : List ℕ) (spans given : List Span) → Stands parts document → Sits parts document place slot
-    → start ≡ start_in parts slot → len ≡ end_in parts slot - start_in parts slot → All (λ p. p ≤ length (shown document (widget_at document place))) places
-    → start_in parts slot ≤ end_in parts slot → spans ≡ spans_of start len places → given ≡ spans
-    → (given ≡ spans_shown document (widget_at document place) places) × All (SpanFits (end_in parts slot)) given
-spans-in parts document place slot start len places spans given stands sits begins long within ordered made same =
-    let from = start_in parts slot in
-    let to = end_in parts slot in
-    let many = shown-length parts document place slot stands sits in
-    let all : given ≡ spans_of from (to - from) places = same ∙ made ∙ ap₂ (λ s n. spans_of s n places) begins long in
-    let fit : All (λ p. p ≤ to - from) places = subst (λ n. All (λ p. p ≤ n) places) many within in
-    let whole : from + (to - from) ≡ to = omega (arith, ordered) in (
-      all ∙ ap₂ (λ s n. spans_of s n places) (sym (start-is parts document place slot stands sits)) (sym many),
-      subst (All (SpanFits to)) (sym all) (subst (λ n. All (SpanFits n) (spans_of from (to - from) places)) whole (spans_of-fit from (to - from) places fit)),
-    )
 
 pub leaves-deleted : (limits : LimitTable) (old : Parts) (state : State) (document : Document) (place slot : ℕ) (spans : List Span) → Stands old document → Sits old document place slot
     → start_in old slot < end_in old slot → All (SpanFits (end_in old slot)) spans → state ≡ deleted (recording_of old.journal.settings) (start_in old slot) (end_in old slot) spans (state_in old)

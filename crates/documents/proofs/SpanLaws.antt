@@ -27,7 +27,7 @@ use Rattle.documents.specs.Kept.{Stands}
 use Rattle.documents.specs.Promise.{Change, Does, answered, refused}
 use Rattle.documents.specs.Ranges.{spans_shown}
 use Rattle.documents.specs.Tags.{add_spans, remove_spans}
-use Rattle.documents.specs.View.{shown, view_start}
+use Rattle.documents.specs.View.{shown}
 use Rattle.documents.proofs.ChangeLaws.{Leaves, does-nothing}
 use Rattle.documents.proofs.KeyedLaws.{keyed-more, keyed-tagged}
 use Rattle.documents.proofs.KnownLaws.{known-front, known-slot}
@@ -101,6 +101,22 @@ leaves-spans limits old new content log document place widget word on spans chan
 wider : (short long : ℕ) (spans : List Span) → short ≤ long → All (SpanFits short) spans → All (SpanFits long) spans
 wider short long spans less fit k span within = let one = fit k span within in let end = one.within in record { ordered = one.ordered; within = omega (arith, end, less) }
 
+-- the spans that places make, and that they are in the view
+pub spans-in : (parts : Parts) (document : Document) (place slot start len : ℕ) (places : List ℕ) (spans given : List Span) → Stands parts document → Sits parts document place slot
+    → start ≡ start_in parts slot → len ≡ end_in parts slot - start_in parts slot → All (λ p. p ≤ length (shown document (widget_at document place))) places
+    → start_in parts slot ≤ end_in parts slot → spans ≡ spans_of start len places → given ≡ spans
+    → (given ≡ spans_shown document (widget_at document place) places) × All (SpanFits (end_in parts slot)) given
+spans-in parts document place slot start len places spans given stands sits begins long within ordered made same =
+    let from = start_in parts slot in
+    let to = end_in parts slot in
+    let many = shown-length parts document place slot stands sits in
+    let all : given ≡ spans_of from (to - from) places = same ∙ made ∙ ap₂ (λ s n. spans_of s n places) begins long in
+    let fit : All (λ p. p ≤ to - from) places = subst (λ n. All (λ p. p ≤ n) places) many within in
+    let whole : from + (to - from) ≡ to = omega (arith, ordered) in (
+      all ∙ ap₂ (λ s n. spans_of s n places) (sym (start-is parts document place slot stands sits)) (sym many),
+      subst (All (SpanFits to)) (sym all) (subst (λ n. All (SpanFits n) (spans_of from (to - from) places)) whole (spans_of-fit from (to - from) places fit)),
+    )
+
 -- as the view's bounds were found
 pub record AreShown (document : Document) (place : ℕ) (places : List ℕ) (spans : List Span) : Type 0 where
   pub same : spans ≡ spans_shown document (widget_at document place) places
@@ -109,17 +125,10 @@ pub record AreShown (document : Document) (place : ℕ) (places : List ℕ) (spa
 pub spans-found : (old : Parts) (document : Document) (place widget start end : ℕ) (places : List ℕ) (spans : List Span) → Stands old document → Sits old document place widget → start ≡ start_in old widget
     → end ≡ end_in old widget → All (λ at. at ≤ length (shown document (widget_at document place))) places → spans ≡ spans_of start (end - start) places → AreShown document place places spans
 spans-found old document place widget start end places spans stands sits starts ends within is =
-    let long = shown-length old document place widget stands sits in
-    let count : end - start ≡ length (shown document (widget_at document place)) = omega (arith, long, starts, ends) in
-    let begins : start ≡ view_start (widget_at document place) = starts ∙ sym (start-is old document place widget stands sits) in
+    let found = spans-in old document place widget start (end - start) places spans spans stands sits starts (ap₂ (λ e s. e - s) ends starts) within
+    (ordered-is old document place widget stands sits) is refl in
     let inside = within-is old document place widget stands sits in
-    let ordered = ordered-is old document place widget stands sits in
-    let fit = spans_of-fit start (end - start) places (subst (λ n. All (λ at. at ≤ n) places) (sym count) within) in
-    record {
-      same = is ∙ ap₂ (λ s n. spans_of s n places) begins count;
-      fit = subst (All (SpanFits (length document.cells))) (sym is)
-          (wider (start + (end - start)) (length document.cells) (spans_of start (end - start) places) (omega (arith, starts, ends, inside, ordered, cells-kept old document stands.is)) fit);
-    }
+    record { same = found.0; fit = wider (end_in old widget) (length document.cells) spans (omega (arith, inside, cells-kept old document stands.is)) found.1 }
 
 -- places of the view
 pub places-within : (old : Parts) (document : Document) (place widget start end : ℕ) (places : List ℕ) → Stands old document → Sits old document place widget → start ≡ start_in old widget → end ≡ end_in old widget

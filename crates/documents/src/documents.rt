@@ -1,50 +1,17 @@
-ghost use Rattle.std.specs.Prelude.{◌≡◌, ◌≢◌, ℕ, true, suc, None, Some, is_some, ◌+◌, ◌-◌, ◌<◌, ◌≤◌, min, length, chars, map, slice_range, option_map, nat_lt, nat_le, Ok, Err, IfOk, IfErr, OnOk, OnErr, [], IfSome, slice_index_or};
-ghost use Rattle.std.specs.List.{All};
+ghost use Rattle.std.specs.Prelude.{◌≡◌, true, None, Some, is_some, ◌-◌, ◌<◌, length, chars, Ok, IfOk, IfSome};
 ghost use Rattle.text_model.specs.LimitTable.{LimitTable, AreLimits};
-ghost use Rattle.text_index.specs.Positions.{position_text};
 ghost use Rattle.documents.specs.Documents.{widget_at};
-ghost use Rattle.documents.specs.View.{is_idle, shown, view_end, view_start};
-ghost use Rattle.documents.specs.Widgets.{bare_document, is_kept, new_document, widget_named, with_peer, without_widgets};
+ghost use Rattle.documents.specs.View.{is_idle};
+ghost use Rattle.documents.specs.Widgets.{bare_document, new_document, widget_named};
 ghost use Rattle.documents.specs.Kept.{is_window_name};
 ghost use Rattle.documents.specs.WellFormed.{IsWellFormedDocument, window_names};
-ghost use Rattle.command_parts.specs.Faults.{at_position};
-ghost use Rattle.documents.specs.Promise.{Gives, Does, answered};
-ghost use Rattle.documents.specs.Indices.{place_at};
-ghost use Rattle.documents.specs.Deletions.{delete_places, replace_span};
-ghost use Rattle.search_dump.specs.Counts.{counted};
-ghost use Rattle.search_dump.specs.Dump.{dump_elements};
-ghost use Rattle.search_dump.specs.Matches.{search_result};
-ghost use Rattle.documents.specs.Queries.{seen};
-ghost use Rattle.documents.specs.Texts.{insert_at, insertion_offset};
-ghost use Rattle.command_parts.specs.Lists.{total, with_name, with_names, all_names};
-ghost use Rattle.command_parts.specs.declared.answers.Fault.TheVariants.{Memory, TooManyTags};
-ghost use Rattle.edit_ops.specs.States.{log_of};
-ghost use Rattle.edit_ops.specs.Tagging.{SpanFits, tagged};
-ghost use Rattle.tag_table.specs.Tags.{AreTags, names_of, slot_of};
 ghost use Rattle.text_model.specs.declared.limits.TheConstants.Limits.{MOST_TAGS};
-ghost use Rattle.std.specs.Char.{IsScalar};
-ghost use Rattle.tcl_words.specs.ListText.{list_text};
-ghost use Rattle.tcl_words.specs.Unread.{texts_of};
-ghost use Rattle.text_index.specs.Ranges.{tag_ranges, next_range, previous_range};
-ghost use Rattle.documents.specs.Tags.{flags_of, tags_on, add_spans, remove_spans, tag_delete, reordered, raised, lowered};
-ghost use Rattle.command_parts.specs.Listing.{range_words, begun};
 ghost use Rattle.command_parts.specs.Words.{is_among};
-ghost use Rattle.mark_table.specs.Order.{next_mark, previous_mark, rank_of};
-ghost use Rattle.command_parts.specs.declared.answers.Answer.TheVariants.{Empty};
-ghost use Rattle.documents.specs.History.{edit_reset, edit_separator, modified_set};
-ghost use Rattle.documents.specs.Options.{AreLines, IsLine, settings_of, with_settings};
+ghost use Rattle.documents.specs.Options.{AreLines};
 ghost use Rattle.command_parts.specs.Settings.{is_behind};
-ghost use Rattle.text_model.specs.Lines.{line_of, line_start, lines};
-ghost use Rattle.text_model.specs.Content as model;
+ghost use Rattle.text_model.specs.Lines.{lines};
 ghost use Rattle.text_model.specs.declared.limits.TheConstants.Limits.{MOST_WIDGETS};
-ghost use Rattle.documents.specs.Documents.{characters};
-ghost use Rattle.command_parts.specs.Words.{is_same};
-ghost use Rattle.std.specs.Prelude.{false, filter, not};
-ghost use Rattle.documents.specs.Reversals.{edit_redo, edit_undo};
-ghost use Rattle.undo_stack.specs.Modified.{is_modified};
-ghost use Rattle.documents.specs.Names.{mark_number, mark_place};
-ghost use Rattle.command_parts.specs.Marking.{gravity_word as spec_gravity_word};
-ghost use Rattle.documents.specs.Marks.{mark_names, mark_offset, mark_unset, place_named, set_found, usable_marks, with_current, with_insert, with_mark, with_shared};
+ghost use Rattle.std.specs.Prelude.{false};
 
 use crate::views::{end_of, start_of};
 use command_parts::{DocumentSettings, Settings};
@@ -141,6 +108,7 @@ impl<S: TextStore> Document<S> {
         Ok(document)
     }
 
+    /// Where the document takes its memory from, for what a command makes before it calls the document.
     pub fn allocator(&self) -> Global {
         self.alloc
     }
@@ -160,14 +128,6 @@ impl<S: TextStore> Document<S> {
         ensures named { is_some result ≡ is_among (chars name.now) (window_names self.now) }
     {
         self.seats.place(name)
-    }
-
-    /// The name of a widget.
-    pub fn widget_name(&self, widget: usize) -> &str
-        requires { widget < length self.now.widgets }
-        ensures { chars result.now ≡ (widget_at self.now widget).name }
-    {
-        self.seats.name(widget)
     }
 
     /// Whether a widget leaves the text as it is: it is disabled, or its view is empty.

@@ -1,9 +1,9 @@
 //! The names of widgets with their slots, and what is kept by slot.
 
-ghost use Rattle.std.specs.Prelude.{◌≡◌, false, ◌<◌, ◌≤◌, ◌++◌, ◌∷◌, [], length, take, drop, map, filter, filter_map, not, nat_lt, chars, string_bytes, IfOk, OnOk, OnErr};
+ghost use Rattle.std.specs.Prelude.{◌≡◌, false, ◌<◌, ◌≤◌, ◌++◌, ◌∷◌, [], length, take, map, filter, not, nat_lt, chars, string_bytes, IfOk, OnOk, OnErr};
 ghost use Rattle.std.specs.List.{All};
 ghost use Rattle.text_model.specs.declared.limits.TheConstants.Limits.{MOST_WIDGETS};
-ghost use Rattle.name_list.specs.Names.{AreNames, IsLeastFree, Named, names_of, numbers_of, place_of};
+ghost use Rattle.name_list.specs.Names.{AreNames, IsLeastFree, names_of, numbers_of, place_of};
 ghost use Rattle.tcl_words.specs.Unread.{texts_of};
 ghost use Rattle.command_parts.specs.Edits.{new_mark, with_own_marks};
 ghost use Rattle.command_parts.specs.Words.{is_among, is_same};

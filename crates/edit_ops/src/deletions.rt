@@ -3,7 +3,7 @@ ghost use Rattle.std.specs.List.{All};
 ghost use Rattle.edit_ops.specs.Deletions.{in_spans, delete_set, AreApart, deleted, removed_spans};
 ghost use Rattle.edit_ops.specs.Plans.{planned, HasRoom};
 ghost use Rattle.edit_ops.specs.States.{State, Log, log_of, state_of, drafted};
-ghost use Rattle.text_model.specs.Content.{Content, characters};
+ghost use Rattle.text_model.specs.Content.{characters};
 ghost use Rattle.text_model.specs.Lines.{is_newline};
 ghost use Rattle.text_model.specs.Steps.{Fits, after};
 ghost use Rattle.edit_ops.specs.declared.plans.Recording.{Recording};

@@ -1,12 +1,10 @@
-ghost use Rattle.std.specs.Prelude.{◌≡◌, ◌≢◌, ◌+◌, ◌<◌, ◌≤◌, ◌^◌, ◌↔◌, ◌++◌, ◌-◌, nat_lt, min, length, get_or, sum_by, OnOk, IfOk, Err, false};
-ghost use Rattle.std.specs.FinSet as set;
+ghost use Rattle.std.specs.Prelude.{◌≡◌, ◌≢◌, ◌+◌, ◌<◌, ◌≤◌, ◌^◌, ◌↔◌, ◌-◌, nat_lt, min, length, OnOk, IfOk, Err, false};
 ghost use Rattle.std.specs.List.{All};
 ghost use Rattle.edit_ops.specs.Anchors.{AnchorsStand};
 ghost use Rattle.edit_ops.specs.Insertions.{inserted_texts, slots_or, total, IsBetween};
 ghost use Rattle.edit_ops.specs.Plans.{planned, HasRoom};
 ghost use Rattle.edit_ops.specs.States.{State, Log, log_of, state_of, drafted};
 ghost use Rattle.text_cursor.specs.Around.{slots_around};
-ghost use Rattle.text_model.specs.Content.{Content, slot_sets};
 ghost use Rattle.text_model.specs.Steps.{Fits, after};
 
 use crate::anchors::Anchors;

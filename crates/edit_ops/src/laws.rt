@@ -15,7 +15,7 @@ ghost use Rattle.edit_ops.specs.Insertions.{inserted_texts, total};
 ghost use Rattle.edit_ops.specs.Keeping.{IsAnchored, IsKept};
 ghost use Rattle.edit_ops.specs.Removals.{removed_span, replaced};
 ghost use Rattle.edit_ops.specs.Reversals.{undone, redone};
-ghost use Rattle.edit_ops.specs.States.{State, Log, state_of};
+ghost use Rattle.edit_ops.specs.States.{State, state_of};
 ghost use Rattle.edit_ops.specs.Tagging.{SpanFits, tagged};
 
 /// Where a history fits a text, it fits what an edit makes of the two, whether or not actions are kept.

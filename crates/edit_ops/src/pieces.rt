@@ -1,4 +1,4 @@
-ghost use Rattle.std.specs.Prelude.{◌≡◌, ◌<◌, nat_lt, length};
+ghost use Rattle.std.specs.Prelude.{◌<◌};
 
 use text_model::{TagSet, Text};
 

@@ -1,5 +1,4 @@
-ghost use Rattle.std.specs.Prelude.{◌≡◌, ◌+◌, ◌-◌, ◌<◌, ◌≤◌, ◌^◌, ◌↔◌, min, length, map, option_and_then, OnOk, IfOk, Err};
-ghost use Rattle.std.specs.FinMap as finite;
+ghost use Rattle.std.specs.Prelude.{◌≡◌, ◌+◌, ◌-◌, ◌<◌, ◌≤◌, ◌^◌, ◌↔◌, min, length, option_and_then, IfOk, Err};
 ghost use Rattle.std.specs.List.{All};
 ghost use Rattle.edit_ops.specs.Anchors.{AnchorsStand};
 ghost use Rattle.edit_ops.specs.Insertions.{total};
@@ -7,7 +6,6 @@ ghost use Rattle.edit_ops.specs.Removals.{clipped, removed_span, replaced_span, 
 ghost use Rattle.edit_ops.specs.Plans.{planned, HasRoom};
 ghost use Rattle.edit_ops.specs.States.{Log, log_of, state_of, drafted};
 ghost use Rattle.text_model.specs.Content.{characters};
-ghost use Rattle.text_model.specs.Lines.{line_of, line_start};
 ghost use Rattle.text_model.specs.Splices.{removed};
 ghost use Rattle.text_model.specs.Steps.{Fits, after};
 

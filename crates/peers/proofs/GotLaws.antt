@@ -5,10 +5,9 @@ use Rattle.std.proofs.lemmas.List.{take_rest, append_assoc, append-nil}
 use Rattle.tcl_words.specs.ListGrowth.{Goes}
 use Rattle.peers.specs.Texts.{text_of, texts_of_places, got}
 use Rattle.command_parts.specs.Listing.{is_filled}
-use Rattle.tcl_words.specs.ListText.{list_text}
 use Rattle.command_parts.specs.declared.answers.Answer.TheVariants.{Text}
 use Rattle.documents.specs.Documents.{Document, Widget}
-use Rattle.tcl_words.proofs.ListGrowth.{goes_nowhere, goes_on}
+use Rattle.tcl_words.proofs.ListGrowth.{goes_on}
 use Rattle.command_parts.proofs.WrittenLaws.{filter-append}
 
 -- the texts before some places are listed
@@ -16,9 +15,6 @@ pub record AreGot (document : Document) (widget : Widget) (places rest : List �
   pub done : List (List ℕ)
   pub texts : texts_of_places document widget places ≡ done ++ texts_of_places document widget rest
   pub goes : Goes old new (filter is_filled done)
-
-pub got-none : (document : Document) (widget : Widget) (places bytes : List ℕ) → AreGot document widget places places bytes bytes
-got-none document widget places bytes = record { done = []; texts = refl; goes = goes_nowhere bytes }
 
 texts-two : (document : Document) (widget : Widget) (places : List ℕ) → 2 ≤ length places
     → texts_of_places document widget places ≡ text_of document widget (get_or places 0 0) (get_or places 1 0) ∷ texts_of_places document widget (drop 2 places)
@@ -67,12 +63,6 @@ one_left (suc (suc n)) some few = absurd (omega (arith, few))
 pub got-empty : (document : Document) (widget : Widget) (places : List ℕ) → length places ≡ 0 → got document widget places ≡ Text []
 got-empty document widget [] none = refl
 got-empty document widget (place ∷ places) none = absurd (omega (arith, none))
-
-pub got-many : (document : Document) (widget : Widget) (places : List ℕ) → 3 ≤ length places → got document widget places ≡ Text (list_text (filter is_filled (texts_of_places document widget places)))
-got-many document widget [] many = absurd (omega arith)
-got-many document widget (from ∷ []) many = absurd (omega arith)
-got-many document widget (from ∷ to ∷ []) many = absurd (omega arith)
-got-many document widget (from ∷ to ∷ next ∷ places) many = refl
 
 pub none_left : (n : ℕ) → n ≤ 2 → n ≢ 2 → n ≢ 1 → n ≡ 0
 none_left zero few two one = refl

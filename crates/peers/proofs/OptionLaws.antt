@@ -1,5 +1,5 @@
 -- The lines of a view, as options give them.
-use Rattle.std.proofs.Common.{◌≡◌, ℕ, zero, suc, ◌+◌, ◌<◌, ◌≤◌, Bool, true, false, List, [], ◌∷◌, min, refl, sym, ap, subst, ◌∙◌, arith}
+use Rattle.std.proofs.Common.{◌≡◌, ℕ, ◌+◌, ◌<◌, ◌≤◌, true, false, List, [], ◌∷◌, refl, subst, arith}
 use Rattle.std.specs.Prelude.{ℤ, pos, negsuc, ok_or, option_and_then, option_map, nat_lt, nat_le, IfOk, IfSome, Option, None, Some, Result, Ok, Err, if◌then◌else◌}
 use Rattle.std.proofs.lemmas.Bool.Decides.{nat_tests}
 use Rattle.command_table.specs.Numbers.{boolean_of, integer_of}
@@ -117,16 +117,7 @@ checked-so P settings holds = elim (is_behind settings.start settings.end) as (�
   | false ↦ holds
 ]
 
-checked-order : (settings : Settings) → IfOk (settings_checked settings) (λ (s : Settings). is_behind s.start s.end ≡ false)
-checked-order settings = elim (is_behind settings.start settings.end) as (λ b. is_behind settings.start settings.end ≡ b → IfOk (if b then Err StartLineAfterEndLine else Ok settings) (λ (s : Settings). is_behind s.start s.end ≡ false)) [
-  | true ↦ λ _. tt
-  | false ↦ λ before. before
-] refl
-
 pub given-lines : (lines at : ℕ) (words : List (List ℕ)) (settings : Settings) → AreLines lines settings → IfOk (with_value (settings_read lines at words settings) settings_checked) (AreLines lines)
 given-lines lines at words settings are =
     through (settings_read lines at words settings) settings_checked (AreLines lines)
     (λ made is. checked-so (AreLines lines) made (value-found (settings_read lines at words settings) (AreLines lines) made (read-lines lines at words settings are) is))
-
-pub given-order : (lines at : ℕ) (words : List (List ℕ)) (settings : Settings) → IfOk (with_value (settings_read lines at words settings) settings_checked) (λ (s : Settings). is_behind s.start s.end ≡ false)
-given-order lines at words settings = through (settings_read lines at words settings) settings_checked _ (λ made _. checked-order made)

@@ -1,7 +1,7 @@
 -- The places of indices, one after the other.
-use Rattle.std.proofs.Common.{◌≡◌, ℕ, zero, suc, ◌+◌, ◌<◌, ◌≤◌, List, [], ◌∷◌, ◌++◌, length, drop, get_or, refl, sym, ap, ◌∙◌, arith}
+use Rattle.std.proofs.Common.{◌≡◌, ℕ, zero, suc, ◌+◌, ◌<◌, List, [], ◌∷◌, ◌++◌, length, drop, get_or, refl, sym, ap, ◌∙◌, arith}
 use Rattle.std.specs.Prelude.{Result, Ok, Err, String, chars, string_bytes}
-use Rattle.std.proofs.lemmas.List.{append_assoc, append-nil, drop_all}
+use Rattle.std.proofs.lemmas.List.{append_assoc}
 use Rattle.tcl_words.specs.Unread.{texts_of}
 use Rattle.command_parts.specs.declared.answers.Fault.{Fault}
 use Rattle.command_parts.specs.Faults.{with_value}
@@ -18,14 +18,6 @@ drop-at (y ∷ xs) (suc at) x within is = drop-at xs at x (omega (arith, within)
 abbrev pub Found : Document → Widget → {Z : Type 0} → ℕ → List (String Z) → ℕ → List ℕ → Type 0
 Found document widget {Z} at words index places =
     places_at document widget at (texts_of words) ≡ with_value (places_at document widget (at + index) (texts_of (drop index words))) (λ rest. Ok (places ++ rest))
-
-pub found-none : {Z : Type 0} (document : Document) (widget : Widget) (at : ℕ) (words : List (String Z)) → Found document widget at words 0 []
-found-none document widget at words =
-    ap (λ n. places_at document widget n (texts_of words)) (let h : at ≡ at + 0 = omega arith in h) ∙ whole (places_at document widget (at + 0) (texts_of words))
-  where
-    whole : (found : Result (List ℕ) Fault) → found ≡ with_value found (λ rest. Ok ([] ++ rest))
-    whole (Err fault) = refl
-    whole (Ok places) = refl
 
 module _ {Z : Type 0} (document : Document) (widget : Widget) (at index : ℕ) (words : List (String Z)) (word : String Z) (bytes places : List ℕ)
     (within : index < length words) (is : word ≡ get_or words index word) (bytes_are : bytes ≡ string_bytes word) (found : Found document widget at words index places) where
@@ -50,8 +42,3 @@ module _ {Z : Type 0} (document : Document) (widget : Widget) (at index : ℕ) (
   pub found-fault : (fault : Fault) → place_at document widget (at + index) (chars bytes) ≡ Err fault → places_at document widget at (texts_of words) ≡ Err fault
   found-fault fault gives =
       next ∙ ap (λ p. with_value (and_place p (places_at document widget (at + (index + 1)) (texts_of (drop (index + 1) words)))) (λ rest. Ok (places ++ rest))) gives
-
-pub found-all : {Z : Type 0} (document : Document) (widget : Widget) (at index : ℕ) (words : List (String Z)) (places : List ℕ) → length words ≤ index → Found document widget at words index places
-    → places_at document widget at (texts_of words) ≡ Ok places
-found-all document widget at index words places all found =
-    found ∙ ap (λ ws. with_value (places_at document widget (at + index) (texts_of ws)) (λ rest. Ok (places ++ rest))) (drop_all index words all) ∙ ap Ok (append-nil places)

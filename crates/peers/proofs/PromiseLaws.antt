@@ -79,14 +79,6 @@ pub does-nothing : (limits : LimitTable) (document : Document) (result defined :
     → Does limits document document result (record { reply = defined; document = document })
 does-nothing limits document result defined gives same = record { reply = gives; document = λ _. refl; refused = same; well_formed = λ is. is; shown = λ some. some; few = λ few. few }
 
--- a value that was found goes on, and a fault refuses the command
-pub gives-found : {A B : Type 0} (defined : Result A Fault) (value : A) (next : A → Result B Fault) (result : Result B Fault) → defined ≡ Ok value → Gives result (next value) → Gives result (with_value defined next)
-gives-found defined value next result is gives = λ other. gives other ∙ ap (λ found. with_value found next) (sym is)
-
-pub gives-refused : {A B : Type 0} (defined : Result A Fault) (fault : Fault) (next : A → Result B Fault) → (fault ≢ Memory → defined ≡ Err fault) → Gives (Err fault) (with_value defined next)
-gives-refused {A} {B} defined fault next is = λ other.
-    ap (λ found. with_value found next) (sym (is (λ memory. other (ap (λ f. refusal B f) memory))))
-
 pub does-found : {A : Type 0} (limits : LimitTable) (old new : Document) (result : Result Answer Fault) (defined : Result A Fault) (value : A) (next : A → Change)
     → defined ≡ Ok value → Does limits old new result (next value) → Does limits old new result (change_with old defined next)
 does-found limits old new result defined value next is does =

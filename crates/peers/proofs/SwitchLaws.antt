@@ -1,15 +1,14 @@
 -- The switches of a command, one word after the other.
-use Rattle.std.proofs.Common.{◌≡◌, ℕ, ◌+◌, ◌<◌, true, false, cond, List, [], ◌∷◌, ◌++◌, length, map, take, refl, sym, ap, ◌∙◌}
+use Rattle.std.proofs.Common.{◌≡◌, ℕ, ◌+◌, ◌<◌, true, false, cond, List, [], ◌∷◌, ◌++◌, length, take, refl, sym, ap, ◌∙◌}
 use Rattle.std.specs.Prelude.{Some, String, ◌||◌, chars, get_or, if◌then◌else◌, reverse, string_bytes}
 use Rattle.std.specs.List.{find}
-use Rattle.std.proofs.lemmas.List.{map-append, reverse-append}
+use Rattle.std.proofs.lemmas.List.{reverse-append}
 use Rattle.command_parts.proofs.SlotLaws.{texts-more}
 use Rattle.index_grammar.specs.declared.indices.Direction.{Direction}
 use Rattle.index_grammar.specs.declared.indices.Direction.TheVariants.{Back, Forward}
-use Rattle.search_dump.specs.declared.counting.Counted.{Counted}
 use Rattle.tcl_words.specs.Unread.{texts_of}
 use Rattle.command_parts.specs.Words.{literal}
-use Rattle.peers.specs.Queries.{counted_as, direction_by, direction_of, is_direction, stands_for, turned}
+use Rattle.peers.specs.Queries.{direction_by, direction_of, is_direction, stands_for, turned}
 
 -- a word is for one direction, for the other, or for none
 turned-is : (words : List (List ℕ)) (word : List ℕ) → turned (direction_of words) word ≡ direction_by (find is_direction (word ∷ reverse words))
@@ -32,9 +31,3 @@ pub direction-step : {Z : Type 0} (words : List (String Z)) (at : ℕ) (word : S
     → direction ≡ direction_of (texts_of (take at words)) → turned direction (chars bytes) ≡ direction_of (texts_of (take (at + 1) words))
 direction-step {Z} words at word bytes direction within is bytes_are old =
     ap (λ d. turned d (chars bytes)) old ∙ direction-more (texts_of (take at words)) (chars bytes) ∙ ap direction_of (sym (texts-more words at word bytes within is bytes_are))
-
-pub counted-step : {Z : Type 0} (words : List (String Z)) (at : ℕ) (word : String Z) (bytes : List ℕ) (options : List Counted) → at < length words → word ≡ get_or words at word → bytes ≡ string_bytes word
-    → options ≡ map counted_as (texts_of (take at words)) → options ++ counted_as (chars bytes) ∷ [] ≡ map counted_as (texts_of (take (at + 1) words))
-counted-step {Z} words at word bytes options within is bytes_are old =
-    ap (λ os. os ++ counted_as (chars bytes) ∷ []) old ∙ sym (map-append counted_as (texts_of (take at words)) (chars bytes ∷ []))
-    ∙ ap (map counted_as) (sym (texts-more words at word bytes within is bytes_are))

@@ -1,20 +1,12 @@
 -- A world with one document, or none.
-use Rattle.std.proofs.Common.{◌≡◌, ◌≢◌, ℕ, ◌<◌, ◌≤◌, Bool, true, false, cond, List, [], ◌∷◌, ◌++◌, length, refl, sym, ap, ap₂, subst, ◌∙◌, arith}
-use Rattle.std.specs.Prelude.{Option, None, Some, Result, Ok, Err, OnErr, OnOk, filter, map, nat_lt, is_some, if◌then◌else◌}
+use Rattle.std.proofs.Common.{◌≡◌, ℕ, ◌<◌, ◌≤◌, Bool, true, false, cond, List, [], ◌∷◌, length, sym, ap, subst, ◌∙◌, arith}
+use Rattle.std.specs.Prelude.{Result, Ok, Err, OnErr, OnOk, filter, nat_lt}
 use Rattle.std.proofs.lemmas.List.{append-nil, length-map}
 use Rattle.std.proofs.lemmas.Bool.Decides.{nat_tests}
 use Rattle.text_model.specs.LimitTable.{AreLimits, LimitTable}
-use Rattle.command_parts.specs.Words.{is_among}
-use Rattle.command_parts.specs.declared.answers.Answer.{Answer}
-use Rattle.command_parts.specs.declared.answers.Answer.TheVariants.{Empty}
-use Rattle.command_parts.specs.declared.answers.Fault.{Fault}
-use Rattle.command_parts.specs.declared.answers.Fault.TheVariants.{Memory}
-use Rattle.documents.specs.Documents.{Document, Widget, widget_at}
-use Rattle.documents.specs.Promise.{Change, Does}
+use Rattle.documents.specs.Documents.{Document, Widget}
 use Rattle.documents.specs.WellFormed.{IsWellFormedDocument, window_names}
 use Rattle.documents.specs.Widgets.{is_kept, without_widgets}
-use Rattle.peers.specs.Command.{command}
-use Rattle.peers.specs.Step.{Outcome, changed, destroy, has_widgets, on_found, on_widget}
 use Rattle.peers.specs.WellFormed.{IsWellFormed}
 use Rattle.peers.specs.World.{World, all_windows}
 
@@ -38,14 +30,6 @@ formed-one limits document bounds some few formed = record {
 }
 
 -- ---- destroy
-
-pub destroyed-some : (limits : LimitTable) (document : Document) (names : List (List ℕ)) → nat_lt 0 (length (without_widgets names document).widgets) ≡ true
-    → (destroy (with_one limits document) names).world ≡ with_one limits (without_widgets names document)
-destroyed-some limits document names some = ap (λ b. record { limits = limits; documents = cond b (without_widgets names document ∷ []) [] }) some
-
-pub destroyed-all : (limits : LimitTable) (document : Document) (names : List (List ℕ)) → nat_lt 0 (length (without_widgets names document).widgets) ≡ false
-    → (destroy (with_one limits document) names).world ≡ record { limits = limits; documents = [] }
-destroyed-all limits document names none = ap (λ b. record { limits = limits; documents = cond b (without_widgets names document ∷ []) [] }) none
 
 fewer : {A : Type 0} (passes : A → Bool) (xs : List A) → length (filter passes xs) ≤ length xs
 fewer passes [] = omega arith

@@ -1,22 +1,15 @@
 -- Commands that take text out: `delete` and `replace`.
-use Rattle.std.specs.Prelude.{ℕ, ◌+◌, ◌-◌, nat_lt, List, length, map, Option, None, Some, if◌then◌else◌}
+use Rattle.std.specs.Prelude.{ℕ, ◌+◌, nat_lt, List, if◌then◌else◌}
 use Rattle.text_model.specs.LimitTable.{LimitTable}
-use Rattle.text_model.specs.declared.places.Place.{Place}
-use Rattle.undo_stack.specs.declared.actions.EditKind.TheVariants as kind
-use Rattle.command_parts.specs.declared.answers.Answer.TheVariants.{Empty}
 use Rattle.command_parts.specs.declared.answers.Fault.TheVariants.{IndexOrder}
 use Rattle.command_parts.specs.Arguments.{first_two_of}
-use Rattle.command_parts.specs.Lists.{Pair, pairs_at, total}
-use Rattle.documents.specs.Edits.{with_bare, with_texts, without_span, without_spans}
+use Rattle.command_parts.specs.Lists.{Pair, pairs_at}
 use Rattle.documents.specs.Indices.{place_at}
-use Rattle.documents.specs.Marks.{with_insert}
-use Rattle.documents.specs.Promise.{Change, answered, change_with, refused, unless_idle}
-use Rattle.documents.specs.Ranges.{spans_shown}
+use Rattle.documents.specs.Promise.{Change, change_with, refused, unless_idle}
 use Rattle.peers.specs.Ranges.{places_at}
-use Rattle.documents.specs.Texts.{insertion_offset, keyed_text, tags_with, within_limits}
-use Rattle.documents.specs.View.{view_end, view_start}
-use Rattle.documents.specs.Documents.{Document, Widget, characters}
-use Rattle.documents.specs.Deletions.{last_bare, deleted_runs, delete_spans, delete_places, with_clipped, replaced, replace_span}
+use Rattle.documents.specs.Texts.{insertion_offset}
+use Rattle.documents.specs.Documents.{Document, Widget}
+use Rattle.documents.specs.Deletions.{delete_places, replace_span}
 
 -- ---- delete
 

@@ -1,14 +1,13 @@
 -- Commands on the history and on whether the text is modified: `edit ..`.
-use Rattle.std.specs.Prelude.{ℕ, Bool, List, Option, None, Some, ok_or, if◌then◌else◌}
+use Rattle.std.specs.Prelude.{ℕ, List, Option, None, Some, ok_or}
 use Rattle.command_table.specs.Numbers.{boolean_of}
-use Rattle.undo_stack.specs.History.{no_history, separated}
-use Rattle.undo_stack.specs.Modified.{is_modified, set_to}
-use Rattle.command_parts.specs.declared.answers.Answer.TheVariants.{Empty, Flag}
+use Rattle.undo_stack.specs.Modified.{is_modified}
+use Rattle.command_parts.specs.declared.answers.Answer.TheVariants.{Flag}
 use Rattle.command_parts.specs.declared.answers.Fault.TheVariants.{BadBoolean}
 use Rattle.command_parts.specs.Arguments.{none_or_one_of}
 use Rattle.documents.specs.Promise.{Change, answered, change_with}
 use Rattle.documents.specs.Documents.{Document}
-use Rattle.documents.specs.History.{edit_separator, edit_reset, modified_set}
+use Rattle.documents.specs.History.{modified_set}
 
 abbrev pub modified_word : Document → ℕ → Option (List ℕ) → Change
 modified_word document at None = answered document (Flag (is_modified document.modified))

@@ -6,8 +6,7 @@ use Rattle.command_parts.specs.declared.answers.Answer.TheVariants.{Text, Flag}
 use Rattle.command_parts.specs.declared.answers.Fault.{Fault}
 use Rattle.command_parts.specs.declared.comparisons.Comparison.{Comparison}
 use Rattle.command_parts.specs.Arguments.{one_of, three_of}
-use Rattle.command_parts.specs.Faults.{at_position, with_value}
-use Rattle.documents.specs.Names.{place_of}
+use Rattle.command_parts.specs.Faults.{with_value}
 use Rattle.documents.specs.View.{shown}
 use Rattle.documents.specs.Documents.{Document, Widget}
 use Rattle.command_parts.specs.Comparisons.{comparison_at, comparison_of, holds}

@@ -1,29 +1,25 @@
 -- Commands on marks.
-use Rattle.std.specs.Prelude.{ℕ, ◌+◌, ◌-◌, min, nat_le, List, [], ◌∷◌, ◌++◌, length, map, filter, find, slice_index_or, Option, None, Some, option_map, Result, Ok, Err, if◌then◌else◌}
+use Rattle.std.specs.Prelude.{ℕ, ◌+◌, List, [], slice_index_or, Option, None, Some, Result, Ok, Err}
 use Rattle.mark_table.specs.declared.order.Origin.{Origin}
 use Rattle.mark_table.specs.declared.order.Origin.TheVariants.{Mark, Place as Offset}
-use Rattle.mark_table.specs.declared.order.Shown.{Shown}
 use Rattle.mark_table.specs.declared.order.WidgetMark.{WidgetMark}
 use Rattle.mark_table.specs.Order.{mark_of, next_mark, previous_mark, rank_of}
 use Rattle.text_model.specs.declared.places.Gravity.{Gravity}
-use Rattle.text_model.specs.declared.places.Gravity.TheVariants.{Right}
 use Rattle.text_model.specs.declared.places.Place.{Place}
 use Rattle.text_model.specs.LimitTable.{LimitTable}
 use Rattle.command_parts.specs.declared.answers.Answer.{Answer}
 use Rattle.command_parts.specs.declared.answers.Answer.TheVariants.{Empty, Text}
 use Rattle.command_parts.specs.declared.answers.Fault.{Fault}
-use Rattle.command_parts.specs.declared.answers.Fault.TheVariants.{BadIndex, NoSuchMark, BadGravity, TooManyMarks}
+use Rattle.command_parts.specs.declared.answers.Fault.TheVariants.{BadIndex, NoSuchMark, BadGravity}
 use Rattle.command_parts.specs.Arguments.{one_of, one_or_two_of, two_of}
 use Rattle.command_parts.specs.Faults.{with_value}
 use Rattle.documents.specs.Indices.{place_at}
 use Rattle.documents.specs.Names.{mark_number, mark_place}
 use Rattle.documents.specs.Promise.{Change, refused, answered, change_with}
 use Rattle.peers.specs.Tags.{listed}
-use Rattle.documents.specs.View.{view_start, view_end, shown}
-use Rattle.command_parts.specs.Words.{is_same, is_own, literal}
-use Rattle.documents.specs.Documents.{Document, Widget, SharedMark}
-use Rattle.command_parts.specs.Marking.{gravity_of, gravity_word, is_left}
-use Rattle.documents.specs.Marks.{mark_names, place_named, with_widget, with_insert, with_current, with_shared, with_mark, mark_offset, set_found, mark_unset, shown_at, shared_from, usable_marks}
+use Rattle.documents.specs.Documents.{Document, Widget}
+use Rattle.command_parts.specs.Marking.{gravity_of, gravity_word}
+use Rattle.documents.specs.Marks.{mark_names, place_named, with_mark, mark_offset, set_found, usable_marks}
 
 -- ---- marks by their names
 

@@ -1,5 +1,5 @@
 -- Widgets that commands make and drop: `text`, `peer` and `destroy`.
-use Rattle.std.specs.Prelude.{ℕ, ◌+◌, nat_lt, nat_le, Bool, false, not, List, [], ◌∷◌, length, filter, map, Result, Ok, Err, if◌then◌else◌}
+use Rattle.std.specs.Prelude.{ℕ, ◌+◌, nat_le, false, not, List, length, filter, Result, if◌then◌else◌}
 use Rattle.text_model.specs.LimitTable.{LimitTable}
 use Rattle.command_parts.specs.declared.answers.Answer.{Answer}
 use Rattle.command_parts.specs.declared.answers.Answer.TheVariants.{Word}

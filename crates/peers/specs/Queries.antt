@@ -1,12 +1,11 @@
 -- Commands that ask what stands in a view: `search`, `count` and `dump`.
-use Rattle.std.specs.Prelude.{ℕ, suc, ◌+◌, min, Bool, true, ◌||◌, List, [], ◌∷◌, length, map, reverse, slice_index_or, Option, None, Some, Result, Ok, if◌then◌else◌}
+use Rattle.std.specs.Prelude.{ℕ, suc, ◌+◌, min, Bool, true, ◌||◌, List, [], ◌∷◌, length, map, reverse, Option, None, Some, Result, Ok, if◌then◌else◌}
 use Rattle.std.specs.List.{find, list_any, starts_with}
 use Rattle.command_table.specs.Words.{is_character}
 use Rattle.index_grammar.specs.declared.indices.Direction.{Direction}
 use Rattle.index_grammar.specs.declared.indices.Direction.TheVariants.{Forward, Back}
-use Rattle.mark_table.specs.declared.order.Shown.{Shown}
 use Rattle.search_dump.specs.Counts.{counted}
-use Rattle.search_dump.specs.Dump.{Marked, Seen, Tagged, dump_elements}
+use Rattle.search_dump.specs.Dump.{dump_elements}
 use Rattle.search_dump.specs.Matches.{search_result}
 use Rattle.search_dump.specs.declared.counting.Counted.{Counted}
 use Rattle.search_dump.specs.declared.counting.Counted.TheVariants.{Characters, Lines}
@@ -19,12 +18,10 @@ use Rattle.command_parts.specs.Arguments.{one_or_two_of, two_of, two_or_three_of
 use Rattle.command_parts.specs.Faults.{with_value}
 use Rattle.command_parts.specs.Words.{is_same, literal}
 use Rattle.documents.specs.Indices.{place_at}
-use Rattle.documents.specs.Marks.{mark_names, usable_marks}
-use Rattle.documents.specs.Names.{key_of}
 use Rattle.peers.specs.Tags.{listed, place_or}
-use Rattle.documents.specs.View.{shown, shown_flags}
+use Rattle.documents.specs.View.{shown}
 use Rattle.documents.specs.Documents.{Document, Widget}
-use Rattle.documents.specs.Queries.{tag_seen, mark_seen, seen}
+use Rattle.documents.specs.Queries.{seen}
 
 -- ---- switches, each the front of its name
 

@@ -1,12 +1,9 @@
 -- The ranges that a command's indices make.
-use Rattle.std.specs.Prelude.{ℕ, suc, List, [], ◌∷◌, length, Result, Ok}
+use Rattle.std.specs.Prelude.{ℕ, suc, List, [], ◌∷◌, Result, Ok}
 use Rattle.command_parts.specs.declared.answers.Fault.{Fault}
 use Rattle.command_parts.specs.Faults.{with_value}
 use Rattle.documents.specs.Indices.{place_at}
-use Rattle.documents.specs.View.{view_start, shown}
 use Rattle.documents.specs.Documents.{Document, Widget}
-use Rattle.command_parts.specs.Ranges.{spans_of}
-use Rattle.documents.specs.Ranges.{spans_shown}
 
 abbrev pub and_place : Result ℕ Fault → Result (List ℕ) Fault → Result (List ℕ) Fault
 and_place place places = with_value place (λ place. with_value places (λ places. Ok (place ∷ places)))

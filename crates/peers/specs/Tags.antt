@@ -1,29 +1,19 @@
 -- Commands on tags.
-use Rattle.std.specs.Prelude.{ℕ, ◌+◌, nat_lt, nat_le, Bool, true, false, not, ◌||◌, List, [], ◌∷◌, ◌++◌, length, map, filter, Option, None, Some, Result, Ok, if◌then◌else◌}
-use Rattle.std.specs.FinSet as set
-use Rattle.text_model.specs.Changes.{flag_at}
+use Rattle.std.specs.Prelude.{ℕ, ◌+◌, nat_lt, nat_le, List, length, Option, None, Some, Result, Ok}
 use Rattle.text_model.specs.LimitTable.{LimitTable}
 use Rattle.tcl_words.specs.ListText.{list_text}
 use Rattle.command_parts.specs.declared.answers.Answer.{Answer}
-use Rattle.command_parts.specs.declared.answers.Answer.TheVariants.{Empty, Text}
+use Rattle.command_parts.specs.declared.answers.Answer.TheVariants.{Text}
 use Rattle.command_parts.specs.declared.answers.Fault.{Fault}
-use Rattle.command_parts.specs.declared.answers.Fault.TheVariants.{NoSuchTag, TooManyTags}
 use Rattle.command_parts.specs.Arguments.{first_of, none_or_one_of, one_of, one_or_two_of, two_or_three_of}
-use Rattle.documents.specs.Edits.{with_tag}
 use Rattle.command_parts.specs.Faults.{with_value}
 use Rattle.documents.specs.Indices.{place_at}
-use Rattle.documents.specs.Keys.{Key}
-use Rattle.command_parts.specs.Lists.{with_name}
-use Rattle.documents.specs.Names.{key_of}
-use Rattle.documents.specs.Promise.{Change, refused, answered, change_with}
-use Rattle.documents.specs.Ranges.{spans_shown}
+use Rattle.documents.specs.Promise.{Change, change_with}
 use Rattle.peers.specs.Ranges.{places_at}
-use Rattle.documents.specs.View.{shown, shown_flags}
-use Rattle.command_parts.specs.Words.{is_same, is_among}
-use Rattle.documents.specs.Documents.{Document, Widget, KeyedCell}
+use Rattle.documents.specs.View.{shown}
+use Rattle.documents.specs.Documents.{Document, Widget}
 use Rattle.command_parts.specs.Listing.{begun, range_words}
-use Rattle.command_parts.specs.Tagging.{stays}
-use Rattle.documents.specs.Tags.{add_spans, remove_spans, key_stays, without_tags, tag_delete, tags_on, flags_of, raised, lowered, known_or, reordered}
+use Rattle.documents.specs.Tags.{add_spans, remove_spans, tags_on, flags_of, raised, lowered, reordered}
 use Rattle.text_index.specs.Ranges.{tag_ranges, next_range, previous_range}
 use Rattle.text_index.specs.declared.ranges.TagRange.{TagRange}
 

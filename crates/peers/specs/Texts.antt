@@ -1,24 +1,20 @@
 -- Commands on texts: `insert` and `get`.
-use Rattle.std.specs.Prelude.{ℕ, suc, ◌+◌, ◌-◌, min, nat_lt, List, [], ◌∷◌, length, map, filter, slice_range, option_map, Result, Ok, if◌then◌else◌}
+use Rattle.std.specs.Prelude.{ℕ, suc, ◌+◌, List, [], ◌∷◌, filter, slice_range, Result, Ok}
 use Rattle.text_model.specs.LimitTable.{LimitTable}
-use Rattle.undo_stack.specs.declared.actions.EditKind.TheVariants as kind
 use Rattle.tcl_words.specs.ListText.{list_text}
 use Rattle.command_parts.specs.declared.answers.Answer.{Answer}
-use Rattle.command_parts.specs.declared.answers.Answer.TheVariants.{Empty, Text}
+use Rattle.command_parts.specs.declared.answers.Answer.TheVariants.{Text}
 use Rattle.command_parts.specs.declared.answers.Fault.{Fault}
-use Rattle.command_parts.specs.declared.answers.Fault.TheVariants.{TooManyTags, TextTooLong}
 use Rattle.command_parts.specs.Arguments.{first_of}
-use Rattle.documents.specs.Edits.{KeyedText, with_texts}
 use Rattle.command_parts.specs.Faults.{with_value}
 use Rattle.documents.specs.Indices.{place_at}
-use Rattle.documents.specs.Keys.{keys_named}
-use Rattle.command_parts.specs.Lists.{Pair, pairs_at, all_names, total, with_names}
-use Rattle.documents.specs.Promise.{Change, refused, answered, change_with, unless_idle}
+use Rattle.command_parts.specs.Lists.{Pair, pairs_at}
+use Rattle.documents.specs.Promise.{Change, change_with, unless_idle}
 use Rattle.peers.specs.Ranges.{places_at}
-use Rattle.documents.specs.View.{view_start, shown}
+use Rattle.documents.specs.View.{shown}
 use Rattle.documents.specs.Documents.{Document, Widget}
 use Rattle.command_parts.specs.Listing.{is_filled}
-use Rattle.documents.specs.Texts.{keyed_text, tags_with, within_limits, insert_at, insertion_offset}
+use Rattle.documents.specs.Texts.{insert_at, insertion_offset}
 
 abbrev pub insert_pairs : LimitTable → Document → Widget → Result (List Pair) Fault → ℕ → Change
 insert_pairs limits document widget pairs place =

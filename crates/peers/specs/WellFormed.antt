@@ -1,5 +1,5 @@
 -- When a world is well formed.
-use Rattle.std.specs.Prelude.{ℕ, ◌<◌, ◌≤◌, List, length}
+use Rattle.std.specs.Prelude.{◌<◌, ◌≤◌, length}
 use Rattle.std.specs.List.{AllByRecursion}
 use Rattle.text_model.specs.LimitTable.{AreLimits}
 use Rattle.documents.specs.WellFormed.{IsWellFormedDocument}

@@ -1,4 +1,4 @@
-ghost use Rattle.std.specs.Prelude.{◌≢◌, chars, option_map, Err, ok_or, ◌<◌, IfOk, IfSome, false};
+ghost use Rattle.std.specs.Prelude.{◌≢◌, chars, option_map, Err, ok_or, ◌<◌};
 ghost use Rattle.tcl_words.specs.Unread.{texts_of};
 ghost use Rattle.command_table.specs.Numbers.{boolean_of};
 ghost use Rattle.command_parts.specs.declared.answers.Fault.TheVariants.{BadBoolean, Memory};

@@ -1,4 +1,4 @@
-ghost use Rattle.std.specs.Prelude.{◌≡◌, ◌+◌, ◌≤◌, length, chars, IfOk, ◌<◌, IfSome, false};
+ghost use Rattle.std.specs.Prelude.{◌≡◌, ◌+◌, ◌≤◌, length, chars, IfOk, ◌<◌};
 ghost use Rattle.tcl_words.specs.Unread.{texts_of};
 ghost use Rattle.documents.specs.Documents.{widget_at};
 ghost use Rattle.documents.specs.View.{shown};

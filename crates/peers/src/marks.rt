@@ -1,4 +1,4 @@
-ghost use Rattle.std.specs.Prelude.{◌≡◌, ◌+◌, ◌≤◌, length, chars, option_map, IfOk, ◌<◌, IfSome, false};
+ghost use Rattle.std.specs.Prelude.{◌≡◌, ◌+◌, ◌≤◌, length, chars, option_map, IfOk, ◌<◌};
 ghost use Rattle.tcl_words.specs.Unread.{texts_of};
 ghost use Rattle.documents.specs.Documents.{widget_at};
 ghost use Rattle.documents.specs.View.{shown};
@@ -6,7 +6,6 @@ ghost use Rattle.command_parts.specs.Faults.{with_value};
 ghost use Rattle.documents.specs.Promise.{Gives, Does, change_with};
 ghost use Rattle.documents.specs.Marks.{place_named};
 ghost use Rattle.peers.specs.Marks.{set_at, set_words, mark_set, gravity_asked, gravity_given, gravity_words, mark_gravity, mark_names_of, mark_answer, origin_at, next_from, next_at, mark_next, previous_from, previous_at, mark_previous};
-ghost use Rattle.command_parts.specs.Marking.{gravity_of};
 ghost use Rattle.mark_table.specs.Order.{rank_of};
 ghost use Rattle.documents.specs.Names.{mark_place};
 ghost use Rattle.peers.specs.Marks.{origin_marked};

@@ -1,4 +1,4 @@
-ghost use Rattle.std.specs.Prelude.{◌≡◌, ◌+◌, ◌≤◌, length, chars, Ok, ◌<◌, false, IfOk, IfSome};
+ghost use Rattle.std.specs.Prelude.{◌≡◌, ◌+◌, ◌≤◌, length, chars, Ok, ◌<◌, false, IfOk};
 ghost use Rattle.tcl_words.specs.Unread.{texts_of};
 ghost use Rattle.command_parts.specs.Settings.{setting_answer};
 ghost use Rattle.documents.specs.Options.{settings_of};

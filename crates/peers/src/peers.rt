@@ -1,13 +1,12 @@
-ghost use Rattle.std.specs.Prelude.{◌≡◌, ◌<◌, ◌+◌, ◌≤◌, false, true, length, chars, map, filter, not, IfOk, IfSome};
-ghost use Rattle.std.specs.List.{All};
+ghost use Rattle.std.specs.Prelude.{◌≡◌, ◌<◌, ◌+◌, ◌≤◌, false, true, length, chars};
 ghost use Rattle.tcl_words.specs.Unread.{texts_of};
 ghost use Rattle.command_parts.specs.Settings.{is_behind};
 ghost use Rattle.documents.specs.Documents.{characters, widget_at};
 ghost use Rattle.documents.specs.Kept.{is_window_name};
-ghost use Rattle.documents.specs.Promise.{Does, Gives, change_with};
+ghost use Rattle.documents.specs.Promise.{Does, Gives};
 ghost use Rattle.documents.specs.WellFormed.{window_names};
 ghost use Rattle.text_model.specs.Lines.{lines};
-ghost use Rattle.peers.specs.Peers.{peer_create, peer_names, peer_settings, peer_with, peer_words};
+ghost use Rattle.peers.specs.Peers.{peer_create, peer_names, peer_with, peer_words};
 ghost use Rattle.documents.specs.Options.{AreLines};
 
 use crate::options::settings_given;

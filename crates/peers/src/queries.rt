@@ -1,4 +1,4 @@
-ghost use Rattle.std.specs.Prelude.{◌≡◌, ◌≢◌, ◌+◌, ◌≤◌, length, map, chars, option_map, Ok, IfOk, IfSome, ◌<◌, false};
+ghost use Rattle.std.specs.Prelude.{◌≡◌, ◌+◌, ◌≤◌, length, map, chars, option_map, Ok, IfOk, IfSome, ◌<◌, false};
 ghost use Rattle.tcl_words.specs.Unread.{texts_of};
 ghost use Rattle.command_parts.specs.Faults.{with_value};
 ghost use Rattle.documents.specs.Promise.{Gives};

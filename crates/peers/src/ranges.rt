@@ -1,4 +1,4 @@
-ghost use Rattle.std.specs.Prelude.{◌≡◌, ◌≢◌, ◌+◌, ◌-◌, ◌≤◌, min, max, length, Ok, Err, IfOk, IfErr, ◌<◌, IfSome, false};
+ghost use Rattle.std.specs.Prelude.{◌≡◌, ◌≢◌, ◌+◌, ◌-◌, ◌≤◌, length, Ok, Err, IfOk, IfErr, ◌<◌};
 ghost use Rattle.std.specs.List.{All};
 ghost use Rattle.tcl_words.specs.Unread.{texts_of};
 ghost use Rattle.command_parts.specs.declared.answers.Fault.TheVariants.{Memory};

@@ -1,8 +1,7 @@
-ghost use Rattle.std.specs.Prelude.{◌≡◌, ◌≢◌, ◌<◌, [], false, true, length, chars, string_bytes, IfErr, ◌+◌, ◌≤◌, option_to_list, IfOk, IfSome};
+ghost use Rattle.std.specs.Prelude.{◌≡◌, ◌≢◌, ◌<◌, [], false, true, length, chars, IfErr, ◌+◌, ◌≤◌, option_to_list};
 ghost use Rattle.tcl_words.specs.Unread.{texts_of};
 ghost use Rattle.command_table.specs.Reading.{reading};
 ghost use Rattle.command_parts.specs.Settings.{is_behind};
-ghost use Rattle.command_parts.specs.Words.{is_among};
 ghost use Rattle.documents.specs.Kept.{is_window_name};
 ghost use Rattle.peers.specs.Step.{create_first, create_named, create, create_shaped, destroy, destroy_shaped, on_widget, step, takes_none};
 ghost use Rattle.peers.specs.Command.{is_frugal_reading};

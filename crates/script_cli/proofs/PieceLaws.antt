@@ -68,10 +68,6 @@ pub answer_line : (text : List ℕ) → chars (codes "") ++ (text ++ chars (code
 unfolding chars
 answer_line text = refl
 
-pub chars-nil : chars [] ≡ []
-unfolding chars
-chars-nil = refl
-
 pub no_word : {Z : Type 0} (words : List (String Z)) (position : ℕ) → length words ≤ position → chars [] ≡ word_at (texts_of words) position
 unfolding chars
 no_word words position past = sym (get_or-eq_default (texts_of words) [] (grind (arith, common_steps)))

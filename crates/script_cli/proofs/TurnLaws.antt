@@ -38,11 +38,6 @@ meets world after old new words refused text shorter takes reply = (words, takes
 pub meets_fault : (old new : Unread) (fault : ScriptFault) → old.fault ≡ None → StopsAt old fault new → HasFault old.finished old.rest fault
 meets_fault old new fault none stops = let is = stops.0 in rw none at is
 
--- no command is at hand
-pub meets_end : (world : World) (old new : Unread) → new ≡ old → HasNoCommand old.finished old.rest
-    → Meets old.finished world old.rest world new.rest met.End []
-meets_end world old new same none = (none, refl, ap (λ (u : Unread). u.rest) same, refl)
-
 -- a command that was met goes on, and is refused or not
 pub meets_command : (met : Met) (finished : Bool) (world after : World) (rest left text : List ℕ) → goes_on met ≡ true
     → MeetsCommand finished world rest after left (is_refusal met) text → Meets finished world rest after left met text

@@ -1,4 +1,4 @@
-ghost use Rattle.std.specs.Prelude.{◌≡◌, ◌+◌, ◌⊎◌, [], true, false, IfOk, IfErr, OnOk, OnErr, IsErrOf, ◌++◌, List, ℕ};
+ghost use Rattle.std.specs.Prelude.{◌≡◌, ◌+◌, ◌⊎◌, true, false, IfOk, IfErr, OnOk, OnErr, IsErrOf, List, ℕ};
 ghost use Rattle.devices.specs.Devices.{HandsOut};
 ghost use Rattle.script_cli.specs.Reading.{Feeds, unread, is_end};
 

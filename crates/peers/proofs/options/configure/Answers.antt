@@ -1,4 +1,4 @@
-use Rattle.std.proofs.Common.{◌≡◌, Ok, Err, sym, ap₂, ◌∙◌}
+use Rattle.std.proofs.Common.{◌≡◌, sym, ap₂, ◌∙◌}
 use Rattle.tcl_words.specs.Unread.{texts_of}
 use Rattle.command_parts.specs.Faults.{with_value}
 use Rattle.command_parts.specs.Settings.{settings_checked, settings_read}

@@ -1,4 +1,4 @@
-use Rattle.std.proofs.Common.{◌≡◌, ◌+◌, Ok, Err, true, false, sym, ap, ap₂, ◌∙◌}
+use Rattle.std.proofs.Common.{◌≡◌, ◌+◌, Err, true, false, sym, ap, ap₂, ◌∙◌}
 use Rattle.std.specs.Prelude.{chars, if◌then◌else◌}
 use Rattle.tcl_words.specs.Unread.{texts_of}
 use Rattle.command_parts.specs.Faults.{with_value}

@@ -1,4 +1,4 @@
-use Rattle.script_cli.proofs.PieceLaws.{chars-nil}
+use Rattle.std.proofs.lemmas.Str.{chars-nil}
 use Rattle.script_cli.proofs.pieces.answer_text.Goals as goal
 
 pub returns-in-Empty : goal.returns-in-Empty

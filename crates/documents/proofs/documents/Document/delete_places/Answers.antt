@@ -5,7 +5,8 @@ use Rattle.command_parts.specs.Settings.{recording_of}
 use Rattle.documents.specs.Documents.{parts_of}
 use Rattle.documents.specs.Kept.{Stands}
 use Rattle.documents.proofs.PartsLaws.{sits}
-use Rattle.documents.proofs.RemovalLaws.{leaves-places, spans-in}
+use Rattle.documents.proofs.RemovalLaws.{leaves-places}
+use Rattle.documents.proofs.SpanLaws.{spans-in}
 use Rattle.documents.proofs.StateLaws.{edited-is, written-back}
 use Rattle.documents.proofs.ViewLaws.{active-is, end-found, shown-length, start-found}
 use Rattle.documents.proofs.documents.Document.delete_places.Goals as goal

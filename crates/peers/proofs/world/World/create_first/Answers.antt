@@ -1,4 +1,4 @@
-use Rattle.std.proofs.Common.{◌≡◌, ◌<◌, length, ap, arith}
+use Rattle.std.proofs.Common.{length, ap, arith}
 use Rattle.documents.specs.Documents.{Document}
 use Rattle.peers.proofs.WorldLaws.{formed-one}
 use Rattle.peers.proofs.world.World.create_first.Goals as goal
