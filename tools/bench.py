@@ -4,7 +4,7 @@
     python3 tools/bench.py --program PATH --out FILE [--sizes 5000,10000,20000] [--repeat 3]
 
 Prints a table and writes it to FILE, so that the next change can be compared with it. Each time is the
-least of several runs of the whole program, from its start to its end. Below stands the greatest resident
+least of several runs of the whole program, from its start to its end; a run of more than five seconds isn't made again. Below stands the greatest resident
 size over scripts of three lengths, of short commands and of edits whose history is bounded. The exit
 status is 1 if a run didn't answer as it has to, if appending 20,000 words takes five seconds or more, or
 if the greatest resident size grows with the script.
@@ -22,6 +22,8 @@ from typing import NamedTuple
 GOAL_COMMANDS = 20_000
 GOAL_SECONDS = 5.0
 TIMEOUT_SECONDS = 300
+# A run that takes longer isn't made again.
+LONG_SECONDS = 5.0
 # By how many kB the resident size may differ among scripts of several lengths.
 SIZE_MARGIN = 256
 
@@ -147,8 +149,9 @@ def spelled_words(before, after, piece):
 
 LINE = "a lazy dog, and\n"
 NEEDLE = "haystack"
-# How many lines a text has that is searched and dumped.
+# How many lines a text has that is searched, and one that is dumped: fewer, since the plain store goes over its text for each line.
 LINES = (5_000, 50_000)
+DUMPED_LINES = (5_000, 10_000)
 
 WIDGETS = 64
 
@@ -180,9 +183,9 @@ def with_lines(commands):
     )
 
 
-def searches(*words):
+def searches(count, *words):
     """Some searches from the text's beginning."""
-    return with_lines(lambda size: [".t search " + " ".join(words) + " 1.0"] * 10)
+    return with_lines(lambda size: [".t search " + " ".join(words) + " 1.0"] * count)
 
 
 def hostile_search(size):
@@ -222,14 +225,15 @@ KINDS = [
     Kind("4,000 marks: next, previous", with_marks(mark_walks)),
     Kind("4,000 marks: index", with_marks(mark_places)),
     Kind("4,000 marks: insert before", with_marks(inserts_before_marks)),
-    Kind("search a rare word", searches(NEEDLE), sizes=LINES),
-    Kind("the same with -nocase", searches("-nocase", NEEDLE.upper()), sizes=LINES),
-    Kind("search -all a common word", searches("-all", "dog"), sizes=LINES),
-    Kind("the same with -nocase", searches("-all", "-nocase", "Dog"), sizes=LINES),
+    Kind("a text of lines alone", with_lines(lambda size: []), sizes=LINES),
+    Kind("10 searches of a rare word", searches(10, NEEDLE), sizes=LINES),
+    Kind("the same with -nocase", searches(10, "-nocase", NEEDLE.upper()), sizes=LINES),
+    Kind("-all of a common word", searches(1, "-all", "dog"), sizes=LINES),
+    Kind("the same with -nocase", searches(1, "-all", "-nocase", "Dog"), sizes=LINES),
     Kind("search a long run, 50 x", hostile_search),
-    Kind("dump all of many lines", with_tagged_lines(lambda size: [".t dump 1.0 end-1c"] * 3), lambda size: 3 * size, LINES),
-    Kind("dump their tags", with_tagged_lines(lambda size: [".t dump -tag 1.0 end"] * 3), sizes=LINES),
-    Kind("dump each tenth line", with_tagged_lines(line_dumps), sizes=LINES),
+    Kind("dump all of many lines", with_tagged_lines(lambda size: [".t dump 1.0 end-1c"]), lambda size: size, DUMPED_LINES),
+    Kind("dump their tags", with_tagged_lines(lambda size: [".t dump -tag 1.0 end"]), sizes=DUMPED_LINES),
+    Kind("dump each tenth line", with_tagged_lines(line_dumps), sizes=DUMPED_LINES),
     Kind("64 widgets: insert", with_peers(peer_inserts)),
     Kind("64 widgets: index", with_peers(peer_queries)),
     Kind("a refused command", refused_commands),
@@ -269,7 +273,7 @@ def count_pieces(path):
 
 
 def time_script(program, commands, repeat, folder, newlines=0):
-    """The least time of several runs of these commands. Each has to answer every command.
+    """The least time of several runs of these commands, or of one that takes long. Each has to answer every command.
 
     There is one line for each command, and one more for each newline inside an answer.
     """
@@ -284,6 +288,8 @@ def time_script(program, commands, repeat, folder, newlines=0):
         if status not in (0, 1) or lines != len(commands) + newlines:
             sys.exit(f"status {status} and {lines} lines for {len(commands)} commands: this isn't timed")
         times.append(seconds)
+        if seconds > LONG_SECONDS:
+            break
     return Timing(len(commands), min(times))
 
 
@@ -298,7 +304,7 @@ def growth(before, now):
 
 
 HEADER = [
-    "Time of the program on generated scripts: the least of several whole runs, its start included.",
+    "Time of the program on generated scripts: the least of several whole runs, or of one that takes over 5 s, its start included.",
     "`growth` is the time over that of the size before: 2 where both the size and the time double.",
     "",
     f"{'script':<28}{'size':>8}{'commands':>10}{'seconds':>10}{'us/command':>12}{'growth':>8}",
