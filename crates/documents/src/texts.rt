@@ -79,8 +79,8 @@ impl<S: TextStore> Document<S> {
         }
     }
 
-    /// Puts texts in the place of the characters between two places, of which the end is the place of the last character, and makes
-    /// the tags of their lists.
+    /// Puts texts in the place of the characters between two places, and makes the tags of their lists. The end of the view counts as
+    /// the place of its last character.
     pub fn replace_between(
         &mut self,
         limits: &Limits,
