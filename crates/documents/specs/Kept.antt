@@ -4,7 +4,7 @@ use Rattle.std.specs.FinMap as finite
 use Rattle.std.specs.FinSet as set
 use Rattle.std.specs.List.{All, AllByRecursion}
 use Rattle.text_model.specs.declared.cells.Cell.{Cell}
-use Rattle.text_model.specs.declared.limits.TheConstants.Limits.{MOST_CHARS, MOST_MARKS, MOST_TAGS, MOST_WIDGETS}
+use Rattle.text_model.specs.LimitTable.{most_chars, most_marks, most_tags, most_widgets}
 use Rattle.text_model.specs.declared.places.Place.{Place}
 use Rattle.text_model.specs.Content.{Content, Marks, Slots, characters}
 use Rattle.text_model.specs.Documents.{IsDocument, MarksStand}
@@ -28,7 +28,7 @@ is_window_name (character ∷ other ∷ others) = character == 46
 pub record AreSeats (seats : List Named) : Type 0 where
   pub names_apart : AreApart (names_of seats)
   pub numbers_apart : AreApart (numbers_of seats)
-  pub below : (at number : ℕ) → slice_get (numbers_of seats) at ≡ Some number → number < MOST_WIDGETS
+  pub below : (at number : ℕ) → slice_get (numbers_of seats) at ≡ Some number → number < most_widgets
 
 -- every slot is that of a seat or of a tag
 abbrev pub AreKnown : List Named → List Tag → Slots → Type 0
@@ -46,15 +46,15 @@ pub record HasOwnMarks (places : Marks) (seat : Named) : Type 0 where
 -- characters have the slots of widgets and tags alone.
 pub record IsKept (widgets : Names) (table : Tags) (content : Content) : Type 0 where
   pub seats : AreSeats widgets.entries
-  pub slots : widgets.limit ≡ MOST_WIDGETS
+  pub slots : widgets.limit ≡ most_widgets
   pub named : AllByRecursion (λ (seat : Named). is_window_name seat.name ≡ true) widgets.entries
   pub text : IsDocument (characters content.cells)
-  pub short : length content.cells ≤ MOST_CHARS
+  pub short : length content.cells ≤ most_chars
   pub marks : MarksStand content
   pub own : AllByRecursion (HasOwnMarks content.marks) widgets.entries
   pub known : All (HasKnownSlots widgets.entries table.tags) content.cells
   pub tags : AreTags table
-  pub roomy : table.limit ≡ MOST_TAGS
+  pub roomy : table.limit ≡ most_tags
 
 -- a mark of the table stands in the store, there with the table's gravity, and it isn't called as a widget's own
 pub record IsMarked (places : Marks) (mark : Mark) : Type 0 where
@@ -64,7 +64,7 @@ pub record IsMarked (places : Marks) (mark : Mark) : Type 0 where
 -- the table of shared marks and the marks of the store are the same
 pub record AreMarked (table : SharedMarks) (places : Marks) : Type 0 where
   pub marks : AreMarks table
-  pub roomy : table.limit ≡ MOST_MARKS
+  pub roomy : table.limit ≡ most_marks
   pub each : AllByRecursion (IsMarked places) table.marks
 
 -- The history is bounded as the option says, and nothing is in it where no action is kept.

@@ -1,7 +1,7 @@
 -- A table of marks as it is kept: a list of names with numbers, and a gravity for each number.
 use Rattle.std.specs.Prelude.{◌≡◌, ℕ, ◌+◌, ◌≤◌, List, map, length, slice_get, unwrap_or}
 use Rattle.name_list.specs.Names.{Named, Names}
-use Rattle.text_model.specs.declared.limits.TheConstants.Limits.{MOST_MARKS}
+use Rattle.text_model.specs.LimitTable.{most_marks}
 use Rattle.text_model.specs.declared.places.Gravity.{Gravity}
 use Rattle.text_model.specs.declared.places.Gravity.TheVariants.{Right}
 use Rattle.mark_table.specs.SharedMarks.{Mark, SharedMarks, first_number}
@@ -16,5 +16,5 @@ abbrev pub marks_kept : Names → List Gravity → SharedMarks
 marks_kept names gravities = record { marks = map (mark gravities) names.entries; limit = names.limit }
 
 pub record AreKept (names : Names) (gravities : List Gravity) : Type 0 where
-  pub few : names.limit ≤ MOST_MARKS
+  pub few : names.limit ≤ most_marks
   pub each : length gravities ≡ names.limit

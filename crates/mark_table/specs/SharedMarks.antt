@@ -2,7 +2,7 @@
 use Rattle.std.specs.Prelude.{◌≡◌, ℕ, ◌+◌, ◌*◌, ◌<◌, ◌≤◌, Bool, Option, Some, List, map, length, find, bytes_eq, slice_get, Contains, if◌then◌else◌}
 use Rattle.std.specs.Option.{option_map}
 use Rattle.name_list.specs.Names.{AreApart}
-use Rattle.text_model.specs.declared.limits.TheConstants.Limits.{MOST_MARKS, MOST_WIDGETS}
+use Rattle.text_model.specs.LimitTable.{most_marks, most_widgets}
 use Rattle.text_model.specs.declared.places.Gravity.{Gravity}
 
 pub record Mark : Type 0 where
@@ -17,7 +17,7 @@ pub record SharedMarks : Type 0 where
 
 -- the numbers below are for the two marks of each widget's own
 abbrev pub first_number : ℕ
-first_number = 2 * MOST_WIDGETS
+first_number = 2 * most_widgets
 
 abbrev pub is_named : List ℕ → Mark → Bool
 is_named name mark = bytes_eq name mark.name
@@ -53,4 +53,4 @@ pub record AreMarks (marks : SharedMarks) : Type 0 where
   pub numbers_apart : AreApart (numbers_of marks.marks)
   pub numbers : (at number : ℕ) → slice_get (numbers_of marks.marks) at ≡ Some number → (first_number ≤ number) × (number < first_number + marks.limit)
   pub room : length marks.marks ≤ marks.limit
-  pub limit : marks.limit ≤ MOST_MARKS
+  pub limit : marks.limit ≤ most_marks

@@ -3,7 +3,7 @@ use Rattle.std.specs.Prelude.{ℕ, ◌-◌, Bool, true, false, List, drop, Resul
 use Rattle.text_model.specs.LimitTable.{LimitTable}
 use Rattle.command_table.specs.Reading.{reading}
 use Rattle.command_table.specs.declared.commands.Command.{Command}
-use Rattle.command_table.specs.declared.commands.Command.TheVariants.{Insert, Delete, Replace, Get, Index, Compare, MarkGravity, MarkNames, MarkNext, MarkPrevious, MarkSet, MarkUnset, TagAdd, TagRemove, TagDelete, TagNames, TagRanges, TagNextRange, TagPreviousRange, TagRaise, TagLower, Configure, Cget, EditUndo, EditRedo, EditModified, EditReset, EditSeparator, Search, Count, Dump, PeerCreate, PeerNames}
+use Rattle.command_table.specs.declared.commands.Command.TheVariants.{Insert, Delete, Replace, Get, Index, Compare, MarkGravity, MarkNames, MarkNext, MarkPrevious, MarkSet, MarkUnset, TagAdd, TagRemove, TagDelete, TagNames, TagRanges, TagNextRange, TagPreviousRange, TagRaise, TagLower, Configure, Cget, EditUndo, EditRedo, EditModified, EditReset, EditSeparator, Search, Count, Dump, PeerCreate, PeerNames, Text, Destroy}
 use Rattle.command_table.specs.declared.shapes.Shape.{Shape}
 use Rattle.command_table.specs.declared.shapes.ShapeFault.{ShapeFault}
 use Rattle.command_parts.specs.declared.answers.Fault.TheVariants.{BadOption}
@@ -67,7 +67,8 @@ done Count limits windows document widget switches at arguments = asked document
 done Dump limits windows document widget switches at arguments = asked document (dump document widget switches at arguments)
 done PeerCreate limits windows document widget switches at arguments = peer_create limits windows document widget at arguments
 done PeerNames limits windows document widget switches at arguments = asked document (peer_names document widget)
-done command limits windows document widget switches at arguments = refused document (BadOption 1)
+done Text limits windows document widget switches at arguments = refused document (BadOption 1)
+done Destroy limits windows document widget switches at arguments = refused document (BadOption 1)
 
 -- commands that take no memory
 abbrev pub is_frugal : Command → Bool

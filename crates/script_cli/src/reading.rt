@@ -27,6 +27,7 @@ pub fn feed_read<R: ByteSource>(
     ensures lost { OnErr result ((piece : List ℕ) × HandsOut (R.log source.old) (R.log source.new) piece false) }
     ensures flag { OnOk result (R.is_failed source.new ≡ false) }
     ensures read { IsErrOf result RunFault.Read → R.is_failed source.new ≡ true }
+    ensures memory { IsErrOf result RunFault.Memory → R.is_failed source.new ≡ false }
     ensures counted { (R.log source.new).reads ≡ (R.log source.old).reads + 1 }
     ensures faults { IfErr result (λ fault. (fault ≡ RunFault.Read) ⊎ (fault ≡ RunFault.Memory)) }
 {

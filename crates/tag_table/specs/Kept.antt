@@ -1,7 +1,7 @@
 -- A table of tags as it is kept: a list of names with numbers. `sel` has the number 0.
 use Rattle.std.specs.Prelude.{◌≡◌, ℕ, ◌+◌, ◌-◌, ◌<◌, ◌≤◌, ◌==◌, nat_lt, Option, None, Some, Result, Ok, Err, List, map, length, position, slice_get, if◌then◌else◌}
 use Rattle.name_list.specs.Names.{Named, Names}
-use Rattle.text_model.specs.declared.limits.TheConstants.Limits.{MOST_TAGS}
+use Rattle.text_model.specs.LimitTable.{most_tags}
 use Rattle.tag_table.specs.declared.faults.NoSuchTag.{NoSuchTag}
 use Rattle.tag_table.specs.declared.faults.NoSuchTag.TheVariants.{Neighbour}
 use Rattle.tag_table.specs.Tags.{Tag, Tags, first_slot, is_named, sel}
@@ -17,7 +17,7 @@ tags_kept names = record { tags = map tag names.entries; limit = names.limit - 1
 
 pub record AreKept (names : Names) : Type 0 where
   pub some : 0 < names.limit
-  pub few : names.limit ≤ MOST_TAGS + 1
+  pub few : names.limit ≤ most_tags + 1
   pub selection : (at : ℕ) × (slice_get names.entries at ≡ Some (record { name = sel; number = 0 }))
 
 abbrev pub above_place : ℕ → Option ℕ → Result ℕ NoSuchTag

@@ -2,7 +2,7 @@
 use Rattle.std.specs.Prelude.{◌≡◌, ◌≢◌, ℕ, ◌+◌, ◌<◌, ◌≤◌, Bool, Option, Some, List, map, length, find, bytes_eq, codes, slice_get, Contains}
 use Rattle.std.specs.Option.{option_map}
 use Rattle.name_list.specs.Names.{AreApart}
-use Rattle.text_model.specs.declared.limits.TheConstants.Limits.{MOST_TAGS, MOST_WIDGETS}
+use Rattle.text_model.specs.LimitTable.{most_tags, most_widgets}
 
 pub record Tag : Type 0 where
   pub name : List ℕ
@@ -18,7 +18,7 @@ sel = codes "sel"
 
 -- the slots below are for the `sel` of each widget, and 0 stands for them here
 abbrev pub first_slot : ℕ
-first_slot = MOST_WIDGETS
+first_slot = most_widgets
 
 abbrev pub is_named : List ℕ → Tag → Bool
 is_named name tag = bytes_eq name tag.name
@@ -49,4 +49,4 @@ pub record AreTags (tags : Tags) : Type 0 where
   pub selection : slot_of sel tags.tags ≡ Some 0
   pub others : (at slot : ℕ) → slice_get (slots_of tags.tags) at ≡ Some slot → slot ≢ 0 → (first_slot ≤ slot) × (slot < first_slot + tags.limit)
   pub room : length tags.tags ≤ tags.limit + 1
-  pub limit : tags.limit ≤ MOST_TAGS
+  pub limit : tags.limit ≤ most_tags

@@ -5,6 +5,7 @@ use Rattle.std.proofs.lemmas.List.{drop_more, drop_all}
 use Rattle.std.proofs.lemmas.Str.{chars-nil, encodes-append, length-le-encodes}
 use lib.Utf8.{encode}
 use Rattle.tcl_words.specs.Characters.{begins_with}
+use Rattle.tcl_words.specs.ListGrowth.{pushed, Goes}
 use Rattle.tcl_words.specs.ListText.{is_white, is_special, has_special, needs_quotes, less, balances, white_letter, backslashed, with_backslashes, element_text, list_text, space_behind}
 
 -- the character that a loop is at
@@ -195,15 +196,14 @@ space_after : (bytes : List ℕ) (test : Bool) → (length bytes == 0) ≡ test 
 space_after bytes test h = ap (λ b. cond b [] (32 ∷ [])) h
 
 -- the bytes of one element more
-pub pushed : (xs : List (List ℕ)) (old new body cs : List ℕ) → new ≡ (old ++ space_behind old) ++ body → body ≡ encode_utf8_all (element_text cs) → old ≡ encode_utf8_all (list_text xs)
-    → new ≡ encode_utf8_all (list_text (xs ++ cs ∷ []))
+pub goes_on : (old new cs : List ℕ) → new ≡ pushed old cs → Goes old new (cs ∷ [])
 unfolding encode
-pushed [] old new body cs e f g =
-    e ∙ ap (λ l. (l ++ space_behind l) ++ body) g ∙ f
-pushed (x ∷ xs) old new body cs e f g =
+goes_on old new cs e [] g = e ∙ ap (λ l. pushed l cs) g
+goes_on old new cs e (x ∷ xs) g =
     let some : (length old == 0) ≡ false = some_bytes (list_text (x ∷ xs)) old (sym g) (list_some x xs) in
+    let body = encode_utf8_all (element_text cs) in
     e ∙ ap (λ l. (old ++ l) ++ body) (space_after old false some)
-    ∙ append_assoc old (32 ∷ []) body ∙ ap (λ l. old ++ 32 ∷ l) f ∙ ap (λ l. l ++ encode_utf8_all (32 ∷ element_text cs)) g
+    ∙ append_assoc old (32 ∷ []) body ∙ ap (λ l. l ++ encode_utf8_all (32 ∷ element_text cs)) g
     ∙ sym (encodes-append (list_text (x ∷ xs)) (32 ∷ element_text cs))
     ∙ ap encode_utf8_all (sym (list_more x xs cs))
 
@@ -230,22 +230,25 @@ braced_parts : (front body : List ℕ) → ((front ++ 123 ∷ []) ++ body) ++ 12
 braced_parts front body =
     ap (λ l. l ++ 125 ∷ []) (append_assoc front (123 ∷ []) body) ∙ append_assoc front (123 ∷ body) (125 ∷ [])
 
-pub push_bare : (xs : List (List ℕ)) (old new element cs : List ℕ) → encode_utf8_all cs ≡ element → needs_quotes cs ≡ false → new ≡ (((old ++ space_behind old) ++ []) ++ element) ++ []
-    → old ≡ encode_utf8_all (list_text xs) → new ≡ encode_utf8_all (list_text (xs ++ cs ∷ []))
-push_bare xs old new element cs u h e g =
-    pushed xs old new element cs (e ∙ plain_parts (old ++ space_behind old) element)
-    (sym u ∙ ap encode_utf8_all (form_bare (needs_quotes cs) (balances cs 0) (123 ∷ (cs ++ 125 ∷ [])) (with_backslashes cs) cs h)) g
+pub push_bare : (old new element cs : List ℕ) → encode_utf8_all cs ≡ element → needs_quotes cs ≡ false → new ≡ (((old ++ space_behind old) ++ []) ++ element) ++ []
+    → new ≡ pushed old cs
+push_bare old new element cs u h e =
+    e ∙ plain_parts (old ++ space_behind old) element
+    ∙ ap (λ l. (old ++ space_behind old) ++ l)
+    (sym u ∙ ap encode_utf8_all (form_bare (needs_quotes cs) (balances cs 0) (123 ∷ (cs ++ 125 ∷ [])) (with_backslashes cs) cs h))
 
-pub push_braced : (xs : List (List ℕ)) (old new element cs : List ℕ) → encode_utf8_all cs ≡ element → needs_quotes cs ≡ true → balances cs 0 ≡ true
-    → new ≡ (((old ++ space_behind old) ++ 123 ∷ []) ++ element) ++ 125 ∷ [] → old ≡ encode_utf8_all (list_text xs) → new ≡ encode_utf8_all (list_text (xs ++ cs ∷ []))
+pub push_braced : (old new element cs : List ℕ) → encode_utf8_all cs ≡ element → needs_quotes cs ≡ true → balances cs 0 ≡ true
+    → new ≡ (((old ++ space_behind old) ++ 123 ∷ []) ++ element) ++ 125 ∷ [] → new ≡ pushed old cs
 unfolding encode
-push_braced xs old new element cs u h k e g =
-    pushed xs old new (123 ∷ (element ++ 125 ∷ [])) cs (e ∙ braced_parts (old ++ space_behind old) element)
+push_braced old new element cs u h k e =
+    e ∙ braced_parts (old ++ space_behind old) element
+    ∙ ap (λ l. (old ++ space_behind old) ++ l)
     (ap (λ l. 123 ∷ (l ++ 125 ∷ [])) (sym u) ∙ ap (λ l. 123 ∷ l) (sym (encodes-append cs (125 ∷ [])))
-    ∙ ap encode_utf8_all (form_braced (needs_quotes cs) (balances cs 0) (123 ∷ (cs ++ 125 ∷ [])) (with_backslashes cs) cs h k)) g
+    ∙ ap encode_utf8_all (form_braced (needs_quotes cs) (balances cs 0) (123 ∷ (cs ++ 125 ∷ [])) (with_backslashes cs) cs h k))
 
-pub push_escaped : (xs : List (List ℕ)) (old new text cs : List ℕ) → text ≡ encode_utf8_all (with_backslashes cs) → needs_quotes cs ≡ true → balances cs 0 ≡ false
-    → new ≡ (((old ++ space_behind old) ++ []) ++ text) ++ [] → old ≡ encode_utf8_all (list_text xs) → new ≡ encode_utf8_all (list_text (xs ++ cs ∷ []))
-push_escaped xs old new text cs u h k e g =
-    pushed xs old new text cs (e ∙ plain_parts (old ++ space_behind old) text)
-    (u ∙ ap encode_utf8_all (form_escaped (needs_quotes cs) (balances cs 0) (123 ∷ (cs ++ 125 ∷ [])) (with_backslashes cs) cs h k)) g
+pub push_escaped : (old new text cs : List ℕ) → text ≡ encode_utf8_all (with_backslashes cs) → needs_quotes cs ≡ true → balances cs 0 ≡ false
+    → new ≡ (((old ++ space_behind old) ++ []) ++ text) ++ [] → new ≡ pushed old cs
+push_escaped old new text cs u h k e =
+    e ∙ plain_parts (old ++ space_behind old) text
+    ∙ ap (λ l. (old ++ space_behind old) ++ l)
+    (u ∙ ap encode_utf8_all (form_escaped (needs_quotes cs) (balances cs 0) (123 ∷ (cs ++ 125 ∷ [])) (with_backslashes cs) cs h k))

@@ -2,7 +2,7 @@
 
 ghost use Rattle.std.specs.Prelude.{◌≡◌, ◌||◌, ◌++◌, ◌∷◌, [], List, ℕ, IfOk, OnOk, OnErr, chars, string_bytes, encode_utf8_all};
 ghost use Rattle.tcl_words.specs.Characters.{begins_with};
-ghost use Rattle.tcl_words.specs.ListGrowth.{Goes};
+ghost use Rattle.tcl_words.specs.ListGrowth.{Goes, pushed};
 ghost use Rattle.tcl_words.specs.ListText.{is_white, is_special, has_special, needs_quotes, balances, white_letter, with_backslashes, space_behind};
 
 use crate::list_steps::is_white;
@@ -133,9 +133,10 @@ fn push_parts(
     Ok(())
 }
 
-/// Appends an element to the text of a list: as it is, in braces, or with backslashes. After want of memory the text is
-/// as before.
+/// Appends an element to a text, the text of a list among others, behind a space where something stands there: as it
+/// is, in braces, or with backslashes. After want of memory the text is as before.
 pub fn push_element(list: &mut String, element: &str) -> Result<(), AllocError>
+    ensures text { OnOk result (string_bytes list.new ≡ pushed (string_bytes list.old) (chars element.now)) }
     ensures list { OnOk result (Goes (string_bytes list.old) (string_bytes list.new) (chars element.now ∷ [])) }
     ensures err { OnErr result (string_bytes list.new ≡ string_bytes list.old) }
 {

@@ -1,6 +1,21 @@
 -- The limits of a program: numbers above which it refuses to grow.
 use Rattle.std.specs.Prelude.{ℕ, ◌<◌, ◌≤◌}
-use Rattle.text_model.specs.declared.limits.TheConstants.Limits.{MOST_CHARS, MOST_TAGS, MOST_MARKS, MOST_WIDGETS}
+
+-- the greatest number of characters of a text, its last newline included
+abbrev pub most_chars : ℕ
+most_chars = 16777216
+
+-- the greatest number of tags besides `sel`
+abbrev pub most_tags : ℕ
+most_tags = 192
+
+-- the greatest number of marks that widgets share
+abbrev pub most_marks : ℕ
+most_marks = 4096
+
+-- the greatest number of widgets
+abbrev pub most_widgets : ℕ
+most_widgets = 64
 
 pub record LimitTable : Type 0 where
   pub chars : ℕ
@@ -12,7 +27,7 @@ pub record LimitTable : Type 0 where
 -- one character at least, the last newline, and no more than the greatest of each number
 pub record AreLimits (limits : LimitTable) : Type 0 where
   pub some : 0 < limits.chars
-  pub chars : limits.chars ≤ MOST_CHARS
-  pub tags : limits.tags ≤ MOST_TAGS
-  pub marks : limits.marks ≤ MOST_MARKS
-  pub widgets : limits.widgets ≤ MOST_WIDGETS
+  pub chars : limits.chars ≤ most_chars
+  pub tags : limits.tags ≤ most_tags
+  pub marks : limits.marks ≤ most_marks
+  pub widgets : limits.widgets ≤ most_widgets

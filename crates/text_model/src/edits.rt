@@ -54,6 +54,20 @@ impl StepList {
         }
     }
 
+    /// The steps of a list, which takes no memory.
+    pub fn from_vec(steps: Vec<Step>) -> StepList
+        ensures { result ≡ steps.items }
+    {
+        StepList { steps }
+    }
+
+    /// Gives the steps back, which takes no memory.
+    pub fn into_vec(self) -> Vec<Step>
+        ensures { result.items ≡ self }
+    {
+        self.steps
+    }
+
     /// Makes room for so many steps more.
     pub fn reserve(&mut self, steps: usize) -> Result<(), AllocError>
         ensures { self.new ≡ self.old }

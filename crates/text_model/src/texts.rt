@@ -23,6 +23,13 @@ impl Text {
         Text { text }
     }
 
+    /// Gives the string back, which takes no memory.
+    pub fn into_string(self) -> String
+        ensures { chars (string_bytes result) ≡ self }
+    {
+        self.text
+    }
+
     pub fn as_str(&self) -> &str
         ensures characters { chars result.now ≡ self.now }
         ensures bytes { result.now ≡ encode_utf8_all self.now }

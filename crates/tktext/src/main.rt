@@ -2,6 +2,7 @@
 #![tactic(auto)]
 
 ghost use Rattle.std.specs.Prelude.{◌≡◌};
+ghost use Rattle.text_model.specs.LimitTable.{most_chars, most_tags, most_marks, most_widgets};
 
 use script_cli::{Watched, outcome, run};
 use std::process::ExitCode;
@@ -12,7 +13,7 @@ const MOST_READS: u32 = 1_073_741_824;
 
 /// The program's limits, each number the greatest.
 fn limits() -> Limits
-    ensures { result ≡ record { chars = Limits.MOST_CHARS; tags = Limits.MOST_TAGS; marks = Limits.MOST_MARKS; widgets = Limits.MOST_WIDGETS; reads = 1073741824 } }
+    ensures { result ≡ record { chars = most_chars; tags = most_tags; marks = most_marks; widgets = most_widgets; reads = 1073741824 } }
 {
     Limits::new(
         Limits::MOST_CHARS,
