@@ -29,9 +29,9 @@ use crate::tags::place_or;
 use command_parts::{Answer, Fault, is_word, one_or_two, two, two_or_three};
 use command_table::abbreviates;
 use documents::Document;
-use index_grammar::Direction;
 use search_dump::{Counted, Listed, SearchSwitches, Wanted};
 use std::alloc::{AllocError, Global};
+use text_index::Direction;
 use text_model::TextStore;
 
 /// Whether one of some words stands for a switch.
