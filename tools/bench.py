@@ -19,13 +19,13 @@ import threading
 import time
 from typing import NamedTuple
 
+from harness import SIZE_MARGIN, measure_size
+
 GOAL_COMMANDS = 20_000
 GOAL_SECONDS = 5.0
 TIMEOUT_SECONDS = 300
 # A run that takes longer isn't made again.
 LONG_SECONDS = 5.0
-# By how many kB the resident size may differ among scripts of several lengths.
-SIZE_MARGIN = 256
 
 
 class Kind(NamedTuple):
@@ -346,32 +346,6 @@ def measure(program, sizes, repeat, folder):
         f"(goal: under {GOAL_SECONDS:.0f} s, {'met' if is_met else 'MISSED'})",
     )
     return lines, is_met
-
-
-def resident_size(pid):
-    """The greatest resident size of a process so far, in kB."""
-    with open(f"/proc/{pid}/status", encoding="ascii") as file:
-        for line in file:
-            if line.startswith("VmHWM:"):
-                return int(line.split()[1])
-    sys.exit("no greatest resident size is told here")
-
-
-def measure_size(program, first, command, length):
-    """The greatest resident size, in kB, over a script of a first command and then a short one, so many bytes long.
-
-    It is looked at when all but what a pipe holds was read, since it is gone with the process.
-    """
-    script = first + command * (length // len(command))
-    with subprocess.Popen([program], stdin=subprocess.PIPE, stdout=subprocess.DEVNULL) as process:
-        process.stdin.write(script)
-        process.stdin.flush()
-        size = resident_size(process.pid)
-        process.stdin.close()
-        status = process.wait(timeout=TIMEOUT_SECONDS)
-    if status != 0:
-        sys.exit(f"status {status} for a script of {length} bytes: this isn't measured")
-    return size
 
 
 # What a script is made of whose size is measured: its name, its first command, the one that follows, and its lengths in bytes.

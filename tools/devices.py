@@ -5,8 +5,8 @@
 
 A standard input that can't be read, a standard output that is full, closed, or read by nobody, a script
 that comes a byte at a time, and a console that sends a line once the one before it is answered.  Each
-worked script that comes in pieces prints what it prints in one piece, and never wants memory.  The last
-line is `N passed, M failed`.
+worked script that comes in pieces prints what it prints in one piece, and never wants memory.  A script of
+megabytes takes no more memory than a short one.  The last line is `N passed, M failed`.
 """
 
 import argparse
@@ -17,7 +17,7 @@ import sys
 
 import model
 import worked
-from harness import TIMEOUT_SECONDS, Tally
+from harness import SIZE_MARGIN, TIMEOUT_SECONDS, Tally, measure_size
 
 SCRIPT = b"text .t\n.t insert 1.0 ab\n.t get 1.0 end\n"
 ANSWERS = b".t\n\nab\n\n"
@@ -140,6 +140,12 @@ def check_worked_scripts(program, tally):
         )
 
 
+def check_size(program, tally):
+    """No command that was given is kept: the greatest resident size is that of a script an eighth as long."""
+    short, long = (measure_size(program, b"text .t\n", b".t index end\n", length) for length in (500_000, 4_000_000))
+    tally.check(long - short <= SIZE_MARGIN, f"a long script takes {long} kB and a short one {short} kB")
+
+
 def main():
     parser = argparse.ArgumentParser(description="runs the program on devices that fail")
     parser.add_argument("--program", required=True)
@@ -157,6 +163,7 @@ def main():
         given = run(program)
         tally.check(given == wanted, f"{name}: wanted {wanted!r}, given {given!r}")
     check_worked_scripts(program, tally)
+    check_size(program, tally)
     return tally.close()
 
 

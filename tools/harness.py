@@ -1,9 +1,14 @@
-"""What the tools share: running the program once, and counting what passed and what failed."""
+"""What the tools share: running the program once, the memory that it takes, and counting what passed and what failed."""
 
 import subprocess
+import sys
 from typing import NamedTuple
 
 TIMEOUT_SECONDS = 10
+# A script of megabytes may take this long.
+LONG_TIMEOUT_SECONDS = 300
+# By how many kB the resident size may differ among scripts of several lengths.
+SIZE_MARGIN = 256
 
 
 class Result(NamedTuple):
@@ -22,6 +27,32 @@ def run_program(program, script, environment=None, timeout=TIMEOUT_SECONDS):
         return Result(expired.stdout or b"", f"no end after {timeout} s", expired.stderr or b"")
     status = done.returncode if done.returncode >= 0 else f"signal {-done.returncode}"
     return Result(done.stdout, status, done.stderr)
+
+
+def resident_size(pid):
+    """The greatest resident size of a process so far, in kB."""
+    with open(f"/proc/{pid}/status", encoding="ascii") as file:
+        for line in file:
+            if line.startswith("VmHWM:"):
+                return int(line.split()[1])
+    sys.exit("no greatest resident size is told here")
+
+
+def measure_size(program, first, command, length):
+    """The greatest resident size, in kB, over a script of a first command and then a short one, so many bytes long.
+
+    It is looked at when all but what a pipe holds was read, since it is gone with the process.
+    """
+    script = first + command * (length // len(command))
+    with subprocess.Popen([program], stdin=subprocess.PIPE, stdout=subprocess.DEVNULL) as process:
+        process.stdin.write(script)
+        process.stdin.flush()
+        size = resident_size(process.pid)
+        process.stdin.close()
+        status = process.wait(timeout=LONG_TIMEOUT_SECONDS)
+    if status != 0:
+        sys.exit(f"status {status} for a script of {length} bytes: this isn't measured")
+    return size
 
 
 class Tally:
