@@ -1,8 +1,32 @@
 use crate::row::{Row, Taken};
 use crate::running::check_row;
+use crate::splitting::{check_list, check_words};
 use std::path::Path;
 use std::rt::Files;
 use std::{fs, io};
+
+/// What a file has rows of, by the end of its name.
+#[derive(Clone, Copy)]
+enum Kind {
+    /// Scripts and what they print (`.rows`).
+    Scripts,
+    /// Scripts and the words of their commands (`.words`).
+    Words,
+    /// Lists and their elements (`.lists`).
+    Lists,
+}
+
+fn kind_of(name: &str) -> Option<Kind> {
+    if name.ends_with(".rows") {
+        Some(Kind::Scripts)
+    } else if name.ends_with(".words") {
+        Some(Kind::Words)
+    } else if name.ends_with(".lists") {
+        Some(Kind::Lists)
+    } else {
+        None
+    }
+}
 
 /// How many rows went as wanted, and how many lines of files and rows did not.
 #[derive(Clone, Copy)]
@@ -11,7 +35,7 @@ pub struct Tally {
     pub failures: u32,
 }
 
-/// Runs the rows of each file of a folder that has a name in `.rows`.
+/// Runs the rows of each file of a folder that has rows.
 pub fn check_folder<R: Files + Print + AllocGlobal + Clone + Drop>(
     rt: &R,
     folder: &str,
@@ -19,8 +43,8 @@ pub fn check_folder<R: Files + Print + AllocGlobal + Clone + Drop>(
 ) -> io::Result<()> {
     for entry in fs::read_dir(rt, folder)? {
         let entry = entry?;
-        if entry.file_name().ends_with(".rows") {
-            check_file(rt, entry.path(), tally)?;
+        if let Some(kind) = kind_of(entry.file_name()) {
+            check_file(rt, kind, entry.path(), tally)?;
         }
     }
     Ok(())
@@ -29,13 +53,14 @@ pub fn check_folder<R: Files + Print + AllocGlobal + Clone + Drop>(
 /// Runs the rows of a file.
 fn check_file<R: Files + Print + AllocGlobal>(
     rt: &R,
+    kind: Kind,
     path: Path<'_>,
     tally: &mut Tally,
 ) -> io::Result<()> {
     let text = fs::read_to_string(rt, path)?;
     let mut row = Row::new(rt.alloc());
     for line in text.lines() {
-        check_line(rt, &mut row, line, tally)?;
+        check_line(rt, kind, &mut row, line, tally)?;
     }
     if !row.name.is_empty() {
         let name = row.name.as_str();
@@ -48,6 +73,7 @@ fn check_file<R: Files + Print + AllocGlobal>(
 /// Takes a line of a file, and runs the row that it ends.
 fn check_line<R: Print + AllocGlobal>(
     rt: &R,
+    kind: Kind,
     row: &mut Row,
     line: &str,
     tally: &mut Tally,
@@ -55,7 +81,7 @@ fn check_line<R: Print + AllocGlobal>(
     match row.take_line(line)? {
         Taken::Part => {}
         Taken::Whole => {
-            count(tally, check_row(rt, row)?);
+            count(tally, check(rt, kind, row)?);
             *row = Row::new(rt.alloc());
         }
         Taken::Unknown => {
@@ -64,6 +90,15 @@ fn check_line<R: Print + AllocGlobal>(
         }
     }
     Ok(())
+}
+
+/// Whether a row goes as wanted.
+fn check<R: Print + AllocGlobal>(rt: &R, kind: Kind, row: &Row) -> io::Result<bool> {
+    match kind {
+        Kind::Scripts => check_row(rt, row),
+        Kind::Words => check_words(rt, row),
+        Kind::Lists => check_list(rt, row),
+    }
 }
 
 /// Counts what went as wanted or didn't.

@@ -7,6 +7,7 @@ mod pieces;
 mod row;
 mod running;
 mod spelling;
+mod splitting;
 
 use crate::faults::print_faults;
 use crate::files::{Tally, check_folder};

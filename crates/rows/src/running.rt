@@ -69,7 +69,7 @@ fn check_run<R: Print + AllocGlobal, S: TextStore>(
 }
 
 /// Whether an output and a status are those of a row; where they aren't, prints what was wanted and what came.
-fn compare<R: Print>(rt: &R, row: &Row, output: &[u8], status: u8) -> io::Result<bool> {
+pub fn compare<R: Print>(rt: &R, row: &Row, output: &[u8], status: u8) -> io::Result<bool> {
     if output == row.output.as_slice() && status == row.status {
         return Ok(true);
     }
