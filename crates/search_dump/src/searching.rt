@@ -3,7 +3,7 @@ ghost use Rattle.tcl_words.specs.ListGrowth.{Goes};
 ghost use Rattle.tcl_words.specs.ListText.{list_text};
 ghost use Rattle.text_index.specs.Views.{shown, IsView};
 ghost use Rattle.search_dump.specs.Matches.{compared, search_result};
-ghost use Rattle.search_dump.specs.Stretches.{first_stretch, left_behind, left_round, next_of, second_stretch, IsBehind};
+ghost use Rattle.search_dump.specs.Stretches.{first_stretch, left_behind, left_round, left_to_list, next_of, second_stretch, IsBehind};
 ghost use Rattle.search_dump.specs.Searched.{searched, nearest_in, listed_in, listed_behind, listed_whole, HasMatchIn};
 ghost use Rattle.search_dump.specs.Sight.{text_in, ShowsLines};
 
@@ -74,6 +74,22 @@ impl SearchSwitches {
         match self.direction {
             Direction::Forward => stretch.up_to(place),
             Direction::Back => stretch.from(place + len),
+        }
+    }
+
+    /// What is left to list of the stretch round the end, if anything is, where the first match listed before may be one of so
+    /// many characters at a place.
+    fn left_to_list(self, whole: Stretch, listed: Option<usize>, len: usize) -> Option<Stretch>
+        requires { IfSome listed (λ place. place + len < 2 ^ 64) }
+        ensures { result ≡ left_to_list self.wanted self.direction whole listed len }
+    {
+        let Some(place) = listed else {
+            return Some(whole);
+        };
+        match self.wanted {
+            Wanted::First => None,
+            Wanted::Apart => Some(self.left_round(whole, place, len)),
+            Wanted::All => Some(whole),
         }
     }
 
@@ -172,17 +188,9 @@ fn list_round<S: TextStore>(
 {
     let _end = view.e;
     let whole = search.second_stretch(view.len(), from);
-    let place = match listed {
-        Some(place) => place,
-        None => return list_stretch(list, view, pattern, search, whole),
-    };
-    match search.wanted {
-        Wanted::First => Ok(()),
-        Wanted::Apart => {
-            let rest = search.left_round(whole, place, pattern.len);
-            list_stretch(list, view, pattern, search, rest)
-        }
-        Wanted::All => list_stretch(list, view, pattern, search, whole),
+    match search.left_to_list(whole, listed, pattern.len) {
+        Some(rest) => list_stretch(list, view, pattern, search, rest),
+        None => Ok(()),
     }
 }
 
