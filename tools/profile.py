@@ -31,7 +31,7 @@ def profile(folder):
     files = sorted((file.stat().st_mtime_ns, file.name) for file in folder.glob("**/*.oantt"))
     seconds = collections.defaultdict(collections.Counter)
     for (before, _), (time, name) in zip(files, files[1:]):
-        function, kind = function_and_kind(name.removesuffix(".oantt"))
+        function, kind = function_and_kind(name.removesuffix(".oantt").removesuffix(".decls"))
         seconds[function][kind] += (time - before) / 1e9
     return seconds
 

@@ -4,6 +4,7 @@ pub mod CountRows
 pub mod DumpLaws
 pub mod DumpRows
 pub mod EndLaws
+pub mod FirstLaws
 pub mod LineStops
 pub mod ListedLaws
 pub mod MarkLaws
