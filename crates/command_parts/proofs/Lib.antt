@@ -1,3 +1,4 @@
+pub mod ExcessLaws
 pub mod LeftLaws
 pub mod ListingLaws
 pub mod MadeLaws

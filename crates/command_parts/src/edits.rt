@@ -12,7 +12,7 @@ ghost use Rattle.edit_ops.specs.States.{log_of, state_of};
 ghost use Rattle.edit_ops.specs.Tagging.{SpanFits, tagged, cleared};
 ghost use Rattle.command_parts.specs.declared.answers.Fault.TheVariants.{Memory, TextTooLong};
 ghost use Rattle.command_parts.specs.Marking.{taken};
-ghost use Rattle.command_parts.specs.Edits.{first_content, length_replaced, with_own_marks, without_widgets};
+ghost use Rattle.command_parts.specs.Edits.{first_content, length_replaced, with_own_marks, without_widgets, AreUnchanged};
 
 use crate::answers::Fault;
 use edit_ops::{
@@ -144,7 +144,7 @@ pub fn put_texts<S: TextStore>(
     ensures ok { OnOk result (state_of (S.content store.new) anchors.new (log_of history.new)
         ≡ inserted_texts recording EditKind.Insert at pieces.now (state_of (S.content store.old) anchors.old (log_of history.old))) }
     ensures fits { OnOk result (length (S.content store.old).cells + total pieces.now ≤ limits.now.chars) }
-    ensures err { OnErr result ((S.content store.new ≡ S.content store.old) × (log_of history.new ≡ log_of history.old) × (anchors.new ≡ anchors.old)) }
+    ensures err { OnErr result (AreUnchanged S.content store.old store.new history.old history.new anchors.old anchors.new) }
     ensures fault { IfErr result (λ fault. fault ≢ Memory →
         (fault ≡ TextTooLong) × (limits.now.chars < length (S.content store.old).cells + total pieces.now)) }
 {
@@ -177,7 +177,7 @@ pub fn delete_spans<S: TextStore>(
     requires spans { All (λ span. span.to ≤ end) spans.now }
     ensures ok { OnOk result (state_of (S.content store.new) anchors.new (log_of history.new)
         ≡ deleted recording start end spans.now (state_of (S.content store.old) anchors.old (log_of history.old))) }
-    ensures err { OnErr result ((S.content store.new ≡ S.content store.old) × (log_of history.new ≡ log_of history.old) × (anchors.new ≡ anchors.old)) }
+    ensures err { OnErr result (AreUnchanged S.content store.old store.new history.old history.new anchors.old anchors.new) }
     ensures fault { IfErr result (λ fault. fault ≡ Memory) }
 {
     match plan_delete(alloc, store, history, anchors, start, end, spans, recording) {
@@ -211,7 +211,7 @@ pub fn replace_texts<S: TextStore>(
     ensures ok { OnOk result (state_of (S.content store.new) anchors.new (log_of history.new)
         ≡ replaced recording mark.0 last from to pieces.now (state_of (S.content store.old) anchors.old (log_of history.old))) }
     ensures fits { OnOk result (length_replaced (length (S.content store.old).cells) last from to + total pieces.now ≤ limits.now.chars) }
-    ensures err { OnErr result ((S.content store.new ≡ S.content store.old) × (log_of history.new ≡ log_of history.old) × (anchors.new ≡ anchors.old)) }
+    ensures err { OnErr result (AreUnchanged S.content store.old store.new history.old history.new anchors.old anchors.new) }
     ensures fault { IfErr result (λ fault. fault ≢ Memory →
         (fault ≡ TextTooLong) × (limits.now.chars < length_replaced (length (S.content store.old).cells) last from to + total pieces.now)) }
 {

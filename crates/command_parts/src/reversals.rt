@@ -9,6 +9,7 @@ ghost use Rattle.edit_ops.specs.Anchors.{AnchorsStand};
 ghost use Rattle.edit_ops.specs.Reversals.{undone, redone};
 ghost use Rattle.edit_ops.specs.States.{log_of, state_of};
 ghost use Rattle.command_parts.specs.declared.answers.Fault.TheVariants.{Memory};
+ghost use Rattle.command_parts.specs.Edits.{AreUnchanged};
 
 use crate::answers::Fault;
 use edit_ops::{Anchors, commit, plan_redo, plan_undo};
@@ -40,7 +41,7 @@ pub fn undo_group<S: TextStore>(
     ensures scalars { IfSome (next_undo history.old.history) (All (λ action. All IsScalar action.text)) }
     ensures ok { OnOk result (state_of (S.content store.new) anchors.new (log_of history.new)
         ≡ undone mark.0 (state_of (S.content store.old) anchors.old (log_of history.old))) }
-    ensures err { OnErr result ((S.content store.new ≡ S.content store.old) × (log_of history.new ≡ log_of history.old) × (anchors.new ≡ anchors.old)) }
+    ensures err { OnErr result (AreUnchanged S.content store.old store.new history.old history.new anchors.old anchors.new) }
     ensures fault { IfErr result (λ fault. fault ≡ Memory) }
 {
     // Where one of the limits is read, all are known to be in their bounds.
@@ -72,7 +73,7 @@ pub fn redo_group<S: TextStore>(
     ensures scalars { IfSome (next_redo history.old.history) (All (λ action. All IsScalar action.text)) }
     ensures ok { OnOk result (state_of (S.content store.new) anchors.new (log_of history.new)
         ≡ redone mark.0 (state_of (S.content store.old) anchors.old (log_of history.old))) }
-    ensures err { OnErr result ((S.content store.new ≡ S.content store.old) × (log_of history.new ≡ log_of history.old) × (anchors.new ≡ anchors.old)) }
+    ensures err { OnErr result (AreUnchanged S.content store.old store.new history.old history.new anchors.old anchors.new) }
     ensures fault { IfErr result (λ fault. fault ≡ Memory) }
 {
     // Where one of the limits is read, all are known to be in their bounds.

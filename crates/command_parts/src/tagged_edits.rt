@@ -11,7 +11,7 @@ ghost use Rattle.tag_table.specs.Tags.{AreTags, names_of};
 ghost use Rattle.text_model.specs.LimitTable.{AreLimits};
 ghost use Rattle.text_model.specs.declared.limits.TheConstants.Limits.{MOST_TAGS, MOST_WIDGETS};
 ghost use Rattle.command_parts.specs.declared.answers.Fault.TheVariants.{Memory, TooManyTags};
-ghost use Rattle.command_parts.specs.Edits.{excess, length_replaced};
+ghost use Rattle.command_parts.specs.Edits.{excess, length_replaced, AreUnchanged};
 ghost use Rattle.command_parts.specs.Lists.{with_name, with_names, all_names, total};
 ghost use Rattle.command_parts.specs.Tagging.{IsFront, piece_of};
 
@@ -94,7 +94,7 @@ pub fn put_pairs<S: TextStore>(
         ≡ inserted_texts recording EditKind.Insert at (map (piece_of tags.new.tags widget.0) pairs.items) (state_of (S.content store.old) anchors.old (log_of history.old))) }
     ensures room { OnOk result (excess limits.now (length (with_names (names_of tags.old.tags) (all_names pairs.items)))
         (length (S.content store.old).cells + total pairs.items) ≡ None) }
-    ensures err { OnErr result ((S.content store.new ≡ S.content store.old) × (log_of history.new ≡ log_of history.old) × (anchors.new ≡ anchors.old)) }
+    ensures err { OnErr result (AreUnchanged S.content store.old store.new history.old history.new anchors.old anchors.new) }
     ensures fault { IfErr result (λ fault. fault ≢ Memory → excess limits.now (length (with_names (names_of tags.old.tags) (all_names pairs.items)))
         (length (S.content store.old).cells + total pairs.items) ≡ Some fault) }
 {
@@ -138,7 +138,7 @@ pub fn replace_pairs<S: TextStore>(
         ≡ replaced recording mark.0 last from to (map (piece_of tags.new.tags widget.0) pairs.items) (state_of (S.content store.old) anchors.old (log_of history.old))) }
     ensures room { OnOk result (excess limits.now (length (with_names (names_of tags.old.tags) (all_names pairs.items)))
         (length_replaced (length (S.content store.old).cells) last from to + total pairs.items) ≡ None) }
-    ensures err { OnErr result ((S.content store.new ≡ S.content store.old) × (log_of history.new ≡ log_of history.old) × (anchors.new ≡ anchors.old)) }
+    ensures err { OnErr result (AreUnchanged S.content store.old store.new history.old history.new anchors.old anchors.new) }
     ensures fault { IfErr result (λ fault. fault ≢ Memory → excess limits.now (length (with_names (names_of tags.old.tags) (all_names pairs.items)))
         (length_replaced (length (S.content store.old).cells) last from to + total pairs.items) ≡ Some fault) }
 {

@@ -1,14 +1,16 @@
 -- What is taken out: where lines begin around it, where anchors stand, and what stands on both sides.
-use Rattle.std.proofs.Common.{◌≡◌, ℕ, ◌+◌, ◌-◌, ◌≤◌, ◌==◌, ◌&&◌, true, false, List, [], ◌∷◌, ◌++◌, Option, Some, None, map, length, get_or, sym, ap, ap₂, ◌∙◌, arith, ne_eqb, subst}
+use Rattle.std.proofs.Common.{◌≡◌, ℕ, ◌+◌, ◌-◌, ◌≤◌, ◌==◌, ◌&&◌, Bool, true, false, List, [], ◌∷◌, ◌++◌, Option, Some, None, map, length, get_or, take, drop, refl, sym, ap, ap₂, ◌∙◌, arith, ne_eqb, subst}
 use Rattle.std.specs.Prelude.{IfSome, option_map, unwrap_or, not, nat_le, slice_range, if◌then◌else◌}
 use Rattle.std.specs.List.{All}
+use Rattle.std.proofs.lemmas.Bool.{eq-eqb}
 use Rattle.std.proofs.lemmas.Bool.Decides.{nat_tests}
+use Rattle.std.proofs.lemmas.List.{take-append-drop}
 use Rattle.std.proofs.lemmas.List.Elements.{All-map}
 use Rattle.text_model.specs.declared.edits.Step.TheVariants.{Remove}
 use Rattle.text_model.specs.Content.{Content, characters}
 use Rattle.text_model.specs.Lines.{line_of, line_start}
 use Rattle.text_model.specs.Splices.{removed}
-use Rattle.text_model.specs.Steps.{after_removal}
+use Rattle.text_model.specs.Steps.{after, after_removal}
 use Rattle.text_model.proofs.LineLaws.{line_start-le}
 use Rattle.text_model.proofs.SpliceLaws.{length-removed}
 use Rattle.undo_stack.specs.declared.actions.EditKind.{EditKind}
@@ -93,3 +95,25 @@ stand-out draft new anchors text cells line next from to len begun made stand co
     subst (λ (d : Draft). All (AnchorsStand (len - (to - from))) d.anchors) (sym made)
     (subst (λ (d : Draft). All (AnchorsStand (len - (to - from))) (map (anchors_drawn line next from to) d.anchors)) (sym begun)
     (stand-drawn line next from to len anchors stand before ordered within bound))
+
+-- ---- no cells are taken out
+
+if-same : {A : Type 0} (b : Bool) (x y : A) → b ≡ true → x ≡ (if b then x else y)
+if-same true x y is = refl
+if-same false x y is = absurd (cc)
+
+pub none-stand : (draft : Draft) (anchors : List Anchors) (from to len : ℕ) → draft ≡ record { steps = []; anchors = anchors; actions = [] } → from ≡ to
+    → All (AnchorsStand len) anchors → All (AnchorsStand (len - (to - from))) draft.anchors
+none-stand draft anchors from to len is same stand =
+    let still : len ≡ len - (to - from) = omega arith in
+    subst (λ (d : Draft). All (AnchorsStand (len - (to - from))) d.anchors) (sym is) (subst (λ n. All (AnchorsStand n) anchors) still stand)
+
+pub none-cells : (draft : Draft) (content : Content) (anchors : List Anchors) (from to : ℕ) → draft ≡ record { steps = []; anchors = anchors; actions = [] } → from ≡ to
+    → (after draft.steps content).cells ≡ removed from to content.cells
+none-cells draft content anchors from to is same =
+    ap (λ (d : Draft). (after d.steps content).cells) is ∙ sym (take-append-drop from content.cells) ∙ ap (λ n. take from content.cells ++ drop n content.cells) same
+
+pub none-out : (draft : Draft) (content : Content) (anchors : List Anchors) (from to : ℕ) → draft ≡ record { steps = []; anchors = anchors; actions = [] } → from ≡ to
+    → (recording : Recording) (kind : EditKind) (log : Log) → drafted recording kind draft (state_of content anchors log) ≡ removed_span recording kind from to (state_of content anchors log)
+none-out draft content anchors from to is same recording kind log =
+    ap (λ (d : Draft). drafted recording kind d (state_of content anchors log)) is ∙ if-same (from == to) (state_of content anchors log) _ (eq-eqb from to same)

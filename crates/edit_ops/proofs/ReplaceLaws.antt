@@ -109,3 +109,6 @@ pub replaced-is : (recording : Recording) (taken draft new : Draft) (state : Sta
     → drafted recording Replace new state ≡ replaced_span recording mark.0 from to pieces state
 replaced-is recording taken draft new state mark from to pieces found put out clip is =
     is ∙ ap₂ (λ (s : State) o. record s { content = with_mark mark.0 o s.content }) (put ∙ ap (inserted_texts recording Replace from pieces) out) clip
+
+pub no-longer : (most len : ℕ) → len ≤ most → most < len → ⊥
+no-longer most len short long = omega arith

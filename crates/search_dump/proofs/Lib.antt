@@ -3,6 +3,8 @@ pub mod ChangeLaws
 pub mod CountRows
 pub mod DumpLaws
 pub mod DumpRows
+pub mod EndLaws
+pub mod FirstLaws
 pub mod LineStops
 pub mod ListedLaws
 pub mod MarkLaws
@@ -13,6 +15,7 @@ pub mod OrderLaws
 pub mod PeriodLaws
 pub mod PlaceLaws
 pub mod RepeatLaws
+pub mod RoundLaws
 pub mod SeenLaws
 pub mod StopLaws
 pub mod StretchLaws

@@ -3,5 +3,7 @@ pub mod Counts
 pub mod Dump
 pub mod MarksAhead
 pub mod Matches
+pub mod Searched
+pub mod Sight
 pub mod Stops
 pub mod Stretches

@@ -100,6 +100,13 @@ left_round All direction stretch place len = stretch
 left_round Apart Forward stretch place len = record stretch { end = min stretch.end place }
 left_round Apart Back stretch place len = record stretch { low = max stretch.low (place + len) }
 
+-- That where it is listed behind the first match listed before, if there is one; none where nothing more is.
+abbrev pub left_to_list : Wanted → Direction → Stretch → Option ℕ → ℕ → Option Stretch
+left_to_list wanted direction stretch None len = Some stretch
+left_to_list First direction stretch (Some place) len = None
+left_to_list Apart direction stretch (Some place) len = Some (left_round Apart direction stretch place len)
+left_to_list All direction stretch (Some place) len = Some stretch
+
 -- ---- what is listed
 
 -- what is listed of some matches behind the first that is listed

@@ -3,6 +3,7 @@ ghost use Rattle.tcl_words.specs.ListText.{list_text};
 ghost use Rattle.text_index.specs.Views.{shown, IsView};
 ghost use Rattle.search_dump.specs.Counts.{counted, difference, distance, number_at};
 ghost use Rattle.tcl_words.specs.ListGrowth.{Goes};
+ghost use Rattle.search_dump.specs.Sight.{text_in, ShowsLines};
 
 use itoa::Buffer;
 use std::alloc::{AllocError, Global};
@@ -19,9 +20,9 @@ pub enum Counted {
 
 /// How many characters or newlines stand before a place of the view.
 fn number_at<S: TextStore>(view: &View<'_, S>, counted: Counted, place: usize) -> usize
-    requires view { IsView (S.content view.now.store.now) view.now.s view.now.e }
+    requires view { ShowsLines S.content view.now }
     requires within { view.now.s + place ≤ view.now.e }
-    ensures { result ≡ number_at counted (shown (S.content view.now.store.now) view.now.s view.now.e) place }
+    ensures { result ≡ number_at counted (text_in S.content view.now) place }
 {
     match counted {
         Counted::Characters => place,
@@ -74,11 +75,11 @@ fn push_count<S: TextStore>(
     from: usize,
     to: usize,
 ) -> Result<(), AllocError>
-    requires view { IsView (S.content view.now.store.now) view.now.s view.now.e }
+    requires view { ShowsLines S.content view.now }
     requires from { view.now.s + from ≤ view.now.e }
     requires to { view.now.s + to ≤ view.now.e }
     ensures { OnOk result (Goes (string_bytes list.old) (string_bytes list.new)
-        (distance (shown (S.content view.now.store.now) view.now.s view.now.e) from to option ∷ [])) }
+        (distance (text_in S.content view.now) from to option ∷ [])) }
 {
     let first = number_at(view, option, from);
     let second = number_at(view, option, to);
@@ -93,11 +94,11 @@ fn push_counts<S: TextStore>(
     from: usize,
     to: usize,
 ) -> Result<(), AllocError>
-    requires view { IsView (S.content view.now.store.now) view.now.s view.now.e }
+    requires view { ShowsLines S.content view.now }
     requires from { view.now.s + from ≤ view.now.e }
     requires to { view.now.s + to ≤ view.now.e }
     ensures { OnOk result (Goes (string_bytes list.old) (string_bytes list.new)
-        (map (distance (shown (S.content view.now.store.now) view.now.s view.now.e) from to) options.now)) }
+        (map (distance (text_in S.content view.now) from to) options.now)) }
 {
     let mut word = String::new(*list.allocator());
     for option in options {
@@ -114,11 +115,11 @@ fn list_counts<S: TextStore>(
     from: usize,
     to: usize,
 ) -> Result<String, AllocError>
-    requires view { IsView (S.content view.now.store.now) view.now.s view.now.e }
+    requires view { ShowsLines S.content view.now }
     requires from { view.now.s + from ≤ view.now.e }
     requires to { view.now.s + to ≤ view.now.e }
     ensures { IfOk result (λ answer. string_bytes answer ≡ encode_utf8_all (list_text
-        (map (distance (shown (S.content view.now.store.now) view.now.s view.now.e) from to) options.now))) }
+        (map (distance (text_in S.content view.now) from to) options.now))) }
 {
     let mut list = String::new(alloc);
     push_counts(&mut list, view, options, from, to)?;

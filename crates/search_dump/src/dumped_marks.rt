@@ -5,8 +5,9 @@ ghost use Rattle.std.specs.Option.{option_map};
 ghost use Rattle.mark_table.specs.Order.{next_shown, rank_of};
 ghost use Rattle.mark_table.specs.SharedMarks.{names_of};
 ghost use Rattle.search_dump.specs.Dump.{name_of_rank};
-ghost use Rattle.search_dump.specs.MarksAhead.{own_place_in, place_in, shared_place_in, shown_of, usable_by, Has, IsMarkBehind, IsMarkFrom};
-ghost use Rattle.text_index.specs.Views.{IsView};
+ghost use Rattle.search_dump.specs.MarksAhead.{own_place_in, place_in, shared_place_in, shown_of, Has, IsMarkBehind};
+ghost use Rattle.search_dump.specs.Sight.{marks_in, IsFirstMark, ShowsLines};
+
 
 use mark_table::{MarkView, Origin, WidgetMark};
 use text_index::{Names, View};
@@ -34,10 +35,10 @@ impl Marked {
 
     /// The mark behind it in the order of the marks that the widget can use.
     pub fn next<S: TextStore>(self, view: &View<'_, S>, names: &Names<'_>) -> Option<Marked>
-        requires view { IsView (S.content view.now.store.now) view.now.s view.now.e }
+        requires view { ShowsLines S.content view.now }
         requires widget { names.now.widget.0 < MOST_WIDGETS }
-        requires usable { Has (usable_by (S.content view.now.store.now) view.now.s view.now.e names.now.marks.now.marks names.now.widget.0) (shown_of view.now.s self) }
-        ensures { IsMarkBehind (usable_by (S.content view.now.store.now) view.now.s view.now.e names.now.marks.now.marks names.now.widget.0) (shown_of view.now.s self) (option_map (shown_of view.now.s) result) }
+        requires usable { Has (marks_in S.content view.now names.now) (shown_of view.now.s self) }
+        ensures { IsMarkBehind (marks_in S.content view.now names.now) (shown_of view.now.s self) (option_map (shown_of view.now.s) result) }
     {
         next_mark(view, names, Origin::Mark(self.mark))
     }
@@ -45,7 +46,7 @@ impl Marked {
 
 /// Where a mark of the widget's own is shown: on the last character at most.
 fn own_place<S: TextStore>(view: &View<'_, S>, number: MarkNo) -> Option<usize>
-    requires view { IsView (S.content view.now.store.now) view.now.s view.now.e }
+    requires view { ShowsLines S.content view.now }
     ensures { result ≡ own_place_in view.now.s view.now.e (finite.get (S.content view.now.store.now).marks number.0) }
 {
     let offset = view.store.mark_place(number)?.offset;
@@ -69,7 +70,7 @@ fn shared_place<S: TextStore>(view: &View<'_, S>, number: MarkNo) -> Option<usiz
 
 /// Where a mark stands that the widget can use.
 fn place_of<S: TextStore>(view: &View<'_, S>, names: &Names<'_>, mark: WidgetMark) -> Option<usize>
-    requires view { IsView (S.content view.now.store.now) view.now.s view.now.e }
+    requires view { ShowsLines S.content view.now }
     requires widget { names.now.widget.0 < MOST_WIDGETS }
     ensures { result ≡ place_in (S.content view.now.store.now) view.now.s view.now.e names.now.marks.now.marks names.now.widget.0 mark }
 {
@@ -87,9 +88,9 @@ fn place_of<S: TextStore>(view: &View<'_, S>, names: &Names<'_>, mark: WidgetMar
 
 /// The next of the marks that the widget can use, from a mark or a place on.
 fn next_mark<S: TextStore>(view: &View<'_, S>, names: &Names<'_>, origin: Origin) -> Option<Marked>
-    requires view { IsView (S.content view.now.store.now) view.now.s view.now.e }
+    requires view { ShowsLines S.content view.now }
     requires widget { names.now.widget.0 < MOST_WIDGETS }
-    ensures { option_map (shown_of view.now.s) result ≡ next_shown origin (usable_by (S.content view.now.store.now) view.now.s view.now.e names.now.marks.now.marks names.now.widget.0) }
+    ensures { option_map (shown_of view.now.s) result ≡ next_shown origin (marks_in S.content view.now names.now) }
 {
     let mark_view = MarkView {
         widget: names.widget,
@@ -107,10 +108,10 @@ pub fn mark_from<S: TextStore>(
     names: &Names<'_>,
     place: usize,
 ) -> Option<Marked>
-    requires view { IsView (S.content view.now.store.now) view.now.s view.now.e }
+    requires view { ShowsLines S.content view.now }
     requires widget { names.now.widget.0 < MOST_WIDGETS }
     requires within { view.now.s + place ≤ view.now.e }
-    ensures { IsMarkFrom (usable_by (S.content view.now.store.now) view.now.s view.now.e names.now.marks.now.marks names.now.widget.0) (view.now.s + place) (option_map (shown_of view.now.s) result) }
+    ensures { IsFirstMark S.content view.now names.now (view.now.s + place) result }
 {
     let _end = view.e;
     next_mark(view, names, Origin::Place(view.s + place))

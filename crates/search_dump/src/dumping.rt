@@ -1,7 +1,6 @@
 ghost use Rattle.std.specs.Prelude.{◌≡◌, ◌≤◌, ◌<◌, ◌+◌, ◌++◌, ◌&&◌, ◌==◌, [], chars, length, not, slice_index_or, string_bytes, encode_utf8_all, codes, slice_range, IfOk, IfSome, IsTrue, OnOk};
 ghost use Rattle.std.specs.FinSet as set;
 ghost use Rattle.std.specs.List.{flat_map};
-ghost use Rattle.std.specs.Option.{option_map};
 ghost use Rattle.mark_table.specs.SharedMarks as marks;
 ghost use Rattle.tag_table.specs.Tags.{names_of};
 ghost use Rattle.text_model.specs.TagBits.{slot_count};
@@ -9,13 +8,14 @@ ghost use Rattle.tcl_words.specs.ListText.{list_text};
 ghost use Rattle.text_model.specs.declared.limits.TheConstants.Limits.{MOST_WIDGETS};
 ghost use Rattle.text_model.specs.Lines.{line_of, line_start, lines};
 ghost use Rattle.text_index.specs.Values.{column_of};
-ghost use Rattle.text_index.specs.Views.{shown, IsView};
+ghost use Rattle.text_index.specs.Views.{IsView};
 ghost use Rattle.search_dump.specs.Ahead.{AreAhead};
 ghost use Rattle.search_dump.specs.Stops.{has_tag_at, stop_at_mark, stops_at_marks, stops_at_tags, tags_at, IsNextStop, IsStop};
 ghost use Rattle.search_dump.specs.Matches.{places};
-ghost use Rattle.search_dump.specs.MarksAhead.{mark_element, shown_of, usable_by, Has, IsMarkFrom};
+ghost use Rattle.search_dump.specs.MarksAhead.{mark_element, shown_of, Has};
 ghost use Rattle.search_dump.specs.Dump.{dump_elements, elements_at, element, if_listed, mark_elements, only_in, seen_by, tagoff_elements, tagon_elements};
 ghost use Rattle.tcl_words.specs.ListGrowth.{Goes};
+ghost use Rattle.search_dump.specs.Sight.{seen_in, marks_in, text_in, IsFirstMark, ShowsLines};
 
 use crate::dumped_marks::{Marked, mark_from};
 use crate::listing::push_place;
@@ -57,10 +57,10 @@ fn push_dumped<S: TextStore>(
     value: &str,
     place: usize,
 ) -> Result<(), AllocError>
-    requires view { IsView (S.content view.now.store.now) view.now.s view.now.e }
+    requires view { ShowsLines S.content view.now }
     requires within { view.now.s + place ≤ view.now.e }
     ensures { OnOk result (Goes (string_bytes list.old) (string_bytes list.new)
-        (element (chars key.now) (shown (S.content view.now.store.now) view.now.s view.now.e) place (chars value.now))) }
+        (element (chars key.now) (text_in S.content view.now) place (chars value.now))) }
 {
     let mut word = String::new(*list.allocator());
     push_element(list, key)?;
@@ -78,11 +78,11 @@ fn push_tag<S: TextStore>(
     at: usize,
     is_listed: bool,
 ) -> Result<(), AllocError>
-    requires view { IsView (S.content view.now.store.now) view.now.s view.now.e }
+    requires view { ShowsLines S.content view.now }
     requires within { view.now.s + place ≤ view.now.e }
     requires tag { at < length names.now.tags.now.tags }
     ensures { OnOk result (Goes (string_bytes list.old) (string_bytes list.new) (if_listed is_listed
-        (element (chars key.now) (shown (S.content view.now.store.now) view.now.s view.now.e) place (slice_index_or (names_of names.now.tags.now.tags) at [])))) }
+        (element (chars key.now) (text_in S.content view.now) place (slice_index_or (names_of names.now.tags.now.tags) at [])))) }
 {
     if !is_listed {
         return Ok(());
@@ -108,11 +108,11 @@ fn push_tags<S: TextStore>(
     on: TagSet,
     off: TagSet,
 ) -> Result<(), AllocError>
-    requires view { IsView (S.content view.now.store.now) view.now.s view.now.e }
+    requires view { ShowsLines S.content view.now }
     requires widget { names.now.widget.0 < MOST_WIDGETS }
     requires within { view.now.s + place ≤ view.now.e }
     ensures { OnOk result (Goes (string_bytes list.old) (string_bytes list.new) (flat_map
-        (only_in on off names.now.widget.0 (chars key.now) (shown (S.content view.now.store.now) view.now.s view.now.e) place) names.now.tags.now.tags)) }
+        (only_in on off names.now.widget.0 (chars key.now) (text_in S.content view.now) place) names.now.tags.now.tags)) }
 {
     for at in 0..names.tags.len() {
         let slot = own_slot(names, at);
@@ -128,12 +128,12 @@ fn push_tags_at<S: TextStore>(
     names: &Names<'_>,
     place: usize,
 ) -> Result<(), AllocError>
-    requires view { IsView (S.content view.now.store.now) view.now.s view.now.e }
+    requires view { ShowsLines S.content view.now }
     requires widget { names.now.widget.0 < MOST_WIDGETS }
     requires within { view.now.s + place ≤ view.now.e }
     ensures { OnOk result (Goes (string_bytes list.old) (string_bytes list.new)
-        (tagoff_elements (seen_by (S.content view.now.store.now) view.now.s view.now.e names.now.tags.now.tags names.now.marks.now.marks names.now.widget.0) place
-        ++ tagon_elements (seen_by (S.content view.now.store.now) view.now.s view.now.e names.now.tags.now.tags names.now.marks.now.marks names.now.widget.0) place)) }
+        (tagoff_elements (seen_in S.content view.now names.now) place
+        ++ tagon_elements (seen_in S.content view.now names.now) place)) }
 {
     let before = tags_before(view, place);
     let behind = tags_behind(view, place);
@@ -150,11 +150,11 @@ fn push_mark<S: TextStore>(
     place: usize,
     mark: Marked,
 ) -> Result<(), AllocError>
-    requires view { IsView (S.content view.now.store.now) view.now.s view.now.e }
+    requires view { ShowsLines S.content view.now }
     requires within { view.now.s + place ≤ view.now.e }
-    requires usable { Has (usable_by (S.content view.now.store.now) view.now.s view.now.e names.now.marks.now.marks names.now.widget.0) (shown_of view.now.s mark) }
+    requires usable { Has (marks_in S.content view.now names.now) (shown_of view.now.s mark) }
     ensures { OnOk result (Goes (string_bytes list.old) (string_bytes list.new) (if_listed is_listed
-        (mark_element (shown (S.content view.now.store.now) view.now.s view.now.e) (marks.names_of names.now.marks.now.marks) place (shown_of view.now.s mark)))) }
+        (mark_element (text_in S.content view.now) (marks.names_of names.now.marks.now.marks) place (shown_of view.now.s mark)))) }
 {
     if !is_listed {
         return Ok(());
@@ -171,12 +171,12 @@ fn push_marks_at<S: TextStore>(
     place: usize,
     first: Option<Marked>,
 ) -> Result<Option<Marked>, AllocError>
-    requires view { IsView (S.content view.now.store.now) view.now.s view.now.e }
+    requires view { ShowsLines S.content view.now }
     requires widget { names.now.widget.0 < MOST_WIDGETS }
     requires within { view.now.s + place ≤ view.now.e }
-    requires first { IsMarkFrom (usable_by (S.content view.now.store.now) view.now.s view.now.e names.now.marks.now.marks names.now.widget.0) (view.now.s + place) (option_map (shown_of view.now.s) first) }
-    ensures goes { OnOk result (Goes (string_bytes list.old) (string_bytes list.new) (if_listed is_listed (mark_elements (seen_by (S.content view.now.store.now) view.now.s view.now.e names.now.tags.now.tags names.now.marks.now.marks names.now.widget.0) place))) }
-    ensures next { IfOk result (λ next. IsMarkFrom (usable_by (S.content view.now.store.now) view.now.s view.now.e names.now.marks.now.marks names.now.widget.0) (view.now.s + place + 1) (option_map (shown_of view.now.s) next)) }
+    requires first { IsFirstMark S.content view.now names.now (view.now.s + place) first }
+    ensures goes { OnOk result (Goes (string_bytes list.old) (string_bytes list.new) (if_listed is_listed (mark_elements (seen_in S.content view.now names.now) place))) }
+    ensures next { IfOk result (λ next. IsFirstMark S.content view.now names.now (view.now.s + place + 1) next) }
 {
     let mut next = first;
     while let Some(mark) = next {
@@ -197,10 +197,10 @@ fn push_listed_tags<S: TextStore>(
     listed: Listed,
     place: usize,
 ) -> Result<(), AllocError>
-    requires view { IsView (S.content view.now.store.now) view.now.s view.now.e }
+    requires view { ShowsLines S.content view.now }
     requires widget { names.now.widget.0 < MOST_WIDGETS }
     requires within { view.now.s + place ≤ view.now.e }
-    ensures { OnOk result (Goes (string_bytes list.old) (string_bytes list.new) (tags_at listed (seen_by (S.content view.now.store.now) view.now.s view.now.e names.now.tags.now.tags names.now.marks.now.marks names.now.widget.0) place)) }
+    ensures { OnOk result (Goes (string_bytes list.old) (string_bytes list.new) (tags_at listed (seen_in S.content view.now names.now) place)) }
 {
     if !listed.tags {
         return Ok(());
@@ -217,12 +217,12 @@ fn push_listed_marks<S: TextStore>(
     place: usize,
     first: Option<Marked>,
 ) -> Result<Option<Marked>, AllocError>
-    requires view { IsView (S.content view.now.store.now) view.now.s view.now.e }
+    requires view { ShowsLines S.content view.now }
     requires widget { names.now.widget.0 < MOST_WIDGETS }
     requires within { view.now.s + place ≤ view.now.e }
-    requires first { IsTrue (stops_at_marks listed) → IsMarkFrom (usable_by (S.content view.now.store.now) view.now.s view.now.e names.now.marks.now.marks names.now.widget.0) (view.now.s + place) (option_map (shown_of view.now.s) first) }
-    ensures goes { OnOk result (Goes (string_bytes list.old) (string_bytes list.new) (if_listed listed.marks (mark_elements (seen_by (S.content view.now.store.now) view.now.s view.now.e names.now.tags.now.tags names.now.marks.now.marks names.now.widget.0) place))) }
-    ensures next { IfOk result (λ next. IsTrue (stops_at_marks listed) → IsMarkFrom (usable_by (S.content view.now.store.now) view.now.s view.now.e names.now.marks.now.marks names.now.widget.0) (view.now.s + place + 1) (option_map (shown_of view.now.s) next)) }
+    requires first { IsTrue (stops_at_marks listed) → IsFirstMark S.content view.now names.now (view.now.s + place) first }
+    ensures goes { OnOk result (Goes (string_bytes list.old) (string_bytes list.new) (if_listed listed.marks (mark_elements (seen_in S.content view.now names.now) place))) }
+    ensures next { IfOk result (λ next. IsTrue (stops_at_marks listed) → IsFirstMark S.content view.now names.now (view.now.s + place + 1) next) }
     ensures behind { IfOk result (λ next. IfSome next (λ mark. place < mark.place)) }
 {
     if !listed.stops_at_marks() {
@@ -239,11 +239,11 @@ fn push_listed_text<S: TextStore>(
     from: usize,
     to: usize,
 ) -> Result<(), AllocError>
-    requires view { IsView (S.content view.now.store.now) view.now.s view.now.e }
+    requires view { ShowsLines S.content view.now }
     requires ordered { from ≤ to }
     requires within { view.now.s + to ≤ view.now.e }
     ensures { OnOk result (Goes (string_bytes list.old) (string_bytes list.new) (if_listed listed.text (element (codes "text")
-        (shown (S.content view.now.store.now) view.now.s view.now.e) from (slice_range (shown (S.content view.now.store.now) view.now.s view.now.e) from to)))) }
+        (text_in S.content view.now) from (slice_range (text_in S.content view.now) from to)))) }
 {
     let _end = view.e;
     if !listed.text {
@@ -255,10 +255,10 @@ fn push_listed_text<S: TextStore>(
 
 /// Where the line behind that of a place begins.
 fn next_line<S: TextStore>(view: &View<'_, S>, place: usize) -> usize
-    requires view { IsView (S.content view.now.store.now) view.now.s view.now.e }
+    requires view { ShowsLines S.content view.now }
     requires within { view.now.s + place < view.now.e }
-    ensures value { result ≡ line_start (line_of (shown (S.content view.now.store.now) view.now.s view.now.e) place + 1) (shown (S.content view.now.store.now) view.now.s view.now.e) }
-    ensures bound { line_of (shown (S.content view.now.store.now) view.now.s view.now.e) place + 1 ≤ lines (shown (S.content view.now.store.now) view.now.s view.now.e) }
+    ensures value { result ≡ line_start (line_of (text_in S.content view.now) place + 1) (text_in S.content view.now) }
+    ensures bound { line_of (text_in S.content view.now) place + 1 ≤ lines (text_in S.content view.now) }
 {
     let _end = view.e;
     view.line_start(view.line_of(place) + 1)
@@ -274,7 +274,7 @@ fn stop_at_tag<S: TextStore>(
     place: usize,
     to: usize,
 ) -> usize
-    requires view { IsView (S.content view.now.store.now) view.now.s view.now.e }
+    requires view { ShowsLines S.content view.now }
     requires widget { names.now.widget.0 < MOST_WIDGETS }
     requires some { place < to }
     requires within { view.now.s + to ≤ view.now.e }
@@ -282,7 +282,7 @@ fn stop_at_tag<S: TextStore>(
     ensures ahead { AreAhead (S.content view.now.store.now) view.now.s view.now.e place changes.new.next }
     ensures above { place < result }
     ensures below { result ≤ to }
-    ensures stop { IsTrue (stops_at_tags listed) → IsNextStop (has_tag_at (seen_by (S.content view.now.store.now) view.now.s view.now.e names.now.tags.now.tags names.now.marks.now.marks names.now.widget.0)) place to result }
+    ensures stop { IsTrue (stops_at_tags listed) → IsNextStop (has_tag_at (seen_in S.content view.now names.now)) place to result }
 {
     if !listed.stops_at_tags() {
         return to;
@@ -303,12 +303,12 @@ fn stop_at_mark(mark: Option<Marked>, to: usize) -> usize
 
 /// Where the line behind that of a place begins, or another place, if that stands before it or text isn't listed.
 fn stop_at_line<S: TextStore>(view: &View<'_, S>, listed: Listed, place: usize, to: usize) -> usize
-    requires view { IsView (S.content view.now.store.now) view.now.s view.now.e }
+    requires view { ShowsLines S.content view.now }
     requires some { place < to }
     requires within { view.now.s + to ≤ view.now.e }
     ensures above { place < result }
     ensures below { result ≤ to }
-    ensures stop { IsTrue listed.text → IsNextStop (λ k. column_of (shown (S.content view.now.store.now) view.now.s view.now.e) k == 0) place to result }
+    ensures stop { IsTrue listed.text → IsNextStop (λ k. column_of (text_in S.content view.now) k == 0) place to result }
 {
     if !listed.text {
         return to;
@@ -326,16 +326,16 @@ fn next_stop<S: TextStore>(
     place: usize,
     to: usize,
 ) -> usize
-    requires view { IsView (S.content view.now.store.now) view.now.s view.now.e }
+    requires view { ShowsLines S.content view.now }
     requires widget { names.now.widget.0 < MOST_WIDGETS }
     requires some { place < to }
     requires within { view.now.s + to ≤ view.now.e }
     requires ahead { AreAhead (S.content view.now.store.now) view.now.s view.now.e place changes.old.next }
-    requires mark { IsTrue (stops_at_marks listed) → IsMarkFrom (usable_by (S.content view.now.store.now) view.now.s view.now.e names.now.marks.now.marks names.now.widget.0) (view.now.s + place + 1) (option_map (shown_of view.now.s) mark) }
+    requires mark { IsTrue (stops_at_marks listed) → IsFirstMark S.content view.now names.now (view.now.s + place + 1) mark }
     requires behind { IfSome mark (λ next. place < next.place) }
     ensures ahead { AreAhead (S.content view.now.store.now) view.now.s view.now.e result changes.new.next }
-    ensures mark { IsTrue (stops_at_marks listed) → IsMarkFrom (usable_by (S.content view.now.store.now) view.now.s view.now.e names.now.marks.now.marks names.now.widget.0) (view.now.s + result) (option_map (shown_of view.now.s) mark) }
-    ensures stop { IsStop listed (seen_by (S.content view.now.store.now) view.now.s view.now.e names.now.tags.now.tags names.now.marks.now.marks names.now.widget.0) place to result }
+    ensures mark { IsTrue (stops_at_marks listed) → IsFirstMark S.content view.now names.now (view.now.s + result) mark }
+    ensures stop { IsStop listed (seen_in S.content view.now names.now) place to result }
 {
     let tag = stop_at_tag(changes, view, names, listed, place, to);
     stop_at_line(view, listed, place, stop_at_mark(mark, tag))
@@ -350,12 +350,12 @@ fn push_elements<S: TextStore>(
     from: usize,
     to: usize,
 ) -> Result<Option<Marked>, AllocError>
-    requires view { IsView (S.content view.now.store.now) view.now.s view.now.e }
+    requires view { ShowsLines S.content view.now }
     requires widget { names.now.widget.0 < MOST_WIDGETS }
     requires ordered { from ≤ to }
     requires within { view.now.s + to ≤ view.now.e }
-    ensures goes { OnOk result (Goes (string_bytes list.old) (string_bytes list.new) (flat_map (elements_at listed (seen_by (S.content view.now.store.now) view.now.s view.now.e names.now.tags.now.tags names.now.marks.now.marks names.now.widget.0) from to) (places from to))) }
-    ensures mark { IfOk result (λ mark. IsTrue (stops_at_marks listed) → IsMarkFrom (usable_by (S.content view.now.store.now) view.now.s view.now.e names.now.marks.now.marks names.now.widget.0) (view.now.s + to) (option_map (shown_of view.now.s) mark)) }
+    ensures goes { OnOk result (Goes (string_bytes list.old) (string_bytes list.new) (flat_map (elements_at listed (seen_in S.content view.now names.now) from to) (places from to))) }
+    ensures mark { IfOk result (λ mark. IsTrue (stops_at_marks listed) → IsFirstMark S.content view.now names.now (view.now.s + to) mark) }
 {
     let mut changes = TagChanges::new(from);
     let mut mark = mark_from(view, names, from);
@@ -379,12 +379,12 @@ fn push_end<S: TextStore>(
     end: usize,
     mark: Option<Marked>,
 ) -> Result<(), AllocError>
-    requires view { IsView (S.content view.now.store.now) view.now.s view.now.e }
+    requires view { ShowsLines S.content view.now }
     requires widget { names.now.widget.0 < MOST_WIDGETS }
-    requires end { end ≡ length (shown (S.content view.now.store.now) view.now.s view.now.e) }
-    requires mark { IsTrue (stops_at_marks listed) → IsMarkFrom (usable_by (S.content view.now.store.now) view.now.s view.now.e names.now.marks.now.marks names.now.widget.0) (view.now.s + end) (option_map (shown_of view.now.s) mark) }
+    requires end { end ≡ length (text_in S.content view.now) }
+    requires mark { IsTrue (stops_at_marks listed) → IsFirstMark S.content view.now names.now (view.now.s + end) mark }
     ensures { OnOk result (Goes (string_bytes list.old) (string_bytes list.new)
-        (if_listed listed.tags (tagoff_elements (seen_by (S.content view.now.store.now) view.now.s view.now.e names.now.tags.now.tags names.now.marks.now.marks names.now.widget.0) end) ++ if_listed listed.marks (mark_elements (seen_by (S.content view.now.store.now) view.now.s view.now.e names.now.tags.now.tags names.now.marks.now.marks names.now.widget.0) end))) }
+        (if_listed listed.tags (tagoff_elements (seen_in S.content view.now names.now) end) ++ if_listed listed.marks (mark_elements (seen_in S.content view.now names.now) end))) }
 {
     push_listed_tags(list, view, names, listed, end)?;
     push_listed_marks(list, view, names, listed, end, mark)?;
@@ -400,11 +400,11 @@ fn push_dump<S: TextStore>(
     from: usize,
     to: usize,
 ) -> Result<(), AllocError>
-    requires view { IsView (S.content view.now.store.now) view.now.s view.now.e }
+    requires view { ShowsLines S.content view.now }
     requires widget { names.now.widget.0 < MOST_WIDGETS }
     requires from { view.now.s + from ≤ view.now.e }
     requires to { view.now.s + to ≤ view.now.e }
-    ensures { OnOk result (Goes (string_bytes list.old) (string_bytes list.new) (dump_elements listed (seen_by (S.content view.now.store.now) view.now.s view.now.e names.now.tags.now.tags names.now.marks.now.marks names.now.widget.0) from to)) }
+    ensures { OnOk result (Goes (string_bytes list.old) (string_bytes list.new) (dump_elements listed (seen_in S.content view.now names.now) from to)) }
 {
     if to < from {
         return Ok(());

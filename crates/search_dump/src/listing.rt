@@ -1,7 +1,7 @@
-ghost use Rattle.std.specs.Prelude.{◌≡◌, ◌≤◌, ◌+◌, ◌∷◌, [], chars, string_bytes, OnOk};
+ghost use Rattle.std.specs.Prelude.{◌≡◌, ◌≤◌, ◌+◌, ◌∷◌, [], string_bytes, OnOk};
 ghost use Rattle.text_index.specs.Positions.{position_text};
-ghost use Rattle.text_index.specs.Views.{shown, IsView};
 ghost use Rattle.tcl_words.specs.ListGrowth.{Goes};
+ghost use Rattle.search_dump.specs.Sight.{text_in, ShowsLines};
 
 use std::alloc::AllocError;
 use tcl_words::push_element;
@@ -15,10 +15,10 @@ pub fn push_place<S: TextStore>(
     view: &View<'_, S>,
     place: usize,
 ) -> Result<(), AllocError>
-    requires view { IsView (S.content view.now.store.now) view.now.s view.now.e }
+    requires view { ShowsLines S.content view.now }
     requires within { view.now.s + place ≤ view.now.e }
     ensures { OnOk result (Goes (string_bytes list.old) (string_bytes list.new)
-        (position_text (shown (S.content view.now.store.now) view.now.s view.now.e) place ∷ [])) }
+        (position_text (text_in S.content view.now) place ∷ [])) }
 {
     word.clear();
     push_index(word, view, place)?;

@@ -1,7 +1,8 @@
-ghost use Rattle.std.specs.Prelude.{◌≡◌, ◌≤◌, ◌<◌, ◌+◌, ◌-◌, ◌&&◌, chars, length, max, min, nat_le, nat_lt, string_bytes, slice_range, IfOk, IfSome, IsTrue};
-ghost use Rattle.text_index.specs.Views.{shown, IsView};
+ghost use Rattle.std.specs.Prelude.{◌≡◌, ◌≤◌, ◌<◌, ◌+◌, ◌-◌, ◌&&◌, chars, length, max, min, nat_le, nat_lt, string_bytes, slice_range, IfOk, IsTrue};
 ghost use Rattle.search_dump.specs.Matches.{compared};
-ghost use Rattle.search_dump.specs.Stretches.{behind_front, beside, front, nearest, HasMatch, HasRoom, IsBehind, IsPeriod};
+ghost use Rattle.search_dump.specs.Stretches.{behind_front, beside, front, HasRoom, IsBehind, IsPeriod};
+ghost use Rattle.search_dump.specs.Searched.{nearest_in, HasMatchIn};
+ghost use Rattle.search_dump.specs.Sight.{text_in, ShowsLines};
 
 use crate::patterns::{Pattern, Period, compared, nearest_place};
 use std::alloc::AllocError;
@@ -117,11 +118,11 @@ fn read<S: TextStore>(
     to: usize,
     ignores_case: bool,
 ) -> Result<String, AllocError>
-    requires view { IsView (S.content view.now.store.now) view.now.s view.now.e }
+    requires view { ShowsLines S.content view.now }
     requires ordered { from ≤ to }
     requires within { view.now.s + to ≤ view.now.e }
     ensures { IfOk result (λ text. chars (string_bytes text)
-        ≡ compared ignores_case (slice_range (shown (S.content view.now.store.now) view.now.s view.now.e) from to)) }
+        ≡ compared ignores_case (slice_range (text_in S.content view.now) from to)) }
 {
     let _end = view.e;
     compared(
@@ -137,13 +138,11 @@ fn nearest_read<S: TextStore>(
     direction: Direction,
     stretch: Stretch,
 ) -> Result<Option<usize>, AllocError>
-    requires view { IsView (S.content view.now.store.now) view.now.s view.now.e }
-    requires len { pattern.now.len ≡ length (chars pattern.now.text.now) }
+    requires view { ShowsLines S.content view.now }
     requires some { stretch.low < stretch.high }
     requires fits { stretch.high - 1 + pattern.now.len ≤ stretch.end }
-    requires within { stretch.end ≤ length (shown (S.content view.now.store.now) view.now.s view.now.e) }
-    ensures { IfOk result (λ found. found ≡ nearest direction (chars pattern.now.text.now)
-        (compared pattern.now.ignores_case (shown (S.content view.now.store.now) view.now.s view.now.e)) stretch) }
+    requires within { stretch.end ≤ length (text_in S.content view.now) }
+    ensures { IfOk result (λ found. found ≡ nearest_in S.content view.now pattern.now direction stretch) }
 {
     let text = read(
         view,
@@ -164,11 +163,9 @@ pub fn nearest_match<S: TextStore>(
     direction: Direction,
     stretch: Stretch,
 ) -> Result<Option<usize>, AllocError>
-    requires view { IsView (S.content view.now.store.now) view.now.s view.now.e }
-    requires len { pattern.now.len ≡ length (chars pattern.now.text.now) }
-    requires within { stretch.end ≤ length (shown (S.content view.now.store.now) view.now.s view.now.e) }
-    ensures { IfOk result (λ found. found ≡ nearest direction (chars pattern.now.text.now)
-        (compared pattern.now.ignores_case (shown (S.content view.now.store.now) view.now.s view.now.e)) stretch) }
+    requires view { ShowsLines S.content view.now }
+    requires within { stretch.end ≤ length (text_in S.content view.now) }
+    ensures { IfOk result (λ found. found ≡ nearest_in S.content view.now pattern.now direction stretch) }
 {
     let mut rest = stretch.before(stretch.behind_last(pattern.len));
     let mut most = FIRST_READ.max(pattern.len);
@@ -192,11 +189,11 @@ fn stands<S: TextStore>(
     to: usize,
     ignores_case: bool,
 ) -> Result<bool, AllocError>
-    requires view { IsView (S.content view.now.store.now) view.now.s view.now.e }
+    requires view { ShowsLines S.content view.now }
     requires ordered { from ≤ to }
     requires within { view.now.s + to ≤ view.now.e }
     ensures { IfOk result (λ stands. IsTrue stands
-        → slice_range (compared ignores_case (shown (S.content view.now.store.now) view.now.s view.now.e)) from to ≡ chars text.now) }
+        → slice_range (compared ignores_case (text_in S.content view.now)) from to ≡ chars text.now) }
 {
     let found = read(view, from, to, ignores_case)?;
     Ok(found.as_str() == text)
@@ -210,13 +207,11 @@ fn goes_on<S: TextStore>(
     direction: Direction,
     place: usize,
 ) -> Result<bool, AllocError>
-    requires view { IsView (S.content view.now.store.now) view.now.s view.now.e }
-    requires len { pattern.now.len ≡ length (chars pattern.now.text.now) }
+    requires view { ShowsLines S.content view.now }
     requires period { IsPeriod (chars pattern.now.text.now) period.len (chars period.front.now) (chars period.tail.now) }
-    requires matches { HasMatch (chars pattern.now.text.now) (compared pattern.now.ignores_case (shown (S.content view.now.store.now) view.now.s view.now.e)) place }
-    requires room { HasRoom direction (shown (S.content view.now.store.now) view.now.s view.now.e) place pattern.now.len period.len }
-    ensures { IfOk result (λ goes_on. IsTrue goes_on → HasMatch (chars pattern.now.text.now)
-        (compared pattern.now.ignores_case (shown (S.content view.now.store.now) view.now.s view.now.e)) (beside direction place period.entry.len)) }
+    requires matches { HasMatchIn S.content view.now pattern.now place }
+    requires room { HasRoom direction (text_in S.content view.now) place pattern.now.len period.len }
+    ensures { IfOk result (λ goes_on. IsTrue goes_on → HasMatchIn S.content view.now pattern.now (beside direction place period.entry.len)) }
 {
     let _end = view.e;
     match direction {
@@ -249,14 +244,11 @@ pub fn match_beside<S: TextStore>(
     stretch: Stretch,
     place: usize,
 ) -> Result<Option<usize>, AllocError>
-    requires view { IsView (S.content view.now.store.now) view.now.s view.now.e }
-    requires len { pattern.now.len ≡ length (chars pattern.now.text.now) }
-    requires period { IfSome pattern.now.period (λ period. IsPeriod (chars pattern.now.text.now) period.len (chars period.front.now) (chars period.tail.now)) }
-    requires within { stretch.end ≤ length (shown (S.content view.now.store.now) view.now.s view.now.e) }
-    requires matches { HasMatch (chars pattern.now.text.now) (compared pattern.now.ignores_case (shown (S.content view.now.store.now) view.now.s view.now.e)) place }
+    requires view { ShowsLines S.content view.now }
+    requires within { stretch.end ≤ length (text_in S.content view.now) }
+    requires matches { HasMatchIn S.content view.now pattern.now place }
     requires behind { IsBehind direction stretch place }
-    ensures { IfOk result (λ found. found ≡ nearest direction (chars pattern.now.text.now)
-        (compared pattern.now.ignores_case (shown (S.content view.now.store.now) view.now.s view.now.e)) stretch) }
+    ensures { IfOk result (λ found. found ≡ nearest_in S.content view.now pattern.now direction stretch) }
 {
     let _end = view.e;
     let Some(period) = pattern.period else {

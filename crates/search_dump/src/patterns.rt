@@ -1,5 +1,6 @@
 ghost use Rattle.std.specs.Prelude.{◌≡◌, ◌+◌, chars, find, length, map, reverse, string_bytes, IfOk, IfSome};
 ghost use Rattle.ucd_case.specs.CaseFolding.{simple_fold};
+ghost use Rattle.std.specs.Option.{ForSome};
 ghost use Rattle.search_dump.specs.Matches.{compared, matches_at, places};
 ghost use Rattle.search_dump.specs.Stretches.{ordered, IsPeriod};
 
@@ -70,15 +71,15 @@ pub struct Pattern<'a> {
     pub len: usize,
     pub ignores_case: bool,
     pub period: Option<Period<'a>>,
+    ghost counted: { len ≡ length (chars text.now) },
+    ghost repeats: { ForSome period (λ at. IsPeriod (chars text.now) at.len (chars at.front.now) (chars at.tail.now)) },
 }
 
 impl<'a> Pattern<'a> {
     /// A pattern of characters that are folded where case is ignored.
     pub fn new(text: &'a str, ignores_case: bool) -> Pattern<'a>
         ensures text { result.text.now ≡ text.now }
-        ensures len { result.len ≡ length (chars text.now) }
         ensures case { result.ignores_case ≡ ignores_case }
-        ensures period { IfSome result.period (λ period. IsPeriod (chars text.now) period.len (chars period.front.now) (chars period.tail.now)) }
     {
         Pattern {
             text,

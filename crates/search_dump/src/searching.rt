@@ -1,10 +1,11 @@
-ghost use Rattle.std.specs.Prelude.{◌≡◌, ◌≤◌, ◌<◌, ◌+◌, ◌^◌, chars, filter, length, map, max, string_bytes, encode_utf8_all, None, IfOk, IfSome, OnOk};
+ghost use Rattle.std.specs.Prelude.{◌≡◌, ◌≤◌, ◌<◌, ◌+◌, ◌^◌, chars, length, max, string_bytes, encode_utf8_all, None, IfOk, IfSome, OnOk};
 ghost use Rattle.tcl_words.specs.ListGrowth.{Goes};
 ghost use Rattle.tcl_words.specs.ListText.{list_text};
-ghost use Rattle.text_index.specs.Positions.{position_text};
 ghost use Rattle.text_index.specs.Views.{shown, IsView};
-ghost use Rattle.search_dump.specs.Matches.{bound, candidates, compared, matches_at, search_result, wanted_of};
-ghost use Rattle.search_dump.specs.Stretches.{first_stretch, left_behind, left_round, listed_round, matches_in, nearest, next_of, second_stretch, HasMatch, IsBehind, IsPeriod};
+ghost use Rattle.search_dump.specs.Matches.{compared, search_result};
+ghost use Rattle.search_dump.specs.Stretches.{first_stretch, left_behind, left_round, left_to_list, next_of, second_stretch, IsBehind};
+ghost use Rattle.search_dump.specs.Searched.{searched, nearest_in, listed_in, listed_behind, listed_whole, HasMatchIn};
+ghost use Rattle.search_dump.specs.Sight.{text_in, ShowsLines};
 
 use crate::listing::push_place;
 use crate::matching::{Stretch, match_beside, nearest_match};
@@ -76,6 +77,22 @@ impl SearchSwitches {
         }
     }
 
+    /// What is left to list of the stretch round the end, if anything is, where the first match listed before may be one of so
+    /// many characters at a place.
+    fn left_to_list(self, whole: Stretch, listed: Option<usize>, len: usize) -> Option<Stretch>
+        requires { IfSome listed (λ place. place + len < 2 ^ 64) }
+        ensures { result ≡ left_to_list self.wanted self.direction whole listed len }
+    {
+        let Some(place) = listed else {
+            return Some(whole);
+        };
+        match self.wanted {
+            Wanted::First => None,
+            Wanted::Apart => Some(self.left_round(whole, place, len)),
+            Wanted::All => Some(whole),
+        }
+    }
+
     /// What is left to list of a stretch behind a match of so many characters at a place.
     fn left_behind(self, stretch: Stretch, place: usize, len: usize) -> Stretch
         requires { place + max len 1 < 2 ^ 64 }
@@ -98,14 +115,11 @@ fn next_match<S: TextStore>(
     stretch: Stretch,
     place: usize,
 ) -> Result<Option<usize>, AllocError>
-    requires view { IsView (S.content view.now.store.now) view.now.s view.now.e }
-    requires len { pattern.now.len ≡ length (chars pattern.now.text.now) }
-    requires period { IfSome pattern.now.period (λ period. IsPeriod (chars pattern.now.text.now) period.len (chars period.front.now) (chars period.tail.now)) }
-    requires within { stretch.end ≤ length (shown (S.content view.now.store.now) view.now.s view.now.e) }
-    requires matches { HasMatch (chars pattern.now.text.now) (compared pattern.now.ignores_case (shown (S.content view.now.store.now) view.now.s view.now.e)) place }
+    requires view { ShowsLines S.content view.now }
+    requires within { stretch.end ≤ length (text_in S.content view.now) }
+    requires matches { HasMatchIn S.content view.now pattern.now place }
     requires behind { IsBehind search.direction stretch place }
-    ensures { IfOk result (λ next. next ≡ next_of search.wanted (nearest search.direction (chars pattern.now.text.now)
-        (compared pattern.now.ignores_case (shown (S.content view.now.store.now) view.now.s view.now.e)) stretch)) }
+    ensures { IfOk result (λ next. next ≡ next_of search.wanted (nearest_in S.content view.now pattern.now search.direction stretch)) }
 {
     match search.wanted {
         Wanted::First => Ok(None),
@@ -123,16 +137,11 @@ fn list_from<S: TextStore>(
     stretch: Stretch,
     first: Option<usize>,
 ) -> Result<(), AllocError>
-    requires view { IsView (S.content view.now.store.now) view.now.s view.now.e }
-    requires len { pattern.now.len ≡ length (chars pattern.now.text.now) }
-    requires period { IfSome pattern.now.period (λ period. IsPeriod (chars pattern.now.text.now) period.len (chars period.front.now) (chars period.tail.now)) }
-    requires high { stretch.high ≤ length (shown (S.content view.now.store.now) view.now.s view.now.e) }
-    requires within { stretch.end ≤ length (shown (S.content view.now.store.now) view.now.s view.now.e) }
-    requires first { first ≡ nearest search.direction (chars pattern.now.text.now)
-        (compared pattern.now.ignores_case (shown (S.content view.now.store.now) view.now.s view.now.e)) stretch }
-    ensures { OnOk result (Goes (string_bytes list.old) (string_bytes list.new) (map (position_text (shown (S.content view.now.store.now) view.now.s view.now.e))
-        (wanted_of search.wanted (length (chars pattern.now.text.now)) (matches_in search.direction (chars pattern.now.text.now)
-        (compared pattern.now.ignores_case (shown (S.content view.now.store.now) view.now.s view.now.e)) stretch)))) }
+    requires view { ShowsLines S.content view.now }
+    requires high { stretch.high ≤ length (text_in S.content view.now) }
+    requires within { stretch.end ≤ length (text_in S.content view.now) }
+    requires first { first ≡ nearest_in S.content view.now pattern.now search.direction stretch }
+    ensures { OnOk result (Goes (string_bytes list.old) (string_bytes list.new) (listed_in S.content view.now pattern.now search stretch)) }
 {
     let _end = view.e;
     let mut word = String::new(*list.allocator());
@@ -154,14 +163,10 @@ fn list_stretch<S: TextStore>(
     search: SearchSwitches,
     stretch: Stretch,
 ) -> Result<(), AllocError>
-    requires view { IsView (S.content view.now.store.now) view.now.s view.now.e }
-    requires len { pattern.now.len ≡ length (chars pattern.now.text.now) }
-    requires period { IfSome pattern.now.period (λ period. IsPeriod (chars pattern.now.text.now) period.len (chars period.front.now) (chars period.tail.now)) }
-    requires high { stretch.high ≤ length (shown (S.content view.now.store.now) view.now.s view.now.e) }
-    requires within { stretch.end ≤ length (shown (S.content view.now.store.now) view.now.s view.now.e) }
-    ensures { OnOk result (Goes (string_bytes list.old) (string_bytes list.new) (map (position_text (shown (S.content view.now.store.now) view.now.s view.now.e))
-        (wanted_of search.wanted (length (chars pattern.now.text.now)) (matches_in search.direction (chars pattern.now.text.now)
-        (compared pattern.now.ignores_case (shown (S.content view.now.store.now) view.now.s view.now.e)) stretch)))) }
+    requires view { ShowsLines S.content view.now }
+    requires high { stretch.high ≤ length (text_in S.content view.now) }
+    requires within { stretch.end ≤ length (text_in S.content view.now) }
+    ensures { OnOk result (Goes (string_bytes list.old) (string_bytes list.new) (listed_in S.content view.now pattern.now search stretch)) }
 {
     let first = nearest_match(view, pattern, search.direction, stretch)?;
     list_from(list, view, pattern, search, stretch, first)
@@ -176,29 +181,16 @@ fn list_round<S: TextStore>(
     from: usize,
     listed: Option<usize>,
 ) -> Result<(), AllocError>
-    requires view { IsView (S.content view.now.store.now) view.now.s view.now.e }
-    requires len { pattern.now.len ≡ length (chars pattern.now.text.now) }
-    requires period { IfSome pattern.now.period (λ period. IsPeriod (chars pattern.now.text.now) period.len (chars period.front.now) (chars period.tail.now)) }
+    requires view { ShowsLines S.content view.now }
     requires from { view.now.s + from ≤ view.now.e }
-    requires listed { IfSome listed (λ place. place + pattern.now.len ≤ length (shown (S.content view.now.store.now) view.now.s view.now.e)) }
-    ensures { OnOk result (Goes (string_bytes list.old) (string_bytes list.new) (map (position_text (shown (S.content view.now.store.now) view.now.s view.now.e))
-        (listed_round search.wanted search.direction (chars pattern.now.text.now)
-        (compared pattern.now.ignores_case (shown (S.content view.now.store.now) view.now.s view.now.e))
-        (second_stretch search.direction (length (shown (S.content view.now.store.now) view.now.s view.now.e)) from) listed))) }
+    requires listed { IfSome listed (λ place. place + pattern.now.len ≤ length (text_in S.content view.now)) }
+    ensures { OnOk result (Goes (string_bytes list.old) (string_bytes list.new) (listed_behind S.content view.now pattern.now search from listed)) }
 {
     let _end = view.e;
     let whole = search.second_stretch(view.len(), from);
-    let place = match listed {
-        Some(place) => place,
-        None => return list_stretch(list, view, pattern, search, whole),
-    };
-    match search.wanted {
-        Wanted::First => Ok(()),
-        Wanted::Apart => {
-            let rest = search.left_round(whole, place, pattern.len);
-            list_stretch(list, view, pattern, search, rest)
-        }
-        Wanted::All => list_stretch(list, view, pattern, search, whole),
+    match search.left_to_list(whole, listed, pattern.len) {
+        Some(rest) => list_stretch(list, view, pattern, search, rest),
+        None => Ok(()),
     }
 }
 
@@ -210,15 +202,9 @@ fn list_round_whole<S: TextStore>(
     search: SearchSwitches,
     from: usize,
 ) -> Result<(), AllocError>
-    requires view { IsView (S.content view.now.store.now) view.now.s view.now.e }
-    requires len { pattern.now.len ≡ length (chars pattern.now.text.now) }
-    requires period { IfSome pattern.now.period (λ period. IsPeriod (chars pattern.now.text.now) period.len (chars period.front.now) (chars period.tail.now)) }
+    requires view { ShowsLines S.content view.now }
     requires from { view.now.s + from ≤ view.now.e }
-    ensures { OnOk result (Goes (string_bytes list.old) (string_bytes list.new) (map (position_text (shown (S.content view.now.store.now) view.now.s view.now.e))
-        (wanted_of search.wanted (length (chars pattern.now.text.now)) (filter (matches_at (chars pattern.now.text.now)
-        (compared pattern.now.ignores_case (shown (S.content view.now.store.now) view.now.s view.now.e))
-        (bound search (length (shown (S.content view.now.store.now) view.now.s view.now.e)) from None))
-        (candidates search.direction (length (shown (S.content view.now.store.now) view.now.s view.now.e)) from None))))) }
+    ensures { OnOk result (Goes (string_bytes list.old) (string_bytes list.new) (listed_whole S.content view.now pattern.now search from None)) }
 {
     let stretch = search.first_stretch(view.len(), from, None);
     let first = nearest_match(view, pattern, search.direction, stretch)?;
@@ -235,16 +221,10 @@ fn list_matches<S: TextStore>(
     from: usize,
     stop: Option<usize>,
 ) -> Result<(), AllocError>
-    requires view { IsView (S.content view.now.store.now) view.now.s view.now.e }
-    requires len { pattern.now.len ≡ length (chars pattern.now.text.now) }
-    requires period { IfSome pattern.now.period (λ period. IsPeriod (chars pattern.now.text.now) period.len (chars period.front.now) (chars period.tail.now)) }
+    requires view { ShowsLines S.content view.now }
     requires from { view.now.s + from ≤ view.now.e }
     requires stop { IfSome stop (λ place. view.now.s + place ≤ view.now.e) }
-    ensures { OnOk result (Goes (string_bytes list.old) (string_bytes list.new) (map (position_text (shown (S.content view.now.store.now) view.now.s view.now.e))
-        (wanted_of search.wanted (length (chars pattern.now.text.now)) (filter (matches_at (chars pattern.now.text.now)
-        (compared pattern.now.ignores_case (shown (S.content view.now.store.now) view.now.s view.now.e))
-        (bound search (length (shown (S.content view.now.store.now) view.now.s view.now.e)) from stop))
-        (candidates search.direction (length (shown (S.content view.now.store.now) view.now.s view.now.e)) from stop))))) }
+    ensures { OnOk result (Goes (string_bytes list.old) (string_bytes list.new) (listed_whole S.content view.now pattern.now search from stop)) }
 {
     match stop {
         None => list_round_whole(list, view, pattern, search, from),

@@ -2,11 +2,12 @@ ghost use Rattle.std.specs.Prelude.{◌≡◌, ℕ, ◌≤◌, ◌<◌, ◌+◌,
 ghost use Rattle.std.specs.FinSet as set;
 ghost use Rattle.text_model.specs.Changes.{flag_at, next_change};
 ghost use Rattle.tag_table.specs.Tags.{slots_of};
-ghost use Rattle.text_index.specs.Views.{shown_flags, IsView};
+ghost use Rattle.text_index.specs.Views.{shown_flags};
 ghost use Rattle.text_model.specs.TagBits.{slot_count};
 ghost use Rattle.text_model.specs.declared.limits.TheConstants.Limits.{MOST_WIDGETS};
 ghost use Rattle.search_dump.specs.Ahead.{slot_of_row, AreAhead, IsKnown, IsNearest};
 ghost use Rattle.search_dump.specs.Dump.{flag_before, own_slot};
+ghost use Rattle.search_dump.specs.Sight.{ShowsLines};
 
 use text_index::{Names, View};
 use text_model::{TagSet, TagSlot, TextStore};
@@ -26,7 +27,7 @@ pub fn own_slot(names: &Names<'_>, at: usize) -> TagSlot
 
 /// The tags of the character before a place of the view; none before the first.
 pub fn tags_before<S: TextStore>(view: &View<'_, S>, place: usize) -> TagSet
-    requires view { IsView (S.content view.now.store.now) view.now.s view.now.e }
+    requires view { ShowsLines S.content view.now }
     requires within { view.now.s + place ≤ view.now.e }
     ensures { (slot : ℕ) → set.contains result slot ≡ flag_before (shown_flags slot (S.content view.now.store.now) view.now.s view.now.e) place }
 {
@@ -39,7 +40,7 @@ pub fn tags_before<S: TextStore>(view: &View<'_, S>, place: usize) -> TagSet
 
 /// The tags of the character at a place of the view; none at the end.
 pub fn tags_behind<S: TextStore>(view: &View<'_, S>, place: usize) -> TagSet
-    requires view { IsView (S.content view.now.store.now) view.now.s view.now.e }
+    requires view { ShowsLines S.content view.now }
     requires within { view.now.s + place ≤ view.now.e }
     ensures { (slot : ℕ) → set.contains result slot ≡ flag_at (shown_flags slot (S.content view.now.store.now) view.now.s view.now.e) place }
 {
@@ -52,7 +53,7 @@ pub fn tags_behind<S: TextStore>(view: &View<'_, S>, place: usize) -> TagSet
 
 /// Where the next place behind one is at which a tag begins or ends, or the end of the view.
 fn change_behind<S: TextStore>(view: &View<'_, S>, slot: TagSlot, place: usize) -> usize
-    requires view { IsView (S.content view.now.store.now) view.now.s view.now.e }
+    requires view { ShowsLines S.content view.now }
     requires slot { slot.0 < slot_count }
     requires within { view.now.s + place < view.now.e }
     ensures value { result ≡ next_change (shown_flags slot.0 (S.content view.now.store.now) view.now.s view.now.e) place }
@@ -80,7 +81,7 @@ impl TagChanges {
 
     /// Knows where the tag of a slot changes next behind a place of the view, before its end.
     fn look<S: TextStore>(&mut self, view: &View<'_, S>, slot: TagSlot, place: usize)
-        requires view { IsView (S.content view.now.store.now) view.now.s view.now.e }
+        requires view { ShowsLines S.content view.now }
         requires slot { slot.0 < slot_count }
         requires within { view.now.s + place < view.now.e }
         requires ahead { AreAhead (S.content view.now.store.now) view.now.s view.now.e place self.old.next }
@@ -97,7 +98,7 @@ impl TagChanges {
 
     /// Knows where each tag changes next behind a place of the view, before its end.
     pub fn pass<S: TextStore>(&mut self, view: &View<'_, S>, names: &Names<'_>, place: usize)
-        requires view { IsView (S.content view.now.store.now) view.now.s view.now.e }
+        requires view { ShowsLines S.content view.now }
         requires widget { names.now.widget.0 < MOST_WIDGETS }
         requires within { view.now.s + place < view.now.e }
         requires ahead { AreAhead (S.content view.now.store.now) view.now.s view.now.e place self.old.next }

@@ -1,7 +1,7 @@
 use Rattle.std.proofs.Common.{◌-◌, length, ap, ◌∙◌, arith}
 use Rattle.text_model.specs.Content.{characters}
 use Rattle.text_cursor.proofs.AroundLaws.{length-characters, next_line-drawn}
-use Rattle.edit_ops.proofs.RemovalLaws.{stand-out, taken-out}
+use Rattle.edit_ops.proofs.RemovalLaws.{none-cells, none-out, none-stand, stand-out, taken-out}
 use Rattle.edit_ops.proofs.replacements.draft_removal.Goals as goal
 
 pub overflow_sub-next-2 : goal.overflow_sub-next-2
@@ -28,3 +28,15 @@ returns-clause-makes g c =
     taken-out c.in_ok-draft.draft c.remove.new.self (g.S.TextStore.content c.args.store.now) c.args.anchors.now c.new-text.result c.line_at.result (c.line_behind.result - (c.args.to - c.args.from))
     c.args.from c.args.to c.in_ok-draft.ensures c.in_ok-remove.ensures c.if-from-to.false (c.new-text.ensures ∙ c.in_ok-copy_text.ensures)
     c.line_at.ensures (ap (λ n. n - (c.args.to - c.args.from)) c.line_behind.ensures ∙ drawn.1)
+
+pub returns-then-from-to-clause-stand : goal.returns-then-from-to-clause-stand
+returns-then-from-to-clause-stand g c =
+    none-stand c.in_ok-draft.draft c.args.anchors.now c.args.from c.args.to (length (g.S.TextStore.content c.args.store.now).cells) c.in_ok-draft.ensures c.if-from-to.true c.requires.stand
+
+pub returns-then-from-to-clause-cells : goal.returns-then-from-to-clause-cells
+returns-then-from-to-clause-cells g c =
+    none-cells c.in_ok-draft.draft (g.S.TextStore.content c.args.store.now) c.args.anchors.now c.args.from c.args.to c.in_ok-draft.ensures c.if-from-to.true
+
+pub returns-then-from-to-clause-makes : goal.returns-then-from-to-clause-makes
+returns-then-from-to-clause-makes g c =
+    none-out c.in_ok-draft.draft (g.S.TextStore.content c.args.store.now) c.args.anchors.now c.args.from c.args.to c.in_ok-draft.ensures c.if-from-to.true

@@ -1,6 +1,12 @@
-use Rattle.std.proofs.Common.{◌||◌, ◌==◌, arith, inr, refl, string_bytes}
+use Rattle.std.proofs.Common.{◌≡◌, ◌+◌, ◌||◌, ◌==◌, arith, inr, refl, string_bytes, subst}
+use Rattle.std.specs.Prelude.{IsTrue}
+use Rattle.std.specs.List.{flat_map}
 use Rattle.std.proofs.lemmas.Bool.{eq-eqb, or_left}
+use Rattle.tcl_words.specs.ListGrowth.{Goes}
 use Rattle.search_dump.specs.Dump.{elements_at, is_cut, seen_by}
+use Rattle.search_dump.specs.Matches.{places}
+use Rattle.search_dump.specs.Sight.{seen_in, IsFirstMark}
+use Rattle.search_dump.specs.Stops.{stops_at_marks}
 use Rattle.search_dump.proofs.ChangeLaws.{ahead-begun}
 use Rattle.search_dump.proofs.StopLaws.{cut-next, cut-there, dump-begun, dump-on}
 use Rattle.search_dump.proofs.dumping.push_elements.Goals as goal
@@ -40,3 +46,15 @@ loop-place-preserved g c =
       mark = c.next_stop-next.ensures.mark;
       cut = λ text. cut-next seen c.args.from c.args.to next (stop.cut text).reached;
     }
+
+pub returns-clause-goes : goal.returns-clause-goes
+returns-clause-goes g c =
+    let each = elements_at c.args.listed (seen_in g.S.TextStore.content c.args.view.now c.args.names.now) c.args.from c.args.to in
+    let end : c.loop-place.place ≡ c.args.to = omega (arith, c.loop-place.invariant.within, c.loop-place-test.false) in
+    subst (λ place. Goes (string_bytes c.args.list.now) (string_bytes c.loop-place.list) (flat_map each (places c.args.from place))) end c.loop-place.invariant.goes
+
+pub returns-clause-mark : goal.returns-clause-mark
+returns-clause-mark g c =
+    let view = c.args.view.now in
+    let end : c.loop-place.place ≡ c.args.to = omega (arith, c.loop-place.invariant.within, c.loop-place-test.false) in
+    subst (λ place. IsTrue (stops_at_marks c.args.listed) → IsFirstMark g.S.TextStore.content view c.args.names.now (view.s + place) c.loop-place.mark) end c.loop-place.invariant.mark

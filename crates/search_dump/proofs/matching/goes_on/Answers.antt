@@ -36,8 +36,8 @@ returns-in-Forward g c =
     (λ stands says is.
     subst (λ d. HasMatch (chars pattern.text.now) text (beside d c.args.place period.len)) (sym c.in-Forward.is)
     (goes-on (chars pattern.text.now) text period.len (chars period.front.now) (chars period.tail.now) c.requires.period c.args.place c.requires.matches
-    (omega (arith, c.requires.len, length-compared pattern.ignores_case all))
-    (ap (λ n. slice_range text (c.args.place + n) (c.args.place + n + period.len)) (sym c.requires.len) ∙ says is)))
+    (omega (arith, c.args.pattern.now.counted, length-compared pattern.ignores_case all))
+    (ap (λ n. slice_range text (c.args.place + n) (c.args.place + n + period.len)) (sym c.args.pattern.now.counted) ∙ says is)))
     c.stands.ensures
 
 pub returns-in-Back : goal.returns-in-Back

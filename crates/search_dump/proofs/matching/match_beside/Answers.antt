@@ -27,9 +27,9 @@ returns-in-Some-beside g c =
           ∙ sym (ap (λ d. beside d place distance) w.in-Back.is)
     ] in
     let period : IsPeriod characters distance (chars c.in-Some.period.front.now) (chars c.in-Some.period.tail.now) =
-    subst (λ o. IfSome o (λ p. IsPeriod characters p.len (chars p.front.now) (chars p.tail.now))) c.in-Some.is c.requires.period in
+    pattern.repeats c.in-Some.period c.in-Some.is in
     let within = has-within c.args.stretch at pattern.len c.has.result c.has.ensures c.if-has.true in
     ap Some is
     ∙ nearest-beside characters text distance (chars c.in-Some.period.front.now) (chars c.in-Some.period.tail.now) period c.args.direction c.args.stretch place
-    c.requires.matches c.requires.behind (subst (IsWithin c.args.stretch (length characters)) is (subst (λ n. IsWithin c.args.stretch n at) c.requires.len within))
+    c.requires.matches c.requires.behind (subst (IsWithin c.args.stretch (length characters)) is (subst (λ n. IsWithin c.args.stretch n at) c.args.pattern.now.counted within))
     (c.in_ok-goes_on.ensures c.if-branch.true)

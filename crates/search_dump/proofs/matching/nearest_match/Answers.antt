@@ -9,7 +9,7 @@ loop-rest-init g c =
     let pattern = c.args.pattern.now in
     let text = compared pattern.ignores_case (shown (g.S.TextStore.content c.args.view.now.store.now) c.args.view.now.s c.args.view.now.e) in
     record {
-      left = left-begun c.args.direction (chars pattern.text.now) text c.args.stretch c.before-rest.result c.behind_last.result pattern.len c.requires.len c.behind_last.ensures c.before-rest.ensures;
+      left = left-begun c.args.direction (chars pattern.text.now) text c.args.stretch c.before-rest.result c.behind_last.result pattern.len c.args.pattern.now.counted c.behind_last.ensures c.before-rest.ensures;
       some = omega arith;
     }
 

@@ -29,7 +29,7 @@ left_behind-rest-requires g c =
     let all = shown (g.S.TextStore.content view.store.now) view.s view.e in
     let next = next-at c.args.search.direction (chars c.args.pattern.now.text.now) (compared c.args.pattern.now.ignores_case all) c.loop-next.rest c.loop-next.next c.in-Some.place c.loop-next.invariant.found c.in-Some.is
     (omega (arith, c.loop-next.invariant.end, length-compared c.args.pattern.now.ignores_case all)) in
-    omega (arith, next.below, next.fits, c.requires.len, c.loop-next.invariant.high, c.loop-next.invariant.end, length-shown (g.S.TextStore.content view.store.now) view.s view.e c.requires.view)
+    omega (arith, next.below, next.fits, c.args.pattern.now.counted, c.loop-next.invariant.high, c.loop-next.invariant.end, length-shown (g.S.TextStore.content view.store.now) view.s view.e c.requires.view)
 
 pub next_match-requires-clause-matches : goal.next_match-requires-clause-matches
 next_match-requires-clause-matches g c =
@@ -58,7 +58,7 @@ loop-next-preserved g c =
     (wanted_of c.args.search.wanted (length pattern) (matches_in c.args.search.direction pattern text c.args.stretch))
     (string_bytes c.args.list.now) (string_bytes c.loop-next.list) (string_bytes c.push_place.new.list)
     c.loop-next.rest c.left_behind-rest.result c.loop-next.next c.in_ok-next.next c.in-Some.place c.args.pattern.now.len (length all)
-    c.loop-next.invariant c.in-Some.is c.in_ok-push_place.ensures c.requires.len c.left_behind-rest.ensures c.in_ok-next.ensures
+    c.loop-next.invariant c.in-Some.is c.in_ok-push_place.ensures c.args.pattern.now.counted c.left_behind-rest.ensures c.in_ok-next.ensures
 
 pub returns : goal.returns
 returns g c =

@@ -12,7 +12,7 @@ list_round-requires-clause-listed g c =
     let view = c.args.view.now in
     let all = shown (g.S.TextStore.content view.store.now) view.s view.e in
     first-fits c.args.search.direction (chars c.args.pattern.now.text.now) (compared c.args.pattern.now.ignores_case all) c.first_stretch-stretch.result c.in_ok-first.first
-    c.args.pattern.now.len (length all) c.in_ok-first.ensures c.requires.len (omega (arith, ap (λ s. s.end) c.first_stretch-stretch.ensures, c.len.ensures))
+    c.args.pattern.now.len (length all) c.in_ok-first.ensures c.args.pattern.now.counted (omega (arith, ap (λ s. s.end) c.first_stretch-stretch.ensures, c.len.ensures))
 
 pub returns : goal.returns
 returns g c =

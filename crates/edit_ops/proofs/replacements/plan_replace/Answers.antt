@@ -1,0 +1,38 @@
+use Rattle.std.proofs.Common.{◌≡◌, ◌+◌, ◌-◌, ◌<◌, ◌^◌, length, min, ap, ap₂, refl, subst, sym, ◌∙◌}
+use Rattle.std.proofs.lemmas.Bool.{ltb-false, ltb-true}
+use Rattle.edit_ops.specs.Insertions.{total}
+use Rattle.edit_ops.specs.Removals.{replaced_span}
+use Rattle.edit_ops.specs.States.{log_of, state_of}
+use Rattle.edit_ops.proofs.ReplaceLaws.{no-longer}
+use Rattle.edit_ops.proofs.replacements.plan_replace.Goals as goal
+
+pub draft_replace-requires-clause-room : goal.draft_replace-requires-clause-room
+draft_replace-requires-clause-room g c =
+    subst (λ n. n - (c.min-to.result - c.min-from.result) + total c.args.pieces.now < 2 ^ 64) c.len.ensures (c.is_too_long.ensures.short c.if-is_too_long.false)
+
+pub returns-then-is_too_long-clause-too_long : goal.returns-then-is_too_long-clause-too_long
+returns-then-is_too_long-clause-too_long g c =
+    let count = total c.args.pieces.now in
+    let len = length (g.S.TextStore.content c.args.store.now).cells in
+    let left = c.len.result - (c.min-to.result - c.min-from.result) + count in
+    let is : left ≡ len - (min c.args.to c.args.last - min c.args.from c.args.last) + count =
+    ap (λ n. n - (c.min-to.result - c.min-from.result) + count) c.len.ensures ∙ ap₂ (λ a b. len - (a - b) + count) c.min-to.ensures c.min-from.ensures in
+    let long = ltb-true c.args.limits.now.chars left (sym c.is_too_long.ensures.value ∙ c.if-is_too_long.true) in
+    (λ _. (c.if-to-from.false, subst (λ n. c.args.limits.now.chars < n) is long), λ _. refl)
+
+pub returns-clause-too_long : goal.returns-clause-too_long
+returns-clause-too_long g c =
+    let count = total c.args.pieces.now in
+    let len = length (g.S.TextStore.content c.args.store.now).cells in
+    let left = c.len.result - (c.min-to.result - c.min-from.result) + count in
+    let is : left ≡ len - (min c.args.to c.args.last - min c.args.from c.args.last) + count =
+    ap (λ n. n - (c.min-to.result - c.min-from.result) + count) c.len.ensures ∙ ap₂ (λ a b. len - (a - b) + count) c.min-to.ensures c.min-from.ensures in
+    let short = ltb-false c.args.limits.now.chars left (sym c.is_too_long.ensures.value ∙ c.if-is_too_long.false) in
+    (λ same. absurd (cc), λ long. absurd (no-longer c.args.limits.now.chars left short (subst (λ n. c.args.limits.now.chars < n) (sym is) long.1)))
+
+pub returns-clause-outcome : goal.returns-clause-outcome
+returns-clause-outcome g c =
+    let log = log_of c.args.history.now in
+    let state = state_of (g.S.TextStore.content c.args.store.now) c.args.anchors.now log in
+    c.in_ok-prepare.ensures.outcome ∙ c.in_ok-draft.ensures.makes c.args.recording log
+    ∙ ap₂ (λ from to. replaced_span c.args.recording c.args.mark.0 from to c.args.pieces.now state) c.min-from.ensures c.min-to.ensures

@@ -1,0 +1,33 @@
+-- What a view shows of a store, whose content a function tells, and what a widget sees there by the names that it knows.
+use Rattle.std.specs.Prelude.{ℕ, List, Option}
+use Rattle.std.specs.Option.{option_map}
+use Rattle.index_grammar.specs.declared.names.Names.{Names}
+use Rattle.mark_table.specs.declared.order.Shown.{Shown}
+use Rattle.text_model.specs.Content.{Content}
+use Rattle.text_index.specs.Views.{shown, IsView}
+use Rattle.text_index.specs.declared.views.View.{View}
+use Rattle.search_dump.specs.Dump.{Seen, seen_by}
+use Rattle.search_dump.specs.MarksAhead.{shown_of, usable_by, IsMarkFrom}
+use Rattle.search_dump.specs.declared.dumped_marks.Marked.{Marked}
+
+-- it shows whole lines
+abbrev pub ShowsLines : {S P : Type 0} → (S → Content) → View S P → Type 0
+ShowsLines content view = IsView (content view.store.now) view.s view.e
+
+-- its characters
+abbrev pub text_in : {S P : Type 0} → (S → Content) → View S P → List ℕ
+text_in content view = shown (content view.store.now) view.s view.e
+
+-- what the widget sees in it
+abbrev pub seen_in : {S P : Type 0} → (S → Content) → View S P → Names → Seen
+seen_in content view names =
+    seen_by (content view.store.now) view.s view.e names.tags.now.tags names.marks.now.marks names.widget.0
+
+-- the marks that the widget can use
+abbrev pub marks_in : {S P : Type 0} → (S → Content) → View S P → Names → List Shown
+marks_in content view names = usable_by (content view.store.now) view.s view.e names.marks.now.marks names.widget.0
+
+-- the first of these marks at an offset of the text or behind it, if there is one
+abbrev pub IsFirstMark : {S P : Type 0} → (S → Content) → View S P → Names → ℕ → Option Marked → Type 0
+IsFirstMark content view names offset first =
+    IsMarkFrom (marks_in content view names) offset (option_map (shown_of view.s) first)
