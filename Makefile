@@ -1,6 +1,7 @@
 # make run     the program on standard input, or on SCRIPT=file; with no script given, on examples/first.tcl
 # make test    the gate, and then the checks that the gate can't do; the last line counts them
 # make fuzz    the program against the plain model on random scripts: SEEDS=300 of them, FIRST=0 on
+# make gate    the gate alone, and its processor time over that of `rt selftest`; with nothing beside it
 # make bench   the program's time per command as the text grows, and its memory as the script does, into docs/bench.txt
 
 PROGRAM = crates/tktext/out/tktext
@@ -24,7 +25,7 @@ $(SHIM): tools/refuse.c
 # `rt ci` puts back an out/ that was there before it, so an old program is taken away first.
 test: $(SHIM)
 	rm -rf crates/tktext/out
-	python3 tools/total.py 'rt ci' \
+	python3 tools/total.py 'python3 tools/gate.py' \
 	  'python3 tools/selftest.py' \
 	  'python3 tools/fuzz.py --program $(PROGRAM) --seeds 300' \
 	  'python3 tools/refusals.py --program $(PROGRAM) --shim $(SHIM)' \
@@ -37,4 +38,7 @@ fuzz: $(PROGRAM)
 bench: $(PROGRAM)
 	python3 tools/bench.py --program $(PROGRAM) --out docs/bench.txt
 
-.PHONY: run test fuzz bench
+gate:
+	python3 tools/gate.py --ratio
+
+.PHONY: run test fuzz bench gate
