@@ -101,7 +101,8 @@ impl Fault {
     fn message(self) -> &'static str {
         match self {
             Fault::BadIndex(..) => "bad text index",
-            Fault::NoTaggedCharacters(..) => "text doesn't contain any characters tagged with a tag",
+            Fault::NoTaggedCharacters(..) =>
+                "text doesn't contain any characters tagged with a tag",
             Fault::NoSuchMark(..) => "there is no such mark",
             Fault::NoSuchTag(..) => "tag isn't defined in text widget",
             Fault::BadOption(..) => "bad option",
