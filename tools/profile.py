@@ -18,12 +18,12 @@ PARTS = re.compile(
 
 def function_and_kind(module):
     """The function or file that a module belongs to, and what of it the module is."""
-    path = re.sub(r"^Rattle-[^.]*?-(proofs|specs)\.?(contracts\.|declared\.)?", "", module).split(".")
+    path = re.sub(r"^Rattle-\w+(-(proofs|specs))?\.?((proofs|specs)\.)?(contracts\.|declared\.)?", "", module).split(".")
     for at, part in enumerate(path):
         found = PARTS.match(part)
         if found:
             return ".".join(path[:at]) or "(crate)", KINDS.get(found[1], "rest")
-    return ".".join(path), "rest"
+    return ".".join(path) or "(crate)", "rest"
 
 
 def profile(folder):

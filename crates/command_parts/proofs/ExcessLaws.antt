@@ -1,5 +1,5 @@
 -- Whether there are more tags or characters than there may be.
-use Rattle.std.proofs.Common.{◌≡◌, ◌≢◌, ℕ, ◌+◌, ◌<◌, ◌≤◌, List, [], ◌∷◌, None, Some, Option, length, map, refl, sym, ap, ap₂, ◌∙◌}
+use Rattle.std.proofs.Common.{◌≡◌, ℕ, ◌+◌, ◌<◌, ◌≤◌, List, [], ◌∷◌, None, Some, length, map, refl, sym, ap, ap₂, ◌∙◌}
 use Rattle.std.specs.Prelude.{nat_lt, if◌then◌else◌}
 use Rattle.std.proofs.lemmas.Bool.{le-ltb, lt-ltb}
 use Rattle.std.proofs.lemmas.List.Sums.{sum_by-cons}
@@ -8,7 +8,7 @@ use Rattle.edit_ops.specs.declared.pieces.Piece.{Piece}
 use Rattle.tag_table.specs.Tags.{Tag}
 use Rattle.text_model.specs.LimitTable.{LimitTable}
 use Rattle.command_parts.specs.declared.answers.Fault.{Fault}
-use Rattle.command_parts.specs.declared.answers.Fault.TheVariants.{Memory, TooManyTags, TextTooLong}
+use Rattle.command_parts.specs.declared.answers.Fault.TheVariants.{TooManyTags, TextTooLong}
 use Rattle.command_parts.specs.declared.lists.Pair.{Pair}
 use Rattle.command_parts.specs.Edits.{excess}
 use Rattle.command_parts.specs.Lists.{total}

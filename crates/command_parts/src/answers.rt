@@ -4,10 +4,9 @@ ghost use Rattle.command_parts.specs.Faults.{index_fault, shape_fault};
 
 use command_table::ShapeFault;
 use std::alloc::{AllocError, AllocFailed};
-use std::error::Error;
-use std::fmt;
 use text_index::IndexFault;
 use text_model::Text;
+use thiserror::Error;
 
 /// What a command answers.
 #[derive(Drop)]
@@ -24,54 +23,77 @@ pub enum Answer {
 
 /// Why a command is refused. Words are named by their position in the command, from 0, so that a fault takes no
 /// memory.
-#[derive(Clone, Copy, Debug, PartialEq, Eq, Drop)]
+#[derive(Clone, Copy, Debug, PartialEq, Eq, Drop, Error)]
 pub enum Fault {
     /// The word is no index.
+    #[error("bad text index")]
     BadIndex(usize),
     /// No character that the widget shows has the tag of the index at the first number; the second is the length of the tag's
     /// name in bytes, with which the word begins.
+    #[error("text doesn't contain any characters tagged with a tag")]
     NoTaggedCharacters(usize, usize),
     /// The word names no mark.
+    #[error("there is no such mark")]
     NoSuchMark(usize),
     /// The word names no tag.
+    #[error("tag isn't defined in text widget")]
     NoSuchTag(usize),
     /// The word is no subcommand or option.
+    #[error("bad option")]
     BadOption(usize),
     /// Words are missing, or there are too many.
+    #[error("wrong # args")]
     WrongArguments,
     /// The word names no command, or can't name a widget.
+    #[error("invalid command name")]
     InvalidCommandName(usize),
     /// The word names a widget that exists.
+    #[error("window name already exists")]
     WindowExists(usize),
     /// The word is no comparison.
+    #[error("bad comparison operator")]
     BadComparison(usize),
     /// The word is no gravity of a mark.
+    #[error("bad mark gravity")]
     BadGravity(usize),
     /// The word is the text of no list.
+    #[error("bad list")]
     BadList(usize),
     /// The word is an index that stands before that of the word before it.
+    #[error("index before another in the text")]
     IndexOrder(usize),
     /// The word is no boolean.
+    #[error("expected boolean value")]
     BadBoolean(usize),
     /// The word is no integer.
+    #[error("expected integer")]
     BadInteger(usize),
     /// A view would begin behind its end.
+    #[error("-startline must be less than or equal to -endline")]
     StartLineAfterEndLine,
     /// No group of edits can be undone.
+    #[error("nothing to undo")]
     NothingToUndo,
     /// No group of edits was undone last.
+    #[error("nothing to redo")]
     NothingToRedo,
     /// There is a document.
+    #[error("a document exists")]
     DocumentExists,
     /// There are as many widgets as there may be.
+    #[error("too many widgets")]
     TooManyWidgets,
     /// There would be more tags than there may be.
+    #[error("too many tags")]
     TooManyTags,
     /// There would be more shared marks than there may be.
+    #[error("too many marks")]
     TooManyMarks,
     /// The text would have more characters than it may.
+    #[error("text is too long")]
     TextTooLong,
     /// Memory was refused. Nothing has changed.
+    #[error("out of memory")]
     Memory,
 }
 
@@ -96,44 +118,7 @@ impl Fault {
             ShapeFault::WrongArguments => Fault::WrongArguments,
         }
     }
-
-    /// What is wrong, without the words of the command.
-    fn message(self) -> &'static str {
-        match self {
-            Fault::BadIndex(..) => "bad text index",
-            Fault::NoTaggedCharacters(..) => "text doesn't contain any characters tagged with a tag",
-            Fault::NoSuchMark(..) => "there is no such mark",
-            Fault::NoSuchTag(..) => "tag isn't defined in text widget",
-            Fault::BadOption(..) => "bad option",
-            Fault::WrongArguments => "wrong # args",
-            Fault::InvalidCommandName(..) => "invalid command name",
-            Fault::WindowExists(..) => "window name already exists",
-            Fault::BadComparison(..) => "bad comparison operator",
-            Fault::BadGravity(..) => "bad mark gravity",
-            Fault::BadList(..) => "bad list",
-            Fault::IndexOrder(..) => "index before another in the text",
-            Fault::BadBoolean(..) => "expected boolean value",
-            Fault::BadInteger(..) => "expected integer",
-            Fault::StartLineAfterEndLine => "-startline must be less than or equal to -endline",
-            Fault::NothingToUndo => "nothing to undo",
-            Fault::NothingToRedo => "nothing to redo",
-            Fault::DocumentExists => "a document exists",
-            Fault::TooManyWidgets => "too many widgets",
-            Fault::TooManyTags => "too many tags",
-            Fault::TooManyMarks => "too many marks",
-            Fault::TextTooLong => "text is too long",
-            Fault::Memory => "out of memory",
-        }
-    }
 }
-
-impl fmt::Display for Fault {
-    fn fmt<W: fmt::Write>(&self, f: &mut fmt::Formatter<W>) -> fmt::Result {
-        f.write_str(self.message())
-    }
-}
-
-impl Error for Fault {}
 
 impl From<AllocError> for Fault {
     ghost from_gives = { λ _ fault. fault ≡ Memory };

@@ -140,7 +140,8 @@ pub fn count<S: TextStore>(
     requires from { view.now.s + from ≤ view.now.e }
     requires to { view.now.s + to ≤ view.now.e }
     ensures { IfOk result (λ answer. string_bytes answer
-        ≡ encode_utf8_all (list_text (counted options.now (shown (S.content view.now.store.now) view.now.s view.now.e) from to))) }
+        ≡ encode_utf8_all (list_text
+        (counted options.now (shown (S.content view.now.store.now) view.now.s view.now.e) from to))) }
 {
     if options.is_empty() {
         return list_counts(alloc, view, &[Counted::Characters], from, to);

@@ -8,7 +8,6 @@ ghost use Rattle.search_dump.specs.Dump.{name_of_rank};
 ghost use Rattle.search_dump.specs.MarksAhead.{own_place_in, place_in, shared_place_in, shown_of, Has, IsMarkBehind};
 ghost use Rattle.search_dump.specs.Sight.{marks_in, IsFirstMark, ShowsLines};
 
-
 use mark_table::{MarkView, Origin, WidgetMark};
 use text_index::{Names, View};
 use text_model::{MarkNo, TextStore};
@@ -38,7 +37,8 @@ impl Marked {
         requires view { ShowsLines S.content view.now }
         requires widget { names.now.widget.0 < MOST_WIDGETS }
         requires usable { Has (marks_in S.content view.now names.now) (shown_of view.now.s self) }
-        ensures { IsMarkBehind (marks_in S.content view.now names.now) (shown_of view.now.s self) (option_map (shown_of view.now.s) result) }
+        ensures { IsMarkBehind (marks_in S.content view.now names.now) (shown_of view.now.s self)
+            (option_map (shown_of view.now.s) result) }
     {
         next_mark(view, names, Origin::Mark(self.mark))
     }
@@ -72,7 +72,8 @@ fn shared_place<S: TextStore>(view: &View<'_, S>, number: MarkNo) -> Option<usiz
 fn place_of<S: TextStore>(view: &View<'_, S>, names: &Names<'_>, mark: WidgetMark) -> Option<usize>
     requires view { ShowsLines S.content view.now }
     requires widget { names.now.widget.0 < MOST_WIDGETS }
-    ensures { result ≡ place_in (S.content view.now.store.now) view.now.s view.now.e names.now.marks.now.marks names.now.widget.0 mark }
+    ensures { result
+        ≡ place_in (S.content view.now.store.now) view.now.s view.now.e names.now.marks.now.marks names.now.widget.0 mark }
 {
     match mark {
         WidgetMark::Insert => own_place(view, MarkNo(2 * names.widget.0)),

@@ -82,7 +82,8 @@ fn push_tag<S: TextStore>(
     requires within { view.now.s + place ≤ view.now.e }
     requires tag { at < length names.now.tags.now.tags }
     ensures { OnOk result (Goes (string_bytes list.old) (string_bytes list.new) (if_listed is_listed
-        (element (chars key.now) (text_in S.content view.now) place (slice_index_or (names_of names.now.tags.now.tags) at [])))) }
+        (element (chars key.now) (text_in S.content view.now) place
+        (slice_index_or (names_of names.now.tags.now.tags) at [])))) }
 {
     if !is_listed {
         return Ok(());
@@ -112,7 +113,8 @@ fn push_tags<S: TextStore>(
     requires widget { names.now.widget.0 < MOST_WIDGETS }
     requires within { view.now.s + place ≤ view.now.e }
     ensures { OnOk result (Goes (string_bytes list.old) (string_bytes list.new) (flat_map
-        (only_in on off names.now.widget.0 (chars key.now) (text_in S.content view.now) place) names.now.tags.now.tags)) }
+        (only_in on off names.now.widget.0 (chars key.now) (text_in S.content view.now) place)
+        names.now.tags.now.tags)) }
 {
     for at in 0..names.tags.len() {
         let slot = own_slot(names, at);
@@ -154,7 +156,8 @@ fn push_mark<S: TextStore>(
     requires within { view.now.s + place ≤ view.now.e }
     requires usable { Has (marks_in S.content view.now names.now) (shown_of view.now.s mark) }
     ensures { OnOk result (Goes (string_bytes list.old) (string_bytes list.new) (if_listed is_listed
-        (mark_element (text_in S.content view.now) (marks.names_of names.now.marks.now.marks) place (shown_of view.now.s mark)))) }
+        (mark_element (text_in S.content view.now) (marks.names_of names.now.marks.now.marks) place
+        (shown_of view.now.s mark)))) }
 {
     if !is_listed {
         return Ok(());
@@ -175,7 +178,8 @@ fn push_marks_at<S: TextStore>(
     requires widget { names.now.widget.0 < MOST_WIDGETS }
     requires within { view.now.s + place ≤ view.now.e }
     requires first { IsFirstMark S.content view.now names.now (view.now.s + place) first }
-    ensures goes { OnOk result (Goes (string_bytes list.old) (string_bytes list.new) (if_listed is_listed (mark_elements (seen_in S.content view.now names.now) place))) }
+    ensures goes { OnOk result (Goes (string_bytes list.old) (string_bytes list.new)
+        (if_listed is_listed (mark_elements (seen_in S.content view.now names.now) place))) }
     ensures next { IfOk result (λ next. IsFirstMark S.content view.now names.now (view.now.s + place + 1) next) }
 {
     let mut next = first;
@@ -200,7 +204,8 @@ fn push_listed_tags<S: TextStore>(
     requires view { ShowsLines S.content view.now }
     requires widget { names.now.widget.0 < MOST_WIDGETS }
     requires within { view.now.s + place ≤ view.now.e }
-    ensures { OnOk result (Goes (string_bytes list.old) (string_bytes list.new) (tags_at listed (seen_in S.content view.now names.now) place)) }
+    ensures { OnOk result (Goes (string_bytes list.old) (string_bytes list.new)
+        (tags_at listed (seen_in S.content view.now names.now) place)) }
 {
     if !listed.tags {
         return Ok(());
@@ -220,9 +225,12 @@ fn push_listed_marks<S: TextStore>(
     requires view { ShowsLines S.content view.now }
     requires widget { names.now.widget.0 < MOST_WIDGETS }
     requires within { view.now.s + place ≤ view.now.e }
-    requires first { IsTrue (stops_at_marks listed) → IsFirstMark S.content view.now names.now (view.now.s + place) first }
-    ensures goes { OnOk result (Goes (string_bytes list.old) (string_bytes list.new) (if_listed listed.marks (mark_elements (seen_in S.content view.now names.now) place))) }
-    ensures next { IfOk result (λ next. IsTrue (stops_at_marks listed) → IsFirstMark S.content view.now names.now (view.now.s + place + 1) next) }
+    requires first { IsTrue (stops_at_marks listed) →
+        IsFirstMark S.content view.now names.now (view.now.s + place) first }
+    ensures goes { OnOk result (Goes (string_bytes list.old) (string_bytes list.new)
+        (if_listed listed.marks (mark_elements (seen_in S.content view.now names.now) place))) }
+    ensures next { IfOk result (λ next. IsTrue (stops_at_marks listed) →
+        IsFirstMark S.content view.now names.now (view.now.s + place + 1) next) }
     ensures behind { IfOk result (λ next. IfSome next (λ mark. place < mark.place)) }
 {
     if !listed.stops_at_marks() {
@@ -242,7 +250,8 @@ fn push_listed_text<S: TextStore>(
     requires view { ShowsLines S.content view.now }
     requires ordered { from ≤ to }
     requires within { view.now.s + to ≤ view.now.e }
-    ensures { OnOk result (Goes (string_bytes list.old) (string_bytes list.new) (if_listed listed.text (element (codes "text")
+    ensures { OnOk result (Goes (string_bytes list.old) (string_bytes list.new)
+        (if_listed listed.text (element (codes "text")
         (text_in S.content view.now) from (slice_range (text_in S.content view.now) from to)))) }
 {
     let _end = view.e;
@@ -282,7 +291,8 @@ fn stop_at_tag<S: TextStore>(
     ensures ahead { AreAhead (S.content view.now.store.now) view.now.s view.now.e place changes.new.next }
     ensures above { place < result }
     ensures below { result ≤ to }
-    ensures stop { IsTrue (stops_at_tags listed) → IsNextStop (has_tag_at (seen_in S.content view.now names.now)) place to result }
+    ensures stop { IsTrue (stops_at_tags listed) →
+        IsNextStop (has_tag_at (seen_in S.content view.now names.now)) place to result }
 {
     if !listed.stops_at_tags() {
         return to;
@@ -308,7 +318,8 @@ fn stop_at_line<S: TextStore>(view: &View<'_, S>, listed: Listed, place: usize, 
     requires within { view.now.s + to ≤ view.now.e }
     ensures above { place < result }
     ensures below { result ≤ to }
-    ensures stop { IsTrue listed.text → IsNextStop (λ k. column_of (text_in S.content view.now) k == 0) place to result }
+    ensures stop { IsTrue listed.text →
+        IsNextStop (λ k. column_of (text_in S.content view.now) k == 0) place to result }
 {
     if !listed.text {
         return to;
@@ -331,10 +342,12 @@ fn next_stop<S: TextStore>(
     requires some { place < to }
     requires within { view.now.s + to ≤ view.now.e }
     requires ahead { AreAhead (S.content view.now.store.now) view.now.s view.now.e place changes.old.next }
-    requires mark { IsTrue (stops_at_marks listed) → IsFirstMark S.content view.now names.now (view.now.s + place + 1) mark }
+    requires mark { IsTrue (stops_at_marks listed) →
+        IsFirstMark S.content view.now names.now (view.now.s + place + 1) mark }
     requires behind { IfSome mark (λ next. place < next.place) }
     ensures ahead { AreAhead (S.content view.now.store.now) view.now.s view.now.e result changes.new.next }
-    ensures mark { IsTrue (stops_at_marks listed) → IsFirstMark S.content view.now names.now (view.now.s + result) mark }
+    ensures mark { IsTrue (stops_at_marks listed) →
+        IsFirstMark S.content view.now names.now (view.now.s + result) mark }
     ensures stop { IsStop listed (seen_in S.content view.now names.now) place to result }
 {
     let tag = stop_at_tag(changes, view, names, listed, place, to);
@@ -354,8 +367,10 @@ fn push_elements<S: TextStore>(
     requires widget { names.now.widget.0 < MOST_WIDGETS }
     requires ordered { from ≤ to }
     requires within { view.now.s + to ≤ view.now.e }
-    ensures goes { OnOk result (Goes (string_bytes list.old) (string_bytes list.new) (flat_map (elements_at listed (seen_in S.content view.now names.now) from to) (places from to))) }
-    ensures mark { IfOk result (λ mark. IsTrue (stops_at_marks listed) → IsFirstMark S.content view.now names.now (view.now.s + to) mark) }
+    ensures goes { OnOk result (Goes (string_bytes list.old) (string_bytes list.new)
+        (flat_map (elements_at listed (seen_in S.content view.now names.now) from to) (places from to))) }
+    ensures mark { IfOk result (λ mark. IsTrue (stops_at_marks listed) →
+        IsFirstMark S.content view.now names.now (view.now.s + to) mark) }
 {
     let mut changes = TagChanges::new(from);
     let mut mark = mark_from(view, names, from);
@@ -384,7 +399,8 @@ fn push_end<S: TextStore>(
     requires end { end ≡ length (text_in S.content view.now) }
     requires mark { IsTrue (stops_at_marks listed) → IsFirstMark S.content view.now names.now (view.now.s + end) mark }
     ensures { OnOk result (Goes (string_bytes list.old) (string_bytes list.new)
-        (if_listed listed.tags (tagoff_elements (seen_in S.content view.now names.now) end) ++ if_listed listed.marks (mark_elements (seen_in S.content view.now names.now) end))) }
+        (if_listed listed.tags (tagoff_elements (seen_in S.content view.now names.now) end)
+        ++ if_listed listed.marks (mark_elements (seen_in S.content view.now names.now) end))) }
 {
     push_listed_tags(list, view, names, listed, end)?;
     push_listed_marks(list, view, names, listed, end, mark)?;
@@ -404,7 +420,8 @@ fn push_dump<S: TextStore>(
     requires widget { names.now.widget.0 < MOST_WIDGETS }
     requires from { view.now.s + from ≤ view.now.e }
     requires to { view.now.s + to ≤ view.now.e }
-    ensures { OnOk result (Goes (string_bytes list.old) (string_bytes list.new) (dump_elements listed (seen_in S.content view.now names.now) from to)) }
+    ensures { OnOk result (Goes (string_bytes list.old) (string_bytes list.new)
+        (dump_elements listed (seen_in S.content view.now names.now) from to)) }
 {
     if to < from {
         return Ok(());

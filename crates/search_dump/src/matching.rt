@@ -208,10 +208,12 @@ fn goes_on<S: TextStore>(
     place: usize,
 ) -> Result<bool, AllocError>
     requires view { ShowsLines S.content view.now }
-    requires period { IsPeriod (chars pattern.now.text.now) period.len (chars period.front.now) (chars period.tail.now) }
+    requires period { IsPeriod (chars pattern.now.text.now) period.len (chars period.front.now)
+        (chars period.tail.now) }
     requires matches { HasMatchIn S.content view.now pattern.now place }
     requires room { HasRoom direction (text_in S.content view.now) place pattern.now.len period.len }
-    ensures { IfOk result (λ goes_on. IsTrue goes_on → HasMatchIn S.content view.now pattern.now (beside direction place period.entry.len)) }
+    ensures { IfOk result (λ goes_on. IsTrue goes_on →
+        HasMatchIn S.content view.now pattern.now (beside direction place period.entry.len)) }
 {
     let _end = view.e;
     match direction {

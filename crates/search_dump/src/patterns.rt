@@ -46,7 +46,8 @@ impl<'a> Period<'a> {
     /// The period of a pattern. The half of the pattern stands in it a second time at the period first; where the rest
     /// doesn't go on like that, no distance within the half has a second match.
     fn of(pattern: &'a str) -> Option<Period<'a>>
-        ensures { IfSome result (λ period. IsPeriod (chars pattern.now) period.len (chars period.front.now) (chars period.tail.now)) }
+        ensures { IfSome result (λ period. IsPeriod (chars pattern.now) period.len (chars period.front.now)
+            (chars period.tail.now)) }
     {
         let half = &pattern[..pattern.ceil_char_boundary(pattern.len().div_ceil(2))];
         let mut characters = pattern.chars();
@@ -92,7 +93,8 @@ impl<'a> Pattern<'a> {
 
 /// How many characters stand before the first place in a text at which a pattern does.
 fn first_place(text: &str, pattern: &str) -> Option<usize>
-    ensures { result ≡ find (matches_at (chars pattern.now) (chars text.now) (length (chars text.now))) (places 0 (length (chars text.now) + 1)) }
+    ensures { result ≡ find (matches_at (chars pattern.now) (chars text.now) (length (chars text.now)))
+        (places 0 (length (chars text.now) + 1)) }
 {
     let at = text.find(pattern)?;
     Some(text[..at].chars().count())

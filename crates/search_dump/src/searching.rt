@@ -119,7 +119,8 @@ fn next_match<S: TextStore>(
     requires within { stretch.end ≤ length (text_in S.content view.now) }
     requires matches { HasMatchIn S.content view.now pattern.now place }
     requires behind { IsBehind search.direction stretch place }
-    ensures { IfOk result (λ next. next ≡ next_of search.wanted (nearest_in S.content view.now pattern.now search.direction stretch)) }
+    ensures { IfOk result (λ next. next ≡ next_of search.wanted
+        (nearest_in S.content view.now pattern.now search.direction stretch)) }
 {
     match search.wanted {
         Wanted::First => Ok(None),
@@ -141,7 +142,8 @@ fn list_from<S: TextStore>(
     requires high { stretch.high ≤ length (text_in S.content view.now) }
     requires within { stretch.end ≤ length (text_in S.content view.now) }
     requires first { first ≡ nearest_in S.content view.now pattern.now search.direction stretch }
-    ensures { OnOk result (Goes (string_bytes list.old) (string_bytes list.new) (listed_in S.content view.now pattern.now search stretch)) }
+    ensures { OnOk result (Goes (string_bytes list.old) (string_bytes list.new)
+        (listed_in S.content view.now pattern.now search stretch)) }
 {
     let _end = view.e;
     let mut word = String::new(*list.allocator());
@@ -166,7 +168,8 @@ fn list_stretch<S: TextStore>(
     requires view { ShowsLines S.content view.now }
     requires high { stretch.high ≤ length (text_in S.content view.now) }
     requires within { stretch.end ≤ length (text_in S.content view.now) }
-    ensures { OnOk result (Goes (string_bytes list.old) (string_bytes list.new) (listed_in S.content view.now pattern.now search stretch)) }
+    ensures { OnOk result (Goes (string_bytes list.old) (string_bytes list.new)
+        (listed_in S.content view.now pattern.now search stretch)) }
 {
     let first = nearest_match(view, pattern, search.direction, stretch)?;
     list_from(list, view, pattern, search, stretch, first)
@@ -184,7 +187,8 @@ fn list_round<S: TextStore>(
     requires view { ShowsLines S.content view.now }
     requires from { view.now.s + from ≤ view.now.e }
     requires listed { IfSome listed (λ place. place + pattern.now.len ≤ length (text_in S.content view.now)) }
-    ensures { OnOk result (Goes (string_bytes list.old) (string_bytes list.new) (listed_behind S.content view.now pattern.now search from listed)) }
+    ensures { OnOk result (Goes (string_bytes list.old) (string_bytes list.new)
+        (listed_behind S.content view.now pattern.now search from listed)) }
 {
     let _end = view.e;
     let whole = search.second_stretch(view.len(), from);
@@ -204,7 +208,8 @@ fn list_round_whole<S: TextStore>(
 ) -> Result<(), AllocError>
     requires view { ShowsLines S.content view.now }
     requires from { view.now.s + from ≤ view.now.e }
-    ensures { OnOk result (Goes (string_bytes list.old) (string_bytes list.new) (listed_whole S.content view.now pattern.now search from None)) }
+    ensures { OnOk result (Goes (string_bytes list.old) (string_bytes list.new)
+        (listed_whole S.content view.now pattern.now search from None)) }
 {
     let stretch = search.first_stretch(view.len(), from, None);
     let first = nearest_match(view, pattern, search.direction, stretch)?;
@@ -224,7 +229,8 @@ fn list_matches<S: TextStore>(
     requires view { ShowsLines S.content view.now }
     requires from { view.now.s + from ≤ view.now.e }
     requires stop { IfSome stop (λ place. view.now.s + place ≤ view.now.e) }
-    ensures { OnOk result (Goes (string_bytes list.old) (string_bytes list.new) (listed_whole S.content view.now pattern.now search from stop)) }
+    ensures { OnOk result (Goes (string_bytes list.old) (string_bytes list.new)
+        (listed_whole S.content view.now pattern.now search from stop)) }
 {
     match stop {
         None => list_round_whole(list, view, pattern, search, from),
@@ -250,7 +256,8 @@ pub fn search<S: TextStore>(
     requires from { view.now.s + from ≤ view.now.e }
     requires stop { IfSome stop (λ place. view.now.s + place ≤ view.now.e) }
     ensures { IfOk result (λ answer. string_bytes answer ≡ encode_utf8_all (list_text
-        (search_result search (chars pattern.now) (shown (S.content view.now.store.now) view.now.s view.now.e) from stop))) }
+        (search_result search (chars pattern.now) (shown
+        (S.content view.now.store.now) view.now.s view.now.e) from stop))) }
 {
     let pattern = compared(String::from_str(alloc, pattern)?, search.ignores_case)?;
     let pattern = Pattern::new(pattern.as_str(), search.ignores_case);

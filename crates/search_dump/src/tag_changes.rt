@@ -29,7 +29,9 @@ pub fn own_slot(names: &Names<'_>, at: usize) -> TagSlot
 pub fn tags_before<S: TextStore>(view: &View<'_, S>, place: usize) -> TagSet
     requires view { ShowsLines S.content view.now }
     requires within { view.now.s + place ≤ view.now.e }
-    ensures { (slot : ℕ) → set.contains result slot ≡ flag_before (shown_flags slot (S.content view.now.store.now) view.now.s view.now.e) place }
+    ensures { (slot : ℕ) →
+        set.contains result slot ≡ flag_before (shown_flags slot
+        (S.content view.now.store.now) view.now.s view.now.e) place }
 {
     let _end = view.e;
     if place == 0 {
@@ -42,7 +44,9 @@ pub fn tags_before<S: TextStore>(view: &View<'_, S>, place: usize) -> TagSet
 pub fn tags_behind<S: TextStore>(view: &View<'_, S>, place: usize) -> TagSet
     requires view { ShowsLines S.content view.now }
     requires within { view.now.s + place ≤ view.now.e }
-    ensures { (slot : ℕ) → set.contains result slot ≡ flag_at (shown_flags slot (S.content view.now.store.now) view.now.s view.now.e) place }
+    ensures { (slot : ℕ) →
+        set.contains result slot ≡ flag_at (shown_flags slot
+        (S.content view.now.store.now) view.now.s view.now.e) place }
 {
     let _end = view.e;
     if place == view.len() {
@@ -56,7 +60,8 @@ fn change_behind<S: TextStore>(view: &View<'_, S>, slot: TagSlot, place: usize) 
     requires view { ShowsLines S.content view.now }
     requires slot { slot.0 < slot_count }
     requires within { view.now.s + place < view.now.e }
-    ensures value { result ≡ next_change (shown_flags slot.0 (S.content view.now.store.now) view.now.s view.now.e) place }
+    ensures value { result ≡ next_change (shown_flags slot.0
+        (S.content view.now.store.now) view.now.s view.now.e) place }
     ensures above { place < result }
     ensures bound { view.now.s + result ≤ view.now.e }
 {
@@ -86,7 +91,8 @@ impl TagChanges {
         requires within { view.now.s + place < view.now.e }
         requires ahead { AreAhead (S.content view.now.store.now) view.now.s view.now.e place self.old.next }
         ensures known { IsKnown (S.content view.now.store.now) view.now.s view.now.e place self.new.next slot.0 }
-        ensures keeps { (other : ℕ) → IsKnown (S.content view.now.store.now) view.now.s view.now.e place self.old.next other
+        ensures keeps { (other : ℕ) →
+            IsKnown (S.content view.now.store.now) view.now.s view.now.e place self.old.next other
             → IsKnown (S.content view.now.store.now) view.now.s view.now.e place self.new.next other }
         ensures ahead { AreAhead (S.content view.now.store.now) view.now.s view.now.e place self.new.next }
     {
@@ -102,7 +108,8 @@ impl TagChanges {
         requires widget { names.now.widget.0 < MOST_WIDGETS }
         requires within { view.now.s + place < view.now.e }
         requires ahead { AreAhead (S.content view.now.store.now) view.now.s view.now.e place self.old.next }
-        ensures known { (at : ℕ) → at < length names.now.tags.now.tags → IsKnown (S.content view.now.store.now) view.now.s view.now.e place self.new.next
+        ensures known { (at : ℕ) → at < length names.now.tags.now.tags →
+            IsKnown (S.content view.now.store.now) view.now.s view.now.e place self.new.next
             (slot_of_row names.now.widget.0 (slots_of names.now.tags.now.tags) at) }
         ensures ahead { AreAhead (S.content view.now.store.now) view.now.s view.now.e place self.new.next }
     {
@@ -115,7 +122,8 @@ impl TagChanges {
     /// The first of the next places, or another place, if that is before all of them.
     pub fn nearest(&self, names: &Names<'_>, place: usize) -> usize
         requires widget { names.now.widget.0 < MOST_WIDGETS }
-        ensures { IsNearest self.now.next names.now.widget.0 (slots_of names.now.tags.now.tags) (length names.now.tags.now.tags) place result }
+        ensures { IsNearest self.now.next names.now.widget.0 (slots_of names.now.tags.now.tags)
+            (length names.now.tags.now.tags) place result }
     {
         let mut nearest = place;
         for at in 0..names.tags.len() {

@@ -3,9 +3,19 @@ use Rattle.std.specs.Prelude.{chars, string_bytes, ◌++◌, ◌∷◌, [], None
 use Rattle.std.specs.Option.{option_map}
 use Rattle.tag_table.specs.Tags.{Tags, names_of, slot_of, IsFull}
 use Rattle.text_model.specs.declared.places.TagSlot.{TagSlot}
-use Rattle.command_parts.proofs.MadeLaws.{with_name-known, with_name-full, with_name-made, slot_made, front_more, of_some}
+use Rattle.command_parts.proofs.MadeLaws.{with_name-known, with_name-full, with_name-made, slot_made, front_more, front_same, of_some}
 use Rattle.command_parts.specs.Tagging.{IsFront}
 use Rattle.command_parts.proofs.tagging.make_tag.Goals as goal
+
+pub create-requires : goal.create-requires
+create-requires c =
+    ap (λ bytes. slot_of (chars bytes) c.args.tags.now.tags) c.in_ok-from_str.ensures.ok ∙ sym c.find.ensures.value ∙ ap (option_map (λ (slot : TagSlot). slot.0)) c.in_default.is
+
+pub returns-in_err-create-clause-front : goal.returns-in_err-create-clause-front
+returns-in_err-create-clause-front c = subst (IsFront c.args.tags.now) (sym c.in_err-create.ensures.err) (front_same c.args.tags.now)
+
+pub returns-in-None-clause-front : goal.returns-in-None-clause-front
+returns-in-None-clause-front c = subst (IsFront c.args.tags.now) (sym (c.in_ok-create.ensures.refused (subst IsNone (sym c.in-None.is) refl))) (front_same c.args.tags.now)
 
 pub returns-in-Some-clause-made : goal.returns-in-Some-clause-made
 returns-in-Some-clause-made c = with_name-known (chars c.args.name.now) c.args.tags.now.tags c.in-Some.slot.0 (sym c.find.ensures.value ∙ ap (option_map (λ (slot : TagSlot). slot.0)) c.in-Some.is)

@@ -1,5 +1,4 @@
 use Rattle.std.proofs.Common.{◌≡◌, ◌+◌, ◌-◌, ◌<◌, ◌≤◌, ◌^◌, Some, ap, chars, length, subst, sym, ◌∙◌}
-use Rattle.std.specs.Prelude.{IfSome}
 use Rattle.text_index.specs.Views.{shown}
 use Rattle.search_dump.specs.Matches.{compared}
 use Rattle.search_dump.specs.Stretches.{IsPeriod, beside}
