@@ -115,6 +115,17 @@ def most_marks():
     return Row("as many marks as there may be, and one more", commands(*given), lines(*wanted), 1)
 
 
+def long_answers():
+    """Answers that fill what waits to be written by a little less, exactly, and by more."""
+    rows = []
+    for length in (0, 5_000, 8_190, 8_192, 10_000):
+        text = "x" * length
+        word = text or "{}"
+        given = ["text .t", f".t insert 1.0 {word}", ".t get 1.0 1.end", ".t get 1.0 1.end", ".t index 1.end"]
+        rows.append(Row(f"two answers of {length} characters", commands(*given), lines(".t", "", text, text, f"1.{length}"), 0))
+    return rows
+
+
 def many_braces():
     """Braces that are opened, and closed or not."""
     return [
@@ -144,7 +155,7 @@ LIST_ROWS = read_rows(".lists")
 ROWS = [row for row in FILE_ROWS if row.reads is None] + many_braces()
 
 # Rows of so many commands that they aren't run once for each growth.
-LONG_ROWS = [many_lines(), most_widgets()]
+LONG_ROWS = [many_lines(), most_widgets()] + long_answers()
 
 # Rows that take the model half a minute: the program alone runs them.
 PROGRAM_ROWS = [most_marks()]
