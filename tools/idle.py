@@ -63,9 +63,8 @@ def check_script(program, script, tally):
     )
 
 
-def check_worked(program, name, script, tally):
-    """One run of a worked script: the model's output and status, and nothing on standard error."""
-    plain = model.run_output(script)
+def check_worked(program, name, script, plain, tally):
+    """One run of a worked script: this output and status, and nothing on standard error."""
     result = run_program(program, script)
     tally.check(
         (result.output, result.status, result.errors) == (plain.output, plain.status, b""),
@@ -82,7 +81,9 @@ def main():
         for script in scripts_of(form):
             check_script(options.program, script, tally)
     for name, script in worked.program_scripts():
-        check_worked(options.program, name, script, tally)
+        check_worked(options.program, name, script, model.run_output(script), tally)
+    for row in worked.PROGRAM_ROWS:
+        check_worked(options.program, row.name, row.script, row, tally)
     return tally.close()
 
 

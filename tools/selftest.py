@@ -65,6 +65,26 @@ def check_row(row, tally):
     )
 
 
+def with_bars(words):
+    """Words in one line, with a bar before each."""
+    return "".join("|" + word for word in words) + "\n"
+
+
+def check_words(row, tally):
+    """The model splits the row's script into the words that it says."""
+    commands, fault = model.reads_script(row.script)
+    found = "".join(map(with_bars, commands)) + ("" if fault is None else f"{fault}\n")
+    status = 0 if fault is None else 2
+    tally.check((found.encode(), status) == (row.output, row.status), f"row {row.name!r}: {found!r} is not {row.output!r}")
+
+
+def check_list(row, tally):
+    """The model splits the row's list into the elements that it says."""
+    elements = model.split_list(row.script.decode())
+    found = ("bad list\n", 2) if elements is None else (with_bars(elements), 0)
+    tally.check((found[0].encode(), found[1]) == (row.output, row.status), f"row {row.name!r}: {found!r} is not {row.output!r}")
+
+
 # Texts with the list that each spells; None where it spells none.
 LISTS = [
     ("", []),
@@ -343,6 +363,10 @@ def main():
     tally = Tally()
     for row in worked.ROWS + worked.LONG_ROWS:
         check_row(row, tally)
+    for row in worked.WORD_ROWS:
+        check_words(row, tally)
+    for row in worked.LIST_ROWS:
+        check_list(row, tally)
     check_lists(tally)
     check_indices(tally)
     check_values(tally)

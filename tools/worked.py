@@ -59,9 +59,9 @@ def read_file(path):
     return [read_row(lines[begin:end + 1]) for begin, end in zip([0] + [end + 1 for end in ends], ends)]
 
 
-def read_rows():
-    """The rows of all files.  Raises ValueError where two have one name."""
-    files = sorted(name for name in os.listdir(FOLDER) if name.endswith(".rows"))
+def read_rows(ending):
+    """The rows of all files of a kind.  Raises ValueError where two have one name."""
+    files = sorted(name for name in os.listdir(FOLDER) if name.endswith(ending))
     rows = [row for name in files for row in read_file(os.path.join(FOLDER, name))]
     twice = [name for name, count in Counter(row.name for row in rows).items() if count > 1]
     if twice:
@@ -81,6 +81,7 @@ def commands(*given):
 
 MISSING_BRACE = "error: missing close-brace"
 TOO_MANY_WIDGETS = "error: too many widgets"
+TOO_MANY_MARKS = "error: too many marks"
 
 
 def most_widgets():
@@ -102,6 +103,29 @@ def many_lines():
     return Row("lines that go from the middle", b"\n".join((b"text .t",) + appended + asked), wanted, 0)
 
 
+def most_marks():
+    """As many shared marks as there may be, and one more; those of even numbers stand before those of odd ones."""
+    given = ["text .t", ".t insert 1.0 ab", ".t mark set insert 1.0", ".t mark set current 1.0"]
+    given += [f".t mark set m{number} 1.{1 + number % 2}" for number in range(4_096)]
+    asked = {"next": {"m2": "m4", "m2000": "m2002", "m4094": "m1", "m1": "m3", "m4095": ""},
+             "previous": {"m2": "m0", "m2000": "m1998", "m4094": "m4092", "m1": "m4094", "end": "m4095"}}
+    given.append(".t mark set more 1.0")
+    given += [f".t mark {way} {origin}" for way, found in asked.items() for origin in found]
+    wanted = [".t", *4_099 * ("",), TOO_MANY_MARKS, *(mark for found in asked.values() for mark in found.values())]
+    return Row("as many marks as there may be, and one more", commands(*given), lines(*wanted), 1)
+
+
+def long_answers():
+    """Answers that fill what waits to be written by a little less, exactly, and by more."""
+    rows = []
+    for length in (0, 5_000, 8_190, 8_192, 10_000):
+        text = "x" * length
+        word = text or "{}"
+        given = ["text .t", f".t insert 1.0 {word}", ".t get 1.0 1.end", ".t get 1.0 1.end", ".t index 1.end"]
+        rows.append(Row(f"two answers of {length} characters", commands(*given), lines(".t", "", text, text, f"1.{length}"), 0))
+    return rows
+
+
 def many_braces():
     """Braces that are opened, and closed or not."""
     return [
@@ -112,16 +136,29 @@ def many_braces():
             lines(".t", "", "1.199998"),
             0,
         ),
+        Row(
+            "a list of 100,000 open braces",
+            b'text .t; .t insert 1.0 a "' + b"{" * 100_000 + b'"',
+            lines(".t", f'error: bad list "{100_000 * "{"}"'),
+            1,
+        ),
     ]
 
 
-FILE_ROWS = read_rows()
+FILE_ROWS = read_rows(".rows")
+
+# Scripts with the words of their commands, and lists with their elements.
+WORD_ROWS = read_rows(".words")
+LIST_ROWS = read_rows(".lists")
 
 # The model has no limit on reads.
 ROWS = [row for row in FILE_ROWS if row.reads is None] + many_braces()
 
 # Rows of so many commands that they aren't run once for each growth.
-LONG_ROWS = [many_lines(), most_widgets()]
+LONG_ROWS = [many_lines(), most_widgets()] + long_answers()
+
+# Rows that take the model half a minute: the program alone runs them.
+PROGRAM_ROWS = [most_marks()]
 
 
 def long_scripts():

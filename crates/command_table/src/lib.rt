@@ -9,8 +9,6 @@ mod rows;
 mod shapes;
 mod spellings;
 mod switches;
-#[cfg(test)]
-mod tests;
 mod words;
 
 pub use commands::Command;

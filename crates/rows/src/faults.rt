@@ -1,5 +1,6 @@
 use peers::Fault;
 use std::io;
+use tcl_words::{ListFault, ScriptFault};
 
 /// A fault of each kind.
 const FAULTS: [Fault; 23] = [
@@ -28,10 +29,11 @@ const FAULTS: [Fault; 23] = [
     Fault::Memory,
 ];
 
-/// Prints the text of each fault, a line for each.
+/// Prints the text of each fault, a line for each; of those of scripts and lists want of memory alone, as rows have the others.
 pub fn print_faults<R: Print>(rt: &R) -> io::Result<()> {
     for fault in FAULTS {
         println!(rt; "{fault}")?;
     }
-    Ok(())
+    let (script, list) = (ScriptFault::Memory, ListFault::Memory);
+    println!(rt; "{script}\n{list}")
 }

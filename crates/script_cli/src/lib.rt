@@ -7,8 +7,6 @@ mod pieces;
 mod reading;
 mod running;
 mod summary;
-#[cfg(test)]
-mod tests;
 mod turns;
 
 pub use devices::{ByteSink, ByteSource, Watched};

@@ -1,7 +1,7 @@
 use std::alloc::Global;
 use std::process::Abort;
 use std::test::Fail;
-use text_model::{Gravity, Limits, Place, Step, StepList, TagSet, TagSlot, Text};
+use text_model::{Limits, Step, StepList, TagSet, TagSlot, Text};
 
 // ---- steps
 
@@ -69,42 +69,6 @@ fn numbers_have_bounds(rt: HostRuntime) {
             limits.is_some() == *is_known,
             "{chars} {tags} {marks} {widgets}"
         );
-    }
-}
-
-// ---- places
-
-fn is_moved(rt: &impl Abort, offset: usize, gravity: Gravity, moved: usize) {
-    let place = Place { offset, gravity };
-    assert!(rt; place.offset < 10);
-    let found = place.moved(2, 3);
-    assert!(rt;
-        found.offset == moved && found.gravity == gravity,
-        "a mark at {offset}"
-    );
-}
-
-#[test]
-fn marks_move(rt: HostRuntime) {
-    is_moved(&rt, 1, Gravity::Right, 1);
-    is_moved(&rt, 2, Gravity::Left, 2);
-    is_moved(&rt, 2, Gravity::Right, 5);
-    is_moved(&rt, 3, Gravity::Left, 6);
-}
-
-fn is_drawn(rt: &impl Abort, offset: usize, drawn: usize) {
-    let gravity = Gravity::Left;
-    let found = Place { offset, gravity }.drawn(2, 5);
-    assert!(rt;
-        found.offset == drawn && found.gravity == gravity,
-        "a mark at {offset}"
-    );
-}
-
-#[test]
-fn marks_are_drawn(rt: HostRuntime) {
-    for (offset, drawn) in [(1, 1), (2, 2), (4, 2), (5, 2), (6, 3)] {
-        is_drawn(&rt, offset, drawn);
     }
 }
 

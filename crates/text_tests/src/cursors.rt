@@ -1,12 +1,14 @@
 ghost use Rattle.std.specs.Prelude.{◌≡◌, length, OnOk};
 ghost use Rattle.text_cursor.specs.Cursors.{IsCursor};
 
-use crate::fixtures::{NO_ANCHORS, SLOT, Scene};
 use std::alloc::{AllocError, Global};
 use std::process::Abort;
 use std::test::Fail;
 use text_cursor::{Cursor, line_at, line_behind};
-use text_model::{PlainStore, TagSet, Text, TextStore};
+use text_model::{Edit, PlainStore, Step, StepList, TagSet, TagSlot, Text, TextStore};
+
+// The slot that is set.
+const SLOT: TagSlot = TagSlot(7);
 
 // What a cursor does; a text that it puts in has the tag.
 enum Move {
@@ -134,24 +136,42 @@ fn check_looked<S: TextStore>(
     Ok(())
 }
 
+// `ab` and `cd`.
+fn two_lines<S: TextStore>(alloc: Global) -> Result<S, AllocError> {
+    let mut store = S::new(alloc)?;
+    let mut steps = StepList::new(alloc);
+    let text = Text::new(String::from_str(alloc, "ab\ncd")?);
+    steps.push(Step::Insert(0, text, TagSet::empty()))?;
+    let prepared = store.prepare(&Edit { steps })?;
+    store.commit(prepared);
+    Ok(store)
+}
+
+// `b` and the newline behind it have the tag.
+fn set_tag<S: TextStore>(rt: &impl Abort, alloc: Global, store: &mut S) -> Result<(), AllocError> {
+    assert!(rt; 3 <= store.len());
+    let mut steps = StepList::new(alloc);
+    steps.push(Step::SetTag(1, 3, SLOT, true))?;
+    let prepared = store.prepare(&Edit { steps })?;
+    store.commit(prepared);
+    Ok(())
+}
+
 #[test]
 fn a_cursor_looks_around(rt: HostRuntime) -> Result<(), Fail> {
-    let alloc = rt.alloc();
-    let mut scene: Scene<PlainStore> = Scene::new(alloc, "ab\ncd", NO_ANCHORS)?;
-    let tagged = scene.tag(&rt, alloc, 1, 3, SLOT, true);
-    assert!(rt; tagged.is_ok());
+    let mut store: PlainStore = two_lines(rt.alloc())?;
+    set_tag(&rt, rt.alloc(), &mut store)?;
     for row in &LOOKED {
-        check_looked(&rt, alloc, &scene.store, row)?;
+        check_looked(&rt, rt.alloc(), &store, row)?;
     }
     Ok(())
 }
 
 #[test]
 fn lines_begin(rt: HostRuntime) -> Result<(), Fail> {
-    let alloc = rt.alloc();
-    let scene: Scene<PlainStore> = Scene::new(alloc, "ab\ncd", NO_ANCHORS)?;
-    assert!(rt; 6 <= scene.store.len());
-    assert!(rt; line_at(&scene.store, 4) == 3 && line_behind(&scene.store, 2) == 3);
-    assert!(rt; line_behind(&scene.store, 6) == 6);
+    let store: PlainStore = two_lines(rt.alloc())?;
+    assert!(rt; 6 <= store.len());
+    assert!(rt; line_at(&store, 4) == 3 && line_behind(&store, 2) == 3);
+    assert!(rt; line_behind(&store, 6) == 6);
     Ok(())
 }

@@ -1,9 +1,6 @@
 ghost use Rattle.std.specs.Prelude.{◌≡◌, false};
 
-use crate::output::Output;
-use crate::running::run;
-use crate::summary::{RunFault, RunSummary, outcome};
-use devices::{ByteSink, ByteSource, Watched};
+use script_cli::{ByteSink, ByteSource, RunFault, RunSummary, Watched, outcome, run};
 use std::alloc::Global;
 use std::cell::Cell;
 use std::io;
@@ -133,7 +130,7 @@ fn tells_how_a_run_ended(rt: HostRuntime) {
         (Err(RunFault::Endless), 2, "too many reads"),
     ];
     for (ended, status, words) in ends {
-        assert_eq!(rt; outcome(&ended), (status, words));
+        assert!(rt; outcome(&ended) == (status, words), "{words}");
     }
 }
 
@@ -144,15 +141,20 @@ static LENGTHS: [(usize, usize); 3] = [(1, 102), (3, 36), (4096, 2)];
 #[test]
 fn runs_whatever_the_reads_and_the_writes(rt: HostRuntime) -> Result<(), Fail> {
     let all = output_of(rt.alloc(), SCRIPT)?;
-    assert_eq!(rt; all.len(), 102);
+    assert!(rt; all.len() == 102);
     for (most, writes) in LENGTHS {
         let mut source = reader(SCRIPT, most, None);
         let mut sink = writer(rt.alloc(), most, usize::MAX, false);
         let ended = run::<PlainStore, _, _>(rt.alloc(), &mut source, &mut sink, limits(100)?);
-        assert_eq!(rt; ended, Ok(REFUSED));
-        assert_eq!(rt; sink.get_ref().written, all);
-        assert_eq!(rt; sink.get_ref().writes, writes);
-        assert_eq!(rt; source.get_ref().reads, SCRIPT.len().div_ceil(most) + 1);
+        assert!(rt; ended == Ok(REFUSED), "{most}");
+        assert!(rt;
+            sink.get_ref().written == all && sink.get_ref().writes == writes,
+            "{most}"
+        );
+        assert!(rt;
+            source.get_ref().reads == SCRIPT.len().div_ceil(most) + 1,
+            "{most}"
+        );
     }
     Ok(())
 }
@@ -173,14 +175,19 @@ fn a_reader_fails_at_each_place(rt: HostRuntime) -> Result<(), Fail> {
         let mut source = reader(SCRIPT, 3, Some(place));
         let mut sink = writer(rt.alloc(), 4096, usize::MAX, false);
         let ended = run::<PlainStore, _, _>(rt.alloc(), &mut source, &mut sink, limits(100)?);
-        assert_eq!(rt; ended, Err(RunFault::Read), "after {place} bytes");
+        assert!(rt; ended == Err(RunFault::Read), "after {place} bytes");
         let written = &sink.get_ref().written;
-        assert!(rt; all.starts_with(written));
-        assert_eq!(rt; written.len(), printed_before(place), "after {place} bytes");
+        assert!(rt;
+            all.starts_with(written) && written.len() == printed_before(place),
+            "after {place} bytes"
+        );
         let reads = source.get_ref().reads;
-        assert_eq!(rt; reads, place.div_ceil(3) + 1);
-        assert_eq!(rt; source.read(&mut [0; 4]), 0);
-        assert_eq!(rt; source.get_ref().reads, reads);
+        assert!(rt; reads == place.div_ceil(3) + 1, "after {place} bytes");
+        let again = source.read(&mut [0; 4]);
+        assert!(rt;
+            again == 0 && source.get_ref().reads == reads,
+            "after {place} bytes"
+        );
     }
     Ok(())
 }
@@ -193,39 +200,28 @@ fn a_writer_fails_at_each_place(rt: HostRuntime) -> Result<(), Fail> {
             let mut source = reader(SCRIPT, most, None);
             let mut sink = writer(rt.alloc(), 5, place, place % 2 == 0);
             let ended = run::<PlainStore, _, _>(rt.alloc(), &mut source, &mut sink, limits(100)?);
-            assert_eq!(rt; ended, Err(RunFault::Write), "after {place} bytes");
-            assert_eq!(rt; &sink.get_ref().written[..], &all[..place]);
+            assert!(rt; ended == Err(RunFault::Write), "after {place} bytes");
+            assert!(rt;
+                sink.get_ref().written[..] == all[..place],
+                "after {place} bytes"
+            );
             let writes = sink.get_ref().writes;
-            assert_eq!(rt; sink.write(b"more"), 0);
-            assert_eq!(rt; sink.get_ref().writes, writes);
+            let again = sink.write(b"more");
+            assert!(rt;
+                again == 0 && sink.get_ref().writes == writes,
+                "after {place} bytes"
+            );
         }
     }
     Ok(())
 }
 
-// A script, how many reads it may take, whether the run ends by itself in these, and what is printed.
-static ALLOWED: [(&'static [u8], u32, bool, &'static str); 16] = [
-    (b"", 0, false, ""),
-    (b"", 1, true, ""),
-    (b"text .t", 1, false, ""),
-    (b"text .t", 2, true, ".t\n"),
-    (b"text .t", u32::MAX, true, ".t\n"),
-    (b"text .t\n", 0, false, ""),
-    (b"text .t\n", 1, false, ".t\n"),
-    (b"text .t\n", 2, true, ".t\n"),
-    (b"text .t\n[", 0, false, ""),
-    (
-        b"text .t\n[",
-        1,
-        true,
-        ".t\nerror: substitution isn't supported\n",
-    ),
-    (b"text .t\n\"", 1, false, ".t\n"),
-    (b"text .t\n\"", 2, true, ".t\nerror: missing \"\n"),
-    (&[b' '; 4096], 1, false, ""),
-    (&[b' '; 4096], 2, true, ""),
-    (&[b' '; 4097], 2, false, ""),
-    (&[b' '; 4097], 3, true, ""),
+// A script of so many blanks, how many reads it may take, and whether the run ends by itself in these.
+static ALLOWED: [(&'static [u8], u32, bool); 4] = [
+    (&[b' '; 4096], 1, false),
+    (&[b' '; 4096], 2, true),
+    (&[b' '; 4097], 2, false),
+    (&[b' '; 4097], 3, true),
 ];
 
 fn check_allowed(
@@ -234,24 +230,25 @@ fn check_allowed(
     script: &'static [u8],
     reads: u32,
     ends: bool,
-    output: &str,
 ) -> Result<(), Fail> {
     let mut source = reader(script, 4096, None);
     let mut sink = writer(alloc, 4096, usize::MAX, false);
     let ended = run::<PlainStore, _, _>(alloc, &mut source, &mut sink, limits(reads)?);
-    assert_eq!(rt; ended.is_ok(), ends, "in {reads} reads");
-    assert_eq!(rt; ended == Err(RunFault::Endless), !ends);
-    assert_eq!(rt; &sink.get_ref().written[..], output.as_bytes());
-    if !ends {
-        assert_eq!(rt; source.get_ref().reads as u64, u64::from(reads));
-    }
+    assert!(rt;
+        ended.is_ok() == ends && (ended == Err(RunFault::Endless)) != ends,
+        "in {reads} reads"
+    );
+    assert!(rt;
+        source.get_ref().reads as u64 == u64::from(reads),
+        "in {reads} reads"
+    );
     Ok(())
 }
 
 #[test]
 fn reads_no_more_than_it_may(rt: HostRuntime) -> Result<(), Fail> {
-    for (script, reads, ends, output) in ALLOWED {
-        check_allowed(&rt, rt.alloc(), script, reads, ends, output)?;
+    for (script, reads, ends) in ALLOWED {
+        check_allowed(&rt, rt.alloc(), script, reads, ends)?;
     }
     Ok(())
 }
@@ -307,56 +304,6 @@ fn a_command_is_answered_before_the_next_read(rt: HostRuntime) -> Result<(), Fai
     let mut sink = Watched::new(LineWriter { taken: &taken });
     let ended = run::<PlainStore, _, _>(rt.alloc(), &mut source, &mut sink, limits(100)?);
     assert!(rt; ended.is_ok());
-    assert_eq!(rt; source.get_ref().taken_at_ninth, 3);
-    assert_eq!(rt; taken.get(), 7);
-    Ok(())
-}
-
-#[test]
-fn prints_a_script_fault_last(rt: HostRuntime) -> Result<(), Fail> {
-    let faults: [(&'static [u8], &str); 2] = [
-        (b"foo\n[bar]\nbaz", "error: substitution isn't supported\n"),
-        (b"foo\n\xff\nbaz", "error: script isn't UTF-8\n"),
-    ];
-    for (script, line) in faults {
-        let mut source = reader(script, 4096, None);
-        let mut sink = writer(rt.alloc(), 4096, usize::MAX, false);
-        let ended = run::<PlainStore, _, _>(rt.alloc(), &mut source, &mut sink, limits(100)?);
-        let summary = RunSummary {
-            commands: 1,
-            refused: 1,
-            script_fault: true,
-        };
-        assert_eq!(rt; ended, Ok(summary));
-        assert!(rt; sink.get_ref().written.ends_with(line.as_bytes()));
-    }
-    Ok(())
-}
-
-fn text_of(alloc: Global, len: usize) -> Result<Vec<u8>, Fail> {
-    Ok(vec![in alloc; b'x'; len]?)
-}
-
-fn push_twice(sink: &mut Watched<TestWriter>, text: &[u8]) -> bool
-    requires { sink.old.failed ≡ false }
-{
-    let mut output = Output::new();
-    output.push(sink, b"ab")
-        && output.push(sink, text)
-        && output.push(sink, text)
-        && output.push(sink, b"c")
-        && output.flush(sink)
-}
-
-#[test]
-fn writes_more_than_waits(rt: HostRuntime) -> Result<(), Fail> {
-    for len in [0, 5_000, 8_190, 8_192, 10_000] {
-        let text = text_of(rt.alloc(), len)?;
-        let mut sink = writer(rt.alloc(), usize::MAX, usize::MAX, false);
-        assert!(rt; push_twice(&mut sink, &text));
-        let all = &sink.get_ref().written;
-        assert_eq!(rt; all.len(), 2 * len + 3);
-        assert!(rt; all.starts_with(b"ab") && all.ends_with(b"c"));
-    }
+    assert!(rt; source.get_ref().taken_at_ninth == 3 && taken.get() == 7);
     Ok(())
 }

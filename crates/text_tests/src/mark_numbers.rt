@@ -1,0 +1,75 @@
+use mark_table::MarkTable;
+use std::alloc::Global;
+use std::process::Abort;
+use std::test::Fail;
+use text_model::{Limits, MarkNo};
+
+// What is done to a table of marks, and what holds then.
+enum MarkStep {
+    Create(&'static str),
+    Unset(&'static str),
+    // the mark that stands last has this number
+    HasNumber(&'static str, u16),
+    IsNoNumber(u16),
+}
+
+fn creates(rt: &impl Abort, alloc: Global, marks: &mut MarkTable, name: &str) -> Result<(), Fail> {
+    assert!(rt; marks.find(name).is_none(), "{name} is new");
+    let created = marks.create(String::from_str(alloc, name)?)?;
+    assert!(rt; created.is_some() && created == marks.find(name), "{name}");
+    Ok(())
+}
+
+fn is_last(marks: &MarkTable, name: &str, number: MarkNo) -> bool {
+    let len = marks.len();
+    len > 0
+        && marks.name(len - 1) == name
+        && marks.number(len - 1) == number
+        && marks.find(name) == Some(number)
+        && marks.place(number) == Some(len - 1)
+}
+
+fn carry_out(
+    rt: &impl Abort,
+    alloc: Global,
+    marks: &mut MarkTable,
+    step: &MarkStep,
+) -> Result<(), Fail> {
+    match step {
+        MarkStep::Create(name) => creates(rt, alloc, marks, name)?,
+        MarkStep::Unset(name) => marks.unset(name),
+        MarkStep::HasNumber(name, number) => {
+            assert!(rt; is_last(marks, name, MarkNo(*number)), "{name}");
+        }
+        MarkStep::IsNoNumber(number) => {
+            assert!(rt; marks.place(MarkNo(*number)).is_none(), "{number}");
+        }
+    }
+    Ok(())
+}
+
+static STEPS: [MarkStep; 13] = [
+    MarkStep::Create("a"),
+    MarkStep::HasNumber("a", 128),
+    MarkStep::Create(""),
+    MarkStep::HasNumber("", 129),
+    MarkStep::Create("c d"),
+    MarkStep::HasNumber("c d", 130),
+    MarkStep::Unset("e"),
+    MarkStep::Unset("a"),
+    MarkStep::IsNoNumber(128),
+    MarkStep::IsNoNumber(1),
+    MarkStep::IsNoNumber(u16::MAX),
+    MarkStep::Create("e"),
+    MarkStep::HasNumber("e", 128),
+];
+
+#[test]
+fn numbers_are_taken_again(rt: HostRuntime) -> Result<(), Fail> {
+    let limits = Limits::new(10, 10, 10, 10, 10).ok_or("small numbers")?;
+    let mut marks = MarkTable::new(rt.alloc(), &limits)?;
+    for step in &STEPS {
+        carry_out(&rt, rt.alloc(), &mut marks, step)?;
+    }
+    Ok(())
+}

@@ -1,6 +1,0 @@
-use Rattle.std.proofs.Common.{◌≡◌, false}
-use Rattle.word_tests.proofs.scripts.feed_pieces.Given as goal
-
-abbrev pub invariant-loop-piece : goal.invariant-loop-piece
-invariant-loop-piece l =
-    (goal.iterator-loop-piece).can_next l.piece-iterator × (goal.iterator-loop-piece).is_finite l.piece-iterator × (l.splitter.finished ≡ false)
