@@ -67,13 +67,6 @@ impl Modifiers {
         Modifiers { modifiers }
     }
 
-    /// Gives the modifiers back, which takes no memory.
-    pub fn into_vec(self) -> Vec<Modifier>
-        ensures { result.items ≡ self }
-    {
-        self.modifiers
-    }
-
     pub fn as_slice(&self) -> &[Modifier]
         ensures { result.now ≡ self.now }
     {

@@ -1,5 +1,5 @@
-//! The tests of what no script shows: of stores, cursors over a text that is edited, and the numbers of marks (`text_model`,
-//! `text_cursor` and `mark_table`). A crate with tests is proved twice, so they stand apart.
+//! The tests of what no script shows: of stores, cursors over a text that is edited, the slots of tags and the numbers of marks
+//! (`text_model`, `text_cursor`, `tag_table` and `mark_table`). A crate with tests is proved twice, so they stand apart.
 #![tactic(auto)]
 
 #[cfg(test)]
@@ -8,5 +8,7 @@ mod cursors;
 mod mark_numbers;
 #[cfg(test)]
 mod stores;
+#[cfg(test)]
+mod tag_slots;
 #[cfg(test)]
 mod text_values;

@@ -35,6 +35,16 @@ fn steps_stand_in_order(rt: HostRuntime) -> Result<(), Fail> {
     Ok(())
 }
 
+#[test]
+fn steps_are_given_back(rt: HostRuntime) -> Result<(), Fail> {
+    let mut steps = Vec::new(rt.alloc());
+    steps.push(Step::ClearSlot(TagSlot(9)))?;
+    let steps = StepList::from_vec(steps).into_vec();
+    let stand = matches!(steps.as_slice(), [Step::ClearSlot(TagSlot(9))]);
+    assert!(rt; stand);
+    Ok(())
+}
+
 // ---- limits
 
 fn gives_numbers(limits: &Limits) -> bool {
@@ -126,5 +136,7 @@ fn a_text_is_kept(rt: HostRuntime) -> Result<(), Fail> {
     let text = Text::new(String::from_str(rt.alloc(), "añ\n")?);
     let is_kept = text.as_str() == "añ\n";
     assert!(rt; is_kept);
+    let is_given_back = text.into_string().as_str() == "añ\n";
+    assert!(rt; is_given_back);
     Ok(())
 }
