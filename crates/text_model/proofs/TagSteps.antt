@@ -53,7 +53,7 @@ beside_slot : (x y : ℕ) (k q : ℕ) (on : Bool) → q ≢ k → x ≡ y → (x
 beside_slot x y k q on other same = grind (arith, nat_tests)
 
 -- the bit of slot k is that of the new word, and the other bits stay
-has_bit-with_word : (words : List ℕ) (k new : ℕ) (on : Bool) → k / 64 < length words → (bit_at new (k % 64) == 1) ≡ on
+pub has_bit-with_word : (words : List ℕ) (k new : ℕ) (on : Bool) → k / 64 < length words → (bit_at new (k % 64) == 1) ≡ on
     → ((i : ℕ) → i < 64 → i ≢ k % 64 → bit_at new i ≡ bit_at (slice_index words (k / 64)) i)
     → (q : ℕ) → has_bit (with_word words k new) q ≡ cond (q == k) on (has_bit words q)
 has_bit-with_word words k new on within is others q =
@@ -127,7 +127,7 @@ has_bit-common a b c common q small =
     let i = q % 64 in
     ap (λ w. bit_at w i == 1) (common (q / 64) small) ∙ ap (λ t. t == 1) (bit_at_and x y i) ∙ both_one (bit_at x i) (bit_at y i) (bit_at-lt x i) (bit_at-lt y i)
 
-one_of_both : (x y : ℕ) → x < 2 → y < 2 → ((x + y) % 2 == 1) ≡ (((x == 1) && not (y == 1)) || ((y == 1) && not (x == 1)))
+pub one_of_both : (x y : ℕ) → x < 2 → y < 2 → ((x + y) % 2 == 1) ≡ (((x == 1) && not (y == 1)) || ((y == 1) && not (x == 1)))
 one_of_both x y small below = grind (arith, nat_tests)
 
 differing_in_reach : (r a b : Bool) → (r && ((a && not b) || (b && not a))) ≡ (((r && a) && not (r && b)) || ((r && b) && not (r && a)))

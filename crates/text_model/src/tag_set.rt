@@ -54,6 +54,13 @@ impl TagSet {
         TagSet { words }
     }
 
+    /// The words whose bits are the slots of the set.
+    pub fn words(&self) -> [u64; WORDS]
+        ensures { slots_of result ≡ self.now }
+    {
+        self.words
+    }
+
     /// This set with one slot more.
     pub fn with(self, slot: TagSlot) -> TagSet
         requires { slot.0 < slot_count }
