@@ -1,1 +1,3 @@
+pub mod ColumnLaws
+pub mod EntryLaws
 pub mod TextLaws

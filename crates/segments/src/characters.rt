@@ -112,6 +112,8 @@ impl Characters {
     {
         let byte = byte_of(self.text.as_str(), self.count, column);
         self.text.insert_str(byte, text)?;
+        // There are no more characters than bytes, whose number fits.
+        let _bytes = self.text.len();
         self.count += count_characters(text);
         Ok(())
     }
@@ -125,8 +127,8 @@ impl Characters {
     {
         let text = self.text.as_str();
         let start = byte_of(text, self.count, from);
-        let end = byte_of(text, self.count, to);
-        self.text.replace_range(start..end, "")?;
+        let long = byte_of(&text[start..], self.count - from, to - from);
+        self.text.replace_range(start..start + long, "")?;
         self.count -= to - from;
         Ok(())
     }
@@ -151,6 +153,8 @@ impl Characters {
         ensures refused { OnErr result (self.new ≡ self.old) }
     {
         self.text.push_str(other.text.as_str())?;
+        // There are no more characters than bytes, whose number fits.
+        let _bytes = self.text.len();
         self.count += other.count;
         Ok(())
     }

@@ -35,9 +35,16 @@ impl Model for Line {
     ghost use Rattle.std.specs.FinMap as finite;
     ghost use Rattle.segments.specs.Columns.{LineContent};
     ghost use Rattle.segments.specs.Entries.{LieIn};
-    ghost use Rattle.segments.specs.Kept.{columns_from, marks_of, AreMarks};
+    ghost use Rattle.segments.specs.Kept.{columns_from, AreMarks};
+    ghost use Rattle.segments.specs.Marks.{marks_of};
+    ghost use Rattle.std.specs.Coded.{codes, coded_ℕ};
+    ghost use Rattle.std.specs.FinSet as set;
+    ghost use Rattle.std.specs.Ordering.{nat_cmp};
+    ghost use Rattle.text_model.specs.contracts.places.Place as place;
 
     ghost Value = { LineContent };
+
+    ghost coded = { Prim.hlevel (codes, place.the_row.coded, set.code {R = nat_cmp} coded_ℕ, finite.code {R = nat_cmp} coded_ℕ place.the_row.coded) };
 
     ghost view = { λ a. record { columns = columns_from 0 a.text a.toggles.items; marks = marks_of a.marks.items } };
 

@@ -22,11 +22,12 @@ pub fn count_before(toggles: &[Toggled], column: usize) -> usize
     ensures before { (from to : ℕ) → LieIn from to toggles.now → LieIn from column (take result toggles.now) }
     ensures behind { (from to : ℕ) → LieIn from to toggles.now → from ≤ column → LieIn column to (drop result toggles.now) }
 {
-    let mut count = 0;
-    while count < toggles.len() && toggles[count].column < column {
-        count += 1;
+    for (count, entry) in toggles.iter().enumerate() {
+        if column <= entry.column {
+            return count;
+        }
     }
-    count
+    toggles.len()
 }
 
 /// The slots that are toggled an odd number of times.
@@ -107,12 +108,13 @@ pub fn flip(toggles: &mut Vec<Toggled>, column: usize, slots: &TagSet) -> Result
 }
 
 /// Takes out the toggles of the columns from one to another; what was toggled an odd number of times in these is
-/// toggled at the second column.
-fn gather(toggles: &mut Vec<Toggled>, from: usize, to: usize)
-    requires { from ≤ to }
-    ensures lie { (len : ℕ) → LieIn 0 len toggles.old.items → to < len → LieIn 0 len toggles.new.items }
-    ensures slots { (len at : ℕ) → LieIn 0 len toggles.old.items → to < len →
-        toggled_at toggles.new.items at ≡ without_span from to at toggles.old.items }
+/// toggled at the second column. There are `len` columns.
+fn gather(toggles: &mut Vec<Toggled>, from: usize, to: usize, len: usize)
+    requires lie { LieIn 0 len toggles.old.items }
+    requires ordered { from ≤ to }
+    requires within { to < len }
+    ensures lie { LieIn 0 len toggles.new.items }
+    ensures slots { (at : ℕ) → toggled_at toggles.new.items at ≡ without_span from to at toggles.old.items }
 {
     let start = count_before(toggles, from);
     let mut end = count_before(toggles, to);
@@ -148,7 +150,7 @@ pub fn remove_columns(toggles: &mut Vec<Toggled>, from: usize, to: usize, len: u
         toggles.truncate(start);
         return;
     }
-    gather(toggles, from, to);
+    gather(toggles, from, to, len);
     let start = count_before(toggles, from);
     move_back(&mut toggles[start..], to - from);
 }
