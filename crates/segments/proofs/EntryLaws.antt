@@ -1,5 +1,6 @@
 -- The toggles of a line: where they lie, and what they are at a column.
-use Rattle.std.proofs.Common.{◌≡◌, ℕ, zero, suc, ◌+◌, ◌/◌, ◌%◌, ◌<◌, ◌≤◌, false, ◌&&◌, nat_lt, ◌==◌, slice_index, List, [], ◌∷◌, length, take, drop, get_or, refl, sym, ap, ◌∙◌, arith, add-one}
+use Rattle.std.proofs.Common.{◌≡◌, ℕ, zero, suc, ◌+◌, ◌/◌, ◌%◌, ◌<◌, ◌≤◌, ◌≢◌, min, true, false, ◌&&◌, nat_lt, ◌==◌, slice_index, List, [], ◌∷◌, ◌++◌, length, take, drop, get_or, refl, sym, ap, ◌∙◌, arith, add-one}
+use Rattle.std.specs.Prelude.{if◌then◌else◌}
 use Rattle.std.proofs.lemmas.Bool.Decides.{nat_tests}
 use Rattle.std.proofs.lemmas.List.{drop_more}
 use Rattle.std.proofs.lemmas.Nat.Bits.{bit_at-zero}
@@ -13,7 +14,7 @@ use Rattle.text_model.specs.Content.{Slots}
 use Rattle.text_model.specs.SlotSets.{differing}
 use Rattle.toggle_sums.specs.CountLaws.{differing-associative, same_slots}
 use Rattle.segments.specs.declared.toggles.Toggled.{Toggled}
-use Rattle.segments.specs.Entries.{LieIn, odd_of}
+use Rattle.segments.specs.Entries.{LieIn, odd_of, toggled_at}
 
 -- one entry more that stands before a column
 more_before : (from to column : ℕ) (entries : List Toggled) (i : ℕ) (d : Toggled) → LieIn from to entries → LieIn from column (take i entries) → i < length entries → (get_or entries i d).column < column → LieIn from column (take (suc i) entries)
@@ -48,3 +49,34 @@ no_slots words none =
     contains-slots_below slot_count words q
     ∙ not_one (bit_at (slice_index words (q / 64)) (q % 64)) slot_count q (λ small. ap (λ w. bit_at w (q % 64)) (none (q / 64) (omega arith)) ∙ bit_at-zero (q % 64))
     ∙ sym (set.contains-empty nat_cmp q))
+
+-- what an entry says of its own column, and of the others
+pub passed : (entry : Toggled) (entries : List Toggled) (at : ℕ) → entry.column ≢ at → toggled_at (entry ∷ entries) at ≡ toggled_at entries at
+passed entry entries at other =
+    let test : (entry.column == at) ≡ false = grind (arith, nat_tests) in
+    ap (λ b. if b then differing entry.slots (toggled_at entries at) else toggled_at entries at) test
+
+pub met : (entry : Toggled) (entries : List Toggled) (at : ℕ) → entry.column ≡ at → toggled_at (entry ∷ entries) at ≡ differing entry.slots (toggled_at entries at)
+met entry entries at same =
+    let test : (entry.column == at) ≡ true = grind (arith, nat_tests) in
+    ap (λ b. if b then differing entry.slots (toggled_at entries at) else toggled_at entries at) test
+
+-- nothing is toggled before the first entry
+pub none_before : (from to : ℕ) (entries : List Toggled) (at : ℕ) → LieIn from to entries → at < from → toggled_at entries at ≡ set.empty
+none_before from to [] at lie before = refl
+none_before from to (entry ∷ entries) at lie before =
+    passed entry entries at (omega (arith, lie.0)) ∙ none_before (suc entry.column) to entries at lie.2 (omega (arith, lie.0))
+
+pub front_alone : (front behind : List Toggled) (at : ℕ) → toggled_at behind at ≡ set.empty → toggled_at (front ++ behind) at ≡ toggled_at front at
+front_alone [] behind at none = none
+front_alone (entry ∷ front) behind at none =
+    ap (λ s. if entry.column == at then differing entry.slots s else s) (front_alone front behind at none)
+
+pub LieIn-both : (from first second : ℕ) (entries : List Toggled) → LieIn from first entries → LieIn from second entries → LieIn from (min first second) entries
+LieIn-both from first second [] lie also = tt
+LieIn-both from first second (entry ∷ entries) lie also = (lie.0, omega (arith, lie.1, also.1), LieIn-both (suc entry.column) first second entries lie.2 also.2)
+
+pub LieIn-take : (from to n : ℕ) (entries : List Toggled) → LieIn from to entries → LieIn from to (take n entries)
+LieIn-take from to zero entries lie = tt
+LieIn-take from to (suc n) [] lie = tt
+LieIn-take from to (suc n) (entry ∷ entries) lie = (lie.0, lie.1, LieIn-take (suc entry.column) to n entries lie.2)

@@ -85,7 +85,10 @@ impl Line {
         requires { column ≤ length self.now.columns }
         ensures { result ≡ tags_before column self.now.columns }
     {
-        let count = count_before(&self.toggles, column.saturating_add(1));
+        if column == self.text.len() {
+            return odd_slots(&self.toggles);
+        }
+        let count = count_before(&self.toggles, column + 1);
         odd_slots(&self.toggles[..count])
     }
 

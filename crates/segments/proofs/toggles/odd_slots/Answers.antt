@@ -1,4 +1,5 @@
-use Rattle.std.proofs.Common.{◌+◌, drop, sym, ◌∙◌, ap, arith, drop_of_length-le}
+use Rattle.std.proofs.Common.{◌+◌, drop, sym, ◌∙◌, ap}
+use Rattle.std.proofs.lemmas.List.{drop_all}
 use Rattle.toggle_sums.specs.CountLaws.{differing-empty, empty-differing}
 use Rattle.text_model.specs.SlotSets.{differing}
 use Rattle.segments.specs.declared.toggles.Toggled.{Toggled}
@@ -23,5 +24,5 @@ returns c =
     let toggles = c.args.toggles.now in
     let slots = c.loop-entry.slots in
     sym (differing-empty slots)
-    ∙ ap (λ entries. differing slots (odd_of entries)) (sym (drop_of_length-le toggles c.loop-entry.entry-index c.loop-entry-test.false))
+    ∙ ap (λ entries. differing slots (odd_of entries)) (sym (drop_all c.loop-entry.entry-index toggles c.loop-entry-test.false))
     ∙ c.loop-entry.invariant
