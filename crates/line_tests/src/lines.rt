@@ -19,7 +19,9 @@ struct Plain {
 
 /// The next of a row of numbers that look random, below a bound.
 fn next(seed: &mut u64, bound: usize) -> usize {
-    *seed = seed.wrapping_mul(6364136223846793005).wrapping_add(1442695040888963407);
+    *seed = seed
+        .wrapping_mul(6364136223846793005)
+        .wrapping_add(1442695040888963407);
     ((*seed >> 33) as usize) % bound.max(1)
 }
 
@@ -52,18 +54,31 @@ fn check<H: Abort>(rt: &H, line: &Line, plain: &Plain) {
         assert_eq!(rt; line.char_at(column), plain.text[column]);
     }
     for column in 0..len + 1 {
-        assert!(rt; same_set(&line.tags_before(column), &set_of(tags_before(plain, column))));
+        assert!(rt;
+            same_set(
+                &line.tags_before(column),
+                &set_of(tags_before(plain, column))
+            )
+        );
         for index in 0..3 {
             let slot = TagSlot(SLOTS[index]);
             let wanted = (column..len).find(|at| plain.toggles[*at] >> index & 1 == 1);
             assert_eq!(rt; line.next_toggle(column, slot), wanted);
-            let wanted = (0..column).rev().find(|at| plain.toggles[*at] >> index & 1 == 1);
+            let wanted = (0..column)
+                .rev()
+                .find(|at| plain.toggles[*at] >> index & 1 == 1);
             assert_eq!(rt; line.previous_toggle(column, slot), wanted);
         }
         let places = plain.marks.iter().filter_map(|mark| *mark);
-        assert_eq!(rt; line.next_mark(column), places.map(|p| p.offset).filter(|o| *o >= column).min());
+        assert_eq!(rt;
+            line.next_mark(column),
+            places.map(|p| p.offset).filter(|o| *o >= column).min()
+        );
         let places = plain.marks.iter().filter_map(|mark| *mark);
-        assert_eq!(rt; line.previous_mark(column), places.map(|p| p.offset).filter(|o| *o < column).max());
+        assert_eq!(rt;
+            line.previous_mark(column),
+            places.map(|p| p.offset).filter(|o| *o < column).max()
+        );
     }
     for number in 0..4 {
         assert_eq!(rt; line.mark_place(MarkNo(number as u16)), plain.marks[number]);
@@ -133,8 +148,15 @@ fn random_edits(rt: HostRuntime) -> Result<(), Fail> {
             }
             5 => {
                 let number = next(&mut seed, 4);
-                let gravity = if next(&mut seed, 2) == 0 { Gravity::Left } else { Gravity::Right };
-                let place = Place { offset: column, gravity };
+                let gravity = if next(&mut seed, 2) == 0 {
+                    Gravity::Left
+                } else {
+                    Gravity::Right
+                };
+                let place = Place {
+                    offset: column,
+                    gravity,
+                };
                 line.put_mark(MarkNo(number as u16), place)?;
                 plain.marks[number] = Some(place);
             }

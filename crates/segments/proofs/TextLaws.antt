@@ -16,11 +16,12 @@ some_bytes (byte ∷ bytes) some = omega arith
 pub column_on : (text rest : List ℕ) (byte column c : ℕ) → IsUtf8 text → IsCharBoundary text byte → chars (drop byte text) ≡ drop column (chars text) → drop byte text ≡ encode_utf8 c ++ rest
     → IsCharBoundary text (byte + len_utf8 c) × (chars (drop (byte + len_utf8 c) text) ≡ drop (column + 1) (chars text))
 column_on text rest byte column c utf8 boundary behind is =
-    let later = IsUtf8-drop text byte utf8 boundary in
-    (IsCharBoundary-past_char text rest byte c boundary.0 later is,
-    ap chars (drop_past_char text rest byte c is)
-    ∙ ap (drop 1) (sym (chars_past_char (drop byte text) rest c later is) ∙ behind)
-    ∙ drop-drop 1 column (chars text))
+    let later = IsUtf8-drop text byte utf8 boundary in (
+      IsCharBoundary-past_char text rest byte c boundary.0 later is,
+      ap chars (drop_past_char text rest byte c is)
+          ∙ ap (drop 1) (sym (chars_past_char (drop byte text) rest c later is) ∙ behind)
+          ∙ drop-drop 1 column (chars text),
+    )
 
 -- what stands before a column
 pub front_of : (text : List ℕ) (byte column : ℕ) → IsUtf8 text → IsCharBoundary text byte → chars (drop byte text) ≡ drop column (chars text) → chars (take byte text) ≡ take column (chars text)

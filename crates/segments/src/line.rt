@@ -8,12 +8,12 @@ ghost use Rattle.segments.specs.Columns.{after_removal, after_text, characters, 
 
 use crate::characters::Characters;
 use crate::marks::{
-    draw_marks, find_mark, joined_marks, keep_before, mark_at, marks_behind, move_marks, next_mark, previous_mark,
-    put_mark, take_mark, Mark,
+    Mark, draw_marks, find_mark, joined_marks, keep_before, mark_at, marks_behind, move_marks,
+    next_mark, previous_mark, put_mark, take_mark,
 };
 use crate::toggles::{
-    count_before, flip, move_back, move_on, next_toggle, odd_slots, previous_toggle,
-    remove_columns, slots_at, Toggled,
+    Toggled, count_before, flip, move_back, move_on, next_toggle, odd_slots, previous_toggle,
+    remove_columns, slots_at,
 };
 use std::alloc::{AllocError, AllocFailed, Global};
 use std::marker::Model;
@@ -272,7 +272,12 @@ impl Line {
     }
 
     /// Says whether a slot is toggled before the character at a column.
-    pub fn set_toggle(&mut self, column: usize, slot: TagSlot, is_toggled: bool) -> Result<(), AllocError>
+    pub fn set_toggle(
+        &mut self,
+        column: usize,
+        slot: TagSlot,
+        is_toggled: bool,
+    ) -> Result<(), AllocError>
         requires slot { slot.0 < slot_count }
         requires within { column < length self.old.columns }
         ensures columns { OnOk result (self.new.columns ≡ changed (with_toggle slot.0 is_toggled) column (column + 1) self.old.columns) }

@@ -102,7 +102,13 @@ pub fn flip(toggles: &mut Vec<Toggled>, column: usize, slots: &TagSet) -> Result
         return Ok(());
     }
     if !is_empty(slots) {
-        toggles.insert(index, Toggled { column, slots: *slots })?;
+        toggles.insert(
+            index,
+            Toggled {
+                column,
+                slots: *slots,
+            },
+        )?;
     }
     Ok(())
 }
