@@ -1,14 +1,15 @@
 -- What the operations do to the words, and so to the slots: zeros, a bit that is set, and bits in common.
-use Rattle.std.proofs.Common.{◌≡◌, ℕ, zero, suc, ◌*◌, ◌/◌, ◌%◌, ◌^◌, ◌<◌, ◌≢◌, min, Bool, true, false, ◌&&◌, ◌||◌, not, cond, nat_lt, nat_eq, ◌==◌, List, length, replicate, slice_index, slice_set, bit_and, bit_or, refl, sym, ap, ap₂, ◌∙◌, arith, w64, inl, inr, lt-ltb, length-set, get_or-set_same, get_or-set_other}
+use Rattle.std.proofs.Common.{◌≡◌, ℕ, zero, suc, ◌+◌, ◌*◌, ◌/◌, ◌%◌, ◌^◌, ◌<◌, ◌≢◌, min, Bool, true, false, ◌&&◌, ◌||◌, not, cond, nat_lt, nat_eq, ◌==◌, List, length, replicate, slice_index, slice_set, bit_and, bit_or, bit_xor, refl, sym, ap, ap₂, ◌∙◌, arith, w64, inl, inr, lt-ltb, length-set, get_or-set_same, get_or-set_other}
 use Rattle.std.proofs.lemmas.Bool.{cases_eq}
 use Rattle.std.proofs.lemmas.Bool.Decides.{nat_tests}
-use Rattle.std.proofs.lemmas.Nat.{or_lt, and_le_l}
-use Rattle.std.proofs.lemmas.Nat.Bits.{bit_at-lt, bit_at-zero, bit_at_and, bit_at_set_same, bit_at_set_other, bit_at_clear_same, bit_at_clear_other, shr_and_one}
+use Rattle.std.proofs.lemmas.Nat.{or_lt, xor_lt, and_le_l}
+use Rattle.std.proofs.lemmas.Nat.Bits.{bit_at-lt, bit_at-zero, bit_at_and, bit_at_xor, bit_at_set_same, bit_at_set_other, bit_at_clear_same, bit_at_clear_other, shr_and_one}
 use Rattle.std.specs.Cmp.{nat_cmp_total, unsigned_tied}
 use Rattle.std.specs.FinSet as set
 use Rattle.std.specs.Int.{bit_at, bit_not}
 use Rattle.std.specs.Ordering.{nat_cmp}
 use Rattle.text_model.specs.TagBitLaws.{contains_inserted, contains-slots_below}
+use Rattle.text_model.specs.SlotSets.{differing}
 use Rattle.text_model.specs.declared.tag_set.TheConstants.{WORDS}
 use Rattle.text_model.specs.TagBits.{AreWords, has_bit, slot_count, slots_below, slots_of}
 
@@ -52,7 +53,7 @@ beside_slot : (x y : ℕ) (k q : ℕ) (on : Bool) → q ≢ k → x ≡ y → (x
 beside_slot x y k q on other same = grind (arith, nat_tests)
 
 -- the bit of slot k is that of the new word, and the other bits stay
-has_bit-with_word : (words : List ℕ) (k new : ℕ) (on : Bool) → k / 64 < length words → (bit_at new (k % 64) == 1) ≡ on
+pub has_bit-with_word : (words : List ℕ) (k new : ℕ) (on : Bool) → k / 64 < length words → (bit_at new (k % 64) == 1) ≡ on
     → ((i : ℕ) → i < 64 → i ≢ k % 64 → bit_at new i ≡ bit_at (slice_index words (k / 64)) i)
     → (q : ℕ) → has_bit (with_word words k new) q ≡ cond (q == k) on (has_bit words q)
 has_bit-with_word words k new on within is others q =
@@ -126,6 +127,18 @@ has_bit-common a b c common q small =
     let i = q % 64 in
     ap (λ w. bit_at w i == 1) (common (q / 64) small) ∙ ap (λ t. t == 1) (bit_at_and x y i) ∙ both_one (bit_at x i) (bit_at y i) (bit_at-lt x i) (bit_at-lt y i)
 
+pub one_of_both : (x y : ℕ) → x < 2 → y < 2 → ((x + y) % 2 == 1) ≡ (((x == 1) && not (y == 1)) || ((y == 1) && not (x == 1)))
+one_of_both x y small below = grind (arith, nat_tests)
+
+differing_in_reach : (r a b : Bool) → (r && ((a && not b) || (b && not a))) ≡ (((r && a) && not (r && b)) || ((r && b) && not (r && a)))
+differing_in_reach true a b = refl
+differing_in_reach false a b = refl
+
+pub contains-differing : (s t : set.FinSet nat_cmp) (q : ℕ) → set.contains (differing s t) q ≡ ((set.contains s q && not (set.contains t q)) || (set.contains t q && not (set.contains s q)))
+contains-differing s t q =
+    set.contains-union nat_cmp_total (set.difference s t) (set.difference t s) q
+    ∙ ap₂ (λ a b. a || b) (set.contains-difference nat_cmp_total s t q) (set.contains-difference nat_cmp_total t s q)
+
 in_reach : (n q : ℕ) (a b : Bool) → (q < n → a ≡ b) → (nat_lt q n && a) ≡ (nat_lt q n && b)
 in_reach n q a b same = grind (arith, nat_tests)
 
@@ -138,6 +151,35 @@ slots_of-common a b c common =
     ∙ in_reach slot_count q _ _ (λ below. has_bit-common a b c common q (omega arith))
     ∙ both_in_reach (nat_lt q slot_count) (has_bit a q) (has_bit b q)
     ∙ sym (set.contains-intersection nat_cmp_total (slots_of a) (slots_of b) q ∙ ap₂ (λ s t. s && t) (contains-slots_below slot_count a q) (contains-slots_below slot_count b q)))
+
+-- words stay words where one of them is changed by the bits of another word
+pub differing-each : (words : List ℕ) (at other : ℕ) → length words ≡ WORDS → ((k : ℕ) → k < WORDS → slice_index words k < 2 ^ 64) → at < WORDS → other < 2 ^ 64
+    → (k : ℕ) → k < WORDS → slice_index (slice_set words at (bit_xor (slice_index words at) other)) k < 2 ^ 64
+differing-each words at other long each within small k below =
+    let new = bit_xor (slice_index words at) other in
+    elim (cases_eq k at) [
+      | inl here ↦ rw (here, get_or-set_same words at new 0 (rw long within)) (xor_lt 64 (slice_index words at) other (each at within) small)
+      | inr elsewhere ↦ rw (get_or-set_other words at k new 0 elsewhere) (each k below)
+    ]
+
+has_bit-differing : (a b c : List ℕ) → ((i : ℕ) → i < WORDS → slice_index c i ≡ bit_xor (slice_index a i) (slice_index b i))
+    → (q : ℕ) → q / 64 < WORDS → has_bit c q ≡ ((has_bit a q && not (has_bit b q)) || (has_bit b q && not (has_bit a q)))
+has_bit-differing a b c differing_words q small =
+    let x = slice_index a (q / 64) in
+    let y = slice_index b (q / 64) in
+    let i = q % 64 in
+    ap (λ w. bit_at w i == 1) (differing_words (q / 64) small) ∙ ap (λ t. t == 1) (bit_at_xor x y i) ∙ one_of_both (bit_at x i) (bit_at y i) (bit_at-lt x i) (bit_at-lt y i)
+
+-- the bits in which words differ are those of the slots in which the sets do
+pub slots_of-differing : (a b c : List ℕ) → ((i : ℕ) → i < WORDS → slice_index c i ≡ bit_xor (slice_index a i) (slice_index b i))
+    → slots_of c ≡ differing (slots_of a) (slots_of b)
+slots_of-differing a b c words =
+    set.same_set nat_cmp_total set.nat_cmp-IsAntisymmetric _ _ (λ q.
+    contains-slots_below slot_count c q
+    ∙ in_reach slot_count q _ _ (λ below. has_bit-differing a b c words q (omega arith))
+    ∙ differing_in_reach (nat_lt q slot_count) (has_bit a q) (has_bit b q)
+    ∙ sym (contains-differing (slots_of a) (slots_of b) q
+    ∙ ap₂ (λ s t. (s && not t) || (t && not s)) (contains-slots_below slot_count a q) (contains-slots_below slot_count b q)))
 
 -- the test `(word >> i) & 1` finds the slot
 pub found_bit : (words : List ℕ) (k : ℕ) → k < slot_count → nat_eq (bit_and (slice_index words (k / 64) / 2 ^ (k % 64)) 1) 1 ≡ set.contains (slots_of words) k

@@ -5,6 +5,7 @@ pub mod LimitTable
 pub mod Lines
 pub mod MarkOrder
 pub mod Plain
+pub mod SlotSets
 pub mod Splices
 pub mod Steps
 pub mod TagBitLaws

@@ -16,5 +16,5 @@ pub use limits::Limits;
 pub use places::{Gravity, MarkNo, Place, TagSlot};
 pub use plain_store::PlainStore;
 pub use store::TextStore;
-pub use tag_set::TagSet;
+pub use tag_set::{TagSet, WORDS};
 pub use texts::Text;

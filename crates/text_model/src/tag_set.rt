@@ -1,12 +1,13 @@
 ghost use Rattle.std.specs.Prelude.{◌≡◌, ◌<◌};
 ghost use Rattle.std.specs.FinSet as set;
-ghost use Rattle.text_model.specs.TagBits.{slot_count};
+ghost use Rattle.text_model.specs.SlotSets.{differing};
+ghost use Rattle.text_model.specs.TagBits.{slot_count, slots_of};
 
 use crate::places::TagSlot;
 use std::marker::Model;
 
 /// How many words of 64 slots a set has.
-const WORDS: usize = 4;
+pub const WORDS: usize = 4;
 
 /// A set of tag slots. It takes no memory of its own.
 #[derive(Clone, Copy)]
@@ -46,6 +47,20 @@ impl TagSet {
         TagSet { words: [0; WORDS] }
     }
 
+    /// The set of the slots whose bits are set: slot k is bit k % 64 of word k / 64.
+    pub fn of_words(words: [u64; WORDS]) -> TagSet
+        ensures { result ≡ slots_of words }
+    {
+        TagSet { words }
+    }
+
+    /// The words whose bits are the slots of the set.
+    pub fn words(&self) -> [u64; WORDS]
+        ensures { slots_of result ≡ self.now }
+    {
+        self.words
+    }
+
     /// This set with one slot more.
     pub fn with(self, slot: TagSlot) -> TagSet
         requires { slot.0 < slot_count }
@@ -82,6 +97,18 @@ impl TagSet {
         let others = other.words;
         for index in 0..WORDS {
             words[index] &= others[index];
+        }
+        TagSet { words }
+    }
+
+    /// The slots that stand in one of the two sets and not in the other.
+    pub fn differing(&self, other: &TagSet) -> TagSet
+        ensures { result ≡ differing self.now other.now }
+    {
+        let mut words = self.words;
+        let others = other.words;
+        for index in 0..WORDS {
+            words[index] ^= others[index];
         }
         TagSet { words }
     }

@@ -1,0 +1,2 @@
+pub mod ToggleLaws
+pub mod WordSteps

@@ -1,0 +1,62 @@
+-- What is counted of some lines of text, and how it adds up.
+use Rattle.std.specs.Prelude.{ℕ, ◌+◌, ◌<◌, ◌^◌, refl}
+use Rattle.std.specs.Coded.{Coded, code_by, coded×, coded_ℕ}
+use Rattle.std.specs.FinSet as set
+use Rattle.text_model.specs.Content.{Slots}
+use Rattle.text_model.specs.SlotSets.{differing}
+
+-- how many lines, characters and marks there are, the slots that are toggled an odd number of times, and those that
+-- are toggled at all
+pub record Count : Type 0 where
+  pub lines : ℕ
+  pub characters : ℕ
+  pub marks : ℕ
+  pub parity : Slots
+  pub presence : Slots
+
+-- a count is stored as its fields
+abbrev pub count_code : Coded Count
+count_code =
+    code_by (ℕ × (ℕ × (ℕ × (Slots × Slots))))
+    (coded× coded_ℕ (coded× coded_ℕ (coded× coded_ℕ (coded× (set.code coded_ℕ) (set.code coded_ℕ)))))
+    (λ c. (c.lines, (c.characters, (c.marks, (c.parity, c.presence)))))
+    (λ p. record { lines = p.0; characters = p.1.0; marks = p.1.1.0; parity = p.1.1.1.0; presence = p.1.1.1.1 })
+    (λ _. refl)
+
+-- so many lines, characters and marks, and no toggles
+abbrev pub counting : ℕ → ℕ → ℕ → Count
+counting lines characters marks =
+    record { lines = lines; characters = characters; marks = marks; parity = set.empty; presence = set.empty }
+
+abbrev pub no_text : Count
+no_text = counting 0 0 0
+
+-- numbers are added, parity is joined by exclusive or, and presence by or
+abbrev pub plus : Count → Count → Count
+plus first second = record {
+  lines = first.lines + second.lines;
+  characters = first.characters + second.characters;
+  marks = first.marks + second.marks;
+  parity = differing first.parity second.parity;
+  presence = set.union first.presence second.presence;
+}
+
+-- the numbers of both together fit
+pub record CountsFit (first second : Count) : Type 0 where
+  pub lines : first.lines + second.lines < 2 ^ 64
+  pub characters : first.characters + second.characters < 2 ^ 64
+  pub marks : first.marks + second.marks < 2 ^ 64
+
+-- one toggle of a slot more
+abbrev pub toggled : ℕ → Count → Count
+toggled slot count = record count {
+  parity = differing count.parity (set.insert set.empty slot);
+  presence = set.insert count.presence slot;
+}
+
+-- one toggle more of each slot of a set
+abbrev pub with_toggles : Slots → Count → Count
+with_toggles slots count = record count {
+  parity = differing count.parity slots;
+  presence = set.union count.presence slots;
+}

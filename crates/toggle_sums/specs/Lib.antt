@@ -1,0 +1,5 @@
+pub mod CountLaws
+pub mod Counts
+pub mod SlotWordLaws
+pub mod SlotWords
+pub mod Toggles

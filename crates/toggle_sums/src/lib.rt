@@ -1,0 +1,9 @@
+//! Sums over lines of text: how many lines, characters and marks there are, and which tags are toggled in them.
+#![tactic(auto)]
+
+pub mod laws;
+mod summary;
+mod sums;
+
+pub use summary::Summary;
+pub use sums::Sums;
