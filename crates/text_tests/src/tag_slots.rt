@@ -26,6 +26,5 @@ fn a_tag_is_found_again(rt: HostRuntime) -> Result<(), Fail> {
     let mut tags = TagTable::new(rt.alloc(), &limits)?;
     creates(&rt, rt.alloc(), &mut tags, "x", TagSlot(64))?;
     creates(&rt, rt.alloc(), &mut tags, "y", TagSlot(65))?;
-    assert!(rt; tags.create(String::from_str(rt.alloc(), "z")?)?.is_none());
     Ok(())
 }
