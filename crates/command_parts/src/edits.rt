@@ -144,7 +144,8 @@ pub fn put_texts<S: TextStore>(
     ensures ok { OnOk result (state_of (S.content store.new) anchors.new (log_of history.new)
         ≡ inserted_texts recording EditKind.Insert at pieces.now (state_of (S.content store.old) anchors.old (log_of history.old))) }
     ensures fits { OnOk result (length (S.content store.old).cells + total pieces.now ≤ limits.now.chars) }
-    ensures err { OnErr result (AreUnchanged S.content store.old store.new history.old history.new anchors.old anchors.new) }
+    ensures err { OnErr result
+        (AreUnchanged S.content store.old store.new history.old history.new anchors.old anchors.new) }
     ensures fault { IfErr result (λ fault. fault ≢ Memory →
         (fault ≡ TextTooLong) × (limits.now.chars < length (S.content store.old).cells + total pieces.now)) }
 {
@@ -177,7 +178,8 @@ pub fn delete_spans<S: TextStore>(
     requires spans { All (λ span. span.to ≤ end) spans.now }
     ensures ok { OnOk result (state_of (S.content store.new) anchors.new (log_of history.new)
         ≡ deleted recording start end spans.now (state_of (S.content store.old) anchors.old (log_of history.old))) }
-    ensures err { OnErr result (AreUnchanged S.content store.old store.new history.old history.new anchors.old anchors.new) }
+    ensures err { OnErr result
+        (AreUnchanged S.content store.old store.new history.old history.new anchors.old anchors.new) }
     ensures fault { IfErr result (λ fault. fault ≡ Memory) }
 {
     match plan_delete(alloc, store, history, anchors, start, end, spans, recording) {
@@ -211,7 +213,8 @@ pub fn replace_texts<S: TextStore>(
     ensures ok { OnOk result (state_of (S.content store.new) anchors.new (log_of history.new)
         ≡ replaced recording mark.0 last from to pieces.now (state_of (S.content store.old) anchors.old (log_of history.old))) }
     ensures fits { OnOk result (length_replaced (length (S.content store.old).cells) last from to + total pieces.now ≤ limits.now.chars) }
-    ensures err { OnErr result (AreUnchanged S.content store.old store.new history.old history.new anchors.old anchors.new) }
+    ensures err { OnErr result
+        (AreUnchanged S.content store.old store.new history.old history.new anchors.old anchors.new) }
     ensures fault { IfErr result (λ fault. fault ≢ Memory →
         (fault ≡ TextTooLong) × (limits.now.chars < length_replaced (length (S.content store.old).cells) last from to + total pieces.now)) }
 {

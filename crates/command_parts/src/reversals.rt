@@ -41,7 +41,8 @@ pub fn undo_group<S: TextStore>(
     ensures scalars { IfSome (next_undo history.old.history) (All (λ action. All IsScalar action.text)) }
     ensures ok { OnOk result (state_of (S.content store.new) anchors.new (log_of history.new)
         ≡ undone mark.0 (state_of (S.content store.old) anchors.old (log_of history.old))) }
-    ensures err { OnErr result (AreUnchanged S.content store.old store.new history.old history.new anchors.old anchors.new) }
+    ensures err { OnErr result
+        (AreUnchanged S.content store.old store.new history.old history.new anchors.old anchors.new) }
     ensures fault { IfErr result (λ fault. fault ≡ Memory) }
 {
     // Where one of the limits is read, all are known to be in their bounds.
@@ -73,7 +74,8 @@ pub fn redo_group<S: TextStore>(
     ensures scalars { IfSome (next_redo history.old.history) (All (λ action. All IsScalar action.text)) }
     ensures ok { OnOk result (state_of (S.content store.new) anchors.new (log_of history.new)
         ≡ redone mark.0 (state_of (S.content store.old) anchors.old (log_of history.old))) }
-    ensures err { OnErr result (AreUnchanged S.content store.old store.new history.old history.new anchors.old anchors.new) }
+    ensures err { OnErr result
+        (AreUnchanged S.content store.old store.new history.old history.new anchors.old anchors.new) }
     ensures fault { IfErr result (λ fault. fault ≡ Memory) }
 {
     // Where one of the limits is read, all are known to be in their bounds.

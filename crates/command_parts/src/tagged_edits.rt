@@ -94,7 +94,8 @@ pub fn put_pairs<S: TextStore>(
         ≡ inserted_texts recording EditKind.Insert at (map (piece_of tags.new.tags widget.0) pairs.items) (state_of (S.content store.old) anchors.old (log_of history.old))) }
     ensures room { OnOk result (excess limits.now (length (with_names (names_of tags.old.tags) (all_names pairs.items)))
         (length (S.content store.old).cells + total pairs.items) ≡ None) }
-    ensures err { OnErr result (AreUnchanged S.content store.old store.new history.old history.new anchors.old anchors.new) }
+    ensures err { OnErr result
+        (AreUnchanged S.content store.old store.new history.old history.new anchors.old anchors.new) }
     ensures fault { IfErr result (λ fault. fault ≢ Memory → excess limits.now (length (with_names (names_of tags.old.tags) (all_names pairs.items)))
         (length (S.content store.old).cells + total pairs.items) ≡ Some fault) }
 {
@@ -138,7 +139,8 @@ pub fn replace_pairs<S: TextStore>(
         ≡ replaced recording mark.0 last from to (map (piece_of tags.new.tags widget.0) pairs.items) (state_of (S.content store.old) anchors.old (log_of history.old))) }
     ensures room { OnOk result (excess limits.now (length (with_names (names_of tags.old.tags) (all_names pairs.items)))
         (length_replaced (length (S.content store.old).cells) last from to + total pairs.items) ≡ None) }
-    ensures err { OnErr result (AreUnchanged S.content store.old store.new history.old history.new anchors.old anchors.new) }
+    ensures err { OnErr result
+        (AreUnchanged S.content store.old store.new history.old history.new anchors.old anchors.new) }
     ensures fault { IfErr result (λ fault. fault ≢ Memory → excess limits.now (length (with_names (names_of tags.old.tags) (all_names pairs.items)))
         (length_replaced (length (S.content store.old).cells) last from to + total pairs.items) ≡ Some fault) }
 {

@@ -39,8 +39,10 @@ pub fn run<S: TextStore, R: ByteSource, W: ByteSink>(
     ensures flags { OnOk result ((R.is_failed source.new ≡ false) × (W.is_failed sink.new ≡ false)) }
     ensures read { IsErrOf result RunFault.Read → R.is_failed source.new ≡ true }
     ensures write { IsErrOf result RunFault.Write → W.is_failed sink.new ≡ true }
-    ensures memory { IsErrOf result RunFault.Memory → (R.is_failed source.new ≡ false) × (W.is_failed sink.new ≡ false) }
-    ensures unfailed { IsErrOf result RunFault.Endless → (R.is_failed source.new ≡ false) × (W.is_failed sink.new ≡ false) }
+    ensures memory { IsErrOf result RunFault.Memory →
+        (R.is_failed source.new ≡ false) × (W.is_failed sink.new ≡ false) }
+    ensures unfailed { IsErrOf result RunFault.Endless →
+        (R.is_failed source.new ≡ false) × (W.is_failed sink.new ≡ false) }
     // How many reads were made, and that none brought the end where the run ended early, but for a failed write.
     ensures reads { (R.log source.new).reads ≤ (R.log source.old).reads + limits.reads }
     ensures endless { IsErrOf result RunFault.Endless → (R.log source.new).reads ≡ (R.log source.old).reads + limits.reads }
@@ -94,8 +96,10 @@ fn run_reads<S: TextStore, R: ByteSource, W: ByteSink>(
     ensures flags { OnOk result ((R.is_failed source.new ≡ false) × (W.is_failed sink.new ≡ false)) }
     ensures read { IsErrOf result RunFault.Read → R.is_failed source.new ≡ true }
     ensures write { IsErrOf result RunFault.Write → W.is_failed sink.new ≡ true }
-    ensures memory { IsErrOf result RunFault.Memory → (R.is_failed source.new ≡ false) × (W.is_failed sink.new ≡ false) }
-    ensures unfailed { IsErrOf result RunFault.Endless → (R.is_failed source.new ≡ false) × (W.is_failed sink.new ≡ false) }
+    ensures memory { IsErrOf result RunFault.Memory →
+        (R.is_failed source.new ≡ false) × (W.is_failed sink.new ≡ false) }
+    ensures unfailed { IsErrOf result RunFault.Endless →
+        (R.is_failed source.new ≡ false) × (W.is_failed sink.new ≡ false) }
     ensures reads { (R.log source.new).reads ≤ (R.log source.old).reads + limits.reads }
     ensures endless { IsErrOf result RunFault.Endless → (R.log source.new).reads ≡ (R.log source.old).reads + limits.reads }
     ensures no_end { IfErr result (λ fault. fault ≢ RunFault.Write → (R.log source.new).ends ≡ (R.log source.old).ends) }

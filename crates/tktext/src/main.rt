@@ -13,7 +13,13 @@ const MOST_READS: u32 = 1_073_741_824;
 
 /// The program's limits, each number the greatest.
 fn limits() -> Limits
-    ensures { result ≡ record { chars = most_chars; tags = most_tags; marks = most_marks; widgets = most_widgets; reads = 1073741824 } }
+    ensures { result ≡ record {
+      chars = most_chars;
+      tags = most_tags;
+      marks = most_marks;
+      widgets = most_widgets;
+      reads = 1073741824;
+    } }
 {
     Limits::new(
         Limits::MOST_CHARS,
