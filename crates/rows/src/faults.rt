@@ -29,7 +29,8 @@ const FAULTS: [Fault; 23] = [
     Fault::Memory,
 ];
 
-/// Prints the text of each fault, a line for each; of those of scripts and lists want of memory alone, as rows have the others.
+/// Prints the text of each fault, a line for each; of those of scripts and lists want of memory alone, as rows have
+/// the others.
 pub fn print_faults<R: Print>(rt: &R) -> io::Result<()> {
     for fault in FAULTS {
         println!(rt; "{fault}")?;

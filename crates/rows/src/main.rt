@@ -1,4 +1,5 @@
-//! `rows` runs each worked script of a folder's files on every store, and prints those that don't print what they have to.
+//! `rows` runs each worked script of a folder's files on every store, and prints those that don't print what they
+//! have to.
 #![tactic(auto)]
 
 mod faults;

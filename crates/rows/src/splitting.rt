@@ -6,8 +6,8 @@ use std::alloc::{AllocError, Global};
 use std::io;
 use tcl_words::{Splitter, split_list};
 
-/// Splits a row's script whole, byte by byte, and cut in two at each place, and says whether its commands are those that are
-/// wanted each time: a line for each, with a bar before each word, and a line for a fault.
+/// Splits a row's script whole, byte by byte, and cut in two at each place, and says whether its commands are those
+/// that are wanted each time: a line for each, with a bar before each word, and a line for a fault.
 pub fn check_words<R: Print + AllocGlobal>(rt: &R, row: &Row) -> io::Result<bool> {
     let whole = check_split(rt, row, 0, 4096)?;
     let by_bytes = check_split(rt, row, 0, 1)?;
