@@ -1,0 +1,6 @@
+pub mod ColumnLaws
+pub mod EntryLaws
+pub mod MarkLaws
+pub mod PreviousLaws
+pub mod TextLaws
+pub mod ToggleLaws

@@ -1,0 +1,26 @@
+use Rattle.std.proofs.Common.{◌≡◌, length, drop, sym, ap, ◌∙◌, arith}
+use Rattle.std.specs.Prelude.{chars}
+use Rattle.std.specs.Str.{IsAscii}
+use Rattle.std.proofs.lemmas.Str.{chars-IsAscii, IsAscii-drop, IsAscii-take, IsCharBoundary-from_ascii}
+use Rattle.segments.proofs.TextLaws.{front_of, is_ascii}
+use Rattle.segments.proofs.characters.byte_of.Goals as goal
+
+pub returns-then-count-text-clause-boundary : goal.returns-then-count-text-clause-boundary
+returns-then-count-text-clause-boundary c =
+    let same : length (chars c.args.text.now) ≡ length c.args.text.now = omega arith in
+    IsCharBoundary-from_ascii c.args.text.now c.args.column (is_ascii c.args.text.now c.utf8.text same) (omega arith)
+
+pub returns-then-count-text-clause-behind : goal.returns-then-count-text-clause-behind
+returns-then-count-text-clause-behind c =
+    let text = c.args.text.now in
+    let same : length (chars text) ≡ length text = omega arith in
+    let ascii = is_ascii text c.utf8.text same in
+    chars-IsAscii _ (IsAscii-drop text c.args.column ascii) ∙ ap (drop c.args.column) (sym (chars-IsAscii text ascii))
+
+pub returns-then-count-text-clause-front : goal.returns-then-count-text-clause-front
+returns-then-count-text-clause-front c =
+    front_of c.args.text.now c.args.column c.args.column c.utf8.text (returns-then-count-text-clause-boundary c) (returns-then-count-text-clause-behind c)
+
+pub returns-clause-front : goal.returns-clause-front
+returns-clause-front c =
+    front_of c.args.text.now c.front_bytes.result c.args.column c.utf8.text c.front_bytes.ensures.boundary c.front_bytes.ensures.behind

@@ -1,0 +1,8 @@
+use Rattle.std.proofs.Common.{sym, ◌∙◌, arith}
+use Rattle.segments.proofs.TextLaws.{some_bytes}
+use Rattle.segments.proofs.characters.first_character.Goals as goal
+
+pub returns : goal.returns
+returns c =
+    let steps = c.next.ensures.steps.0 in
+    (c.next.new.self.rest.now, sym c.chars.ensures.rest ∙ (rw c.unwrap.ensures at steps))

@@ -1,0 +1,12 @@
+use Rattle.std.proofs.Common.{set, sym, ap, ◌∙◌}
+use Rattle.std.proofs.lemmas.List.Edits.{map_over_more}
+use Rattle.segments.specs.declared.toggles.Toggled.{Toggled}
+use Rattle.segments.specs.Entries.{moved_back}
+use Rattle.segments.proofs.toggles.move_back.Goals as goal
+
+pub loop-entry-preserved : goal.loop-entry-preserved
+loop-entry-preserved c =
+    let toggles = c.loop-entry.toggles in
+    let index = c.loop-entry.entry-index in
+    ap (λ (e : Toggled). set toggles index (moved_back c.args.count e)) (sym c.entry-item.is)
+    ∙ map_over_more (moved_back c.args.count) c.args.toggles.now toggles index c.entry-item.result c.loop-entry-test.true c.loop-entry.invariant c.entry-item.is

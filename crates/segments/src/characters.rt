@@ -1,0 +1,171 @@
+ghost use Rattle.std.specs.Prelude.{◌≡◌, ◌+◌, ◌<◌, ◌≤◌, ◌^◌, ◌++◌, ℕ, List, encode_utf8, length, take, drop, chars, string_bytes, slice_range, slice_get, Some, IfOk, OnOk, OnErr};
+ghost use Rattle.std.specs.Str.{IsCharBoundary};
+ghost use Rattle.text_model.specs.Splices.{inserted, removed};
+
+use std::alloc::{AllocError, Global};
+use std::marker::Model;
+
+/// Some characters, with their number beside them: where each takes one byte, a column is found at once.
+#[derive(Drop)]
+pub struct Characters {
+    text: String,
+    count: usize,
+}
+
+impl Model for Characters {
+    ghost use Rattle.std.specs.Prelude.{◌≡◌, List, ℕ, length, chars, string_bytes};
+
+    ghost Value = { List ℕ };
+
+    ghost view = { λ a. chars (string_bytes a.text) };
+
+    ghost invariant = { λ a. a.count ≡ length (chars (string_bytes a.text)) };
+}
+
+/// How many characters a text has.
+fn count_characters(text: &str) -> usize
+    ensures { result ≡ length (chars text.now) }
+{
+    text.chars().count()
+}
+
+/// The first character of a text that has one.
+fn first_character(text: &str) -> char
+    requires { 0 < length (chars text.now) }
+    ensures { (rest : List ℕ) × (text.now ≡ encode_utf8 result ++ rest) }
+{
+    text.chars().next().unwrap()
+}
+
+/// How many bytes so many characters at the front of a text take.
+fn front_bytes(text: &str, column: usize) -> usize
+    requires { column ≤ length (chars text.now) }
+    ensures boundary { IsCharBoundary text.now result }
+    ensures behind { chars (drop result text.now) ≡ drop column (chars text.now) }
+{
+    let mut left = column;
+    let mut byte = 0;
+    while left > 0 {
+        byte += first_character(&text[byte..]).len_utf8();
+        left -= 1;
+    }
+    byte
+}
+
+/// The byte at which a column begins, in a text of so many characters.
+fn byte_of(text: &str, count: usize, column: usize) -> usize
+    requires count { count ≡ length (chars text.now) }
+    requires within { column ≤ count }
+    ensures boundary { IsCharBoundary text.now result }
+    ensures front { chars (take result text.now) ≡ take column (chars text.now) }
+    ensures behind { chars (drop result text.now) ≡ drop column (chars text.now) }
+{
+    if count == text.len() {
+        return column;
+    }
+    front_bytes(text, column)
+}
+
+impl Characters {
+    pub fn new(alloc: Global, text: &str) -> Result<Characters, AllocError>
+        ensures { IfOk result (λ characters. characters ≡ chars text.now) }
+    {
+        Ok(Characters {
+            text: String::from_str(alloc, text)?,
+            count: count_characters(text),
+        })
+    }
+
+    /// How many characters there are.
+    pub fn len(&self) -> usize
+        ensures { result ≡ length self.now }
+    {
+        self.count
+    }
+
+    /// The character at a column.
+    pub fn at(&self, column: usize) -> char
+        requires { column < length self.now }
+        ensures { slice_get self.now column ≡ Some result }
+    {
+        let text = self.text.as_str();
+        first_character(&text[byte_of(text, self.count, column)..])
+    }
+
+    /// The characters from one column to another.
+    pub fn copy(&self, alloc: Global, from: usize, to: usize) -> Result<String, AllocError>
+        requires ordered { from ≤ to }
+        requires within { to ≤ length self.now }
+        ensures { IfOk result (λ text. chars (string_bytes text) ≡ slice_range self.now from to) }
+    {
+        let text = self.text.as_str();
+        let rest = &text[byte_of(text, self.count, from)..];
+        let copied = byte_of(rest, self.count - from, to - from);
+        String::from_str(alloc, &rest[..copied])
+    }
+
+    /// Puts a text in before the character at a column.
+    pub fn insert(&mut self, column: usize, text: &str) -> Result<(), AllocError>
+        requires { column ≤ length self.old }
+        ensures new { OnOk result (self.new ≡ inserted column (chars text.now) self.old) }
+        ensures refused { OnErr result (self.new ≡ self.old) }
+    {
+        let byte = byte_of(self.text.as_str(), self.count, column);
+        self.text.insert_str(byte, text)?;
+        // There are no more characters than bytes, whose number fits.
+        let _bytes = self.text.len();
+        self.count += count_characters(text);
+        Ok(())
+    }
+
+    /// Takes the characters from one column to another out.
+    pub fn remove(&mut self, from: usize, to: usize) -> Result<(), AllocError>
+        requires ordered { from ≤ to }
+        requires within { to ≤ length self.old }
+        ensures new { OnOk result (self.new ≡ removed from to self.old) }
+        ensures refused { OnErr result (self.new ≡ self.old) }
+    {
+        let text = self.text.as_str();
+        let start = byte_of(text, self.count, from);
+        let long = byte_of(&text[start..], self.count - from, to - from);
+        self.text.replace_range(start..start + long, "")?;
+        self.count -= to - from;
+        Ok(())
+    }
+
+    /// Takes the characters from a column on off, and hands them out.
+    pub fn cut(&mut self, column: usize) -> Result<Characters, AllocError>
+        requires { column ≤ length self.old }
+        ensures head { OnOk result (self.new ≡ take column self.old) }
+        ensures tail { IfOk result (λ tail. tail ≡ drop column self.old) }
+        ensures refused { OnErr result (self.new ≡ self.old) }
+    {
+        let byte = byte_of(self.text.as_str(), self.count, column);
+        let text = self.text.split_off(byte)?;
+        let count = self.count - column;
+        self.count = column;
+        Ok(Characters { text, count })
+    }
+
+    /// Adds other characters behind these.
+    pub fn join(&mut self, other: &Characters) -> Result<(), AllocError>
+        ensures new { OnOk result (self.new ≡ self.old ++ other.now) }
+        ensures refused { OnErr result (self.new ≡ self.old) }
+    {
+        self.text.push_str(other.text.as_str())?;
+        // There are no more characters than bytes, whose number fits.
+        let _bytes = self.text.len();
+        self.count += other.count;
+        Ok(())
+    }
+
+    /// A copy of the characters.
+    pub fn try_clone(&self, alloc: Global) -> Result<Characters, AllocError>
+        ensures { IfOk result (λ copy. copy ≡ self.now) }
+    {
+        Ok(Characters {
+            text: String::from_str(alloc, self.text.as_str())?,
+            count: self.count,
+        })
+    }
+}

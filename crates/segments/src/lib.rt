@@ -1,0 +1,9 @@
+//! One line of text: its characters, the slots that are toggled before each of them, and the marks in it.
+#![tactic(auto)]
+
+mod characters;
+mod line;
+mod marks;
+mod toggles;
+
+pub use line::Line;
