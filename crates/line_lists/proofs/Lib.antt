@@ -1,0 +1,3 @@
+pub mod SlotLaws
+pub mod StepLaws
+pub mod TagLaws

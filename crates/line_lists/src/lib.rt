@@ -1,0 +1,4 @@
+//! One text store over any list of lines.
+#![tactic(auto)]
+
+pub mod laws;
