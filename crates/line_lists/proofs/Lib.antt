@@ -1,3 +1,4 @@
+pub mod MarkRows
 pub mod SlotLaws
 pub mod StepLaws
 pub mod TagLaws

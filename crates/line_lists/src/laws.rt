@@ -2,10 +2,10 @@
 
 ghost use Rattle.std.specs.Prelude.{◌≡◌, ℕ, ◌+◌, ◌<◌, ◌≤◌, Bool, false, List, length, map};
 ghost use Rattle.std.specs.FinSet as set;
-ghost use Rattle.text_model.specs.Content.{Slots};
+ghost use Rattle.text_model.specs.Content.{Marks, Slots};
 ghost use Rattle.text_model.specs.Splices.{changed, inserted, removed};
 ghost use Rattle.text_model.specs.Steps.{cells_of, with_slot, without_slots};
-ghost use Rattle.segments.specs.Columns.{Column, with_toggle, without_columns};
+ghost use Rattle.segments.specs.Columns.{Column, joined_marks, with_toggle, without_columns};
 ghost use Rattle.line_lists.specs.Texts.{cells_of_columns};
 ghost use Rattle.line_lists.specs.Toggling.{columns_bare, columns_inserted, columns_tagged};
 
@@ -23,4 +23,9 @@ pub fn steps_on_columns()
         cells_of_columns (columns_bare at columns) ≡ changed without_slots at (at + 1) (cells_of_columns columns) }
     ensures cleared { (slot : ℕ) (columns : List Column) →
         cells_of_columns (map (with_toggle slot false) columns) ≡ map (with_slot slot false) (cells_of_columns columns) }
+{}
+
+/// Rows.
+pub fn rows()
+    ensures { (one two : ℕ) (a b c : Marks) → joined_marks one a (joined_marks two b c) ≡ joined_marks (one + two) (joined_marks one a b) c }
 {}
