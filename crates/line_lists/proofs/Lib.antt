@@ -2,3 +2,4 @@ pub mod MarkRows
 pub mod SlotLaws
 pub mod StepLaws
 pub mod TagLaws
+pub mod WholeLaws

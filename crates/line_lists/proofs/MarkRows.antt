@@ -71,7 +71,7 @@ none-joined_marks marks =
 abbrev pub row : ℕ → ℕ → Marks → Marks → Marks → Marks
 row one two a b c = joined_marks one a (joined_marks two b c)
 
-get-row : (one two : ℕ) (a b c : Marks) (q : ℕ)
+pub get-row : (one two : ℕ) (a b c : Marks) (q : ℕ)
     → finite.get (row one two a b c) q ≡ or_else (option_map (later one) (or_else (option_map (later two) (finite.get c q)) (finite.get b q))) (finite.get a q)
 get-row one two a b c q =
     get-joined_marks one a (joined_marks two b c) q ∙ ap (λ found. or_else (option_map (later one) found) (finite.get a q)) (get-joined_marks two b c q)

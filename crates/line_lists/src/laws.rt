@@ -1,12 +1,12 @@
 //! Laws of texts that are kept as lines, each the contract of a function that does nothing.
 
-ghost use Rattle.std.specs.Prelude.{◌≡◌, ℕ, ◌+◌, ◌<◌, ◌≤◌, Bool, false, List, length, map};
+ghost use Rattle.std.specs.Prelude.{◌≡◌, ℕ, ◌+◌, ◌<◌, ◌≤◌, Bool, false, List, ◌++◌, length, map};
 ghost use Rattle.std.specs.FinSet as set;
-ghost use Rattle.text_model.specs.Content.{Marks, Slots};
+ghost use Rattle.text_model.specs.Content.{Slots};
 ghost use Rattle.text_model.specs.Splices.{changed, inserted, removed};
 ghost use Rattle.text_model.specs.Steps.{cells_of, with_slot, without_slots};
-ghost use Rattle.segments.specs.Columns.{Column, joined_marks, with_toggle, without_columns};
-ghost use Rattle.line_lists.specs.Texts.{cells_of_columns};
+ghost use Rattle.segments.specs.Columns.{Column, LineContent, joined, with_toggle, without_columns};
+ghost use Rattle.line_lists.specs.Texts.{cells_of_columns, whole};
 ghost use Rattle.line_lists.specs.Toggling.{columns_bare, columns_inserted, columns_tagged};
 
 /// What the steps of an edit make of columns is what they make of the cells.
@@ -27,5 +27,6 @@ pub fn steps_on_columns()
 
 /// Rows.
 pub fn rows()
-    ensures { (one two : ℕ) (a b c : Marks) → joined_marks one a (joined_marks two b c) ≡ joined_marks (one + two) (joined_marks one a b) c }
+    ensures { (front middle back : List LineContent) →
+        whole (front ++ middle ++ back) ≡ joined (whole front) (joined (whole middle) (whole back)) }
 {}

@@ -1,5 +1,5 @@
-use Rattle.line_lists.proofs.MarkRows.{joined_marks-associative}
+use Rattle.line_lists.proofs.WholeLaws.{after_removal-between, after_text-between, whole-between, with_cleared-between, with_mark-between, with_toggled-between, without_mark-between}
 use Rattle.line_lists.proofs.laws.rows.Goals as goal
 
 pub returns : goal.returns
-returns c = joined_marks-associative
+returns c = whole-between
