@@ -1,3 +1,4 @@
 pub mod Edits
+pub mod Lists
 pub mod Texts
 pub mod Toggling

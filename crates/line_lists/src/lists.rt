@@ -1,0 +1,100 @@
+ghost use Rattle.std.specs.Prelude.{◌≡◌, ℕ, ◌+◌, ◌<◌, ◌≤◌, List, [], ◌∷◌, length, map, take, slice_get, Some, IfOk, OnOk};
+ghost use Rattle.std.specs.List.{All};
+ghost use Rattle.text_model.specs.TagBits.{slot_count};
+ghost use Rattle.segments.specs.Columns.{LineContent, plain_line};
+ghost use Rattle.line_lists.specs.Edits.{without_mark};
+ghost use Rattle.line_lists.specs.Lists.{AreLines, Holds, NumbersBelow, count_of, has_mark, has_marks, has_toggle, next_line, previous_line, spliced};
+ghost use Rattle.line_lists.specs.Texts.{whole};
+
+use segments::Line;
+use std::alloc::{AllocError, Global};
+use text_model::{MarkNo, TagSlot, WORDS};
+use toggle_sums::Sums;
+
+/// A list of the lines of a text, at least one, each with its newline at its end and no other.
+///
+/// Lines count from 0, offsets count the characters of the text. No mark stands at the end of a line but the last, and
+/// no number is that of two marks. No query takes memory. Room for lines and marks is reserved, which changes nothing
+/// that can be seen; then lines are spliced in, which can't fail.
+pub trait LineList: Drop {
+    /// The lines, however they are kept.
+    ghost lines: { Self → List LineContent };
+
+    /// How many lines can be put in, and the bound of the numbers of their marks, before more is reserved.
+    ghost line_room: { Self → ℕ };
+
+    ghost mark_room: { Self → ℕ };
+
+    ghost are_lines: { (list : Self) → AreLines (lines list) };
+
+    /// One line, which has its newline alone.
+    fn new(alloc: Global) -> Result<Self, AllocError>
+        ensures { IfOk result (λ list. lines list ≡ plain_line (10 ∷ []) ∷ []) };
+
+    /// How many lines there are.
+    fn len(&self) -> usize
+        ensures { result ≡ length (lines self.now) };
+
+    /// A line, lent.
+    fn line(&self, index: usize) -> &Line
+        requires { index < length (lines self.now) }
+        ensures { slice_get (lines self.now) index ≡ Some result.now };
+
+    /// The number of the line that holds an offset, and the column there.
+    fn locate(&self, offset: usize) -> (usize, usize)
+        requires { offset < length (whole (lines self.now)).columns }
+        ensures { Holds (lines self.now) offset result.0 result.1 };
+
+    /// The sum of so many lines from the first.
+    fn prefix(&self, count: usize) -> Sums<WORDS>
+        requires { count ≤ length (lines self.now) }
+        ensures { result ≡ count_of (take count (lines self.now)) };
+
+    /// The first line from one on in which a slot is toggled.
+    fn next_with(&self, slot: TagSlot, from: usize) -> Option<usize>
+        requires slot { slot.0 < slot_count }
+        requires within { from ≤ length (lines self.now) }
+        ensures { result ≡ next_line (has_toggle slot.0) from (lines self.now) };
+
+    /// The last line below one in which a slot is toggled.
+    fn previous_with(&self, slot: TagSlot, to: usize) -> Option<usize>
+        requires slot { slot.0 < slot_count }
+        requires within { to ≤ length (lines self.now) }
+        ensures { result ≡ previous_line (has_toggle slot.0) to (lines self.now) };
+
+    /// The first line from one on in which a mark stands.
+    fn next_marked(&self, from: usize) -> Option<usize>
+        requires { from ≤ length (lines self.now) }
+        ensures { result ≡ next_line has_marks from (lines self.now) };
+
+    /// The last line below one in which a mark stands.
+    fn previous_marked(&self, to: usize) -> Option<usize>
+        requires { to ≤ length (lines self.now) }
+        ensures { result ≡ previous_line has_marks to (lines self.now) };
+
+    /// The line in which the mark of a number stands.
+    fn mark_line(&self, number: MarkNo) -> Option<usize>
+        ensures { result ≡ next_line (has_mark number.0) 0 (lines self.now) };
+
+    /// Reserves room for so many lines, and for marks with numbers below a bound.
+    fn reserve(&mut self, count: usize, numbers: usize) -> Result<(), AllocError>
+        ensures same { lines self.new ≡ lines self.old }
+        ensures room { OnOk result (count ≤ line_room self.new) }
+        ensures numbers { OnOk result (numbers ≤ mark_room self.new) };
+
+    /// Takes the mark of a number away.
+    fn take_mark(&mut self, number: MarkNo)
+        ensures lines { lines self.new ≡ map (without_mark number.0) (lines self.old) }
+        ensures room { line_room self.old ≤ line_room self.new }
+        ensures numbers { mark_room self.old ≤ mark_room self.new };
+
+    /// Puts lines in the place of so many from one on.
+    fn splice(&mut self, from: usize, count: usize, new: Vec<Line>)
+        requires within { from + count ≤ length (lines self.old) }
+        requires room { length new.items ≤ line_room self.old }
+        requires numbers { All (λ (line : LineContent). NumbersBelow (mark_room self.old) line.marks) new.items }
+        requires lines { AreLines (spliced from count new.items (lines self.old)) }
+        ensures lines { lines self.new ≡ spliced from count new.items (lines self.old) }
+        ensures room { line_room self.old ≤ line_room self.new + length new.items }
+        ensures numbers { mark_room self.old ≤ mark_room self.new };
+}
