@@ -1,3 +1,5 @@
+pub mod CountRows
+pub mod MadeLaws
 pub mod MarkRows
 pub mod SlotLaws
 pub mod StepLaws

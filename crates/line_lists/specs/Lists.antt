@@ -1,5 +1,5 @@
 -- The lists of lines that texts are kept as.
-use Rattle.std.specs.Prelude.{◌≡◌, ℕ, ◌+◌, ◌-◌, ◌<◌, ◌≤◌, Bool, true, not, nat_lt, ◌==◌, List, [], ◌∷◌, ◌++◌, ⊤, Option, None, Some, IfSome, length, map, take, drop, slice_get, is_some, option_map, if◌then◌else◌}
+use Rattle.std.specs.Prelude.{◌≡◌, ℕ, ◌+◌, ◌-◌, ◌<◌, ◌≤◌, ◌^◌, Bool, true, not, nat_lt, ◌==◌, List, [], ◌∷◌, ◌++◌, ⊤, Option, None, Some, IfSome, length, map, take, drop, slice_get, is_some, option_map, if◌then◌else◌}
 use Rattle.std.specs.FinMap as finite
 use Rattle.std.specs.FinSet as set
 use Rattle.std.specs.List.{position, suffix_len}
@@ -39,15 +39,22 @@ abbrev pub AreRows : List LineContent → Type 0
 AreRows [] = ⊤
 AreRows (line ∷ others) = IsLine line × GoesBefore line others × AreRows others
 
--- the lines of a text
-pub record AreLines (lines : List LineContent) : Type 0 where
-  pub some : 0 < length lines
-  pub rows : AreRows lines
-
 -- what is counted of lines
 abbrev pub count_of : List LineContent → Count
 count_of [] = no_text
 count_of (line ∷ others) = plus (line_count line) (count_of others)
+
+-- each number of a count is one of 64 bits
+pub record IsCounted (count : Count) : Type 0 where
+  pub lines : count.lines < 2 ^ 64
+  pub characters : count.characters < 2 ^ 64
+  pub marks : count.marks < 2 ^ 64
+
+-- the lines of a text
+pub record AreLines (lines : List LineContent) : Type 0 where
+  pub some : 0 < length lines
+  pub rows : AreRows lines
+  pub counted : IsCounted (count_of lines)
 
 -- a column of a line holds an offset of the text
 pub record Holds (lines : List LineContent) (offset line column : ℕ) : Type 0 where

@@ -1,3 +1,5 @@
+use Rattle.line_lists.proofs.CountRows.{count-append, count-characters, count-lines, count-parity, count-presence, counted-more, counted-part}
+use Rattle.line_lists.proofs.MadeLaws.{text-made}
 use Rattle.line_lists.proofs.WholeLaws.{after_removal-between, after_text-between, whole-between, with_cleared-between, with_mark-between, with_toggled-between, without_mark-between}
 use Rattle.line_lists.proofs.laws.rows.Goals as goal
 
