@@ -1,8 +1,8 @@
 -- The marks of a line by their numbers.
 use Rattle.std.proofs.Common.{◌≡◌, ◌≢◌, ℕ, zero, suc, ◌+◌, ◌<◌, ◌≤◌, Bool, true, false, cond, ◌&&◌, not, T, List, [], ◌∷◌, ◌++◌, Option, None, Some, length, get_or, set, take, drop, refl, sym, ap, ap₂, subst, ◌∙◌, arith}
 use Rattle.std.proofs.lemmas.Bool.Decides.{nat_tests}
-use Rattle.std.proofs.lemmas.List.{at_drop_more}
-use Rattle.std.proofs.lemmas.List.Elements.{All-head, All-tail}
+use Rattle.std.proofs.lemmas.List.{at_drop_more, drop_all}
+use Rattle.std.proofs.lemmas.List.Elements.{All-cons, All-head, All-nil, All-tail}
 use Rattle.std.specs.Cmp.{eq_by_cmp_equiv, nat_cmp_is, nat_cmp_total, unsigned_tied}
 use Rattle.std.specs.FinMap as finite
 use Rattle.std.specs.FinMap.{find, is_sorted, nat_cmp-IsAntisymmetric, put}
@@ -81,6 +81,20 @@ pub find_passed : (marks : List Mark) (i : ℕ) (mark : Mark) (number : ℕ) →
 find_passed marks i mark number within is other =
     find_one marks i mark number within is
     ∙ ap (λ b. cond b (Some mark.place) (find nat_cmp number (entries_of (drop (i + 1) marks)))) (apart number mark.number.0 (λ same. other (sym same)))
+
+-- the mark behind those with a lower number has a higher one, where it hasn't this number
+pub above_other : (marks : List Mark) (k number : ℕ) (mark : Mark) → mark ≡ get_or marks k mark → mark.number.0 ≢ number → All (λ (m : Mark). number ≤ m.number.0) (take 1 (drop k marks))
+    → All (λ (m : Mark). number < m.number.0) (take 1 (drop k marks))
+above_other [] zero number mark is other above = All-nil (λ (m : Mark). number < m.number.0)
+above_other [] (suc k) number mark is other above = All-nil (λ (m : Mark). number < m.number.0)
+above_other (m ∷ marks) zero number mark is other above =
+    let lowest = All-head (λ (m : Mark). number ≤ m.number.0) m [] above in
+    let here = ap (λ (x : Mark). x.number.0) is in
+    All-cons (λ (m : Mark). number < m.number.0) m [] (omega (arith, other, lowest, here)) (All-nil (λ (m : Mark). number < m.number.0))
+above_other (m ∷ marks) (suc k) number mark is other above = above_other marks k number mark is other above
+
+pub above_end : (marks : List Mark) (k number : ℕ) → length marks ≤ k → All (λ (m : Mark). number < m.number.0) (take 1 (drop k marks))
+above_end marks k number past = subst (λ rest. All (λ (m : Mark). number < m.number.0) (take 1 rest)) (sym (drop_all k marks past)) (All-nil (λ (m : Mark). number < m.number.0))
 
 -- a mark behind those with a lower number, before one with a higher number
 pub put_new : (marks : List Mark) (k : ℕ) (mark : Mark) → All (Below mark.number.0) (take k marks) → All (λ (m : Mark). mark.number.0 < m.number.0) (take 1 (drop k marks))
