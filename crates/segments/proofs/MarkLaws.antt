@@ -196,6 +196,12 @@ abbrev pub put_all : List Mark → ℕ → Marks → Marks
 put_all [] len marks = marks
 put_all (mark ∷ rest) len marks = put_all rest len (finite.insert marks mark.number.0 (later len mark.place))
 
+-- one mark on
+pub put_all_more : (list : List Mark) (i : ℕ) (mark : Mark) (len : ℕ) (old new : Marks) → i < length list
+    → new ≡ finite.insert old (get_or list i mark).number.0 (later len (get_or list i mark).place) → put_all (drop (i + 1) list) len new ≡ put_all (drop i list) len old
+put_all_more list i mark len old new within is =
+    ap (put_all (drop (i + 1) list) len) is ∙ sym (at_drop_more (λ rest. put_all rest len old) list i mark within)
+
 abbrev or_else : Option Place → Option Place → Option Place
 or_else None other = other
 or_else (Some place) other = Some place
