@@ -1,16 +1,21 @@
 -- The marks of a line by where they stand.
-use Rattle.std.proofs.Common.{◌≡◌, ℕ, ◌+◌, ◌<◌, ◌≤◌, min, max, true, false, cond, nat_le, nat_lt, ◌==◌, List, [], ◌∷◌, Option, None, Some, length, get_or, drop, map, refl, sym, ap, ◌∙◌}
-use Rattle.std.specs.Prelude.{if◌then◌else◌}
+use Rattle.std.proofs.Common.{◌≡◌, ℕ, ◌+◌, ◌<◌, ◌≤◌, min, max, true, false, cond, nat_le, nat_lt, ◌==◌, List, [], ◌∷◌, Option, None, Some, length, get_or, drop, map, refl, sym, ap, subst, ◌∙◌, arith}
+use Rattle.std.specs.Prelude.{IfSome, if◌then◌else◌}
+use Rattle.std.specs.FinMap as finite
+use Rattle.std.specs.FinMap.{find}
+use Rattle.std.specs.Ordering.{eq_by_cmp, nat_cmp}
 use Rattle.std.proofs.lemmas.List.{at_drop_more, drop_all}
+use Rattle.std.proofs.lemmas.List.Elements.{All-head, All-tail}
+use Rattle.std.proofs.lemmas.Option.{IfSome_then}
 use Rattle.std.specs.List.{filter, fold, reduce}
 use Rattle.text_model.specs.declared.places.MarkNo.{MarkNo}
 use Rattle.text_model.specs.declared.places.Place.{Place}
 use Rattle.text_model.specs.MarkOrder.{marks_at, next_mark, previous_mark}
 use Rattle.text_model.specs.Plain.{joined, with_next, with_previous}
-use Rattle.text_model.proofs.MarkOrderLaws.{reduced_from}
+use Rattle.text_model.proofs.MarkOrderLaws.{IsMarked, next_mark-marked, previous_mark-marked, reduced_from}
 use Rattle.segments.specs.declared.marks.Mark.{Mark}
-use Rattle.segments.specs.Marks.{Rise, entries_of, marks_of}
-use Rattle.segments.proofs.MarkLaws.{entries-marks_of}
+use Rattle.segments.specs.Marks.{Rise, StandIn, entries_of, marks_of}
+use Rattle.segments.proofs.MarkLaws.{entries-marks_of, get-marks_of}
 
 -- the numbers of the marks at a column
 abbrev pub numbers_at : ℕ → List Mark → List MarkNo
@@ -83,3 +88,27 @@ next_all at next marks i past = ap (λ rest. reduced_from min next (offsets_abov
 
 pub previous_all : (at : ℕ) (previous : Option ℕ) (marks : List Mark) (i : ℕ) → length marks ≤ i → reduced_from max previous (offsets_below at (drop i marks)) ≡ previous
 previous_all at previous marks i past = ap (λ rest. reduced_from max previous (offsets_below at rest)) (drop_all i marks past) ∙ reduced_none max previous
+
+found_stands : (marks : List Mark) (len number : ℕ) (place : Place) → StandIn len marks → find nat_cmp number (entries_of marks) ≡ Some place → place.offset ≤ len
+found_stands [] len number place stand found = absurd (let no : None ≡ Some place = found in cc)
+found_stands (mark ∷ marks) len number place stand found =
+    let Stands = λ (m : Mark). m.place.offset ≤ len in
+    elim (eq_by_cmp nat_cmp number mark.number.0) as (λ b. cond b (Some mark.place) (find nat_cmp number (entries_of marks)) ≡ Some place → place.offset ≤ len) [
+      | true ↦ λ is. let same : mark.place ≡ place = cc in subst (λ (p : Place). p.offset ≤ len) same (All-head Stands mark marks stand)
+      | false ↦ λ is. found_stands marks len number place (All-tail Stands mark marks stand) is
+    ] found
+
+-- a mark stands in the line
+pub mark_stands : (marks : List Mark) (len number : ℕ) (place : Place) → Rise marks → StandIn len marks → finite.get (marks_of marks) number ≡ Some place → place.offset ≤ len
+mark_stands marks len number place rise stand is = found_stands marks len number place stand (sym (get-marks_of marks number rise) ∙ is)
+
+marked_within : (marks : List Mark) (len offset : ℕ) → Rise marks → StandIn len marks → IsMarked (marks_of marks) offset → offset ≤ len
+marked_within marks len offset rise stand marked = let within = mark_stands marks len marked.0 marked.1 rise stand marked.2 in omega (arith, within, marked.3)
+
+pub next_mark-stands : (marks : List Mark) (at len : ℕ) → Rise marks → StandIn len marks → IfSome (next_mark at (marks_of marks)) (λ next. next ≤ len)
+next_mark-stands marks at len rise stand =
+    IfSome_then (next_mark at (marks_of marks)) (next_mark-marked at (marks_of marks)) (λ offset marked. marked_within marks len offset rise stand marked)
+
+pub previous_mark-stands : (marks : List Mark) (at len : ℕ) → Rise marks → StandIn len marks → IfSome (previous_mark at (marks_of marks)) (λ previous. previous ≤ len)
+previous_mark-stands marks at len rise stand =
+    IfSome_then (previous_mark at (marks_of marks)) (previous_mark-marked at (marks_of marks)) (λ offset marked. marked_within marks len offset rise stand marked)
