@@ -3,6 +3,7 @@ use Rattle.std.proofs.Common.{◌≡◌, ◌≢◌, ℕ, zero, suc, ◌+◌, ◌
 use Rattle.std.proofs.lemmas.Bool.Decides.{nat_tests}
 use Rattle.std.proofs.lemmas.List.{at_drop_more, drop_all}
 use Rattle.std.proofs.lemmas.List.Elements.{All-cons, All-head, All-nil, All-tail}
+use Rattle.std.proofs.lemmas.Option.{slice_get-map}
 use Rattle.std.specs.Cmp.{eq_by_cmp_equiv, nat_cmp_is, nat_cmp_total, unsigned_tied}
 use Rattle.std.specs.FinMap as finite
 use Rattle.std.specs.FinMap.{find, is_sorted, nat_cmp-IsAntisymmetric, put}
@@ -10,7 +11,7 @@ use Rattle.std.specs.FinMap.Entries.{below_all, by_order, find-where_key, is_sor
 use Rattle.std.specs.List.{All, insert, remove}
 use Rattle.std.specs.Ordering.{eq_by_cmp, is_eq, is_lt, nat_cmp}
 use Rattle.std.specs.declared.cmp.Ordering.TheVariants.{Less, Equal, Greater}
-use Rattle.std.specs.Prelude.{◌==◌, option_map}
+use Rattle.std.specs.Prelude.{◌==◌, option_map, slice_get}
 use Rattle.text_model.specs.declared.places.Place.{Place}
 use Rattle.text_model.specs.Content.{Marks, map_marks}
 use Rattle.text_model.proofs.PlaceLaws.{get-map_marks, same_marks}
@@ -26,6 +27,9 @@ entries-marks_of marks rise = finite.entries-from_sorted nat_cmp (entries_of mar
 
 pub get-marks_of : (marks : List Mark) (number : ℕ) → Rise marks → finite.get (marks_of marks) number ≡ find nat_cmp number (entries_of marks)
 get-marks_of marks number rise = finite.get-from_sorted nat_cmp (entries_of marks) number rise
+
+pub slice_get-marks_of : (marks : List Mark) (index : ℕ) → Rise marks → slice_get (finite.entries (marks_of marks)) index ≡ option_map entry_of (slice_get marks index)
+slice_get-marks_of marks index rise = ap (λ es. slice_get es index) (entries-marks_of marks rise) ∙ slice_get-map entry_of marks index
 
 is_less : (a b : ℕ) → a < b → nat_cmp a b ≡ Less
 is_less a b less = sym (nat_cmp_is a b Less less)
