@@ -67,25 +67,6 @@ second_part : (first rest : Bool) → T (first && rest) → T rest
 second_part true rest both = both
 second_part false rest both = absurd both
 
--- the first of the marks that are left has a number, or hasn't
-find_one : (marks : List Mark) (i : ℕ) (mark : Mark) (number : ℕ) → i < length marks → mark ≡ get_or marks i mark
-    → find nat_cmp number (entries_of (drop i marks)) ≡ cond (eq_by_cmp nat_cmp number mark.number.0) (Some mark.place) (find nat_cmp number (entries_of (drop (i + 1) marks)))
-find_one marks i mark number within is =
-    at_drop_more (λ rest. find nat_cmp number (entries_of rest)) marks i mark within
-    ∙ ap (λ (m : Mark). find nat_cmp number (entries_of (m ∷ drop (i + 1) marks))) (sym is)
-
-pub find_met : (marks : List Mark) (i : ℕ) (mark : Mark) (number : ℕ) → i < length marks → mark ≡ get_or marks i mark → mark.number.0 ≡ number
-    → find nat_cmp number (entries_of (drop i marks)) ≡ Some mark.place
-find_met marks i mark number within is same =
-    find_one marks i mark number within is
-    ∙ ap (λ b. cond b (Some mark.place) (find nat_cmp number (entries_of (drop (i + 1) marks)))) (tied number mark.number.0 (sym same))
-
-pub find_passed : (marks : List Mark) (i : ℕ) (mark : Mark) (number : ℕ) → i < length marks → mark ≡ get_or marks i mark → mark.number.0 ≢ number
-    → find nat_cmp number (entries_of (drop i marks)) ≡ find nat_cmp number (entries_of (drop (i + 1) marks))
-find_passed marks i mark number within is other =
-    find_one marks i mark number within is
-    ∙ ap (λ b. cond b (Some mark.place) (find nat_cmp number (entries_of (drop (i + 1) marks)))) (apart number mark.number.0 (λ same. other (sym same)))
-
 -- the mark behind those with a lower number has a higher one, where it hasn't this number
 pub above_other : (marks : List Mark) (k number : ℕ) (mark : Mark) → mark ≡ get_or marks k mark → mark.number.0 ≢ number → All (λ (m : Mark). number ≤ m.number.0) (take 1 (drop k marks))
     → All (λ (m : Mark). number < m.number.0) (take 1 (drop k marks))

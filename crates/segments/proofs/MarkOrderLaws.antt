@@ -1,17 +1,15 @@
 -- The marks of a line by where they stand.
-use Rattle.std.proofs.Common.{◌≡◌, ℕ, ◌+◌, ◌<◌, ◌≤◌, min, max, true, false, cond, nat_le, nat_lt, ◌==◌, List, [], ◌∷◌, Option, None, Some, length, get_or, drop, map, refl, sym, ap, subst, ◌∙◌, arith}
-use Rattle.std.specs.Prelude.{IfSome, if◌then◌else◌}
+use Rattle.std.proofs.Common.{◌≡◌, ℕ, ◌≤◌, min, max, true, false, cond, nat_le, nat_lt, ◌==◌, List, [], ◌∷◌, None, Some, map, sym, ap, subst, ◌∙◌, arith}
+use Rattle.std.specs.Prelude.{IfSome}
 use Rattle.std.specs.FinMap as finite
 use Rattle.std.specs.FinMap.{find}
 use Rattle.std.specs.Ordering.{eq_by_cmp, nat_cmp}
-use Rattle.std.proofs.lemmas.List.{at_drop_more, drop_all}
 use Rattle.std.proofs.lemmas.List.Elements.{All-head, All-tail}
 use Rattle.std.proofs.lemmas.Option.{IfSome_then}
-use Rattle.std.specs.List.{filter, fold, reduce}
+use Rattle.std.specs.List.{filter, reduce}
 use Rattle.text_model.specs.declared.places.MarkNo.{MarkNo}
 use Rattle.text_model.specs.declared.places.Place.{Place}
 use Rattle.text_model.specs.MarkOrder.{marks_at, next_mark, previous_mark}
-use Rattle.text_model.specs.Plain.{joined, with_next, with_previous}
 use Rattle.text_model.proofs.MarkOrderLaws.{IsMarked, next_mark-marked, previous_mark-marked, reduced_from}
 use Rattle.segments.specs.declared.marks.Mark.{Mark}
 use Rattle.segments.specs.Marks.{Rise, StandIn, entries_of, marks_of}
@@ -40,54 +38,6 @@ next_mark-marks_of at marks rise = ap (λ entries. reduce min (filter (λ offset
 
 pub previous_mark-marks_of : (at : ℕ) (marks : List Mark) → Rise marks → previous_mark at (marks_of marks) ≡ reduced_from max None (offsets_below at marks)
 previous_mark-marks_of at marks rise = ap (λ entries. reduce max (filter (λ offset. nat_lt offset at) (offsets_of entries))) (entries-marks_of marks rise)
-
-numbers_one : (at : ℕ) (mark : Mark) (marks : List Mark)
-    → numbers_at at (mark ∷ marks) ≡ cond (mark.place.offset == at) (mark.number ∷ numbers_at at marks) (numbers_at at marks)
-numbers_one at mark marks =
-    elim (mark.place.offset == at) as (λ b. map (λ entry. record { 0 = entry.0 }) (cond b ((mark.number.0, mark.place) ∷ filter (λ (entry : ℕ × Place). entry.1.offset == at) (entries_of marks)) (filter (λ (entry : ℕ × Place). entry.1.offset == at) (entries_of marks)))
-    ≡ cond b (mark.number ∷ numbers_at at marks) (numbers_at at marks)) [ true ↦ refl | false ↦ refl ]
-
--- one mark on
-pub numbers_more : (at : ℕ) (marks : List Mark) (i : ℕ) (mark : Mark) → i < length marks → mark ≡ get_or marks i mark
-    → numbers_at at (drop i marks) ≡ cond (mark.place.offset == at) (mark.number ∷ numbers_at at (drop (i + 1) marks)) (numbers_at at (drop (i + 1) marks))
-numbers_more at marks i mark within is =
-    at_drop_more (numbers_at at) marks i mark within ∙ ap (λ (m : Mark). numbers_at at (m ∷ drop (i + 1) marks)) (sym is) ∙ numbers_one at mark (drop (i + 1) marks)
-
-next_one : (at : ℕ) (next : Option ℕ) (mark : Mark) (marks : List Mark)
-    → reduced_from min next (offsets_above at (mark ∷ marks)) ≡ reduced_from min (with_next next at (Some mark.place)) (offsets_above at marks)
-next_one at None mark marks =
-    elim (nat_le at mark.place.offset) as (λ b. reduce min (cond b (mark.place.offset ∷ offsets_above at marks) (offsets_above at marks)) ≡ reduced_from min (if b then Some mark.place.offset else None) (offsets_above at marks)) [ true ↦ refl | false ↦ refl ]
-next_one at (Some next) mark marks =
-    elim (nat_le at mark.place.offset) as (λ b. Some (fold min next (cond b (mark.place.offset ∷ offsets_above at marks) (offsets_above at marks))) ≡ reduced_from min (if b then Some (min next mark.place.offset) else Some next) (offsets_above at marks)) [ true ↦ refl | false ↦ refl ]
-
-previous_one : (at : ℕ) (previous : Option ℕ) (mark : Mark) (marks : List Mark)
-    → reduced_from max previous (offsets_below at (mark ∷ marks)) ≡ reduced_from max (with_previous previous at (Some mark.place)) (offsets_below at marks)
-previous_one at None mark marks =
-    elim (nat_lt mark.place.offset at) as (λ b. reduce max (cond b (mark.place.offset ∷ offsets_below at marks) (offsets_below at marks)) ≡ reduced_from max (if b then Some mark.place.offset else None) (offsets_below at marks)) [ true ↦ refl | false ↦ refl ]
-previous_one at (Some previous) mark marks =
-    elim (nat_lt mark.place.offset at) as (λ b. Some (fold max previous (cond b (mark.place.offset ∷ offsets_below at marks) (offsets_below at marks))) ≡ reduced_from max (if b then Some (max previous mark.place.offset) else Some previous) (offsets_below at marks)) [ true ↦ refl | false ↦ refl ]
-
-pub next_more : (at : ℕ) (next : Option ℕ) (marks : List Mark) (i : ℕ) (mark : Mark) → i < length marks → mark ≡ get_or marks i mark
-    → reduced_from min next (offsets_above at (drop i marks)) ≡ reduced_from min (with_next next at (Some mark.place)) (offsets_above at (drop (i + 1) marks))
-next_more at next marks i mark within is =
-    at_drop_more (λ rest. reduced_from min next (offsets_above at rest)) marks i mark within
-    ∙ ap (λ (m : Mark). reduced_from min next (offsets_above at (m ∷ drop (i + 1) marks))) (sym is) ∙ next_one at next mark (drop (i + 1) marks)
-
-pub previous_more : (at : ℕ) (previous : Option ℕ) (marks : List Mark) (i : ℕ) (mark : Mark) → i < length marks → mark ≡ get_or marks i mark
-    → reduced_from max previous (offsets_below at (drop i marks)) ≡ reduced_from max (with_previous previous at (Some mark.place)) (offsets_below at (drop (i + 1) marks))
-previous_more at previous marks i mark within is =
-    at_drop_more (λ rest. reduced_from max previous (offsets_below at rest)) marks i mark within
-    ∙ ap (λ (m : Mark). reduced_from max previous (offsets_below at (m ∷ drop (i + 1) marks))) (sym is) ∙ previous_one at previous mark (drop (i + 1) marks)
-
-reduced_none : (f : ℕ → ℕ → ℕ) (found : Option ℕ) → reduced_from f found [] ≡ found
-reduced_none f None = refl
-reduced_none f (Some offset) = refl
-
-pub next_all : (at : ℕ) (next : Option ℕ) (marks : List Mark) (i : ℕ) → length marks ≤ i → reduced_from min next (offsets_above at (drop i marks)) ≡ next
-next_all at next marks i past = ap (λ rest. reduced_from min next (offsets_above at rest)) (drop_all i marks past) ∙ reduced_none min next
-
-pub previous_all : (at : ℕ) (previous : Option ℕ) (marks : List Mark) (i : ℕ) → length marks ≤ i → reduced_from max previous (offsets_below at (drop i marks)) ≡ previous
-previous_all at previous marks i past = ap (λ rest. reduced_from max previous (offsets_below at rest)) (drop_all i marks past) ∙ reduced_none max previous
 
 found_stands : (marks : List Mark) (len number : ℕ) (place : Place) → StandIn len marks → find nat_cmp number (entries_of marks) ≡ Some place → place.offset ≤ len
 found_stands [] len number place stand found = absurd (let no : None ≡ Some place = found in cc)

@@ -1,7 +1,6 @@
-use Rattle.std.proofs.Common.{◌≡◌, ◌≤◌, length, sym, ap, subst, ◌∙◌}
+use Rattle.std.proofs.Common.{◌≤◌, length, sym, ap, subst, ◌∙◌}
 use Rattle.std.specs.FinMap as finite
 use Rattle.text_model.proofs.PlaceLaws.{stands_if_some}
-use Rattle.text_model.specs.declared.places.Place.{Place}
 use Rattle.segments.specs.Columns.{LineContent}
 use Rattle.segments.specs.Marks.{marks_of}
 use Rattle.segments.proofs.ColumnLaws.{length-columns}
