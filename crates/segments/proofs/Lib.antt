@@ -1,6 +1,7 @@
 pub mod ColumnLaws
 pub mod EntryLaws
 pub mod MarkLaws
+pub mod MarkPlaceLaws
 pub mod PreviousLaws
 pub mod TextLaws
 pub mod ToggleLaws
