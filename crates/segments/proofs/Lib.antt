@@ -3,5 +3,6 @@ pub mod EntryLaws
 pub mod MarkLaws
 pub mod MarkPlaceLaws
 pub mod PreviousLaws
+pub mod SpanLaws
 pub mod TextLaws
 pub mod ToggleLaws

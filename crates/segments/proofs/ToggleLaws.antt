@@ -64,7 +64,7 @@ differing_first first second rest =
     ∙ ap (λ slots. differing slots rest) (differing-commutative first second)
     ∙ differing-associative second first rest
 
-toggled_parts : (front middle behind : List Toggled) (at : ℕ) → toggled_at (front ++ (middle ++ behind)) at ≡ differing (toggled_at front at) (differing (toggled_at middle at) (toggled_at behind at))
+pub toggled_parts : (front middle behind : List Toggled) (at : ℕ) → toggled_at (front ++ (middle ++ behind)) at ≡ differing (toggled_at front at) (differing (toggled_at middle at) (toggled_at behind at))
 toggled_parts front middle behind at = toggled-append front (middle ++ behind) at ∙ ap (differing (toggled_at front at)) (toggled-append middle behind at)
 
 -- other entries of one column, by which a set is toggled there

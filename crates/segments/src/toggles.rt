@@ -1,10 +1,10 @@
-ghost use Rattle.std.specs.Prelude.{◌≡◌, ℕ, ◌+◌, ◌<◌, ◌≤◌, ◌^◌, ◌==◌, ⊤, true, length, map, take, drop, vec_len, Option, Some, None, option_map, IfSome, OnOk, OnErr, ◌-◌, if◌then◌else◌};
+ghost use Rattle.std.specs.Prelude.{◌≡◌, ℕ, ◌+◌, ◌<◌, ◌≤◌, ◌^◌, ◌==◌, ⊤, true, length, map, take, drop, vec_len, Option, Some, None, option_map, IfSome, OnOk, OnErr, ◌-◌, if◌then◌else◌, []};
 ghost use Rattle.std.specs.List.{All};
 ghost use Rattle.std.specs.FinSet as set;
 ghost use Rattle.text_model.specs.SlotSets.{differing};
 ghost use Rattle.text_model.specs.Splices.{removed};
 ghost use Rattle.text_model.specs.TagBits.{slot_count};
-ghost use Rattle.segments.specs.Entries.{CanMoveBack, CanMoveOn, LieIn, flipped, moved_back, moved_on, next_entry, odd_of, previous_entry, toggled_at, without_span};
+ghost use Rattle.segments.specs.Entries.{CanMoveBack, CanMoveOn, LieIn, entries_in, flipped, moved_back, moved_on, next_entry, odd_of, previous_entry, toggled_at, without_span};
 
 use std::alloc::AllocError;
 use text_model::{TagSet, TagSlot};
@@ -121,6 +121,7 @@ fn gather(toggles: &mut Vec<Toggled>, from: usize, to: usize, len: usize)
     requires within { to < len }
     ensures lie { LieIn 0 len toggles.new.items }
     ensures slots { (at : ℕ) → toggled_at toggles.new.items at ≡ without_span from to at toggles.old.items }
+    ensures gap { entries_in from to toggles.new.items ≡ [] }
 {
     let start = count_before(toggles, from);
     let mut end = count_before(toggles, to);
