@@ -2,6 +2,7 @@ pub mod ColumnLaws
 pub mod EntryLaws
 pub mod MarkLaws
 pub mod MarkPlaceLaws
+pub mod MovedLaws
 pub mod PreviousLaws
 pub mod SpanLaws
 pub mod TextLaws

@@ -241,3 +241,22 @@ overwritten (entry ∷ entries) zero zero new within ordered = absurd (omega ari
 overwritten (entry ∷ entries) zero (suc end) new within ordered = refl
 overwritten (entry ∷ entries) (suc start) zero new within ordered = absurd (omega arith)
 overwritten (entry ∷ entries) (suc start) (suc end) new within ordered = ap (λ es. entry ∷ es) (overwritten entries start end new (omega arith) (omega arith))
+
+-- where the columns of a range have none, those from the first on are those from the second on
+nothing_behind : (front behind : List Toggled) → front ++ behind ≡ [] → behind ≡ []
+nothing_behind front behind none = nil_from_length behind (omega (arith, length-append front behind, ap length none))
+
+past : (from to len : ℕ) (entries : List Toggled) → entries_in from to entries ≡ [] → LieIn from len entries → LieIn to len entries
+past from to len [] none lie = tt
+past from to len (entry ∷ entries) none lie =
+    elim (cases_lt entry.column to) [
+      | inl inside ↦
+          let test : (nat_le from entry.column && nat_lt entry.column to) ≡ true = grind (arith, nat_tests, lie.0, inside) in
+          absurd (omega (arith, ap length (sym none ∙ ap (λ (b : Bool). if b then entry ∷ entries_in from to entries else entries_in from to entries) test)))
+      | inr behind ↦ (behind, lie.1, lie.2)
+    ]
+
+pub behind_gap : (from to len start : ℕ) (entries : List Toggled) → entries_in from to entries ≡ [] → LieIn from len (drop start entries) → LieIn to len (drop start entries)
+behind_gap from to len start entries none lie =
+    past from to len (drop start entries)
+    (nothing_behind (entries_in from to (take start entries)) (entries_in from to (drop start entries)) (sym (in-append from to (take start entries) (drop start entries)) ∙ ap (entries_in from to) (take-append-drop start entries) ∙ none)) lie

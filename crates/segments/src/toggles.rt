@@ -1,4 +1,4 @@
-ghost use Rattle.std.specs.Prelude.{◌≡◌, ℕ, ◌+◌, ◌<◌, ◌≤◌, ◌^◌, ◌==◌, ⊤, true, length, map, take, drop, vec_len, Option, Some, None, option_map, IfSome, OnOk, OnErr, ◌-◌, if◌then◌else◌, []};
+ghost use Rattle.std.specs.Prelude.{◌≡◌, ℕ, ◌+◌, ◌<◌, ◌≤◌, ◌^◌, ◌==◌, ⊤, true, length, map, take, drop, vec_len, Option, Some, None, option_map, IfSome, OnOk, OnErr, ◌-◌, if◌then◌else◌, [], ◌++◌};
 ghost use Rattle.std.specs.List.{All};
 ghost use Rattle.std.specs.FinSet as set;
 ghost use Rattle.text_model.specs.SlotSets.{differing};
@@ -71,6 +71,24 @@ pub fn move_back(toggles: &mut [Toggled], count: usize)
     for entry in toggles.iter_mut() {
         entry.column -= count;
     }
+}
+
+/// Moves the toggles from an index on so many columns on.
+pub fn move_rest_on(toggles: &mut Vec<Toggled>, start: usize, count: usize)
+    requires within { start ≤ vec_len toggles.old }
+    requires room { All (CanMoveOn count) (drop start toggles.old.items) }
+    ensures { toggles.new.items ≡ take start toggles.old.items ++ map (moved_on count) (drop start toggles.old.items) }
+{
+    move_on(&mut toggles[start..], count);
+}
+
+/// Moves the toggles from an index on so many columns back.
+fn move_rest_back(toggles: &mut Vec<Toggled>, start: usize, count: usize)
+    requires within { start ≤ vec_len toggles.old }
+    requires room { All (CanMoveBack count) (drop start toggles.old.items) }
+    ensures { toggles.new.items ≡ take start toggles.old.items ++ map (moved_back count) (drop start toggles.old.items) }
+{
+    move_back(&mut toggles[start..], count);
 }
 
 /// Takes the toggles from one index to another out.
@@ -159,7 +177,7 @@ pub fn remove_columns(toggles: &mut Vec<Toggled>, from: usize, to: usize, len: u
     }
     gather(toggles, from, to, len);
     let start = count_before(toggles, from);
-    move_back(&mut toggles[start..], to - from);
+    move_rest_back(toggles, start, to - from);
 }
 
 /// The slots that are toggled at the index of a column, if that entry is the column's.
