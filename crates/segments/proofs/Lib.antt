@@ -2,6 +2,9 @@ pub mod ColumnLaws
 pub mod EntryLaws
 pub mod MarkLaws
 pub mod MarkOrderLaws
+pub mod MarkPlaceLaws
+pub mod MovedLaws
 pub mod PreviousLaws
+pub mod SpanLaws
 pub mod TextLaws
 pub mod ToggleLaws
