@@ -37,7 +37,7 @@ columns-passed at [] entry entries before = refl
 columns-passed at (character ∷ text) entry entries before =
     ap₂ (λ slots (columns : List Column). record { character = character; toggled = slots } ∷ columns) (passed entry entries at (omega arith)) (columns-passed (suc at) text entry entries (omega arith))
 
-columns-front : (at from to : ℕ) (text : List ℕ) (front behind : List Toggled) → LieIn from to behind → at + length text ≤ from → columns_from at text (front ++ behind) ≡ columns_from at text front
+pub columns-front : (at from to : ℕ) (text : List ℕ) (front behind : List Toggled) → LieIn from to behind → at + length text ≤ from → columns_from at text (front ++ behind) ≡ columns_from at text front
 columns-front at from to [] front behind lie far = refl
 columns-front at from to (character ∷ text) front behind lie far =
     ap₂ (λ slots (columns : List Column). record { character = character; toggled = slots } ∷ columns) (front_alone front behind at (none_before from to behind at lie (omega arith))) (columns-front (suc at) from to text front behind lie (omega arith))

@@ -83,7 +83,7 @@ pub fn move_rest_on(toggles: &mut Vec<Toggled>, start: usize, count: usize)
 }
 
 /// Moves the toggles from an index on so many columns back.
-fn move_rest_back(toggles: &mut Vec<Toggled>, start: usize, count: usize)
+pub fn move_rest_back(toggles: &mut Vec<Toggled>, start: usize, count: usize)
     requires within { start ≤ vec_len toggles.old }
     requires room { All (CanMoveBack count) (drop start toggles.old.items) }
     ensures { toggles.new.items ≡ take start toggles.old.items ++ map (moved_back count) (drop start toggles.old.items) }
