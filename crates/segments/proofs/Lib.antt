@@ -1,3 +1,4 @@
+pub mod ChangeLaws
 pub mod ColumnLaws
 pub mod EntryLaws
 pub mod MarkLaws
