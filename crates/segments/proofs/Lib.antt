@@ -1,6 +1,7 @@
 pub mod ChangeLaws
 pub mod ColumnLaws
 pub mod EntryLaws
+pub mod InsertionLaws
 pub mod MarkLaws
 pub mod MarkPlaceLaws
 pub mod MovedLaws

@@ -12,8 +12,8 @@ use crate::marks::{
     next_mark, previous_mark, put_mark, take_mark,
 };
 use crate::toggles::{
-    Toggled, count_before, flip, move_back, move_on, next_toggle, odd_slots, previous_toggle,
-    remove_columns, slots_at,
+    Toggled, count_before, flip, move_back, move_on, move_rest_on, next_toggle, odd_slots,
+    previous_toggle, remove_columns, slots_at,
 };
 use std::alloc::{AllocError, AllocFailed, Global};
 use std::marker::Model;
@@ -251,7 +251,7 @@ impl Line {
         self.text.insert(column, text)?;
         let count = self.text.len() - len;
         let start = count_before(&self.toggles, column);
-        move_on(&mut self.toggles[start..], count);
+        move_rest_on(&mut self.toggles, start, count);
         move_marks(&mut self.marks, column, count);
         Ok(())
     }
