@@ -5,6 +5,7 @@ pub mod InsertionLaws
 pub mod MarkLaws
 pub mod MarkPlaceLaws
 pub mod MovedLaws
+pub mod NextLaws
 pub mod PreviousLaws
 pub mod SpanLaws
 pub mod TextLaws
