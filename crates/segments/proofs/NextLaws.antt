@@ -142,3 +142,98 @@ next_below slot at low high (entry ∷ entries) lie =
       | true ↦ lie.1
       | false ↦ next_below slot at (suc entry.column) high entries lie.2
     ]
+
+-- the last entry's column below another
+previous_here : (slot at low high : ℕ) (entries : List Toggled) → LieIn low high entries → finset.contains (toggled_at entries at) slot ≡ true → previous_entry slot (suc at) entries ≡ Some at
+previous_here slot at low high [] lie has = absurd (false≢true (sym (finset.contains-empty nat_cmp slot) ∙ has))
+previous_here slot at low high (entry ∷ entries) lie has =
+    elim (cases_order entry.column at) [
+      | inl here ↦
+          let test : nat_lt entry.column (suc at) ≡ true = grind (arith, nat_tests, here) in
+          ap₂ (λ a b. later_of (if a && b then Some entry.column else None) (previous_entry slot (suc at) entries)) test (ap (λ s. finset.contains s slot) (sym (own_slots high at entry entries lie.2 here)) ∙ has)
+          ∙ ap (later_of (Some entry.column)) (behind_none slot (suc at) (suc entry.column) high entries lie.2 (omega (arith, here)))
+          ∙ ap (λ n. Some n) here
+      | inr other ↦ elim other [
+        | inl before ↦
+            ap (later_of (own slot (suc at) entry)) (previous_here slot at (suc entry.column) high entries lie.2 (ap (λ s. finset.contains s slot) (sym (passed entry entries at (omega (arith, before)))) ∙ has))
+        | inr behind ↦ absurd (false≢true (sym (none_has slot entry.column high at (entry ∷ entries) (omega arith, lie.1, lie.2) behind) ∙ has))
+      ]
+    ]
+
+previous_skip : (slot at low high : ℕ) (entries : List Toggled) → LieIn low high entries → finset.contains (toggled_at entries at) slot ≡ false → previous_entry slot (suc at) entries ≡ previous_entry slot at entries
+previous_skip slot at low high [] lie hasn't = refl
+previous_skip slot at low high (entry ∷ entries) lie hasn't =
+    elim (cases_order entry.column at) [
+      | inl here ↦
+          let one : nat_lt entry.column (suc at) ≡ true = grind (arith, nat_tests, here) in
+          let two : nat_lt entry.column at ≡ false = grind (arith, nat_tests, here) in
+          ap₂ (λ a b. later_of (if a && b then Some entry.column else None) (previous_entry slot (suc at) entries)) one (ap (λ s. finset.contains s slot) (sym (own_slots high at entry entries lie.2 here)) ∙ hasn't)
+          ∙ ap (later_of None) (behind_none slot (suc at) (suc entry.column) high entries lie.2 (omega (arith, here)) ∙ sym (behind_none slot at (suc entry.column) high entries lie.2 (omega (arith, here))))
+          ∙ ap (λ b. later_of (if b && finset.contains entry.slots slot then Some entry.column else None) (previous_entry slot at entries)) (sym two)
+      | inr other ↦ elim other [
+        | inl before ↦
+            let tests : nat_lt entry.column (suc at) ≡ nat_lt entry.column at = grind (arith, nat_tests, before) in
+            ap₂ (λ b rest. later_of (if b && finset.contains entry.slots slot then Some entry.column else None) rest) tests
+            (previous_skip slot at (suc entry.column) high entries lie.2 (ap (λ s. finset.contains s slot) (sym (passed entry entries at (omega (arith, before)))) ∙ hasn't))
+        | inr behind ↦
+            behind_none slot (suc at) entry.column high (entry ∷ entries) (omega arith, lie.1, lie.2) behind
+            ∙ sym (behind_none slot at entry.column high (entry ∷ entries) (omega arith, lie.1, lie.2) (omega (arith, behind)))
+      ]
+    ]
+
+column_at : (first k : ℕ) (text : List ℕ) (entries : List Toggled) (d : Column) → k < length text → (get_or (columns_from first text entries) k d).toggled ≡ toggled_at entries (first + k)
+column_at first k [] entries d within = absurd (omega arith)
+column_at first zero (character ∷ text) entries d within =
+    let same : first ≡ first + 0 = omega arith in
+    ap (toggled_at entries) same
+column_at first (suc k) (character ∷ text) entries d within =
+    let same : suc first + k ≡ first + suc k = omega arith in
+    column_at (suc first) k text entries d (omega arith) ∙ ap (toggled_at entries) same
+
+pub previous_column : (slot at : ℕ) (text : List ℕ) (entries : List Toggled) → LieIn 0 (length text) entries → at ≤ length text → previous_entry slot at entries ≡ previous_toggle slot at (columns_from 0 text entries)
+previous_column slot zero text entries lie within = behind_none slot 0 0 (length text) entries lie (omega arith)
+previous_column slot (suc at) text entries lie within =
+    let columns = columns_from 0 text entries in
+    let none : Column = record { character = 0; toggled = finset.empty } in
+    let free = free_behind slot (take at columns) in
+    let p = λ (column : Column). not (finset.contains column.toggled slot) in
+    let long : suc at ≤ length columns = omega (arith, length-columns 0 text entries) in
+    let last : suc at - 1 ≡ at = omega arith in
+    let start : 0 + at ≡ at = omega arith in
+    let test : p (get_or columns (suc at - 1) none) ≡ not (finset.contains (toggled_at entries at) slot) =
+    ap (λ n. p (get_or columns n none)) last ∙ ap (λ s. not (finset.contains s slot)) (column_at 0 at text entries none (omega arith) ∙ ap (toggled_at entries) start) in
+    elim (finset.contains (toggled_at entries at) slot) as (λ b. finset.contains (toggled_at entries at) slot ≡ b → previous_entry slot (suc at) entries ≡ previous_toggle slot (suc at) columns) [
+      | true ↦ λ has.
+          let nothing : free_behind slot (take (suc at) columns) ≡ 0 = suffix_len-take_no p columns (suc at) none (omega arith) long (test ∙ ap not has) in
+          let yes : nat_lt 0 (suc at) ≡ true = grind (arith, nat_tests) in
+          let there : suc at - 0 - 1 ≡ at = omega arith in
+          previous_here slot at 0 (length text) entries lie has
+          ∙ sym (ap (λ n. if nat_lt n (suc at) then Some (suc at - n - 1) else None) nothing
+          ∙ ap₂ (λ (b : Bool) n. if b then Some n else None) yes there)
+      | false ↦ λ hasn't.
+          let more : free_behind slot (take (suc at) columns) ≡ 1 + free =
+          suffix_len-take_yes p columns (suc at) none (omega arith) long (test ∙ ap not hasn't) ∙ ap (λ n. 1 + free_behind slot (take n columns)) last in
+          let tests : nat_lt free at ≡ nat_lt (1 + free) (suc at) = grind (arith, nat_tests) in
+          let same : at - free - 1 ≡ suc at - (1 + free) - 1 = omega arith in
+          previous_skip slot at 0 (length text) entries lie hasn't
+          ∙ previous_column slot at text entries lie (omega arith)
+          ∙ ap₂ (λ (b : Bool) n. if b then Some n else None) tests same
+          ∙ ap (λ n. if nat_lt n (suc at) then Some (suc at - n - 1) else None) (sym more)
+    ] refl
+
+later_below : (bound : ℕ) (first second : Option ℕ) → IfSome first (λ previous. previous < bound) → IfSome second (λ previous. previous < bound) → IfSome (later_of first second) (λ previous. previous < bound)
+later_below bound first None one two = one
+later_below bound first (Some second) one two = two
+
+own_below : (slot column : ℕ) (entry : Toggled) → IfSome (own slot column entry) (λ previous. previous < column)
+own_below slot column entry =
+    let has = finset.contains entry.slots slot in
+    elim (nat_lt entry.column column && has) as (λ b. (nat_lt entry.column column && has) ≡ b → IfSome (if b then Some entry.column else None) (λ previous. previous < column)) [
+      | true ↦ λ is. grind (arith, nat_tests, is)
+      | false ↦ λ isn't. tt
+    ] refl
+
+pub previous_below : (slot column : ℕ) (entries : List Toggled) → IfSome (previous_entry slot column entries) (λ previous. previous < column)
+previous_below slot column [] = tt
+previous_below slot column (entry ∷ entries) =
+    later_below column (own slot column entry) (previous_entry slot column entries) (own_below slot column entry) (previous_below slot column entries)
