@@ -15,7 +15,7 @@ use Rattle.text_model.specs.Splices.{removed}
 use Rattle.toggle_sums.specs.CountLaws.{differing-empty, empty-differing}
 use Rattle.segments.specs.declared.toggles.Toggled.{Toggled}
 use Rattle.segments.specs.Entries.{LieIn, entries_in, odd_of, toggled_at, without_span}
-use Rattle.segments.proofs.EntryLaws.{LieIn-take, none_before}
+use Rattle.segments.proofs.EntryLaws.{LieIn-take, none_before, passed}
 use Rattle.segments.proofs.ToggleLaws.{LieIn-append, LieIn-one, behind_here, behind_none, none_behind, none_other, toggled-append, toggled-one, toggled_parts}
 
 -- the toggles of a range of columns, among those before it, behind it and in it
@@ -77,7 +77,7 @@ pub record Spans (from to len : ℕ) (entries : List Toggled) (start end : ℕ) 
   pub parts : entries ≡ take start entries ++ (inner ++ (here ++ drop end entries))
   pub gathered : slots ≡ differing (odd_of inner) (toggled_at here to)
 
-LieIn-wide : (from middle to : ℕ) (entries : List Toggled) → LieIn from middle entries → middle ≤ to → LieIn from to entries
+pub LieIn-wide : (from middle to : ℕ) (entries : List Toggled) → LieIn from middle entries → middle ≤ to → LieIn from to entries
 LieIn-wide from middle to [] lie wide = tt
 LieIn-wide from middle to (entry ∷ entries) lie wide = (lie.0, omega (arith, lie.1), LieIn-wide (suc entry.column) middle to entries lie.2 wide)
 
@@ -121,10 +121,10 @@ only_middle front middle behind no_front no_behind = ap₂ (λ f b. differing f 
 no_middle : (front middle behind : Slots) → middle ≡ finset.empty → differing front (differing middle behind) ≡ differing front behind
 no_middle front middle behind none = ap (λ m. differing front (differing m behind)) none ∙ ap (differing front) (empty-differing behind)
 
-abbrev IsOutside : ℕ → ℕ → ℕ → Type 0
+abbrev pub IsOutside : ℕ → ℕ → ℕ → Type 0
 IsOutside from to at = ((nat_le from at && nat_lt at to) ≡ false) × ((at < from) ⊎ (to ≤ at))
 
-cases_in : (from to at : ℕ) → ((from ≤ at) × (at < to)) ⊎ IsOutside from to at
+pub cases_in : (from to at : ℕ) → ((from ≤ at) × (at < to)) ⊎ IsOutside from to at
 cases_in from to at =
     elim (cases_lt at from) [
       | inl below ↦ inr (grind (arith, nat_tests), inl below)
@@ -260,3 +260,64 @@ pub behind_gap : (from to len start : ℕ) (entries : List Toggled) → entries_
 behind_gap from to len start entries none lie =
     past from to len (drop start entries)
     (nothing_behind (entries_in from to (take start entries)) (entries_in from to (drop start entries)) (sym (in-append from to (take start entries) (drop start entries)) ∙ ap (entries_in from to) (take-append-drop start entries) ∙ none)) lie
+
+-- the entries of the columns from one to another lie there, and say the same of these
+LieIn-low : (low from to : ℕ) (entries : List Toggled) → LieIn low to entries → from ≤ low → LieIn from to entries
+LieIn-low low from to [] lie near = tt
+LieIn-low low from to (entry ∷ entries) lie near = (omega (arith, lie.0), lie.1, lie.2)
+
+in_above : (from to low high : ℕ) (entries : List Toggled) → LieIn low high entries → from ≤ low → LieIn low to (entries_in from to entries)
+in_above from to low high [] lie near = tt
+in_above from to low high (entry ∷ entries) lie near =
+    let rest = entries_in from to entries in
+    elim (cases_lt entry.column to) [
+      | inl inside ↦
+          let test : (nat_le from entry.column && nat_lt entry.column to) ≡ true = grind (arith, nat_tests, lie.0, near, inside) in
+          subst (λ (b : Bool). LieIn low to (if b then entry ∷ rest else rest)) (sym test) (lie.0, inside, in_above from to (suc entry.column) high entries lie.2 (omega (arith, lie.0)))
+      | inr behind ↦
+          let test : (nat_le from entry.column && nat_lt entry.column to) ≡ false = grind (arith, nat_tests, behind) in
+          subst (λ (b : Bool). LieIn low to (if b then entry ∷ rest else rest)) (sym test) (subst (LieIn low to) (sym (none_in_rest from to (suc entry.column) high entries lie.2 (omega arith))) tt)
+    ]
+
+pub in_lies : (from to low high : ℕ) (entries : List Toggled) → LieIn low high entries → LieIn from to (entries_in from to entries)
+in_lies from to low high [] lie = tt
+in_lies from to low high (entry ∷ entries) lie =
+    let rest = entries_in from to entries in
+    elim (cases_lt entry.column from) [
+      | inl below ↦
+          let test : (nat_le from entry.column && nat_lt entry.column to) ≡ false = grind (arith, nat_tests, below) in
+          subst (λ (b : Bool). LieIn from to (if b then entry ∷ rest else rest)) (sym test) (in_lies from to (suc entry.column) high entries lie.2)
+      | inr above ↦ LieIn-low entry.column from to (entries_in from to (entry ∷ entries)) (in_above from to entry.column high (entry ∷ entries) (omega arith, lie.1, lie.2) above) above
+    ]
+
+apart : (from to column at : ℕ) → (column < from) ⊎ (to ≤ column) → from ≤ at → at < to → column ≢ at
+apart from to column at (inl below) above small = omega arith
+apart from to column at (inr behind) above small = omega arith
+
+pub toggled_in : (from to : ℕ) (entries : List Toggled) (at : ℕ) → from ≤ at → at < to → toggled_at (entries_in from to entries) at ≡ toggled_at entries at
+toggled_in from to [] at above small = refl
+toggled_in from to (entry ∷ entries) at above small =
+    let rest = entries_in from to entries in
+    let same = toggled_in from to entries at above small in
+    elim (cases_in from to entry.column) [
+      | inl inside ↦
+          let test : (nat_le from entry.column && nat_lt entry.column to) ≡ true = grind (arith, nat_tests, inside.0, inside.1) in
+          ap (λ (b : Bool). toggled_at (if b then entry ∷ rest else rest) at) test
+          ∙ ap (λ s. if entry.column == at then differing entry.slots s else s) same
+      | inr out ↦
+          ap (λ (b : Bool). toggled_at (if b then entry ∷ rest else rest) at) out.0
+          ∙ same
+          ∙ sym (passed entry entries at (apart from to entry.column at out.1 above small))
+    ]
+
+pub span_there : (from to : ℕ) (entries : List Toggled) → without_span from to to entries ≡ differing (odd_of (entries_in from to entries)) (toggled_at entries to)
+span_there from to entries =
+    let here : (to == to) ≡ true = grind (arith, nat_tests) in
+    ap (λ (b : Bool). if b then differing (odd_of (entries_in from to entries)) (toggled_at entries to) else (if nat_le from to && nat_lt to to then finset.empty else toggled_at entries to)) here
+
+pub span_behind : (from to at : ℕ) (entries : List Toggled) → to < at → without_span from to at entries ≡ toggled_at entries at
+span_behind from to at entries behind =
+    let here : (at == to) ≡ false = grind (arith, nat_tests) in
+    let inside : (nat_le from at && nat_lt at to) ≡ false = grind (arith, nat_tests) in
+    ap (λ (b : Bool). if b then differing (odd_of (entries_in from to entries)) (toggled_at entries at) else (if nat_le from at && nat_lt at to then finset.empty else toggled_at entries at)) here
+    ∙ ap (λ (b : Bool). if b then finset.empty else toggled_at entries at) inside

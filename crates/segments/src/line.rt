@@ -255,7 +255,7 @@ impl Line {
         self.text.insert(column, text)?;
         let count = self.text.len() - len;
         let start = count_before(&self.toggles, column);
-        move_on(&mut self.toggles[start..], count);
+        move_rest_on(&mut self.toggles, start, count);
         move_marks(&mut self.marks, column, count);
         Ok(())
     }
