@@ -1,11 +1,8 @@
 -- The columns of a line after an insertion and after a removal.
-use Rattle.std.proofs.Common.{◌≡◌, ℕ, zero, suc, ◌+◌, ◌-◌, ◌<◌, ◌≤◌, min, Bool, true, false, ◌==◌, ◌&&◌, nat_lt, List, [], ◌∷◌, ◌++◌, length, map, take, drop, inl, inr, refl, sym, ap, ap₂, subst, ◌∙◌, arith, length-append, length-drop, length-take}
-use Rattle.std.specs.Prelude.{if◌then◌else◌, nat_le, slice_range}
-use Rattle.std.proofs.lemmas.Bool.{cases_eq, cases_lt}
-use Rattle.std.proofs.lemmas.Bool.Decides.{nat_tests}
+use Rattle.std.proofs.Common.{◌≡◌, ℕ, suc, ◌+◌, ◌-◌, ◌<◌, ◌≤◌, List, [], ◌∷◌, ◌++◌, length, map, take, drop, refl, sym, ap, ap₂, ◌∙◌, arith, length-append, length-drop}
+use Rattle.std.specs.Prelude.{slice_range}
 use Rattle.std.proofs.lemmas.List.{length-take-le}
 use Rattle.std.specs.FinSet as finset
-use Rattle.text_model.specs.Content.{Slots}
 use Rattle.text_model.specs.SlotSets.{differing}
 use Rattle.text_model.specs.Splices.{inserted, removed}
 use Rattle.toggle_sums.specs.Toggles.{parity}
@@ -15,7 +12,7 @@ use Rattle.segments.specs.Entries.{LieIn, entries_in, moved_on, odd_of, toggled_
 use Rattle.segments.specs.Kept.{columns_from}
 use Rattle.segments.proofs.ChangeLaws.{columns_same}
 use Rattle.segments.proofs.ColumnLaws.{columns-append, columns-plain, drop-columns, parity-columns, take-columns}
-use Rattle.segments.proofs.EntryLaws.{front_alone, none_before, passed}
+use Rattle.segments.proofs.EntryLaws.{front_alone, none_before}
 use Rattle.segments.proofs.MovedLaws.{LieIn-moved_on, rest_alone, toggled-moved_on, toggled_front, toggled_rest}
 use Rattle.segments.proofs.SpanLaws.{LieIn-wide, in_lies, span_behind, span_there, toggled_in}
 use Rattle.segments.proofs.ToggleLaws.{LieIn-append}

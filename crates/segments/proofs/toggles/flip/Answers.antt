@@ -1,8 +1,8 @@
-use Rattle.std.proofs.Common.{◌≡◌, ℕ, ◌<◌, ◌≢◌, List, length, get_or, take, drop, sym, ap, subst, ◌∙◌, arith}
+use Rattle.std.proofs.Common.{◌≡◌, ℕ, ◌<◌, ◌≢◌, List, length, get_or, sym, ap, subst, ◌∙◌, arith}
 use Rattle.std.proofs.lemmas.List.{get_or_default}
 use Rattle.text_model.specs.SlotSets.{differing}
 use Rattle.segments.specs.declared.toggles.Toggled.{Toggled}
-use Rattle.segments.specs.Entries.{LieIn, flipped, toggled_at}
+use Rattle.segments.specs.Entries.{LieIn, toggled_at}
 use Rattle.segments.proofs.ToggleLaws.{flips_changed, flips_inserted, flips_none, flips_removed, lies_changed, lies_inserted, lies_removed}
 use Rattle.segments.proofs.toggles.flip.Goals as goal
 use Rattle.segments.proofs.toggles.flip.Goals.{then-is_empty, else-is_empty, else-index-len-via-then-index-len+else-index-column, else-index-len-via-else-index-len}

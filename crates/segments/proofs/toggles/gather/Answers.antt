@@ -1,10 +1,10 @@
-use Rattle.std.proofs.Common.{◌≡◌, ℕ, suc, ◌+◌, ◌<◌, ◌≤◌, ◌≢◌, List, [], ◌∷◌, ◌++◌, length, get_or, set, take, drop, refl, sym, ap, subst, ◌∙◌, arith, add-one}
+use Rattle.std.proofs.Common.{◌≡◌, ◌<◌, ◌≤◌, ◌≢◌, [], ◌∷◌, ◌++◌, length, get_or, set, take, drop, refl, sym, ap, subst, ◌∙◌, arith, add-one}
 use Rattle.std.proofs.lemmas.List.{get_or_default}
 use Rattle.std.specs.Prelude.{slice_range}
 use Rattle.text_model.specs.SlotSets.{differing}
 use Rattle.text_model.specs.Splices.{removed}
 use Rattle.segments.specs.declared.toggles.Toggled.{Toggled}
-use Rattle.segments.specs.Entries.{LieIn, entries_in, odd_of, toggled_at, without_span}
+use Rattle.segments.specs.Entries.{LieIn, entries_in, odd_of, toggled_at}
 use Rattle.segments.proofs.SpanLaws.{Spans, Spans-empty, Spans-here, Spans-none, Spans-nothing, counts_rise, gathered_gap, gathered_lie, gathered_slots, overwritten}
 use Rattle.segments.proofs.ToggleLaws.{LieIn-one, toggled-one}
 use Rattle.segments.proofs.toggles.gather.Goals as goal

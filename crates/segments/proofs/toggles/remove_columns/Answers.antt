@@ -1,4 +1,4 @@
-use Rattle.std.proofs.Common.{◌≡◌, ◌+◌, ◌-◌, take, drop, sym, ap, subst, ◌∙◌, arith}
+use Rattle.std.proofs.Common.{◌+◌, ◌-◌, take, drop, sym, ap, subst, ◌∙◌, arith}
 use Rattle.segments.specs.Entries.{LieIn, toggled_at}
 use Rattle.segments.proofs.MovedLaws.{can_move_back, drawn_behind, drawn_front, drawn_lie, span_before, toggled_front}
 use Rattle.segments.proofs.SpanLaws.{behind_gap}

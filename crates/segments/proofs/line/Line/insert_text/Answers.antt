@@ -1,11 +1,10 @@
-use Rattle.std.proofs.Common.{◌≡◌, ◌+◌, ◌-◌, ◌<◌, ◌≤◌, ◌^◌, ◌++◌, List, length, map, take, drop, refl, sym, ap, subst, ◌∙◌, arith}
+use Rattle.std.proofs.Common.{◌≡◌, ◌+◌, ◌-◌, ◌≤◌, ◌++◌, length, map, take, drop, refl, sym, ap, subst, ◌∙◌, arith}
 use Rattle.std.specs.Prelude.{chars}
 use Rattle.std.proofs.lemmas.List.{length-map}
 use Rattle.text_model.specs.Content.{map_marks}
 use Rattle.text_model.specs.Splices.{inserted, moved}
 use Rattle.text_model.proofs.SpliceLaws.{length-inserted}
 use Rattle.text_model.proofs.StepLaws.{moved_le}
-use Rattle.segments.specs.declared.marks.Mark.{Mark}
 use Rattle.segments.specs.Columns.{LineContent, after_text}
 use Rattle.segments.specs.Entries.{LieIn}
 use Rattle.segments.specs.Kept.{AreMarks, columns_from}

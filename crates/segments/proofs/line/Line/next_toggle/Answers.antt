@@ -2,7 +2,6 @@ use Rattle.std.proofs.Common.{◌≡◌, ◌<◌, ◌≤◌, length, sym, ap, su
 use Rattle.std.specs.Prelude.{IfSome}
 use Rattle.segments.specs.Columns.{LineContent, next_toggle}
 use Rattle.segments.specs.Entries.{next_entry}
-use Rattle.segments.specs.Kept.{columns_from}
 use Rattle.segments.proofs.ColumnLaws.{length-columns}
 use Rattle.segments.proofs.NextLaws.{next_above, next_below, next_column}
 use Rattle.segments.proofs.line.Line.next_toggle.Goals as goal

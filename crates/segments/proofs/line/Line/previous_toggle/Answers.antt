@@ -1,7 +1,6 @@
-use Rattle.std.proofs.Common.{◌≡◌, ◌<◌, ◌≤◌, length, sym, ap, subst, ◌∙◌, arith}
+use Rattle.std.proofs.Common.{◌<◌, ◌≤◌, length, sym, ap, subst, ◌∙◌, arith}
 use Rattle.std.specs.Prelude.{IfSome}
 use Rattle.segments.specs.Columns.{LineContent, previous_toggle}
-use Rattle.segments.specs.Entries.{previous_entry}
 use Rattle.segments.proofs.ColumnLaws.{length-columns}
 use Rattle.segments.proofs.NextLaws.{previous_below, previous_column}
 use Rattle.segments.proofs.line.Line.previous_toggle.Goals as goal

@@ -1,11 +1,9 @@
-use Rattle.std.proofs.Common.{◌≡◌, ◌+◌, ◌-◌, ◌<◌, ◌≤◌, ◌++◌, List, length, map, take, drop, refl, sym, ap, subst, ◌∙◌, arith}
+use Rattle.std.proofs.Common.{◌≡◌, ◌+◌, ◌-◌, ◌≤◌, ◌++◌, length, map, take, drop, sym, ap, subst, ◌∙◌, arith}
 use Rattle.std.proofs.lemmas.List.{length-map}
-use Rattle.text_model.specs.Content.{map_marks}
-use Rattle.text_model.specs.Splices.{drawn, removed}
+use Rattle.text_model.specs.Splices.{drawn}
 use Rattle.text_model.proofs.SpliceLaws.{length-removed}
-use Rattle.segments.specs.declared.marks.Mark.{Mark}
 use Rattle.segments.specs.Columns.{LineContent, after_removal}
-use Rattle.segments.specs.Entries.{LieIn, toggled_at, without_span}
+use Rattle.segments.specs.Entries.{LieIn}
 use Rattle.segments.specs.Kept.{AreMarks, columns_from}
 use Rattle.segments.specs.Marks.{marks_of, with_place}
 use Rattle.segments.proofs.ColumnLaws.{length-columns}

@@ -3,12 +3,10 @@ use Rattle.std.proofs.lemmas.Bool.{false≢true}
 use Rattle.std.proofs.lemmas.Result.{on_ok_weaker}
 use Rattle.std.specs.Cmp.{booleans_Decides}
 use Rattle.std.specs.FinSet as finset
-use Rattle.text_model.specs.SlotSets.{differing}
 use Rattle.text_model.specs.Splices.{changed}
 use Rattle.text_model.specs.Steps.{set_slot}
 use Rattle.segments.specs.Columns.{LineContent, with_toggle}
-use Rattle.segments.specs.Entries.{flipped, toggled_at}
-use Rattle.segments.specs.Kept.{columns_from}
+use Rattle.segments.specs.Entries.{toggled_at}
 use Rattle.segments.proofs.ChangeLaws.{columns_changed, columns_turned, slots_kept}
 use Rattle.segments.proofs.ColumnLaws.{length-columns}
 use Rattle.segments.proofs.line.Line.set_toggle.Goals as goal
