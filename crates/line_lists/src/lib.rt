@@ -2,6 +2,7 @@
 #![tactic(auto)]
 
 pub mod laws;
+mod line_vec;
 mod lists;
 
 pub use lists::LineList;
