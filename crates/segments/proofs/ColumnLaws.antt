@@ -31,6 +31,24 @@ take-columns (suc n) at [] entries = refl
 take-columns (suc n) at (character ∷ text) entries =
     ap (λ (columns : List Column). record { character = character; toggled = toggled_at entries at } ∷ columns) (take-columns n (suc at) text entries)
 
+pub drop-columns : (n at : ℕ) (text : List ℕ) (entries : List Toggled) → drop n (columns_from at text entries) ≡ columns_from (at + n) (drop n text) entries
+drop-columns zero at text entries =
+    let same : at ≡ at + 0 = omega arith in
+    ap (λ n. columns_from n text entries) same
+drop-columns (suc n) at [] entries = refl
+drop-columns (suc n) at (character ∷ text) entries =
+    let same : suc at + n ≡ at + suc n = omega arith in
+    drop-columns n (suc at) text entries ∙ ap (λ m. columns_from m (drop n text) entries) same
+
+pub columns-append : (at : ℕ) (front behind : List ℕ) (entries : List Toggled) → columns_from at (front ++ behind) entries ≡ columns_from at front entries ++ columns_from (at + length front) behind entries
+columns-append at [] behind entries =
+    let same : at ≡ at + 0 = omega arith in
+    ap (λ n. columns_from n behind entries) same
+columns-append at (character ∷ front) behind entries =
+    let same : suc at + length front ≡ at + suc (length front) = omega arith in
+    ap (λ (columns : List Column). record { character = character; toggled = toggled_at entries at } ∷ columns)
+    (columns-append (suc at) front behind entries ∙ ap (λ n. columns_from (suc at) front entries ++ columns_from n behind entries) same)
+
 -- entries before the first column and behind the last one make no difference
 columns-passed : (at : ℕ) (text : List ℕ) (entry : Toggled) (entries : List Toggled) → entry.column < at → columns_from at text (entry ∷ entries) ≡ columns_from at text entries
 columns-passed at [] entry entries before = refl
