@@ -1,5 +1,5 @@
 -- A line in two parts: its columns and its marks before a column and from it on, and those of two lines joined.
-use Rattle.std.proofs.Common.{◌≡◌, ℕ, ◌+◌, ◌-◌, ◌<◌, ◌≤◌, min, Bool, true, false, cond, ◌&&◌, T, nat_le, nat_lt, List, [], ◌∷◌, ◌++◌, length, map, take, drop, refl, sym, ap, ap₂, subst, ◌∙◌, arith, length-take, take-append-drop}
+use Rattle.std.proofs.Common.{◌≡◌, ℕ, ◌+◌, ◌-◌, ◌≤◌, min, Bool, true, false, cond, ◌&&◌, T, nat_le, nat_lt, List, [], ◌∷◌, ◌++◌, length, map, take, drop, refl, sym, ap, ap₂, subst, ◌∙◌, arith, length-take, take-append-drop}
 use Rattle.std.proofs.Math.Seq.{drop-append_seam, take-append_seam}
 use Rattle.std.proofs.lemmas.Bool.Decides.{nat_tests}
 use Rattle.std.proofs.lemmas.List.{take_rest}
@@ -20,7 +20,7 @@ use Rattle.segments.specs.declared.toggles.Toggled.{Toggled}
 use Rattle.segments.specs.Columns.{Column, earlier, marks_where}
 use Rattle.segments.specs.Entries.{LieIn, moved_back, moved_on, toggled_at}
 use Rattle.segments.specs.Kept.{AreMarks, columns_from}
-use Rattle.segments.specs.Marks.{Rise, StandIn, entries_of, entry_of, marks_of, with_place}
+use Rattle.segments.specs.Marks.{Rise, entries_of, entry_of, marks_of, with_place}
 use Rattle.segments.proofs.ChangeLaws.{columns_same}
 use Rattle.segments.proofs.ColumnLaws.{columns-append, columns-front, drop-columns, take-columns}
 use Rattle.segments.proofs.MarkLaws.{entries-marks_of, get-marks_of}

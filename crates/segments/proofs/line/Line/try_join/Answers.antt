@@ -1,8 +1,8 @@
-use Rattle.std.proofs.Common.{◌≡◌, ◌+◌, ◌-◌, ◌++◌, ◌<◌, ◌≤◌, ◌^◌, length, map, take, drop, sym, ap, ap₂, subst, ◌∙◌, arith, length-append}
+use Rattle.std.proofs.Common.{◌≡◌, ◌+◌, ◌-◌, ◌++◌, ◌<◌, ◌≤◌, ◌^◌, length, map, sym, ap, ap₂, subst, ◌∙◌, arith, length-append}
 use Rattle.std.specs.List.{All}
-use Rattle.segments.specs.Columns.{LineContent, joined, joined_marks}
+use Rattle.segments.specs.Columns.{joined, joined_marks}
 use Rattle.segments.specs.Entries.{CanMoveOn, LieIn, moved_on}
-use Rattle.segments.specs.Kept.{AreMarks, columns_from}
+use Rattle.segments.specs.Kept.{columns_from}
 use Rattle.segments.specs.Marks.{StandIn, marks_of}
 use Rattle.segments.proofs.ColumnLaws.{length-columns}
 use Rattle.segments.proofs.MovedLaws.{can_move_on}
