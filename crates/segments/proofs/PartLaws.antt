@@ -139,7 +139,7 @@ sorted-passing test (entry ∷ entries) sorted =
       | false ↦ rest
     ]
 
-pub Rise-passing : (test : Place → Bool) (marks : List Mark) → Rise marks → Rise (filter (λ (mark : Mark). test mark.place) marks)
+Rise-passing : (test : Place → Bool) (marks : List Mark) → Rise marks → Rise (filter (λ (mark : Mark). test mark.place) marks)
 Rise-passing test marks rise = subst (λ es. T (is_sorted nat_cmp es)) (sym (entries-passing test marks)) (sorted-passing test (entries_of marks) rise)
 
 pub marks_of-passing : (test : Place → Bool) (marks : List Mark) → Rise marks → marks_of (filter (λ (mark : Mark). test mark.place) marks) ≡ marks_where test (marks_of marks)
