@@ -1,3 +1,5 @@
+ghost use Rattle.std.specs.Prelude.{◌≡◌};
+
 use segments::Line;
 use std::alloc::{AllocError, Global};
 use std::process::Abort;
@@ -37,7 +39,9 @@ fn worked_row(rt: HostRuntime) -> Result<(), Fail> {
     Ok(())
 }
 
-fn place(offset: usize, gravity: Gravity) -> Place {
+fn place(offset: usize, gravity: Gravity) -> Place
+    ensures { result.offset ≡ offset }
+{
     Place { offset, gravity }
 }
 
