@@ -92,3 +92,9 @@ fn toggles_and_marks_go(rt: HostRuntime) -> Result<(), Fail> {
     assert!(&rt; line.mark_at(2, 0) == Some(MarkNo(9)) && line.mark_place(MarkNo(3)) == None);
     Ok(())
 }
+
+// Besides its text.
+#[test]
+fn plain_line_is_small(rt: HostRuntime) {
+    assert!(&rt; std::mem::size_of::<Line>() <= 96);
+}
