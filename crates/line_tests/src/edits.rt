@@ -1,3 +1,5 @@
+ghost use Rattle.std.specs.Prelude.{◌<◌};
+
 use segments::Line;
 use std::alloc::{AllocError, Global};
 use std::process::Abort;
@@ -159,7 +161,7 @@ fn insert(rt: &impl Abort, scene: &mut Scene, column: usize, text: &str) -> Resu
     }
     for mark in scene.plain.marks.iter_mut() {
         if let Some(place) = *mark {
-            assert!(rt; place.offset <= column + 1000);
+            assert!(rt; place.offset < 1_000_000 && count < 1_000_000);
             *mark = Some(place.moved(column, count));
         }
     }
@@ -244,6 +246,7 @@ fn step(rt: &impl Abort, scene: &mut Scene) -> Result<(), AllocError> {
     let column = next(&mut scene.seed, len + 1);
     let number = next(&mut scene.seed, 4);
     let bits = next(&mut scene.seed, 8);
+    assert!(rt; column <= len && bits < 8);
     match next(&mut scene.seed, 9) {
         0 | 1 => insert(rt, scene, column, TEXTS[bits % 5]),
         2 => remove(rt, scene, column, (column + bits).min(len)),

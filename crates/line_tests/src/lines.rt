@@ -1,3 +1,5 @@
+ghost use Rattle.std.specs.Prelude.{◌≡◌};
+
 use segments::Line;
 use std::alloc::{AllocError, Global};
 use std::process::Abort;
@@ -37,7 +39,9 @@ fn worked_row(rt: HostRuntime) -> Result<(), Fail> {
     Ok(())
 }
 
-fn place(offset: usize, gravity: Gravity) -> Place {
+fn place(offset: usize, gravity: Gravity) -> Place
+    ensures { result.offset ≡ offset }
+{
     Place { offset, gravity }
 }
 
@@ -87,4 +91,10 @@ fn toggles_and_marks_go(rt: HostRuntime) -> Result<(), Fail> {
     line.take_mark(MarkNo(3));
     assert!(&rt; line.mark_at(2, 0) == Some(MarkNo(9)) && line.mark_place(MarkNo(3)) == None);
     Ok(())
+}
+
+// Besides its text.
+#[test]
+fn plain_line_is_small(rt: HostRuntime) {
+    assert!(&rt; std::mem::size_of::<Line>() <= 96);
 }

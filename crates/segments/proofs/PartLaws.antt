@@ -1,14 +1,17 @@
 -- A line in two parts: its columns and its marks before a column and from it on, and those of two lines joined.
-use Rattle.std.proofs.Common.{◌≡◌, ℕ, zero, suc, ◌+◌, ◌-◌, ◌<◌, ◌≤◌, min, Bool, true, false, cond, ◌&&◌, T, nat_le, nat_lt, List, [], ◌∷◌, ◌++◌, length, map, take, drop, refl, sym, ap, ap₂, subst, ◌∙◌, arith, length-take, take-append-drop}
+use Rattle.std.proofs.Common.{◌≡◌, ℕ, ◌+◌, ◌-◌, ◌≤◌, min, Bool, true, false, cond, ◌&&◌, T, nat_le, nat_lt, List, [], ◌∷◌, ◌++◌, length, map, take, drop, refl, sym, ap, ap₂, subst, ◌∙◌, arith, length-take, take-append-drop}
+use Rattle.std.proofs.Math.Seq.{drop-append_seam, take-append_seam}
 use Rattle.std.proofs.lemmas.Bool.Decides.{nat_tests}
 use Rattle.std.proofs.lemmas.List.{take_rest}
-use Rattle.std.proofs.lemmas.List.Elements.{All-cons, All-head, All-nil, All-tail}
+use Rattle.std.proofs.lemmas.List.Elements.{All-filter, All-weaker, filter_passes}
+use Rattle.std.specs.Cmp.{nat_cmp_total}
 use Rattle.std.specs.FinMap as finite
 use Rattle.std.specs.FinMap.{is_sorted}
 use Rattle.std.specs.FinMap.Entries.{below_all}
-use Rattle.std.specs.Cmp.{nat_cmp_total}
-use Rattle.std.specs.List.{All, filter}
-use Rattle.std.specs.Ordering.{is_lt, nat_cmp}
+use Rattle.std.specs.List.{filter}
+use Rattle.std.specs.Ordering.{nat_cmp}
+use Rattle.std.specs.Prelude.{OnOk, Result, Ok, Err}
+use Rattle.std.specs.Result.{is_err}
 use Rattle.text_model.specs.declared.places.Place.{Place}
 use Rattle.text_model.specs.Content.{map_marks}
 use Rattle.text_model.proofs.PlaceLaws.{same_marks}
@@ -17,28 +20,26 @@ use Rattle.segments.specs.declared.toggles.Toggled.{Toggled}
 use Rattle.segments.specs.Columns.{Column, earlier, marks_where}
 use Rattle.segments.specs.Entries.{LieIn, moved_back, moved_on, toggled_at}
 use Rattle.segments.specs.Kept.{AreMarks, columns_from}
-use Rattle.segments.specs.Marks.{Rise, StandIn, entries_of, entry_of, marks_of, with_place}
+use Rattle.segments.specs.Marks.{Rise, entries_of, entry_of, marks_of, with_place}
 use Rattle.segments.proofs.ChangeLaws.{columns_same}
-use Rattle.segments.proofs.ColumnLaws.{columns-front, take-columns}
+use Rattle.segments.proofs.ColumnLaws.{columns-append, columns-front, drop-columns, take-columns}
 use Rattle.segments.proofs.MarkLaws.{entries-marks_of, get-marks_of}
+use Rattle.segments.proofs.MarkPlaceLaws.{AreMarks-placed, marks_of-placed}
 use Rattle.segments.proofs.MovedLaws.{LieIn-moved_back, LieIn-moved_on, rest_alone, toggled-moved_back, toggled-moved_on, toggled_rest}
-
-drop-columns : (n at : ℕ) (text : List ℕ) (entries : List Toggled) → drop n (columns_from at text entries) ≡ columns_from (at + n) (drop n text) entries
-drop-columns zero at text entries = let here : at ≡ at + 0 = omega arith in ap (λ n. columns_from n text entries) here
-drop-columns (suc n) at [] entries = refl
-drop-columns (suc n) at (character ∷ text) entries =
-    let next : suc at + n ≡ at + suc n = omega arith in
-    drop-columns n (suc at) text entries ∙ ap (λ m. columns_from m (drop n text) entries) next
-
-columns-append : (at : ℕ) (front behind : List ℕ) (entries : List Toggled) → columns_from at (front ++ behind) entries ≡ columns_from at front entries ++ columns_from (at + length front) behind entries
-columns-append at [] behind entries = let here : at ≡ at + 0 = omega arith in ap (λ n. columns_from n behind entries) here
-columns-append at (character ∷ front) behind entries =
-    let next : suc at + length front ≡ at + suc (length front) = omega arith in
-    ap (λ (columns : List Column). record { character = character; toggled = toggled_at entries at } ∷ columns)
-    (columns-append (suc at) front behind entries ∙ ap (λ n. columns_from (suc at) front entries ++ columns_from n behind entries) next)
+use Rattle.segments.proofs.ToggleLaws.{LieIn-append}
 
 zero_on : (n : ℕ) → 0 + n ≡ n
 zero_on n = omega arith
+
+-- what is read of the entries before a column, and of those from it on
+pub before_lies : (column to count : ℕ) (entries read : List Toggled) → read ≡ entries → LieIn 0 to entries → ((low high : ℕ) → LieIn low high read → LieIn low column (take count read)) → LieIn 0 column (take count entries)
+before_lies column to count entries read is lie before = subst (λ es. LieIn 0 column (take count es)) is (before 0 to (subst (LieIn 0 to) (sym is) lie))
+
+pub behind_lies : (column to count : ℕ) (entries read : List Toggled) → read ≡ entries → LieIn 0 to entries → ((low high : ℕ) → LieIn low high read → low ≤ column → LieIn column high (drop count read)) → LieIn column to (drop count entries)
+behind_lies column to count entries read is lie behind = subst (λ es. LieIn column to (drop count es)) is (behind 0 to (subst (LieIn 0 to) (sym is) lie) (omega arith))
+
+pub rest_read : (count : ℕ) (entries read rest : List Toggled) → read ≡ entries → rest ≡ take (length read - count) (drop count read) → rest ≡ drop count entries
+rest_read count entries read rest is found = found ∙ take_rest read count ∙ ap (drop count) is
 
 -- the columns before one, of the entries before it, and those from it on
 pub columns_before : (n to count : ℕ) (text : List ℕ) (entries : List Toggled) → LieIn n to (drop count entries) → columns_from 0 (take n text) (take count entries) ≡ take n (columns_from 0 text entries)
@@ -57,18 +58,41 @@ columns_behind n to count text entries before behind =
     ∙ toggled_rest 0 n count entries (n + k) before (omega arith))
     ∙ sym (drop-columns n 0 text entries ∙ ap (λ m. columns_from m (drop n text) entries) (zero_on n))
 
+-- the entries from a column on, in columns from there
+pub behind_lie : (n len : ℕ) (entries : List Toggled) → LieIn n len entries → LieIn 0 (len - n) (map (moved_back n) entries)
+behind_lie n len entries lie =
+    let none : n - n ≡ 0 = omega arith in
+    subst (λ m. LieIn m (len - n) (map (moved_back n) entries)) none (LieIn-moved_back n len n entries lie (omega arith))
+
+-- entries added behind others, and moved on
+pub rest_added : (count : ℕ) (front behind both : List Toggled) → count ≡ length front → both ≡ front ++ behind → drop count both ≡ behind
+rest_added count front behind both long is = ap₂ drop long is ∙ drop-append_seam front behind
+
+pub rest_moved : (count len : ℕ) (front behind both : List Toggled) → count ≡ length front → both ≡ front ++ behind → take count both ++ map (moved_on len) (drop count both) ≡ front ++ map (moved_on len) behind
+rest_moved count len front behind both long is =
+    ap₂ (λ (xs ys : List Toggled). xs ++ map (moved_on len) ys) (ap₂ take long is ∙ take-append_seam front behind) (rest_added count front behind both long is)
+
 -- the columns of two lines, of which the second begins where the first ends
-pub columns_joined : (first second : List ℕ) (front behind : List Toggled) (to : ℕ) → LieIn 0 (length first) front → LieIn 0 to behind
-    → columns_from 0 (first ++ second) (front ++ map (moved_on (length first)) behind) ≡ columns_from 0 first front ++ columns_from 0 second behind
-columns_joined first second front behind to before after =
-    let len = length first in
-    let moved = map (moved_on len) behind in
-    columns-append 0 first second (front ++ moved)
-    ∙ ap₂ (λ (xs ys : List Column). xs ++ ys)
-    (columns-front 0 (0 + len) (to + len) first front moved (LieIn-moved_on 0 to len behind after) (omega arith))
-    (columns_same (0 + len) 0 second (front ++ moved) behind (λ k small.
-    let turned : (0 + len) + k ≡ (0 + k) + len = omega arith in
-    rest_alone 0 len front moved ((0 + len) + k) before (omega arith) ∙ ap (toggled_at moved) turned ∙ toggled-moved_on len behind (0 + k)))
+module _ (first second : List ℕ) (front behind : List Toggled) (before : LieIn 0 (length first) front) (after : LieIn 0 (length second) behind) where
+  moved_lies : LieIn (0 + length first) (length second + length first) (map (moved_on (length first)) behind)
+  moved_lies = LieIn-moved_on 0 (length second) (length first) behind after
+
+  pub joined_lie : LieIn 0 (length first + length second) (front ++ map (moved_on (length first)) behind)
+  joined_lie =
+      let turned : length second + length first ≡ length first + length second = omega arith in
+      subst (λ to. LieIn 0 to (front ++ map (moved_on (length first)) behind)) turned
+      (LieIn-append 0 (0 + length first) (length second + length first) front (map (moved_on (length first)) behind) (subst (λ n. LieIn 0 n front) (sym (zero_on (length first))) before) moved_lies (omega arith) (omega arith))
+
+  pub columns_joined : columns_from 0 (first ++ second) (front ++ map (moved_on (length first)) behind) ≡ columns_from 0 first front ++ columns_from 0 second behind
+  columns_joined =
+      let len = length first in
+      let moved = map (moved_on len) behind in
+      columns-append 0 first second (front ++ moved)
+      ∙ ap₂ (λ (xs ys : List Column). xs ++ ys)
+      (columns-front 0 (0 + len) (length second + len) first front moved moved_lies (omega arith))
+      (columns_same (0 + len) 0 second (front ++ moved) behind (λ k small.
+      let turned : (0 + len) + k ≡ (0 + k) + len = omega arith in
+      rest_alone 0 len front moved ((0 + len) + k) before (omega arith) ∙ ap (toggled_at moved) turned ∙ toggled-moved_on len behind (0 + k)))
 
 -- marks at whose places a test holds
 abbrev passing : (Place → Bool) → List Mark → List Mark
@@ -115,70 +139,28 @@ sorted-passing test (entry ∷ entries) sorted =
       | false ↦ rest
     ]
 
-pub Rise-passing : (test : Place → Bool) (marks : List Mark) → Rise marks → Rise (filter (λ (mark : Mark). test mark.place) marks)
+Rise-passing : (test : Place → Bool) (marks : List Mark) → Rise marks → Rise (filter (λ (mark : Mark). test mark.place) marks)
 Rise-passing test marks rise = subst (λ es. T (is_sorted nat_cmp es)) (sym (entries-passing test marks)) (sorted-passing test (entries_of marks) rise)
-
--- marks that rise are those of their entries, in which order these are put in
-marks_of-entries : (marks : List Mark) → Rise marks → marks_of marks ≡ finite.from_entries (entries_of marks)
-marks_of-entries marks rise = same_marks _ _ (λ q. get-marks_of marks q rise ∙ sym (finite.get-from_entries nat_cmp_total (entries_of marks) q))
 
 pub marks_of-passing : (test : Place → Bool) (marks : List Mark) → Rise marks → marks_of (filter (λ (mark : Mark). test mark.place) marks) ≡ marks_where test (marks_of marks)
 marks_of-passing test marks rise =
-    marks_of-entries (passing test marks) (Rise-passing test marks rise)
+    let entries = entries_of (passing test marks) in
+    same_marks _ _ (λ q. get-marks_of (passing test marks) q (Rise-passing test marks rise) ∙ sym (finite.get-from_entries nat_cmp_total entries q))
     ∙ ap finite.from_entries (entries-passing test marks ∙ ap (entries_passing test) (sym (entries-marks_of marks rise)))
 
-abbrev entry_at : (Place → Place) → ℕ × Place → ℕ × Place
-entry_at f entry = (entry.0, f entry.1)
-
-entries-placed : (f : Place → Place) (marks : List Mark) → entries_of (map (with_place f) marks) ≡ map (entry_at f) (entries_of marks)
-entries-placed f [] = refl
-entries-placed f (mark ∷ marks) = ap (λ es. entry_at f (entry_of mark) ∷ es) (entries-placed f marks)
-
-below-placed : (f : Place → Place) (low : ℕ) (marks : List Mark) → T (below_all nat_cmp low (entries_of marks)) → T (below_all nat_cmp low (entries_of (map (with_place f) marks)))
-below-placed f low [] all = tt
-below-placed f low (mark ∷ marks) all = both_parts _ _ (first_part _ _ all) (below-placed f low marks (second_part _ _ all))
-
-pub Rise-placed : (f : Place → Place) (marks : List Mark) → Rise marks → Rise (map (with_place f) marks)
-Rise-placed f [] rise = tt
-Rise-placed f (mark ∷ marks) rise = both_parts _ _ (below-placed f mark.number.0 marks (first_part _ _ rise)) (Rise-placed f marks (second_part _ _ rise))
-
-pub marks_of-placed : (f : Place → Place) (marks : List Mark) → Rise marks → marks_of (map (with_place f) marks) ≡ map_marks f (marks_of marks)
-marks_of-placed f marks rise =
-    marks_of-entries (map (with_place f) marks) (Rise-placed f marks rise)
-    ∙ ap finite.from_entries (entries-placed f marks ∙ ap (map (entry_at f)) (sym (entries-marks_of marks rise)))
-
--- where the marks before a column stand, and those from it on, in columns from there
-StandIn-before : (n : ℕ) (marks : List Mark) → StandIn n (filter (λ (mark : Mark). nat_lt mark.place.offset n) marks)
-StandIn-before n [] = All-nil (λ (m : Mark). m.place.offset ≤ n)
-StandIn-before n (mark ∷ marks) =
-    let rest = StandIn-before n marks in
-    elim (nat_lt mark.place.offset n) as (λ b. nat_lt mark.place.offset n ≡ b → StandIn n (cond b (mark ∷ filter (λ (m : Mark). nat_lt m.place.offset n) marks) (filter (λ (m : Mark). nat_lt m.place.offset n) marks))) [
-      | true ↦ λ is. let low : mark.place.offset ≤ n = grind (arith, nat_tests) in All-cons (λ (m : Mark). m.place.offset ≤ n) mark _ low rest
-      | false ↦ λ isn't. rest
-    ] refl
-
-StandIn-behind : (n len : ℕ) (marks : List Mark) → StandIn len marks → StandIn (len - n) (map (with_place (earlier n)) (filter (λ (mark : Mark). nat_le n mark.place.offset) marks))
-StandIn-behind n len [] stand = All-nil (λ (m : Mark). m.place.offset ≤ len - n)
-StandIn-behind n len (mark ∷ marks) stand =
-    let rest = StandIn-behind n len marks (All-tail (λ (m : Mark). m.place.offset ≤ len) mark marks stand) in
-    let here = All-head (λ (m : Mark). m.place.offset ≤ len) mark marks stand in
-    let low : mark.place.offset - n ≤ len - n = omega (arith, here) in
-    elim (nat_le n mark.place.offset) as (λ b. StandIn (len - n) (map (with_place (earlier n)) (cond b (mark ∷ filter (λ (m : Mark). nat_le n m.place.offset) marks) (filter (λ (m : Mark). nat_le n m.place.offset) marks)))) [
-      | true ↦ All-cons (λ (m : Mark). m.place.offset ≤ len - n) (with_place (earlier n) mark) _ low rest
-      | false ↦ rest
-    ]
-
+-- the marks before a column, and those from it on, in columns from there
 pub marks_before : (n len : ℕ) (marks : List Mark) → AreMarks len marks → AreMarks n (filter (λ (mark : Mark). nat_lt mark.place.offset n) marks)
-marks_before n len marks are = record {
-  rise = Rise-passing (λ place. nat_lt place.offset n) marks are.rise;
-  stand = StandIn-before n marks;
-}
+marks_before n len marks are =
+    let test : Mark → Bool = λ mark. nat_lt mark.place.offset n in
+    let low : (mark : Mark) → test mark ≡ true → mark.place.offset ≤ n = λ mark is. grind (arith, nat_tests) in
+    record { rise = Rise-passing (λ place. nat_lt place.offset n) marks are.rise; stand = All-weaker (λ mark. test mark ≡ true) (λ (mark : Mark). mark.place.offset ≤ n) low (filter test marks) (filter_passes test marks) }
 
 pub marks_behind : (n len : ℕ) (marks : List Mark) → AreMarks len marks → AreMarks (len - n) (map (with_place (earlier n)) (filter (λ (mark : Mark). nat_le n mark.place.offset) marks))
-marks_behind n len marks are = record {
-  rise = Rise-placed (earlier n) (passing (λ place. nat_le n place.offset) marks) (Rise-passing (λ place. nat_le n place.offset) marks are.rise);
-  stand = StandIn-behind n len marks are.stand;
-}
+marks_behind n len marks are =
+    AreMarks-placed (earlier n) (passing (λ place. nat_le n place.offset) marks) len (len - n) (λ place within. omega (arith, within)) (record {
+      rise = Rise-passing (λ place. nat_le n place.offset) marks are.rise;
+      stand = All-filter (λ (mark : Mark). nat_le n mark.place.offset) (λ (mark : Mark). mark.place.offset ≤ len) marks are.stand;
+    })
 
 pub marks_of-behind : (n : ℕ) (marks : List Mark) → Rise marks
     → marks_of (map (with_place (earlier n)) (filter (λ (mark : Mark). nat_le n mark.place.offset) marks)) ≡ map_marks (earlier n) (marks_where (λ place. nat_le n place.offset) (marks_of marks))
@@ -186,18 +168,7 @@ marks_of-behind n marks rise =
     let test : Place → Bool = λ place. nat_le n place.offset in
     marks_of-placed (earlier n) (passing test marks) (Rise-passing test marks rise) ∙ ap (map_marks (earlier n)) (marks_of-passing test marks rise)
 
--- the entries from a column on, in columns from there
-pub behind_lie : (n len : ℕ) (entries : List Toggled) → LieIn n len entries → LieIn 0 (len - n) (map (moved_back n) entries)
-behind_lie n len entries lie =
-    let none : n - n ≡ 0 = omega arith in
-    subst (λ m. LieIn m (len - n) (map (moved_back n) entries)) none (LieIn-moved_back n len n entries lie (omega arith))
-
--- what is read of the entries before a column, and of those from it on
-pub before_lies : (column to count : ℕ) (entries read : List Toggled) → read ≡ entries → LieIn 0 to entries → ((low high : ℕ) → LieIn low high read → LieIn low column (take count read)) → LieIn 0 column (take count entries)
-before_lies column to count entries read is lie before = subst (λ es. LieIn 0 column (take count es)) is (before 0 to (subst (LieIn 0 to) (sym is) lie))
-
-pub behind_lies : (column to count : ℕ) (entries read : List Toggled) → read ≡ entries → LieIn 0 to entries → ((low high : ℕ) → LieIn low high read → low ≤ column → LieIn column high (drop count read)) → LieIn column to (drop count entries)
-behind_lies column to count entries read is lie behind = subst (λ es. LieIn column to (drop count es)) is (behind 0 to (subst (LieIn 0 to) (sym is) lie) (omega arith))
-
-pub rest_read : (count : ℕ) (entries read rest : List Toggled) → read ≡ entries → rest ≡ take (length read - count) (drop count read) → rest ≡ drop count entries
-rest_read count entries read rest is found = found ∙ take_rest read count ∙ ap (drop count) is
+-- what holds of a value that is there
+pub not_refused : {A E P : Type 0} (found : Result A E) → false ≡ is_err found → OnOk found P → P
+not_refused (Ok value) fine holds = holds
+not_refused (Err fault) fine holds = let no : false ≡ true = fine in absurd (cc)

@@ -77,7 +77,8 @@ pub fn move_back(toggles: &mut [Toggled], count: usize)
 pub fn move_rest_on(toggles: &mut Vec<Toggled>, start: usize, count: usize)
     requires within { start ≤ vec_len toggles.old }
     requires room { All (CanMoveOn count) (drop start toggles.old.items) }
-    ensures { toggles.new.items ≡ take start toggles.old.items ++ map (moved_on count) (drop start toggles.old.items) }
+    ensures { toggles.new.items ≡
+        take start toggles.old.items ++ map (moved_on count) (drop start toggles.old.items) }
 {
     move_on(&mut toggles[start..], count);
 }
@@ -86,7 +87,8 @@ pub fn move_rest_on(toggles: &mut Vec<Toggled>, start: usize, count: usize)
 pub fn move_rest_back(toggles: &mut Vec<Toggled>, start: usize, count: usize)
     requires within { start ≤ vec_len toggles.old }
     requires room { All (CanMoveBack count) (drop start toggles.old.items) }
-    ensures { toggles.new.items ≡ take start toggles.old.items ++ map (moved_back count) (drop start toggles.old.items) }
+    ensures { toggles.new.items ≡
+        take start toggles.old.items ++ map (moved_back count) (drop start toggles.old.items) }
 {
     move_back(&mut toggles[start..], count);
 }

@@ -1,4 +1,4 @@
-use Rattle.std.proofs.Common.{◌≡◌, ◌-◌, ◌≤◌, length, take, drop, sym, ap, ap₂, subst, ◌∙◌, arith, length-take, length-drop}
+use Rattle.std.proofs.Common.{◌≡◌, ◌-◌, length, take, drop, sym, ap, ap₂, subst, ◌∙◌, arith, length-take, length-drop}
 use Rattle.std.specs.List.{All, filter}
 use Rattle.std.specs.Prelude.{map, nat_le, nat_lt}
 use Rattle.text_model.specs.Content.{map_marks}
