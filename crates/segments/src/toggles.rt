@@ -43,7 +43,8 @@ pub fn odd_slots(toggles: &[Toggled]) -> TagSet
 
 /// Whether a set has no slot.
 pub fn is_empty(slots: &TagSet) -> bool
-    ensures { result ≡ true → slots.now ≡ set.empty }
+    ensures none { result ≡ true → slots.now ≡ set.empty }
+    ensures some { slots.now ≡ set.empty → result ≡ true }
 {
     for word in slots.words() {
         if word != 0 {

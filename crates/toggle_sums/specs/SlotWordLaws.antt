@@ -16,7 +16,7 @@ as_digit true t small is = grind (arith, nat_tests)
 as_digit false t small is = grind (arith, nat_tests)
 
 -- where bit i of a word says whether slot from + i is in the set, the set gives the word back
-word_of_bits : (n : ℕ) (slots : set.FinSet nat_cmp) (from word : ℕ) → ((i : ℕ) → i < n → set.contains slots (from + i) ≡ (bit_at word i == 1)) → word_below n slots from ≡ word % 2 ^ n
+pub word_of_bits : (n : ℕ) (slots : set.FinSet nat_cmp) (from word : ℕ) → ((i : ℕ) → i < n → set.contains slots (from + i) ≡ (bit_at word i == 1)) → word_below n slots from ≡ word % 2 ^ n
 unfolding word_below
 word_of_bits zero slots from word bits = omega arith
 word_of_bits (suc n) slots from word bits =

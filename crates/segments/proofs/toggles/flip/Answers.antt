@@ -47,7 +47,7 @@ returns-then-index-column-clause-slots c = λ from to at lie.
     elim c.if-is_empty.branch [
       | then-is_empty w ↦
           ap (λ es. toggled_at es at) (ap (λ v. v.items) w.toggles-is ∙ w.remove.ensures.items)
-          ∙ flips_removed column slots entries i d at within is (sym left ∙ c.is_empty.ensures w.if-is_empty.true)
+          ∙ flips_removed column slots entries i d at within is (sym left ∙ c.is_empty.ensures.none w.if-is_empty.true)
       | else-is_empty w ↦
           let new : Toggled = record { column = w.index_mut.result.now.column; slots = c.differing-left.result } in
           let new_is : new.column ≡ column = ap (λ (e : Toggled). e.column) (w.index_mut.ensures.value ∙ get_or_default entries i w.index_mut.result.now d within) ∙ is in
@@ -77,4 +77,4 @@ returns-in_ok-insert-clause-slots c = λ from to at lie.
 
 pub returns-else-not-is_empty-clause-slots : goal.returns-else-not-is_empty-clause-slots
 returns-else-not-is_empty-clause-slots c = λ from to at lie.
-    flips_none c.args.column c.args.slots.now at (toggled_at c.args.toggles.now.items at) (c.is_empty-2.ensures c.if-not-is_empty.false)
+    flips_none c.args.column c.args.slots.now at (toggled_at c.args.toggles.now.items at) (c.is_empty-2.ensures.none c.if-not-is_empty.false)

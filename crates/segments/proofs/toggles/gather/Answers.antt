@@ -90,7 +90,7 @@ pub returns-then-is_empty-clause-slots : goal.returns-then-is_empty-clause-slots
 returns-then-is_empty-clause-slots c = λ at.
     ap (λ es. toggled_at es at) c.drop_range.ensures
     ∙ gathered_slots c.args.from c.args.to c.args.len c.args.toggles.now.items c.count_before-start.result c.if-end-len.end c.if-end-len.slots (spans (goal.at.returns-then-is_empty-clause-slots c).Joined-end-len) c.requires.ordered c.requires.within [] tt
-    (sym (c.is_empty.ensures c.if-is_empty.true)) at
+    (sym (c.is_empty.ensures.none c.if-is_empty.true)) at
 
 pub returns-then-is_empty-clause-gap : goal.returns-then-is_empty-clause-gap
 returns-then-is_empty-clause-gap c =
