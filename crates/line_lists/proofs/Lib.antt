@@ -1,4 +1,5 @@
 pub mod CountRows
+pub mod DraftLaws
 pub mod MadeLaws
 pub mod MarkRows
 pub mod SlotLaws

@@ -65,7 +65,7 @@ cells-drop n xs = drop-cells n set.empty xs ∙ ap (λ s. cells_from s (drop n x
 pub cells-slice : (from to : ℕ) (xs : List Column) → slice_range (cells xs) from to ≡ cells_from (tags_behind (take from xs)) (slice_range xs from to)
 cells-slice from to xs = ap (take (to - from)) (cells-drop from xs) ∙ take-cells (to - from) (tags_behind (take from xs)) (drop from xs)
 
-take-slice : {A : Type 0} (from to : ℕ) (xs : List A) → from ≤ to → take to xs ≡ take from xs ++ slice_range xs from to
+pub take-slice : {A : Type 0} (from to : ℕ) (xs : List A) → from ≤ to → take to xs ≡ take from xs ++ slice_range xs from to
 take-slice zero to xs ordered = ap (λ n. take n xs) (let same : to ≡ to - 0 = omega arith in same)
 take-slice (suc from) zero xs ordered = absurd (omega arith)
 take-slice (suc from) (suc to) [] ordered = sym (take-nil (suc to - suc from))

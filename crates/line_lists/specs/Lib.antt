@@ -1,3 +1,4 @@
+pub mod Drafts
 pub mod Edits
 pub mod Lists
 pub mod Texts

@@ -1,8 +1,8 @@
 //! One text store over any list of lines.
 #![tactic(auto)]
 
+mod drafts;
 pub mod laws;
-mod line_vec;
 mod lists;
 
 pub use lists::LineList;
