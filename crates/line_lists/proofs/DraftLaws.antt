@@ -1,15 +1,16 @@
 -- Copies of lines in a row, and the lines that they make.
-use Rattle.std.proofs.Common.{◌≡◌, ℕ, zero, suc, ◌+◌, ◌-◌, ◌<◌, ◌≤◌, List, [], ◌∷◌, ◌++◌, length, take, drop, refl, sym, ap, ap₂, ◌∙◌, arith, append_assoc, length-append}
-use Rattle.std.specs.Prelude.{reverse}
-use Rattle.std.proofs.lemmas.List.{drop-drop, reverse-append}
+use Rattle.std.proofs.Common.{◌≡◌, ℕ, zero, suc, ◌+◌, ◌-◌, ◌<◌, ◌≤◌, ◌^◌, List, [], ◌∷◌, ◌++◌, length, take, drop, refl, sym, ap, ap₂, ◌∙◌, subst, arith, append_assoc, length-append}
+use Rattle.std.specs.Prelude.{None, Option, Some, reverse, slice_get}
+use Rattle.std.proofs.lemmas.List.{append-nil, drop-drop, map-append, reverse-append}
 use Rattle.text_model.specs.SlotSets.{differing}
 use Rattle.toggle_sums.specs.CountLaws.{differing-associative}
 use Rattle.toggle_sums.specs.Counts.{Count}
 use Rattle.segments.specs.Columns.{LineContent}
 use Rattle.line_lists.specs.declared.drafts.Copied.{Copied}
 use Rattle.line_lists.specs.declared.drafts.Reached.{Reached}
-use Rattle.line_lists.specs.Drafts.{IsReached, covered, drafted, made_lines, used}
-use Rattle.line_lists.specs.Lists.{count_of}
+use Rattle.line_lists.specs.declared.drafts.Stop.{Stop}
+use Rattle.line_lists.specs.Drafts.{AreStops, CanFollow, IsDraft, IsReached, copies_of, covered, drafted, in_order, made_lines, used}
+use Rattle.line_lists.specs.Lists.{IsCounted, count_of}
 use Rattle.line_lists.specs.Texts.{whole}
 use Rattle.line_lists.specs.Toggling.{tags_behind}
 use Rattle.line_lists.proofs.CountRows.{count-append, count-characters, count-parity}
@@ -38,14 +39,50 @@ drafted-append xs ys lines =
     ap₂ (λ front rest. front ++ rest) (made-append xs ys lines) (ap (λ n. drop n lines) (used-append xs ys) ∙ sym (drop-rest (used xs) (used ys) lines))
     ∙ append_assoc (made_lines xs lines) (made_lines ys (drop (used xs) lines)) (drop (used ys) (drop (used xs) lines))
 
--- the copies before a place in their order, and those behind it from the last
-abbrev pub in_order : List Copied → List Copied → List Copied
-in_order front back = front ++ reverse back
-
 -- the place moves by a copy
-pub in_order-moved : (front back : List Copied) (copy : Copied) → in_order (front ++ copy ∷ []) back ≡ in_order front (back ++ copy ∷ [])
-in_order-moved front back copy =
-    append_assoc front (copy ∷ []) (reverse back) ∙ ap (λ rest. front ++ rest) (sym (reverse-append back (copy ∷ [])))
+pub copies-snoc : (front : List Stop) (stop : Stop) → copies_of (front ++ stop ∷ []) ≡ copies_of front ++ stop.copy ∷ []
+copies-snoc front stop = map-append (λ (x : Stop). x.copy) front (stop ∷ [])
+
+pub in_order-moved : (front : List Stop) (back : List Copied) (stop : Stop) → in_order (front ++ stop ∷ []) back ≡ in_order front (back ++ stop.copy ∷ [])
+in_order-moved front back stop =
+    ap (λ copies. copies ++ reverse back) (copies-snoc front stop)
+    ∙ append_assoc (copies_of front) (stop.copy ∷ []) (reverse back)
+    ∙ ap (λ rest. copies_of front ++ rest) (sym (reverse-append back (stop.copy ∷ [])))
+
+pub stops-snoc : (lines : List LineContent) (before : List Copied) (front : List Stop) (stop : Stop)
+    → AreStops lines before front → IsReached stop.reached (before ++ copies_of front) lines → AreStops lines before (front ++ stop ∷ [])
+stops-snoc lines before [] stop stops reached = (subst (λ copies. IsReached stop.reached copies lines) (append-nil before) reached, tt)
+stops-snoc lines before (first ∷ front) stop stops reached =
+    (stops.0, stops-snoc lines (before ++ first.copy ∷ []) front stop stops.1
+    (subst (λ copies. IsReached stop.reached copies lines) (sym (append_assoc before (first.copy ∷ []) (copies_of front))) reached))
+
+pub stops-front : (lines : List LineContent) (before : List Copied) (front : List Stop) (stop : Stop) → AreStops lines before (front ++ stop ∷ []) → AreStops lines before front
+stops-front lines before [] stop stops = tt
+stops-front lines before (first ∷ front) stop stops = (stops.0, stops-front lines (before ++ first.copy ∷ []) front stop stops.1)
+
+pub stops-last : (lines : List LineContent) (before : List Copied) (front : List Stop) (stop : Stop)
+    → AreStops lines before (front ++ stop ∷ []) → IsReached stop.reached (before ++ copies_of front) lines
+stops-last lines before [] stop stops = subst (λ copies. IsReached stop.reached copies lines) (sym (append-nil before)) stops.0
+stops-last lines before (first ∷ front) stop stops =
+    subst (λ copies. IsReached stop.reached copies lines) (append_assoc before (first.copy ∷ []) (copies_of front))
+    (stops-last lines (before ++ first.copy ∷ []) front stop stops.1)
+
+pub draft-back : (lines : List LineContent) (front : List Stop) (back : List Copied) (stop : Stop) → IsDraft lines (front ++ stop ∷ []) back → IsDraft lines front (back ++ stop.copy ∷ [])
+draft-back lines front back stop draft =
+    let same = in_order-moved front back stop in record {
+      stops = stops-front lines [] front stop draft.stops;
+      there = subst (λ copies. used copies ≤ length lines) same draft.there;
+      counted = subst (λ copies. length (whole (drafted copies lines)).columns < 2 ^ 64) same draft.counted;
+    }
+
+pub draft-forth : (lines : List LineContent) (front : List Stop) (back : List Copied) (stop : Stop) → IsDraft lines front (back ++ stop.copy ∷ []) → IsReached stop.reached (copies_of front) lines
+    → IsDraft lines (front ++ stop ∷ []) back
+draft-forth lines front back stop draft reached =
+    let same = sym (in_order-moved front back stop) in record {
+      stops = stops-snoc lines [] front stop draft.stops reached;
+      there = subst (λ copies. used copies ≤ length lines) same draft.there;
+      counted = subst (λ copies. length (whole (drafted copies lines)).columns < 2 ^ 64) same draft.counted;
+    }
 
 add_groups : (a b c : ℕ) → a + (b + c) ≡ (a + b) + c
 add_groups a b c = omega arith
@@ -109,3 +146,59 @@ reached-more reached new copies copy lines so_far used_is characters_are tags_ar
         ∙ sym (ap (λ xs. tags_behind (whole xs).columns) snoc ∙ behind-whole made (kept ++ copy.line ∷ [])
         ∙ ap (differing (tags_behind (whole made).columns)) (behind-whole kept (copy.line ∷ []) ∙ ap (λ (line : LineContent). differing (tags_behind (whole kept).columns) (tags_behind line.columns)) (whole-one copy.line)));
     }
+
+-- nothing is copied
+pub draft-none : (lines : List LineContent) → IsCounted (count_of lines) → IsDraft lines [] []
+draft-none lines all = record {
+  stops = tt;
+  there = omega arith;
+  counted = omega (arith, all.characters, count-characters lines);
+}
+
+-- the last of the copies before the place can follow those before it
+pub can-follow : (lines : List LineContent) (front : List Stop) (back : List Copied) (stop : Stop) → IsDraft lines (front ++ stop ∷ []) back → CanFollow stop.reached stop.copy lines
+can-follow lines front back stop draft =
+    let copies = copies_of front in
+    let copy = stop.copy in
+    let reached = stops-last lines [] front stop draft.stops in
+    let kept = take copy.kept (drop (used copies) lines) in
+    let made = made_lines copies lines in
+    let all = in_order (front ++ stop ∷ []) back in
+    let order : all ≡ (copies ++ copy ∷ []) ++ reverse back = ap (λ xs. xs ++ reverse back) (copies-snoc front stop) in
+    let covers : used all ≡ (used copies + used (copy ∷ [])) + used (reverse back) =
+    ap used order ∙ used-append (copies ++ copy ∷ []) (reverse back) ∙ ap (λ n. n + used (reverse back)) (used-append copies (copy ∷ [])) in
+    let long : length (whole (drafted all lines)).columns ≡ length (whole (made_lines (copies ++ copy ∷ []) lines)).columns + length (whole (drafted (reverse back) (drop (used (copies ++ copy ∷ [])) lines))).columns =
+    ap (λ xs. length (whole (drafted xs lines)).columns) order
+    ∙ ap (λ xs. length (whole xs).columns) (drafted-append (copies ++ copy ∷ []) (reverse back) lines)
+    ∙ length-whole (made_lines (copies ++ copy ∷ []) lines) (drafted (reverse back) (drop (used (copies ++ copy ∷ [])) lines)) in
+    let part : length (whole (made_lines (copies ++ copy ∷ []) lines)).columns ≡ length (whole made).columns + (length (whole kept).columns + length copy.line.columns) =
+    ap (λ xs. length (whole xs).columns) (made-snoc copies copy lines) ∙ length-whole made (kept ++ copy.line ∷ [])
+    ∙ ap (λ n. length (whole made).columns + n) (length-whole kept (copy.line ∷ []) ∙ ap (λ (line : LineContent). length (whole kept).columns + length line.columns) (whole-one copy.line)) in
+    let here : length (whole (take copy.kept (drop stop.reached.used lines))).columns ≡ length (whole kept).columns = ap (λ n. length (whole (take copy.kept (drop n lines))).columns) reached.used in
+    record {
+      there = omega (arith, reached.used, covers, draft.there);
+      counted = omega (arith, reached.characters, here, long, part, draft.counted);
+    }
+
+-- the last of a list
+snoc_at : {A : Type 0} (xs : List A) (n : ℕ) (x : A) → length xs ≡ suc n → slice_get xs n ≡ Some x → xs ≡ take n xs ++ x ∷ []
+snoc_at [] n x long is = absurd (omega (arith, long))
+snoc_at (y ∷ []) zero x long is = let same : y ≡ x = cc in ap (λ z. z ∷ []) same
+snoc_at (y ∷ z ∷ zs) zero x long is = absurd (omega (arith, long))
+snoc_at (y ∷ ys) (suc n) x long is = ap (λ rest. y ∷ rest) (snoc_at ys n x (omega (arith, long)) is)
+
+none_at : {A : Type 0} (xs : List A) (n : ℕ) → slice_get xs n ≡ None → length xs ≤ n
+none_at [] n is = omega arith
+none_at {A = A} (x ∷ xs) zero is = let no : ◌≡◌ {A = Option A} (Some x) None = is in absurd (cc)
+none_at (x ∷ xs) (suc n) is = omega (arith, none_at xs n is)
+
+empty_of : {A : Type 0} (xs : List A) → length xs ≤ length xs - 1 → xs ≡ []
+empty_of [] small = refl
+empty_of (x ∷ xs) small = absurd (omega (arith, small))
+
+pub no_last : {A : Type 0} (xs : List A) → None ≡ slice_get xs (length xs - 1) → xs ≡ []
+no_last xs is = empty_of xs (none_at xs (length xs - 1) (sym is))
+
+pub last_is : {A : Type 0} (xs : List A) (x : A) → Some x ≡ slice_get xs (length xs - 1) → xs ≡ take (length xs - 1) xs ++ x ∷ []
+last_is {A = A} [] x is = let no : ◌≡◌ {A = Option A} (Some x) None = is in absurd (cc)
+last_is (y ∷ ys) x is = snoc_at (y ∷ ys) (suc (length ys) - 1) x (omega arith) (sym is)

@@ -1,8 +1,9 @@
 -- The lines that a text will have, on the way: copies of some lines of a list, each in the place of some of them.
-use Rattle.std.specs.Prelude.{◌≡◌, ℕ, ◌+◌, ◌<◌, ◌≤◌, ◌^◌, List, [], ◌∷◌, ◌++◌, length, take, drop}
+use Rattle.std.specs.Prelude.{◌≡◌, ℕ, ◌+◌, ◌<◌, ◌≤◌, ◌^◌, List, [], ◌∷◌, ◌++◌, ⊤, length, map, take, drop, reverse}
 use Rattle.segments.specs.Columns.{LineContent}
 use Rattle.line_lists.specs.declared.drafts.Copied.{Copied}
 use Rattle.line_lists.specs.declared.drafts.Reached.{Reached}
+use Rattle.line_lists.specs.declared.drafts.Stop.{Stop}
 use Rattle.line_lists.specs.Texts.{whole}
 use Rattle.line_lists.specs.Toggling.{tags_behind}
 
@@ -34,3 +35,26 @@ pub record CanFollow (reached : Reached) (copy : Copied) (lines : List LineConte
   pub counted :
     reached.characters + length (whole (take copy.kept (drop reached.used lines))).columns
     + length copy.line.columns < 2 ^ 64
+
+abbrev pub copies_of : List Stop → List Copied
+copies_of stops = map (λ (stop : Stop). stop.copy) stops
+
+-- copies before a place in their order, and those behind it from the last: all in order
+abbrev pub in_order : List Stop → List Copied → List Copied
+in_order front back = copies_of front ++ reverse back
+
+-- the lines that they make
+abbrev pub drafted_at : List LineContent → List Stop → List Copied → List LineContent
+drafted_at lines front back = drafted (in_order front back) lines
+
+-- each stop tells what the copies before it cover
+abbrev pub AreStops : List LineContent → List Copied → List Stop → Type 0
+AreStops lines before [] = ⊤
+AreStops lines before (stop ∷ stops) =
+    IsReached stop.reached before lines × AreStops lines (before ++ stop.copy ∷ []) stops
+
+-- copies of lines that are there, whose text can be counted
+pub record IsDraft (lines : List LineContent) (front : List Stop) (back : List Copied) : Type 0 where
+  pub stops : AreStops lines [] front
+  pub there : used (in_order front back) ≤ length lines
+  pub counted : length (whole (drafted_at lines front back)).columns < 2 ^ 64

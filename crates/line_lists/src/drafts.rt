@@ -1,9 +1,10 @@
-ghost use Rattle.std.specs.Prelude.{◌≡◌, List, ◌∷◌, [], ◌++◌};
+ghost use Rattle.std.specs.Prelude.{◌≡◌, ◌-◌, List, ◌∷◌, [], ◌++◌, OnOk, vec_len};
 ghost use Rattle.segments.specs.Columns.{LineContent};
-ghost use Rattle.line_lists.specs.Drafts.{CanFollow, IsReached};
+ghost use Rattle.line_lists.specs.Drafts.{CanFollow, IsDraft, IsReached, copies_of, drafted_at};
 
 use crate::lists::LineList;
 use segments::Line;
+use std::alloc::{AllocError, Global};
 use text_model::TagSet;
 
 /// A line that the text will have: so many lines of the list are kept before it, and it comes in the place of so many.
@@ -58,4 +59,74 @@ impl Reached {
 pub struct Stop {
     pub reached: Reached,
     pub copy: Copied,
+}
+
+/// The lines that the text of a list will have: copies of some of its lines, in order, with a place between two of them.
+/// It reads the list, and changes its copies alone.
+#[derive(Drop)]
+pub struct Draft<'a, L: LineList> {
+    list: &'a L,
+    /// The copies before the place.
+    front: Vec<Stop>,
+    /// The copies behind the place, the nearest last.
+    back: Vec<Copied>,
+}
+
+impl<'a, L: LineList> Draft<'a, L> {
+    /// The lines of a list, none of them copied.
+    pub fn new(alloc: Global, list: &'a L) -> Draft<'a, L>
+        ensures is { IsDraft (L.lines list.now) result.front.items result.back.items }
+        ensures same { drafted_at (L.lines list.now) result.front.items result.back.items ≡ L.lines list.now }
+        ensures list { result.list.now ≡ list.now }
+    {
+        Draft {
+            list,
+            front: Vec::new(alloc),
+            back: Vec::new(alloc),
+        }
+    }
+
+    /// What the copies before the place cover.
+    fn reached(&self) -> Reached
+        requires { IsDraft (L.lines self.now.list.now) self.now.front.items self.now.back.items }
+        ensures { IsReached result (copies_of self.now.front.items) (L.lines self.now.list.now) }
+    {
+        match self.front.last() {
+            None => Reached::nothing(),
+            Some(stop) => stop.reached.with(self.list, &stop.copy),
+        }
+    }
+
+    /// Goes back by one copy.
+    fn step_back(&mut self) -> Result<(), AllocError>
+        requires { IsDraft (L.lines self.old.list.now) self.old.front.items self.old.back.items }
+        ensures list { self.new.list.now ≡ self.old.list.now }
+        ensures is { IsDraft (L.lines self.new.list.now) self.new.front.items self.new.back.items }
+        ensures same { drafted_at (L.lines self.new.list.now) self.new.front.items self.new.back.items
+            ≡ drafted_at (L.lines self.old.list.now) self.old.front.items self.old.back.items }
+        ensures moved { OnOk result (vec_len self.new.front ≡ vec_len self.old.front - 1) }
+    {
+        self.back.reserve(1)?;
+        if let Some(stop) = self.front.pop() {
+            self.back.push_reserved(stop.copy);
+        }
+        Ok(())
+    }
+
+    /// Goes on by one copy.
+    fn step_forth(&mut self) -> Result<(), AllocError>
+        requires { IsDraft (L.lines self.old.list.now) self.old.front.items self.old.back.items }
+        ensures list { self.new.list.now ≡ self.old.list.now }
+        ensures is { IsDraft (L.lines self.new.list.now) self.new.front.items self.new.back.items }
+        ensures same { drafted_at (L.lines self.new.list.now) self.new.front.items self.new.back.items
+            ≡ drafted_at (L.lines self.old.list.now) self.old.front.items self.old.back.items }
+        ensures moved { OnOk result (vec_len self.new.back ≡ vec_len self.old.back - 1) }
+    {
+        self.front.reserve(1)?;
+        let reached = self.reached();
+        if let Some(copy) = self.back.pop() {
+            self.front.push_reserved(Stop { reached, copy });
+        }
+        Ok(())
+    }
 }

@@ -1,4 +1,4 @@
-use Rattle.line_lists.proofs.DraftLaws.{drafted-append, in_order-moved, made-append, used-append}
+use Rattle.line_lists.proofs.DraftLaws.{draft-back, draft-forth, drafted-append, in_order-moved, made-append, stops-last, used-append}
 use Rattle.line_lists.proofs.CountRows.{count-append, count-characters, count-lines, count-parity, count-presence, counted-more, counted-part}
 use Rattle.line_lists.proofs.MadeLaws.{text-made}
 use Rattle.line_lists.proofs.WholeLaws.{after_removal-between, after_text-between, whole-between, with_cleared-between, with_mark-between, with_toggled-between, without_mark-between}
