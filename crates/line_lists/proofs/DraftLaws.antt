@@ -9,7 +9,7 @@ use Rattle.segments.specs.Columns.{LineContent}
 use Rattle.line_lists.specs.declared.drafts.Copied.{Copied}
 use Rattle.line_lists.specs.declared.drafts.Reached.{Reached}
 use Rattle.line_lists.specs.declared.drafts.Stop.{Stop}
-use Rattle.line_lists.specs.Drafts.{AreStops, CanFollow, IsDraft, IsReached, copies_of, covered, drafted, in_order, made_lines, used}
+use Rattle.line_lists.specs.Drafts.{AreStops, BeginsBehind, BeginsBy, CanFollow, IsDraft, IsReached, NextBegins, copies_of, covered, drafted, in_order, line_start, lines_before, made_lines, used}
 use Rattle.line_lists.specs.Lists.{IsCounted, count_of}
 use Rattle.line_lists.specs.Texts.{whole}
 use Rattle.line_lists.specs.Toggling.{tags_behind}
@@ -52,9 +52,11 @@ in_order-moved front back stop =
 pub stops-snoc : (lines : List LineContent) (before : List Copied) (front : List Stop) (stop : Stop)
     → AreStops lines before front → IsReached stop.reached (before ++ copies_of front) lines → AreStops lines before (front ++ stop ∷ [])
 stops-snoc lines before [] stop stops reached = (subst (λ copies. IsReached stop.reached copies lines) (append-nil before) reached, tt)
-stops-snoc lines before (first ∷ front) stop stops reached =
-    (stops.0, stops-snoc lines (before ++ first.copy ∷ []) front stop stops.1
-    (subst (λ copies. IsReached stop.reached copies lines) (sym (append_assoc before (first.copy ∷ []) (copies_of front))) reached))
+stops-snoc lines before (first ∷ front) stop stops reached = (
+  stops.0,
+  stops-snoc lines (before ++ first.copy ∷ []) front stop stops.1
+      (subst (λ copies. IsReached stop.reached copies lines) (sym (append_assoc before (first.copy ∷ []) (copies_of front))) reached),
+)
 
 pub stops-front : (lines : List LineContent) (before : List Copied) (front : List Stop) (stop : Stop) → AreStops lines before (front ++ stop ∷ []) → AreStops lines before front
 stops-front lines before [] stop stops = tt
@@ -134,17 +136,17 @@ reached-more reached new copies copy lines so_far used_is characters_are tags_ar
     record {
       used = omega (arith, used_is, so_far.used, used-append copies (copy ∷ []));
       characters =
-        characters_are
-        ∙ ap₂ (λ n part. n + length (whole part).columns + length copy.line.columns) so_far.characters kept_is
-        ∙ sym (ap (λ xs. length (whole xs).columns) snoc ∙ length-whole made (kept ++ copy.line ∷ [])
-        ∙ ap (λ n. length (whole made).columns + n) (length-whole kept (copy.line ∷ []) ∙ ap (λ (line : LineContent). length (whole kept).columns + length line.columns) (whole-one copy.line))
-        ∙ add_groups (length (whole made).columns) (length (whole kept).columns) (length copy.line.columns));
+          characters_are
+          ∙ ap₂ (λ n part. n + length (whole part).columns + length copy.line.columns) so_far.characters kept_is
+          ∙ sym (ap (λ xs. length (whole xs).columns) snoc ∙ length-whole made (kept ++ copy.line ∷ [])
+          ∙ ap (λ n. length (whole made).columns + n) (length-whole kept (copy.line ∷ []) ∙ ap (λ (line : LineContent). length (whole kept).columns + length line.columns) (whole-one copy.line))
+          ∙ add_groups (length (whole made).columns) (length (whole kept).columns) (length copy.line.columns));
       tags =
-        tags_are
-        ∙ ap₂ (λ s part. differing (differing s (tags_behind (whole part).columns)) (tags_behind copy.line.columns)) so_far.tags kept_is
-        ∙ differing-associative (tags_behind (whole made).columns) (tags_behind (whole kept).columns) (tags_behind copy.line.columns)
-        ∙ sym (ap (λ xs. tags_behind (whole xs).columns) snoc ∙ behind-whole made (kept ++ copy.line ∷ [])
-        ∙ ap (differing (tags_behind (whole made).columns)) (behind-whole kept (copy.line ∷ []) ∙ ap (λ (line : LineContent). differing (tags_behind (whole kept).columns) (tags_behind line.columns)) (whole-one copy.line)));
+          tags_are
+          ∙ ap₂ (λ s part. differing (differing s (tags_behind (whole part).columns)) (tags_behind copy.line.columns)) so_far.tags kept_is
+          ∙ differing-associative (tags_behind (whole made).columns) (tags_behind (whole kept).columns) (tags_behind copy.line.columns)
+          ∙ sym (ap (λ xs. tags_behind (whole xs).columns) snoc ∙ behind-whole made (kept ++ copy.line ∷ [])
+          ∙ ap (differing (tags_behind (whole made).columns)) (behind-whole kept (copy.line ∷ []) ∙ ap (λ (line : LineContent). differing (tags_behind (whole kept).columns) (tags_behind line.columns)) (whole-one copy.line)));
     }
 
 -- nothing is copied
@@ -202,3 +204,54 @@ no_last xs is = empty_of xs (none_at xs (length xs - 1) (sym is))
 pub last_is : {A : Type 0} (xs : List A) (x : A) → Some x ≡ slice_get xs (length xs - 1) → xs ≡ take (length xs - 1) xs ++ x ∷ []
 last_is {A = A} [] x is = let no : ◌≡◌ {A = Option A} (Some x) None = is in absurd (cc)
 last_is (y ∷ ys) x is = snoc_at (y ∷ ys) (suc (length ys) - 1) x (omega arith) (sym is)
+
+-- where the line of a copy begins
+pub start-is : (lines : List LineContent) (copies : List Copied) (reached : Reached) (copy : Copied) → IsReached reached copies lines
+    → line_start reached copy lines ≡ length (whole (lines_before copies copy lines)).columns
+start-is lines copies reached copy is =
+    ap₂ (λ n k. n + length (whole (take copy.kept (drop k lines))).columns) is.characters is.used
+    ∙ sym (length-whole (made_lines copies lines) (take copy.kept (drop (used copies) lines)))
+
+some_same : {A : Type 0} (x y : A) → ◌≡◌ {A = Option A} (Some x) (Some y) → x ≡ y
+some_same x y is = cc
+
+last_of : {A : Type 0} (xs : List A) (x : A) → slice_get (xs ++ x ∷ []) (length xs) ≡ Some x
+last_of [] x = refl
+last_of (y ∷ ys) x = last_of ys x
+
+last_same : {A : Type 0} (all before : List A) (x y : A) → Some x ≡ slice_get all (length all - 1) → all ≡ before ++ y ∷ [] → x ≡ y
+last_same all before x y last is =
+    let long : length all - 1 ≡ length before = omega (arith, ap length is, length-append before (y ∷ [])) in
+    some_same x y (last ∙ ap₂ slice_get is long ∙ last_of before y)
+
+pub begins-by : (lines : List LineContent) (offset : ℕ) (front : List Stop) (back : List Copied) (stop : Stop) → IsDraft lines front back
+    → Some stop ≡ slice_get front (length front - 1) → line_start stop.reached stop.copy lines ≤ offset → BeginsBy lines offset front
+begins-by lines offset front back stop draft last small before other is =
+    let same = last_same front before stop other last is in
+    let stops = subst (AreStops lines []) is draft.stops in
+    omega (arith, small, ap (λ (x : Stop). line_start x.reached x.copy lines) same, start-is lines (copies_of before) other.reached other.copy (stops-last lines [] before other stops))
+
+pub begins-none : (lines : List LineContent) (offset : ℕ) (front : List Stop) → front ≡ [] → BeginsBy lines offset front
+begins-none lines offset front none before other is =
+    let long : 0 ≡ length before + 1 = sym (ap length none) ∙ ap length is ∙ length-append before (other ∷ []) in absurd (omega (arith, long))
+
+pub begins-behind : (lines : List LineContent) (offset : ℕ) (front : List Stop) (back : List Copied) (reached : Reached) (copy : Copied) → IsReached reached (copies_of front) lines
+    → Some copy ≡ slice_get back (length back - 1) → offset < line_start reached copy lines → BeginsBehind lines offset front back
+begins-behind lines offset front back reached copy is last large behind other back_is =
+    let same = last_same back behind copy other last back_is in
+    omega (arith, large, ap (λ (x : Copied). line_start reached x lines) same, start-is lines (copies_of front) reached other is)
+
+pub next-begins : (lines : List LineContent) (offset : ℕ) (front : List Stop) (back : List Copied) (reached : Reached) (copy : Copied) → IsReached reached (copies_of front) lines
+    → Some copy ≡ slice_get back (length back - 1) → line_start reached copy lines ≤ offset → NextBegins lines offset front back
+next-begins lines offset front back reached copy is last small behind other back_is =
+    let same = last_same back behind copy other last back_is in
+    omega (arith, small, ap (λ (x : Copied). line_start reached x lines) same, start-is lines (copies_of front) reached other is)
+
+pub behind-none : (lines : List LineContent) (offset : ℕ) (front : List Stop) (back : List Copied) → back ≡ [] → BeginsBehind lines offset front back
+behind-none lines offset front back none behind other is =
+    let long : 0 ≡ length behind + 1 = sym (ap length none) ∙ ap length is ∙ length-append behind (other ∷ []) in absurd (omega (arith, long))
+
+pub can-follow-next : (lines : List LineContent) (front : List Stop) (back behind : List Copied) (reached : Reached) (copy : Copied) → IsDraft lines front back → IsReached reached (copies_of front) lines
+    → back ≡ behind ++ copy ∷ [] → CanFollow reached copy lines
+can-follow-next lines front back behind reached copy draft is back_is =
+    can-follow lines front behind (record { reached = reached; copy = copy }) (draft-forth lines front behind (record { reached = reached; copy = copy }) (subst (λ items. IsDraft lines front items) back_is draft) is)

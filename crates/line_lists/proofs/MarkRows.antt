@@ -132,8 +132,8 @@ moved-Lifts one two at count a b before within = record {
   first = λ number place is. let stands = before number place is in moved_before (one + at) count place (omega (arith, stands));
   second = λ number place is. moved_later one at count place;
   third = λ place.
-    moved_later one at count (later two place)
-    ∙ ap (later one) (moved_behind at count (later two place) (omega arith) ∙ ap (λ offset. record place { offset = offset }) (let same : (place.offset + two) + count ≡ place.offset + (two + count) = omega arith in same));
+      moved_later one at count (later two place)
+      ∙ ap (later one) (moved_behind at count (later two place) (omega arith) ∙ ap (λ offset. record place { offset = offset }) (let same : (place.offset + two) + count ≡ place.offset + (two + count) = omega arith in same));
 }
 
 -- a removal in the second

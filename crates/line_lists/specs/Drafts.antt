@@ -33,8 +33,13 @@ pub record IsReached (reached : Reached) (copies : List Copied) (lines : List Li
 pub record CanFollow (reached : Reached) (copy : Copied) (lines : List LineContent) : Type 0 where
   pub there : reached.used + covered copy ≤ length lines
   pub counted :
+      reached.characters + length (whole (take copy.kept (drop reached.used lines))).columns
+      + length copy.line.columns < 2 ^ 64
+
+-- where its line begins in the text
+abbrev pub line_start : Reached → Copied → List LineContent → ℕ
+line_start reached copy lines =
     reached.characters + length (whole (take copy.kept (drop reached.used lines))).columns
-    + length copy.line.columns < 2 ^ 64
 
 abbrev pub copies_of : List Stop → List Copied
 copies_of stops = map (λ (stop : Stop). stop.copy) stops
@@ -58,3 +63,25 @@ pub record IsDraft (lines : List LineContent) (front : List Stop) (back : List C
   pub stops : AreStops lines [] front
   pub there : used (in_order front back) ≤ length lines
   pub counted : length (whole (drafted_at lines front back)).columns < 2 ^ 64
+
+-- the lines before that of a copy that follows others
+abbrev pub lines_before : List Copied → Copied → List LineContent → List LineContent
+lines_before copies copy lines = made_lines copies lines ++ take copy.kept (drop (used copies) lines)
+
+-- the line of the last copy before the place, if there is one, begins at an offset or before it
+abbrev pub BeginsBy : List LineContent → ℕ → List Stop → Type 0
+BeginsBy lines offset front =
+    (before : List Stop) (stop : Stop) → front ≡ before ++ stop ∷ [] →
+    length (whole (lines_before (copies_of before) stop.copy lines)).columns ≤ offset
+
+-- the line of the first copy behind the place, if there is one, begins behind an offset
+abbrev pub BeginsBehind : List LineContent → ℕ → List Stop → List Copied → Type 0
+BeginsBehind lines offset front back =
+    (behind : List Copied) (copy : Copied) → back ≡ behind ++ copy ∷ [] →
+    offset < length (whole (lines_before (copies_of front) copy lines)).columns
+
+-- it begins at an offset or before it
+abbrev pub NextBegins : List LineContent → ℕ → List Stop → List Copied → Type 0
+NextBegins lines offset front back =
+    (behind : List Copied) (copy : Copied) → back ≡ behind ++ copy ∷ [] →
+    length (whole (lines_before (copies_of front) copy lines)).columns ≤ offset

@@ -1,6 +1,6 @@
-ghost use Rattle.std.specs.Prelude.{◌≡◌, ◌-◌, List, ◌∷◌, [], ◌++◌, OnOk, vec_len};
+ghost use Rattle.std.specs.Prelude.{◌≡◌, ℕ, ◌-◌, ◌<◌, List, ◌∷◌, [], ◌++◌, OnOk, vec_len, true, false};
 ghost use Rattle.segments.specs.Columns.{LineContent};
-ghost use Rattle.line_lists.specs.Drafts.{CanFollow, IsDraft, IsReached, copies_of, drafted_at};
+ghost use Rattle.line_lists.specs.Drafts.{BeginsBehind, BeginsBy, CanFollow, IsDraft, IsReached, NextBegins, copies_of, drafted_at, line_start};
 
 use crate::lists::LineList;
 use segments::Line;
@@ -36,6 +36,16 @@ impl Reached {
         }
     }
 
+    /// Where the line of a copy that follows begins in the text.
+    fn start<L: LineList>(&self, list: &L, copy: &Copied) -> usize
+        requires { CanFollow self.now copy.now (L.lines list.now) }
+        ensures { result ≡ line_start self.now copy.now (L.lines list.now) }
+    {
+        let start = list.prefix(self.used);
+        let kept = list.prefix(self.used + copy.kept);
+        self.characters + (kept.characters() - start.characters())
+    }
+
     /// What is covered with one copy more.
     fn with<L: LineList>(&self, list: &L, copy: &Copied) -> Reached
         requires { CanFollow self.now copy.now (L.lines list.now) }
@@ -48,7 +58,9 @@ impl Reached {
         let parity = start.odd_slots().differing(&kept.odd_slots());
         Reached {
             used: self.used + copy.kept + copy.gone,
-            characters: self.characters + (kept.characters() - start.characters()) + copy.line.len(),
+            characters: self.characters
+                + (kept.characters() - start.characters())
+                + copy.line.len(),
             tags: self.tags.differing(&parity).differing(&line.odd_slots()),
         }
     }
@@ -121,11 +133,74 @@ impl<'a, L: LineList> Draft<'a, L> {
         ensures same { drafted_at (L.lines self.new.list.now) self.new.front.items self.new.back.items
             ≡ drafted_at (L.lines self.old.list.now) self.old.front.items self.old.back.items }
         ensures moved { OnOk result (vec_len self.new.back ≡ vec_len self.old.back - 1) }
+        ensures begun { (offset : ℕ) → NextBegins (L.lines self.old.list.now) offset self.old.front.items self.old.back.items →
+            BeginsBy (L.lines self.old.list.now) offset self.old.front.items → BeginsBy (L.lines self.new.list.now) offset self.new.front.items }
     {
         self.front.reserve(1)?;
         let reached = self.reached();
         if let Some(copy) = self.back.pop() {
             self.front.push_reserved(Stop { reached, copy });
+        }
+        Ok(())
+    }
+
+    /// Whether the line of the last copy before the place begins at an offset or before it, or there is no such copy.
+    fn is_begun(&self, offset: usize) -> bool
+        requires { IsDraft (L.lines self.now.list.now) self.now.front.items self.now.back.items }
+        ensures yes { result ≡ true → BeginsBy (L.lines self.now.list.now) offset self.now.front.items }
+        ensures no { result ≡ false → 0 < vec_len self.now.front }
+    {
+        match self.front.last() {
+            None => true,
+            Some(stop) => stop.reached.start(self.list, &stop.copy) <= offset,
+        }
+    }
+
+    /// Whether the line of the first copy behind the place begins behind an offset, or there is no such copy.
+    fn is_ahead(&self, offset: usize) -> bool
+        requires { IsDraft (L.lines self.now.list.now) self.now.front.items self.now.back.items }
+        ensures yes { result ≡ true →
+            BeginsBehind (L.lines self.now.list.now) offset self.now.front.items self.now.back.items }
+        ensures no { result ≡ false → 0 < vec_len self.now.back }
+        ensures begun { result ≡ false →
+            NextBegins (L.lines self.now.list.now) offset self.now.front.items self.now.back.items }
+    {
+        let reached = self.reached();
+        match self.back.last() {
+            None => true,
+            Some(copy) => offset < reached.start(self.list, copy),
+        }
+    }
+
+    /// Goes back until the line of the last copy before the place begins at an offset or before it.
+    fn back_to(&mut self, offset: usize) -> Result<(), AllocError>
+        requires { IsDraft (L.lines self.old.list.now) self.old.front.items self.old.back.items }
+        ensures list { self.new.list.now ≡ self.old.list.now }
+        ensures is { IsDraft (L.lines self.new.list.now) self.new.front.items self.new.back.items }
+        ensures same { drafted_at (L.lines self.new.list.now) self.new.front.items self.new.back.items
+            ≡ drafted_at (L.lines self.old.list.now) self.old.front.items self.old.back.items }
+        ensures begun { OnOk result (BeginsBy (L.lines self.new.list.now) offset self.new.front.items) }
+    {
+        while !self.is_begun(offset) {
+            self.step_back()?;
+        }
+        Ok(())
+    }
+
+    /// Goes on until the line of the first copy behind the place begins behind an offset.
+    fn forth_to(&mut self, offset: usize) -> Result<(), AllocError>
+        requires is { IsDraft (L.lines self.old.list.now) self.old.front.items self.old.back.items }
+        requires begun { BeginsBy (L.lines self.old.list.now) offset self.old.front.items }
+        ensures list { self.new.list.now ≡ self.old.list.now }
+        ensures is { IsDraft (L.lines self.new.list.now) self.new.front.items self.new.back.items }
+        ensures same { drafted_at (L.lines self.new.list.now) self.new.front.items self.new.back.items
+            ≡ drafted_at (L.lines self.old.list.now) self.old.front.items self.old.back.items }
+        ensures begun { OnOk result (BeginsBy (L.lines self.new.list.now) offset self.new.front.items) }
+        ensures ahead { OnOk result
+            (BeginsBehind (L.lines self.new.list.now) offset self.new.front.items self.new.back.items) }
+    {
+        while !self.is_ahead(offset) {
+            self.step_forth()?;
         }
         Ok(())
     }
