@@ -1,5 +1,6 @@
 pub mod CountRows
 pub mod DraftLaws
+pub mod FindLaws
 pub mod MadeLaws
 pub mod MarkRows
 pub mod SlotLaws

@@ -1,5 +1,5 @@
 -- The lines that a text will have, on the way: copies of some lines of a list, each in the place of some of them.
-use Rattle.std.specs.Prelude.{◌≡◌, ℕ, ◌+◌, ◌<◌, ◌≤◌, ◌^◌, List, [], ◌∷◌, ◌++◌, ⊤, length, map, take, drop, reverse}
+use Rattle.std.specs.Prelude.{◌≡◌, ℕ, ◌+◌, ◌<◌, ◌≤◌, ◌^◌, List, [], ◌∷◌, ◌++◌, ⊤, length, map, take, drop, reverse, IfSome, slice_get}
 use Rattle.segments.specs.Columns.{LineContent}
 use Rattle.line_lists.specs.declared.drafts.Copied.{Copied}
 use Rattle.line_lists.specs.declared.drafts.Reached.{Reached}
@@ -85,3 +85,27 @@ abbrev pub NextBegins : List LineContent → ℕ → List Stop → List Copied �
 NextBegins lines offset front back =
     (behind : List Copied) (copy : Copied) → back ≡ behind ++ copy ∷ [] →
     length (whole (lines_before (copies_of front) copy lines)).columns ≤ offset
+
+-- a kept line that holds an offset of the text, behind what is covered
+pub record IsFound (reached : Reached) (lines : List LineContent) (offset line column : ℕ) : Type 0 where
+  pub first : reached.used ≤ line
+  pub within : line < length lines
+  pub place :
+    offset + length (whole (take reached.used lines)).columns
+    ≡ reached.characters + length (whole (take line lines)).columns + column
+  pub inside : IfSome (slice_get lines line) (λ (here : LineContent). column < length here.columns)
+
+-- the lines behind that of a copy that follows others
+abbrev pub lines_behind : List Copied → Copied → List Copied → List LineContent → List LineContent
+lines_behind copies copy back lines = drafted (reverse back) (drop (used copies + covered copy) lines)
+
+-- a copy that is taken out of a draft, at its place
+pub record IsTaken (lines : List LineContent) (front : List Stop) (back : List Copied) (stop : Stop) : Type 0 where
+  pub stops : AreStops lines [] front
+  pub reached : IsReached stop.reached (copies_of front) lines
+  pub there : used (copies_of front) + covered stop.copy + used (reverse back) ≤ length lines
+
+-- the lines of the draft with it
+abbrev pub taken_lines : List LineContent → List Stop → List Copied → Copied → List LineContent
+taken_lines lines front back copy =
+    lines_before (copies_of front) copy lines ++ copy.line ∷ lines_behind (copies_of front) copy back lines

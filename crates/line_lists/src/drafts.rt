@@ -1,6 +1,7 @@
-ghost use Rattle.std.specs.Prelude.{◌≡◌, ℕ, ◌-◌, ◌<◌, List, ◌∷◌, [], ◌++◌, OnOk, vec_len, true, false};
+ghost use Rattle.std.specs.Prelude.{◌≡◌, ℕ, ◌+◌, ◌-◌, ◌<◌, ◌≤◌, List, ◌∷◌, [], ◌++◌, OnOk, length, take, vec_len, true, false};
 ghost use Rattle.segments.specs.Columns.{LineContent};
-ghost use Rattle.line_lists.specs.Drafts.{BeginsBehind, BeginsBy, CanFollow, IsDraft, IsReached, NextBegins, copies_of, drafted_at, line_start};
+ghost use Rattle.line_lists.specs.Texts.{whole};
+ghost use Rattle.line_lists.specs.Drafts.{BeginsBehind, BeginsBy, CanFollow, IsDraft, IsFound, IsReached, NextBegins, copies_of, drafted_at, line_start};
 
 use crate::lists::LineList;
 use segments::Line;
@@ -203,5 +204,17 @@ impl<'a, L: LineList> Draft<'a, L> {
             self.step_forth()?;
         }
         Ok(())
+    }
+
+    /// The line of the list that is kept at an offset of the text, behind what is covered, and the column there.
+    fn find_line(&self, reached: &Reached, offset: usize) -> (usize, usize)
+        requires used { reached.now.used ≤ length (L.lines self.now.list.now) }
+        requires behind { reached.now.characters ≤ offset }
+        requires within { offset + length (whole (take reached.now.used (L.lines self.now.list.now))).columns
+            < reached.now.characters + length (whole (L.lines self.now.list.now)).columns }
+        ensures { IsFound reached.now (L.lines self.now.list.now) offset result.0 result.1 }
+    {
+        let before = self.list.prefix(reached.used).characters();
+        self.list.locate(offset - reached.characters + before)
     }
 }
