@@ -11,7 +11,7 @@ use Rattle.line_lists.specs.Drafts.{IsDraft, IsFound, IsReached, IsTaken, copies
 use Rattle.line_lists.specs.Lists.{Holds, count_of}
 use Rattle.line_lists.specs.Texts.{whole}
 use Rattle.line_lists.proofs.CountRows.{count-characters}
-use Rattle.line_lists.proofs.DraftLaws.{copies-snoc, counted-between, drafted-append, length-whole, made-snoc, stops-front, stops-last, take-more, used-append}
+use Rattle.line_lists.proofs.DraftLaws.{copies-snoc, counted-between, drafted-append, made-snoc, start-is, stops-front, stops-last, stops-snoc, take-more, used-append}
 
 -- where lines begin
 abbrev begin : List LineContent → ℕ → ℕ
@@ -67,3 +67,111 @@ found reached lines offset place line column behind place_is holds =
       place = omega (arith, holds.behind, place_is, behind);
       inside = holds.inside;
     }
+
+-- ---- a copy at its place
+slice_get-drop : {A : Type 0} (u b : ℕ) (xs : List A) → slice_get (drop u xs) b ≡ slice_get xs (u + b)
+slice_get-drop zero b xs = ap (slice_get xs) (let same : b ≡ 0 + b = omega arith in same)
+slice_get-drop (suc u) b [] = refl
+slice_get-drop (suc u) b (x ∷ xs) = slice_get-drop u b xs ∙ sym (ap (slice_get (x ∷ xs)) (let same : suc u + b ≡ suc (u + b) = omega arith in same))
+
+drop_after : {A : Type 0} (xs : List A) (n : ℕ) (x : A) → slice_get xs n ≡ Some x → drop n xs ≡ x ∷ drop (suc n) xs
+drop_after {A = A} [] n x is = let no : ◌≡◌ {A = Option A} None (Some x) = is in absurd (cc)
+drop_after (y ∷ ys) zero x is = let same : y ≡ x = cc in ap (λ z. z ∷ ys) same
+drop_after (y ∷ ys) (suc n) x is = drop_after ys n x is
+
+drop-rest : {A : Type 0} (m n : ℕ) (xs : List A) → drop n (drop m xs) ≡ drop (m + n) xs
+drop-rest m n xs = drop-drop n m xs
+
+-- the lines with a copy behind the others that stand before the place
+pub taken-is : (lines : List LineContent) (front : List Stop) (back : List Copied) (stop : Stop) → drafted_at lines (front ++ stop ∷ []) back ≡ taken_lines lines front back stop.copy
+taken-is lines front back stop =
+    let copies = copies_of front in
+    let copy = stop.copy in
+    let before = made_lines copies lines in
+    let kept = take copy.kept (drop (used copies) lines) in
+    let behind = drafted (reverse back) (drop (used copies + covered copy) lines) in
+    ap (λ xs. drafted (xs ++ reverse back) lines) (copies-snoc front stop)
+    ∙ drafted-append (copies ++ copy ∷ []) (reverse back) lines
+    ∙ ap₂ (λ xs n. xs ++ drafted (reverse back) (drop n lines)) (made-snoc copies copy lines ∙ sym (append_assoc before kept (copy.line ∷ [])))
+    (let same : used (copies ++ copy ∷ []) ≡ used copies + covered copy = omega (arith, used-append copies (copy ∷ [])) in same)
+    ∙ append_assoc (before ++ kept) (copy.line ∷ []) behind
+
+pub put-back : (lines : List LineContent) (front : List Stop) (back : List Copied) (stop : Stop) → IsTaken lines front back stop → length (whole (taken_lines lines front back stop.copy)).columns < 2 ^ 64
+    → IsDraft lines (front ++ stop ∷ []) back
+put-back lines front back stop taken small =
+    let copies = copies_of front in
+    let order : in_order (front ++ stop ∷ []) back ≡ (copies ++ stop.copy ∷ []) ++ reverse back = ap (λ xs. xs ++ reverse back) (copies-snoc front stop) in
+    record {
+      stops = stops-snoc lines [] front stop taken.stops taken.reached;
+      there = omega (arith, taken.there, ap used order, used-append (copies ++ stop.copy ∷ []) (reverse back), used-append copies (stop.copy ∷ []));
+      counted = subst (λ xs. length (whole xs).columns < 2 ^ 64) (sym (taken-is lines front back stop)) small;
+    }
+
+pub taken-last : (lines : List LineContent) (front : List Stop) (back : List Copied) (stop : Stop) → IsDraft lines (front ++ stop ∷ []) back → IsTaken lines front back stop
+taken-last lines front back stop draft =
+    let copies = copies_of front in
+    let order : in_order (front ++ stop ∷ []) back ≡ (copies ++ stop.copy ∷ []) ++ reverse back = ap (λ xs. xs ++ reverse back) (copies-snoc front stop) in
+    record {
+      stops = stops-front lines [] front stop draft.stops;
+      reached = stops-last lines [] front stop draft.stops;
+      there = omega (arith, draft.there, ap used order, used-append (copies ++ stop.copy ∷ []) (reverse back), used-append copies (stop.copy ∷ []));
+    }
+
+-- a kept line is copied behind all copies
+pub opened-rest : (lines : List LineContent) (front : List Stop) (copy : Copied) → copy.gone ≡ 1 → slice_get lines (used (copies_of front) + copy.kept) ≡ Some copy.line
+    → taken_lines lines front [] copy ≡ drafted_at lines front []
+opened-rest lines front copy one is =
+    let copies = copies_of front in
+    let rest = drop (used copies) lines in
+    let before = made_lines copies lines in
+    let here : slice_get rest copy.kept ≡ Some copy.line = slice_get-drop (used copies) copy.kept lines ∙ is in
+    ap (λ n. (before ++ take copy.kept rest) ++ copy.line ∷ drop n lines) (let same : used copies + covered copy ≡ used copies + (copy.kept + 1) = omega (arith, one) in same)
+    ∙ ap (λ xs. (before ++ take copy.kept rest) ++ copy.line ∷ xs) (sym (drop-rest (used copies) (copy.kept + 1) lines))
+    ∙ append_assoc before (take copy.kept rest) (copy.line ∷ drop (copy.kept + 1) rest)
+    ∙ ap (λ xs. before ++ xs) (sym (split_at rest copy.kept copy.line here))
+    ∙ sym (drafted-append copies [] lines)
+
+-- a kept line is copied before the next copy
+opened_next : (rest : List LineContent) (b : ℕ) (line : LineContent) (next less : Copied) (cs : List Copied) → slice_get rest b ≡ Some line → b < next.kept
+    → less.kept ≡ next.kept - (b + 1) → less.gone ≡ next.gone → less.line ≡ next.line
+    → drafted (next ∷ cs) rest ≡ take b rest ++ line ∷ drafted (less ∷ cs) (drop (b + 1) rest)
+opened_next rest b line next less cs is small kept gone same =
+    let others = drop (b + 1) rest in
+    let one : suc b ≡ b + 1 = omega arith in
+    let first : take next.kept rest ≡ take b rest ++ line ∷ take less.kept others =
+    ap (λ n. take n rest) (let n : next.kept ≡ b + (next.kept - b) = omega (arith, small) in n)
+    ∙ take-more b (next.kept - b) rest
+    ∙ ap (λ xs. take b rest ++ xs)
+    (ap₂ take (let n : next.kept - b ≡ suc less.kept = omega (arith, small, kept) in n) (drop_after rest b line is)
+    ∙ ap (λ n. line ∷ take less.kept (drop n rest)) one) in
+    let covers : covered next ≡ (b + 1) + covered less = omega (arith, small, kept, gone) in
+    let second : drop (covered next) rest ≡ drop (covered less) others = ap (λ n. drop n rest) covers ∙ sym (drop-rest (b + 1) (covered less) rest) in
+    let third : drop (covered next + used cs) rest ≡ drop (covered less + used cs) others =
+    ap (λ n. drop n rest) (let n : covered next + used cs ≡ (b + 1) + (covered less + used cs) = omega (arith, covers) in n) ∙ sym (drop-rest (b + 1) (covered less + used cs) rest) in
+    let behind = less.line ∷ made_lines cs (drop (covered less) others) in
+    ap₂ (λ xs ys. xs ++ ys) (ap₂ (λ xs ys. xs ++ ys) first (ap₂ (λ l ys. l ∷ made_lines cs ys) (sym same) second)) third
+    ∙ ap (λ xs. xs ++ drop (covered less + used cs) others) (append_assoc (take b rest) (line ∷ take less.kept others) behind)
+    ∙ append_assoc (take b rest) ((line ∷ take less.kept others) ++ behind) (drop (covered less + used cs) others)
+
+pub opened-kept : (lines : List LineContent) (front : List Stop) (back : List Copied) (copy next less : Copied) → copy.gone ≡ 1
+    → slice_get lines (used (copies_of front) + copy.kept) ≡ Some copy.line → copy.kept < next.kept → less.kept ≡ next.kept - (copy.kept + 1) → less.gone ≡ next.gone → less.line ≡ next.line
+    → taken_lines lines front (back ++ less ∷ []) copy ≡ drafted_at lines front (back ++ next ∷ [])
+opened-kept lines front back copy next less one is small kept gone same =
+    let copies = copies_of front in
+    let rest = drop (used copies) lines in
+    let before = made_lines copies lines in
+    let here : slice_get rest copy.kept ≡ Some copy.line = slice_get-drop (used copies) copy.kept lines ∙ is in
+    ap₂ (λ xs n. (before ++ take copy.kept rest) ++ copy.line ∷ drafted xs (drop n lines)) (reverse-append back (less ∷ []))
+    (let n : used copies + covered copy ≡ used copies + (copy.kept + 1) = omega (arith, one) in n)
+    ∙ ap (λ xs. (before ++ take copy.kept rest) ++ copy.line ∷ drafted (less ∷ reverse back) xs) (sym (drop-rest (used copies) (copy.kept + 1) lines))
+    ∙ append_assoc before (take copy.kept rest) (copy.line ∷ drafted (less ∷ reverse back) (drop (copy.kept + 1) rest))
+    ∙ ap (λ xs. before ++ xs) (sym (opened_next rest copy.kept copy.line next less (reverse back) here small kept gone same))
+    ∙ sym (ap (λ xs. drafted (copies ++ xs) lines) (reverse-append back (next ∷ [])) ∙ drafted-append copies (next ∷ reverse back) lines)
+
+-- where it stands
+pub opened-place : (lines : List LineContent) (front : List Stop) (reached : Reached) (copy : Copied) (offset line column : ℕ) → IsReached reached (copies_of front) lines
+    → IsFound reached lines offset line column → copy.kept ≡ line - reached.used → offset ≡ length (whole (lines_before (copies_of front) copy lines)).columns + column
+opened-place lines front reached copy offset line column is find kept =
+    let more = begin-more lines reached.used copy.kept in
+    let same : begin lines (reached.used + copy.kept) ≡ begin lines line = ap (begin lines) (let n : reached.used + copy.kept ≡ line = omega (arith, kept, find.first) in n) in
+    omega (arith, start-is lines (copies_of front) reached copy is, more, same, find.place)
