@@ -7,11 +7,12 @@ use Rattle.segments.specs.Columns.{LineContent}
 use Rattle.line_lists.specs.declared.drafts.Copied.{Copied}
 use Rattle.line_lists.specs.declared.drafts.Reached.{Reached}
 use Rattle.line_lists.specs.declared.drafts.Stop.{Stop}
-use Rattle.line_lists.specs.Drafts.{IsDraft, IsFound, IsReached, IsTaken, copies_of, covered, drafted, drafted_at, in_order, lines_before, made_lines, taken_lines, used}
+use Rattle.line_lists.specs.Drafts.{AreStops, IsDraft, IsFound, IsReached, IsTaken, StandsAt, copies_of, covered, drafted, drafted_at, in_order, line_start, lines_before, made_lines, taken_lines, used}
 use Rattle.line_lists.specs.Lists.{Holds, count_of}
 use Rattle.line_lists.specs.Texts.{whole}
 use Rattle.line_lists.proofs.CountRows.{count-characters}
-use Rattle.line_lists.proofs.DraftLaws.{copies-snoc, counted-between, drafted-append, made-snoc, start-is, stops-front, stops-last, stops-snoc, take-more, used-append}
+use Rattle.line_lists.proofs.DraftLaws.{copies-snoc, counted-between, drafted-append, length-whole, made-snoc, start-is, stops-front, stops-last, stops-snoc, take-more, used-append}
+use Rattle.line_lists.proofs.WholeLaws.{whole-one}
 
 -- where lines begin
 abbrev begin : List LineContent → ℕ → ℕ
@@ -175,3 +176,44 @@ opened-place lines front reached copy offset line column is find kept =
     let more = begin-more lines reached.used copy.kept in
     let same : begin lines (reached.used + copy.kept) ≡ begin lines line = ap (begin lines) (let n : reached.used + copy.kept ≡ line = omega (arith, kept, find.first) in n) in
     omega (arith, start-is lines (copies_of front) reached copy is, more, same, find.place)
+
+-- where the line of the last copy ends
+pub made-ends : (lines : List LineContent) (copies : List Copied) (copy : Copied)
+    → length (whole (made_lines (copies ++ copy ∷ []) lines)).columns ≡ length (whole (lines_before copies copy lines)).columns + length copy.line.columns
+made-ends lines copies copy =
+    ap (λ xs. length (whole xs).columns) (made-snoc copies copy lines ∙ sym (append_assoc (made_lines copies lines) (take copy.kept (drop (used copies) lines)) (copy.line ∷ [])))
+    ∙ length-whole (lines_before copies copy lines) (copy.line ∷ [])
+    ∙ ap (λ (line : LineContent). length (whole (lines_before copies copy lines)).columns + length line.columns) (whole-one copy.line)
+
+pub last-stands : (lines : List LineContent) (before : List Stop) (stop : Stop) (offset start : ℕ) → AreStops lines [] (before ++ stop ∷ []) → start ≡ line_start stop.reached stop.copy lines → start ≤ offset
+    → offset < length (whole (made_lines (copies_of (before ++ stop ∷ [])) lines)).columns → StandsAt lines before stop.copy offset (offset - start)
+last-stands lines before stop offset start stops start_is small within =
+    let is = start-is lines (copies_of before) stop.reached stop.copy (stops-last lines [] before stop stops) in
+    record {
+      place = omega (arith, start_is, is, small);
+      inside = omega (arith, start_is, is, small, within, ap (λ copies. length (whole (made_lines copies lines)).columns) (copies-snoc before stop), made-ends lines (copies_of before) stop.copy);
+    }
+
+-- an offset behind all copies lies in the rest of the list
+pub rest-within : (lines : List LineContent) (front : List Stop) (reached : Reached) (offset : ℕ) → IsReached reached (copies_of front) lines → offset < length (whole (drafted_at lines front [])).columns
+    → offset + begin lines reached.used < reached.characters + length (whole lines).columns
+rest-within lines front reached offset is within =
+    let copies = copies_of front in
+    let rest = drop (used copies) lines in
+    let all = ap (λ xs. length (whole xs).columns) (drafted-append copies [] lines) ∙ length-whole (made_lines copies lines) rest in
+    let whole_is = ap (λ xs. length (whole xs).columns) (sym (take-append-drop (used copies) lines)) ∙ length-whole (take (used copies) lines) rest in
+    omega (arith, within, all, whole_is, is.characters, ap (begin lines) is.used)
+
+-- an offset before the next copy lies before it in the list
+pub kept-within : (lines : List LineContent) (front : List Stop) (reached : Reached) (next : Copied) (offset : ℕ) → IsReached reached (copies_of front) lines
+    → offset < length (whole (lines_before (copies_of front) next lines)).columns → offset + begin lines reached.used < reached.characters + begin lines (reached.used + next.kept)
+kept-within lines front reached next offset is within =
+    omega (arith, within, start-is lines (copies_of front) reached next is, begin-more lines reached.used next.kept)
+
+-- the line that is copied
+pub found-line : (lines : List LineContent) (front : List Stop) (reached : Reached) (line : ℕ) (here : LineContent) → IsReached reached (copies_of front) lines → reached.used ≤ line
+    → slice_get lines line ≡ Some here → slice_get lines (used (copies_of front) + (line - reached.used)) ≡ Some here
+found-line lines front reached line here is first get = ap (slice_get lines) (let n : used (copies_of front) + (line - reached.used) ≡ line = omega (arith, first, is.used) in n) ∙ get
+
+pub inside-line : (column : ℕ) (found : Option LineContent) (here : LineContent) → found ≡ Some here → IfSome found (λ (x : LineContent). column < length x.columns) → column < length here.columns
+inside-line column found here is inside = subst (λ x. IfSome x (λ (y : LineContent). column < length y.columns)) is inside

@@ -91,8 +91,8 @@ pub record IsFound (reached : Reached) (lines : List LineContent) (offset line c
   pub first : reached.used ≤ line
   pub within : line < length lines
   pub place :
-    offset + length (whole (take reached.used lines)).columns
-    ≡ reached.characters + length (whole (take line lines)).columns + column
+      offset + length (whole (take reached.used lines)).columns
+      ≡ reached.characters + length (whole (take line lines)).columns + column
   pub inside : IfSome (slice_get lines line) (λ (here : LineContent). column < length here.columns)
 
 -- the lines behind that of a copy that follows others
@@ -109,3 +109,8 @@ pub record IsTaken (lines : List LineContent) (front : List Stop) (back : List C
 abbrev pub taken_lines : List LineContent → List Stop → List Copied → Copied → List LineContent
 taken_lines lines front back copy =
     lines_before (copies_of front) copy lines ++ copy.line ∷ lines_behind (copies_of front) copy back lines
+
+-- the line of such a copy holds an offset, at a column
+pub record StandsAt (lines : List LineContent) (front : List Stop) (copy : Copied) (offset column : ℕ) : Type 0 where
+  pub place : offset ≡ length (whole (lines_before (copies_of front) copy lines)).columns + column
+  pub inside : column < length copy.line.columns

@@ -1,7 +1,7 @@
-ghost use Rattle.std.specs.Prelude.{◌≡◌, ℕ, ◌+◌, ◌-◌, ◌<◌, ◌≤◌, List, ◌∷◌, [], ◌++◌, OnOk, length, take, vec_len, true, false};
+ghost use Rattle.std.specs.Prelude.{◌≡◌, ℕ, ◌+◌, ◌-◌, ◌<◌, ◌≤◌, ◌^◌, List, ◌∷◌, [], ◌++◌, IfOk, OnOk, length, take, vec_len, vec_capacity, true, false};
 ghost use Rattle.segments.specs.Columns.{LineContent};
 ghost use Rattle.line_lists.specs.Texts.{whole};
-ghost use Rattle.line_lists.specs.Drafts.{BeginsBehind, BeginsBy, CanFollow, IsDraft, IsFound, IsReached, NextBegins, copies_of, drafted_at, line_start};
+ghost use Rattle.line_lists.specs.Drafts.{BeginsBehind, BeginsBy, CanFollow, IsDraft, IsFound, IsReached, IsTaken, NextBegins, StandsAt, copies_of, drafted_at, line_start, made_lines, taken_lines};
 
 use crate::lists::LineList;
 use segments::Line;
@@ -217,4 +217,73 @@ impl<'a, L: LineList> Draft<'a, L> {
         let before = self.list.prefix(reached.used).characters();
         self.list.locate(offset - reached.characters + before)
     }
+
+    /// Takes the last copy before the place out, whose line holds an offset.
+    fn take_last(&mut self, offset: usize) -> Found
+        requires is { IsDraft (L.lines self.old.list.now) self.old.front.items self.old.back.items }
+        requires begun { BeginsBy (L.lines self.old.list.now) offset self.old.front.items }
+        requires within { offset
+            < length (whole (made_lines (copies_of self.old.front.items) (L.lines self.old.list.now))).columns }
+        ensures list { self.new.list.now ≡ self.old.list.now }
+        ensures taken { IsTaken (L.lines self.new.list.now) self.new.front.items self.new.back.items result.stop }
+        ensures same { taken_lines (L.lines self.new.list.now) self.new.front.items self.new.back.items result.stop.copy
+            ≡ drafted_at (L.lines self.old.list.now) self.old.front.items self.old.back.items }
+        ensures place { StandsAt (L.lines self.new.list.now) self.new.front.items result.stop.copy offset result.column }
+        ensures room { vec_len self.new.front < vec_capacity self.new.front }
+    {
+        let stop = self.front.pop().unwrap();
+        let column = offset - stop.reached.start(self.list, &stop.copy);
+        Found { stop, column }
+    }
+
+    /// Copies the line of the list that holds an offset behind all copies.
+    fn copy_rest(&mut self, reached: Reached, offset: usize) -> Result<Found, AllocError>
+        requires is { IsDraft (L.lines self.old.list.now) self.old.front.items [] }
+        requires back { self.old.back.items ≡ [] }
+        requires reached { IsReached reached (copies_of self.old.front.items) (L.lines self.old.list.now) }
+        requires behind { reached.characters ≤ offset }
+        requires within { offset
+            < length (whole (drafted_at (L.lines self.old.list.now) self.old.front.items [])).columns }
+        ensures list { self.new.list.now ≡ self.old.list.now }
+        ensures front { self.new.front ≡ self.old.front }
+        ensures taken { IfOk result (λ found.
+            IsTaken (L.lines self.new.list.now) self.new.front.items self.new.back.items found.stop) }
+        ensures same { IfOk result (λ found.
+            taken_lines (L.lines self.new.list.now) self.new.front.items self.new.back.items found.stop.copy
+            ≡ drafted_at (L.lines self.old.list.now) self.old.front.items []) }
+        ensures place { IfOk result (λ found.
+            StandsAt (L.lines self.new.list.now) self.new.front.items found.stop.copy offset found.column) }
+    {
+        let (index, column) = self.find_line(&reached, offset);
+        let copy = Copied {
+            kept: index - reached.used,
+            gone: 1,
+            line: self.list.line(index).try_clone()?,
+        };
+        Ok(Found {
+            stop: Stop { reached, copy },
+            column,
+        })
+    }
+
+    /// Puts a copy that was taken out back to its place, with its line as it is now.
+    fn put(&mut self, stop: Stop)
+        requires room { vec_len self.old.front < vec_capacity self.old.front }
+        requires taken { IsTaken (L.lines self.old.list.now) self.old.front.items self.old.back.items stop }
+        requires counted { length (whole
+            (taken_lines (L.lines self.old.list.now) self.old.front.items self.old.back.items stop.copy)).columns < 2 ^ 64 }
+        ensures list { self.new.list.now ≡ self.old.list.now }
+        ensures is { IsDraft (L.lines self.new.list.now) self.new.front.items self.new.back.items }
+        ensures lines { drafted_at (L.lines self.new.list.now) self.new.front.items self.new.back.items
+            ≡ taken_lines (L.lines self.old.list.now) self.old.front.items self.old.back.items stop.copy }
+    {
+        self.front.push_reserved(stop);
+    }
+}
+
+/// A copy that is taken out of a draft, and the column of its line that was looked for.
+#[derive(Drop)]
+pub struct Found {
+    pub stop: Stop,
+    pub column: usize,
 }
