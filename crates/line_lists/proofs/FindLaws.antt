@@ -217,3 +217,37 @@ found-line lines front reached line here is first get = ap (slice_get lines) (le
 
 pub inside-line : (column : ℕ) (found : Option LineContent) (here : LineContent) → found ≡ Some here → IfSome found (λ (x : LineContent). column < length x.columns) → column < length here.columns
 inside-line column found here is inside = subst (λ x. IfSome x (λ (y : LineContent). column < length y.columns)) is inside
+
+pub begin-le : (lines : List LineContent) (n : ℕ) → begin lines n ≤ length (whole lines).columns
+begin-le lines n = let all = ap (λ xs. length (whole xs).columns) (sym (take-append-drop n lines)) ∙ length-whole (take n lines) (drop n lines) in omega (arith, all)
+
+-- the line that is found stands before the next copy
+pub found-before : (reached : Reached) (lines : List LineContent) (next : Copied) (offset line column : ℕ) → IsFound reached lines offset line column
+    → offset + begin lines reached.used < reached.characters + begin lines (reached.used + next.kept) → line - reached.used < next.kept
+found-before reached lines next offset line column find within =
+    elim (cases_lt (line - reached.used) next.kept) [
+      | inl before ↦ before
+      | inr behind ↦ absurd (let rises = begin-rises lines (reached.used + next.kept) line (omega (arith, behind, find.first)) in omega (arith, rises, find.place, within))
+    ]
+
+-- what copies cover is there
+pub reached-there : (lines : List LineContent) (front : List Stop) (back : List Copied) (reached : Reached) → IsDraft lines front back → IsReached reached (copies_of front) lines → reached.used ≤ length lines
+reached-there lines front back reached draft is = omega (arith, is.used, draft.there, used-append (copies_of front) (reverse back))
+
+pub taken-kept : (lines : List LineContent) (front : List Stop) (back : List Copied) (reached : Reached) (copy next less : Copied) → IsDraft lines front (back ++ next ∷ []) → IsReached reached (copies_of front) lines
+    → copy.gone ≡ 1 → copy.kept < next.kept → less.kept ≡ next.kept - (copy.kept + 1) → less.gone ≡ next.gone → IsTaken lines front (back ++ less ∷ []) (record { reached = reached; copy = copy })
+taken-kept lines front back reached copy next less draft is one small kept gone = record {
+  stops = draft.stops;
+  reached = is;
+  there = omega (
+    arith,
+    draft.there,
+    one,
+    small,
+    kept,
+    gone,
+    used-append (copies_of front) (reverse (back ++ next ∷ [])),
+    ap used (reverse-append back (next ∷ [])),
+    ap used (reverse-append back (less ∷ [])),
+  );
+}

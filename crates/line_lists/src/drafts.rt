@@ -1,7 +1,7 @@
 ghost use Rattle.std.specs.Prelude.{◌≡◌, ℕ, ◌+◌, ◌-◌, ◌<◌, ◌≤◌, ◌^◌, List, ◌∷◌, [], ◌++◌, IfOk, OnOk, length, take, vec_len, vec_capacity, true, false};
 ghost use Rattle.segments.specs.Columns.{LineContent};
 ghost use Rattle.line_lists.specs.Texts.{whole};
-ghost use Rattle.line_lists.specs.Drafts.{BeginsBehind, BeginsBy, CanFollow, IsDraft, IsFound, IsReached, IsTaken, NextBegins, StandsAt, copies_of, drafted_at, line_start, made_lines, taken_lines};
+ghost use Rattle.line_lists.specs.Drafts.{BeginsBehind, BeginsBy, CanFollow, IsDraft, IsFound, IsReached, IsTaken, NextBegins, StandsAt, copies_of, drafted_at, line_start, lines_before, made_lines, taken_lines};
 
 use crate::lists::LineList;
 use segments::Line;
@@ -264,6 +264,71 @@ impl<'a, L: LineList> Draft<'a, L> {
             stop: Stop { reached, copy },
             column,
         })
+    }
+
+    /// Copies the line of the list that holds an offset before the next copy, which was taken out.
+    fn copy_kept(
+        &mut self,
+        reached: Reached,
+        mut next: Copied,
+        offset: usize,
+    ) -> Result<Found, AllocError>
+        requires is { IsDraft (L.lines self.old.list.now) self.old.front.items (self.old.back.items ++ next ∷ []) }
+        requires reached { IsReached reached (copies_of self.old.front.items) (L.lines self.old.list.now) }
+        requires behind { reached.characters ≤ offset }
+        requires ahead { offset < length (whole
+            (lines_before (copies_of self.old.front.items) next (L.lines self.old.list.now))).columns }
+        requires room { vec_len self.old.back < vec_capacity self.old.back }
+        ensures list { self.new.list.now ≡ self.old.list.now }
+        ensures front { self.new.front ≡ self.old.front }
+        ensures taken { IfOk result (λ found.
+            IsTaken (L.lines self.new.list.now) self.new.front.items self.new.back.items found.stop) }
+        ensures same { IfOk result (λ found.
+            taken_lines (L.lines self.new.list.now) self.new.front.items self.new.back.items found.stop.copy
+            ≡ drafted_at (L.lines self.old.list.now) self.old.front.items (self.old.back.items ++ next ∷ [])) }
+        ensures place { IfOk result (λ found.
+            StandsAt (L.lines self.new.list.now) self.new.front.items found.stop.copy offset found.column) }
+    {
+        let (index, column) = self.find_line(&reached, offset);
+        let copy = Copied {
+            kept: index - reached.used,
+            gone: 1,
+            line: self.list.line(index).try_clone()?,
+        };
+        next.kept -= copy.kept + 1;
+        self.back.push_reserved(next);
+        Ok(Found {
+            stop: Stop { reached, copy },
+            column,
+        })
+    }
+
+    /// Takes the copy of the line that holds an offset out, with the column there; where there is none it is made.
+    fn take(&mut self, offset: usize) -> Result<Found, AllocError>
+        requires is { IsDraft (L.lines self.old.list.now) self.old.front.items self.old.back.items }
+        requires within { offset
+            < length (whole (drafted_at (L.lines self.old.list.now) self.old.front.items self.old.back.items)).columns }
+        ensures list { self.new.list.now ≡ self.old.list.now }
+        ensures room { OnOk result (vec_len self.new.front < vec_capacity self.new.front) }
+        ensures taken { IfOk result (λ found.
+            IsTaken (L.lines self.new.list.now) self.new.front.items self.new.back.items found.stop) }
+        ensures same { IfOk result (λ found.
+            taken_lines (L.lines self.new.list.now) self.new.front.items self.new.back.items found.stop.copy
+            ≡ drafted_at (L.lines self.old.list.now) self.old.front.items self.old.back.items) }
+        ensures place { IfOk result (λ found.
+            StandsAt (L.lines self.new.list.now) self.new.front.items found.stop.copy offset found.column) }
+    {
+        self.back_to(offset)?;
+        self.forth_to(offset)?;
+        self.front.reserve(1)?;
+        let reached = self.reached();
+        if offset < reached.characters {
+            return Ok(self.take_last(offset));
+        }
+        match self.back.pop() {
+            None => self.copy_rest(reached, offset),
+            Some(next) => self.copy_kept(reached, next, offset),
+        }
     }
 
     /// Puts a copy that was taken out back to its place, with its line as it is now.
