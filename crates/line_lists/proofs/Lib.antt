@@ -3,6 +3,7 @@ pub mod DraftLaws
 pub mod FindLaws
 pub mod MadeLaws
 pub mod MarkRows
+pub mod RowLaws
 pub mod SlotLaws
 pub mod StepLaws
 pub mod TagLaws
