@@ -1,14 +1,22 @@
 -- Lines of a text, of which one changes.
-use Rattle.std.proofs.Common.{◌≡◌, ℕ, ◌+◌, ◌<◌, ◌≤◌, List, [], ◌∷◌, ◌++◌, Option, None, Some, length, refl, sym, ap, ap₂, ◌∙◌, arith}
+use Rattle.std.proofs.Common.{◌≡◌, ℕ, ◌+◌, ◌<◌, ◌≤◌, List, [], ◌∷◌, ◌++◌, Option, None, Some, length, get_or, map, take, drop, refl, sym, ap, ap₂, ◌∙◌, arith, append_assoc, take-append-drop}
 use Rattle.std.specs.FinMap as finite
 use Rattle.std.specs.Prelude.{option_map}
 use Rattle.text_model.specs.declared.places.Place.{Place}
-use Rattle.text_model.specs.Content.{Marks}
-use Rattle.segments.specs.Columns.{LineContent, joined, later}
+use Rattle.std.specs.FinSet as set
+use Rattle.std.proofs.lemmas.List.{drop_more, get_or_default, length-map, map-append}
+use Rattle.text_model.specs.Content.{Marks, Slots}
+use Rattle.text_model.specs.Documents.{ends_in_newline}
+use Rattle.text_model.specs.Lines.{lines}
+use Rattle.text_model.specs.Splices.{changed}
+use Rattle.segments.specs.Columns.{Column, LineContent, characters, joined, later, toggled_first, toggled_more}
+use Rattle.line_lists.specs.Edits.{with_toggled}
 use Rattle.line_lists.specs.Lists.{AreApart, AreRows, GoesBefore, IsLine, StandBefore, StandWithin}
 use Rattle.line_lists.specs.Texts.{whole}
+use Rattle.line_lists.specs.Toggling.{toggled_before}
 use Rattle.line_lists.proofs.MarkRows.{get-joined_marks, or_else}
-use Rattle.line_lists.proofs.WholeLaws.{between, whole-append}
+use Rattle.line_lists.proofs.StepLaws.{slice-one}
+use Rattle.line_lists.proofs.WholeLaws.{between, whole-append, with_toggled-between}
 
 pub whole-around : (before behind : List LineContent) (line : LineContent) → whole (before ++ line ∷ behind) ≡ between (whole before) line (whole behind)
 whole-around before behind line = whole-append before (line ∷ behind)
@@ -49,3 +57,61 @@ rows-before (x ∷ y ∷ before) rest new some more rows next among =
     (rows.0, (rows.1.0, apart), rows-before (y ∷ before) rest new some more rows.2 next among)
 rows-before (x ∷ []) [] new some more rows next among = absurd (omega (arith, some))
 rows-before (x ∷ []) (r ∷ rest) [] some more rows next among = absurd (omega (arith, more))
+
+pub rows-behind : (before rest : List LineContent) → AreRows (before ++ rest) → AreRows rest
+rows-behind [] rest rows = rows
+rows-behind (x ∷ before) rest rows = rows-behind before rest rows.2
+
+among-first : (line new : LineContent) (behind : List LineContent) → AreAmong new.marks line.marks → AreAmong (whole (new ∷ behind)).marks (whole (line ∷ behind)).marks
+among-first line new behind among number free =
+    let parts = free-parts line (whole behind) number free in free-joined new (whole behind) number (among number parts.1) parts.0
+
+goes-before : (line new : LineContent) (behind : List LineContent) → length new.columns ≡ length line.columns → new.marks ≡ line.marks → GoesBefore line behind → GoesBefore new behind
+goes-before line new [] long same goes = λ number place is. let stands = goes number place (ap (λ marks. finite.get marks number) (sym same) ∙ is) in omega (arith, stands, long)
+goes-before line new (next ∷ others) long same goes =
+    ((λ number place is. let stands = goes.0 number place (ap (λ marks. finite.get marks number) (sym same) ∙ is) in omega (arith, stands, long)),
+    (λ number place is. goes.1 number place (ap (λ marks. finite.get marks number) (sym same) ∙ is)))
+
+-- a line whose characters and marks stay
+pub rows-changed : (before behind : List LineContent) (line new : LineContent) → characters new.columns ≡ characters line.columns → new.marks ≡ line.marks → AreRows (before ++ line ∷ behind)
+    → AreRows (before ++ new ∷ behind)
+rows-changed before behind line new text same rows =
+    let rest = rows-behind before (line ∷ behind) rows in
+    let long : length new.columns ≡ length line.columns = sym (length-map new.columns (λ (column : Column). column.character)) ∙ ap length text ∙ length-map line.columns (λ (column : Column). column.character) in
+    let is : IsLine new = record {
+      ends = ap ends_in_newline text ∙ rest.0.ends;
+      once = ap lines text ∙ rest.0.once;
+    } in
+    rows-before before (line ∷ behind) (new ∷ behind) (omega arith) (omega arith) rows (is, goes-before line new behind long same rest.1, rest.2)
+    (among-first line new behind (λ number free. ap (λ marks. finite.get marks number) same ∙ free))
+
+-- ---- toggles
+characters-first : (slots : Slots) (xs : List Column) → characters (toggled_first slots xs) ≡ characters xs
+characters-first slots [] = refl
+characters-first slots (x ∷ xs) = refl
+
+pub characters-toggled : (at : ℕ) (slots : Slots) (xs : List Column) → characters (toggled_before at slots xs) ≡ characters xs
+characters-toggled at slots xs =
+    map-append (λ (column : Column). column.character) (take at xs) (toggled_first slots (drop at xs))
+    ∙ ap (λ rest. characters (take at xs) ++ rest) (characters-first slots (drop at xs))
+    ∙ sym (map-append (λ (column : Column). column.character) (take at xs) (drop at xs)) ∙ ap characters (take-append-drop at xs)
+
+-- a line that is changed before one of its characters
+pub toggled-line : (at : ℕ) (slots : Slots) (xs : List Column) → at < length xs → changed (toggled_more slots) at (at + 1) xs ≡ toggled_before at slots xs
+toggled-line at slots xs within =
+    let none : Column = record { character = 0; toggled = set.empty } in
+    let x : Column = get_or xs at none in
+    let is : x ≡ get_or xs at x = get_or_default xs at none x within in
+    let rest : drop at xs ≡ x ∷ drop (at + 1) xs = drop_more xs at x within ∙ ap (λ y. y ∷ drop (at + 1) xs) (sym is) in
+    ap (λ part. take at xs ++ map (toggled_more slots) part ++ drop (at + 1) xs) (slice-one at xs x within is)
+    ∙ append_assoc (take at xs) (toggled_more slots x ∷ []) (drop (at + 1) xs)
+    ∙ ap (λ part. take at xs ++ toggled_first slots part) (sym rest)
+
+pub toggled-rows : (at : ℕ) (slots : Slots) (before behind : List LineContent) (line : LineContent) → AreRows (before ++ line ∷ behind) → AreRows (before ++ with_toggled at slots line ∷ behind)
+toggled-rows at slots before behind line rows = rows-changed before behind line (with_toggled at slots line) (characters-toggled at slots line.columns) refl rows
+
+pub toggled-whole : (at : ℕ) (slots : Slots) (before behind : List LineContent) (line : LineContent) → at < length line.columns
+    → whole (before ++ with_toggled at slots line ∷ behind) ≡ with_toggled (length (whole before).columns + at) slots (whole (before ++ line ∷ behind))
+toggled-whole at slots before behind line within =
+    whole-around before behind (with_toggled at slots line)
+    ∙ sym (ap (with_toggled (length (whole before).columns + at) slots) (whole-around before behind line) ∙ with_toggled-between at slots (whole before) line (whole behind) within)

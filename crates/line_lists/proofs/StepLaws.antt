@@ -125,7 +125,7 @@ cells-tagged from to slot on xs ordered within =
     ∙ ap (λ part. take from (cells xs) ++ map (with_slot slot on) (slice_range (cells xs) from to) ++ part) (sym (cells-drop to xs))
 
 -- one column alone
-slice-one : (at : ℕ) (xs : List Column) (x : Column) → at < length xs → x ≡ get_or xs at x → slice_range xs at (at + 1) ≡ x ∷ []
+pub slice-one : (at : ℕ) (xs : List Column) (x : Column) → at < length xs → x ≡ get_or xs at x → slice_range xs at (at + 1) ≡ x ∷ []
 slice-one at xs x within is =
     ap (λ n. take n (drop at xs)) (let same : (at + 1) - at ≡ 1 = omega arith in same) ∙ ap (take 1) (drop_more xs at x within) ∙ ap (λ y. y ∷ []) (sym is)
 
