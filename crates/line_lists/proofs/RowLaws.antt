@@ -1,5 +1,5 @@
 -- Lines of a text, of which one changes.
-use Rattle.std.proofs.Common.{◌≡◌, ℕ, ◌+◌, ◌<◌, ◌≤◌, List, [], ◌∷◌, ◌++◌, Option, None, Some, length, get_or, map, take, drop, refl, sym, ap, ap₂, ◌∙◌, arith, append_assoc, take-append-drop}
+use Rattle.std.proofs.Common.{◌≡◌, ℕ, ◌+◌, ◌<◌, ◌≤◌, List, [], ◌∷◌, ◌++◌, Option, None, Some, length, get_or, map, take, drop, refl, sym, ap, ap₂, subst, ◌∙◌, arith, append_assoc, take-append-drop}
 use Rattle.std.specs.FinMap as finite
 use Rattle.std.specs.Prelude.{option_map}
 use Rattle.text_model.specs.declared.places.Place.{Place}
@@ -16,7 +16,7 @@ use Rattle.line_lists.specs.Texts.{whole}
 use Rattle.line_lists.specs.Toggling.{toggled_before}
 use Rattle.line_lists.proofs.MarkRows.{get-joined_marks, or_else}
 use Rattle.line_lists.proofs.StepLaws.{slice-one}
-use Rattle.line_lists.proofs.WholeLaws.{between, whole-append, with_toggled-between}
+use Rattle.line_lists.proofs.WholeLaws.{between, length-toggled, whole-append, with_toggled-between}
 
 pub whole-around : (before behind : List LineContent) (line : LineContent) → whole (before ++ line ∷ behind) ≡ between (whole before) line (whole behind)
 whole-around before behind line = whole-append before (line ∷ behind)
@@ -68,9 +68,10 @@ among-first line new behind among number free =
 
 goes-before : (line new : LineContent) (behind : List LineContent) → length new.columns ≡ length line.columns → new.marks ≡ line.marks → GoesBefore line behind → GoesBefore new behind
 goes-before line new [] long same goes = λ number place is. let stands = goes number place (ap (λ marks. finite.get marks number) (sym same) ∙ is) in omega (arith, stands, long)
-goes-before line new (next ∷ others) long same goes =
-    ((λ number place is. let stands = goes.0 number place (ap (λ marks. finite.get marks number) (sym same) ∙ is) in omega (arith, stands, long)),
-    (λ number place is. goes.1 number place (ap (λ marks. finite.get marks number) (sym same) ∙ is)))
+goes-before line new (next ∷ others) long same goes = (
+  (λ number place is. let stands = goes.0 number place (ap (λ marks. finite.get marks number) (sym same) ∙ is) in omega (arith, stands, long)),
+  (λ number place is. goes.1 number place (ap (λ marks. finite.get marks number) (sym same) ∙ is)),
+)
 
 -- a line whose characters and marks stay
 pub rows-changed : (before behind : List LineContent) (line new : LineContent) → characters new.columns ≡ characters line.columns → new.marks ≡ line.marks → AreRows (before ++ line ∷ behind)
@@ -115,3 +116,17 @@ pub toggled-whole : (at : ℕ) (slots : Slots) (before behind : List LineContent
 toggled-whole at slots before behind line within =
     whole-around before behind (with_toggled at slots line)
     ∙ sym (ap (with_toggled (length (whole before).columns + at) slots) (whole-around before behind line) ∙ with_toggled-between at slots (whole before) line (whole behind) within)
+
+-- what a change of one line makes of all
+pub record Makes (f : LineContent → LineContent) (old new : List LineContent) : Type 0 where
+  pub rows : AreRows old → AreRows new
+  pub whole : whole new ≡ f (whole old)
+
+pub toggled-makes : (before behind old : List LineContent) (line new : LineContent) (offset column : ℕ) (slots : Slots) → before ++ line ∷ behind ≡ old → offset ≡ length (whole before).columns + column
+    → column < length line.columns → new ≡ with_toggled column slots line → Makes (with_toggled offset slots) old (before ++ new ∷ behind)
+toggled-makes before behind old line new offset column slots old_is place inside new_is = record {
+  rows = λ rows. subst (λ x. AreRows (before ++ x ∷ behind)) (sym new_is) (toggled-rows column slots before behind line (subst AreRows (sym old_is) rows));
+  whole =
+    ap (λ x. whole (before ++ x ∷ behind)) new_is ∙ toggled-whole column slots before behind line inside
+    ∙ ap₂ (λ n xs. with_toggled n slots (whole xs)) (sym place) old_is;
+}

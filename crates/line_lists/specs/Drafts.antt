@@ -4,6 +4,7 @@ use Rattle.segments.specs.Columns.{LineContent}
 use Rattle.line_lists.specs.declared.drafts.Copied.{Copied}
 use Rattle.line_lists.specs.declared.drafts.Reached.{Reached}
 use Rattle.line_lists.specs.declared.drafts.Stop.{Stop}
+use Rattle.line_lists.specs.Lists.{AreRows}
 use Rattle.line_lists.specs.Texts.{whole}
 use Rattle.line_lists.specs.Toggling.{tags_behind}
 
@@ -114,3 +115,12 @@ taken_lines lines front back copy =
 pub record StandsAt (lines : List LineContent) (front : List Stop) (copy : Copied) (offset column : ℕ) : Type 0 where
   pub place : offset ≡ length (whole (lines_before (copies_of front) copy lines)).columns + column
   pub inside : column < length copy.line.columns
+
+-- a draft of a text: its lines are those of one
+pub record IsText (lines : List LineContent) (front : List Stop) (back : List Copied) : Type 0 where
+  pub draft : IsDraft lines front back
+  pub rows : AreRows (drafted_at lines front back)
+
+-- its lines in a row
+abbrev pub text_at : List LineContent → List Stop → List Copied → LineContent
+text_at lines front back = whole (drafted_at lines front back)

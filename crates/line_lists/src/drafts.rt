@@ -1,7 +1,8 @@
 ghost use Rattle.std.specs.Prelude.{◌≡◌, ℕ, ◌+◌, ◌-◌, ◌<◌, ◌≤◌, ◌^◌, List, ◌∷◌, [], ◌++◌, IfOk, OnOk, length, take, vec_len, vec_capacity, true, false};
 ghost use Rattle.segments.specs.Columns.{LineContent};
 ghost use Rattle.line_lists.specs.Texts.{whole};
-ghost use Rattle.line_lists.specs.Drafts.{BeginsBehind, BeginsBy, CanFollow, IsDraft, IsFound, IsReached, IsTaken, NextBegins, StandsAt, copies_of, drafted_at, line_start, lines_before, made_lines, taken_lines};
+ghost use Rattle.line_lists.specs.Drafts.{BeginsBehind, BeginsBy, CanFollow, IsDraft, IsFound, IsReached, IsTaken, IsText, NextBegins, StandsAt, copies_of, drafted_at, line_start, lines_before, made_lines, taken_lines, text_at};
+ghost use Rattle.line_lists.specs.Edits.{with_toggled};
 
 use crate::lists::LineList;
 use segments::Line;
@@ -343,6 +344,22 @@ impl<'a, L: LineList> Draft<'a, L> {
             ≡ taken_lines (L.lines self.old.list.now) self.old.front.items self.old.back.items stop.copy }
     {
         self.front.push_reserved(stop);
+    }
+
+    /// Toggles each slot of a set before the character at an offset.
+    pub fn toggle(&mut self, offset: usize, slots: &TagSet) -> Result<(), AllocError>
+        requires is { IsText (L.lines self.old.list.now) self.old.front.items self.old.back.items }
+        requires within { offset
+            < length (text_at (L.lines self.old.list.now) self.old.front.items self.old.back.items).columns }
+        ensures list { self.new.list.now ≡ self.old.list.now }
+        ensures is { OnOk result (IsText (L.lines self.new.list.now) self.new.front.items self.new.back.items) }
+        ensures new { OnOk result (text_at (L.lines self.new.list.now) self.new.front.items self.new.back.items
+            ≡ with_toggled offset slots.now (text_at (L.lines self.old.list.now) self.old.front.items self.old.back.items)) }
+    {
+        let Found { mut stop, column } = self.take(offset)?;
+        stop.copy.line.toggle(column, slots)?;
+        self.put(stop);
+        Ok(())
     }
 }
 
