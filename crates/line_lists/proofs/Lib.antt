@@ -1,4 +1,5 @@
 pub mod CountRows
+pub mod ListLaws
 pub mod MadeLaws
 pub mod MarkRows
 pub mod SlotLaws

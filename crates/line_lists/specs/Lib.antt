@@ -1,4 +1,5 @@
 pub mod Edits
 pub mod Lists
+pub mod RowLaws
 pub mod Texts
 pub mod Toggling

@@ -5,4 +5,5 @@ pub mod laws;
 mod line_vec;
 mod lists;
 
+pub use line_vec::LineVec;
 pub use lists::LineList;

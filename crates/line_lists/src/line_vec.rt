@@ -1,8 +1,11 @@
-ghost use Rattle.std.specs.Prelude.{◌≡◌, ℕ, ◌-◌, ◌<◌, length, not, vec_len, vec_capacity};
+ghost use Rattle.std.specs.Prelude.{◌≡◌, ◌+◌, ◌-◌, ◌<◌, ◌≤◌, ◌^◌, length, map, not, vec_len, vec_capacity};
 ghost use Rattle.std.specs.List.{position, suffix_len};
+ghost use Rattle.text_model.specs.Splices.{inserted, removed};
 ghost use Rattle.text_model.specs.TagBits.{slot_count};
 ghost use Rattle.segments.specs.Columns.{LineContent};
+ghost use Rattle.line_lists.specs.Edits.{without_mark};
 ghost use Rattle.line_lists.specs.Lists.{AreLines, Holds, IsCounted, count_of, has_mark, has_marks, has_toggle};
+ghost use Rattle.line_lists.specs.RowLaws.{AreLines-prop};
 ghost use Rattle.line_lists.specs.Texts.{whole};
 
 use crate::lists::LineList;
@@ -15,7 +18,7 @@ use toggle_sums::{Summary, Sums};
 #[derive(Drop)]
 pub struct LineVec {
     lines: Vec<Line>,
-    ghost are_lines: { AreLines lines.items },
+    ghost are_lines: { AreLines lines.items } by { AreLines-prop lines.items },
 }
 
 /// The line that holds an offset of some lines in a row, and the column there.
@@ -104,4 +107,121 @@ fn first_with_mark(lines: &[Line], number: MarkNo) -> Option<usize>
         }
     }
     None
+}
+
+/// Takes the mark of a number off lines.
+fn take_marks(lines: &mut [Line], number: MarkNo)
+    ensures { lines.new ≡ map (without_mark number.0) lines.old }
+{
+    for line in lines.iter_mut() {
+        line.take_mark(number);
+    }
+}
+
+/// Puts lines in before the one at an index, where there is room for them.
+fn put_lines(lines: &mut Vec<Line>, at: usize, new: Vec<Line>)
+    requires within { at ≤ vec_len lines.old }
+    requires room { vec_len lines.old + vec_len new ≤ vec_capacity lines.old }
+    ensures items { lines.new.items ≡ inserted at new.items lines.old.items }
+    ensures capacity { vec_capacity lines.old ≤ vec_capacity lines.new }
+{
+    let mut new = new;
+    let end = lines.len();
+    lines.append(&mut new).unwrap();
+    lines[at..].rotate_left(end - at);
+}
+
+/// Takes out the lines from one index to another.
+fn drop_lines(lines: &mut Vec<Line>, from: usize, to: usize)
+    requires ordered { from ≤ to }
+    requires within { to ≤ vec_len lines.old }
+    ensures items { lines.new.items ≡ removed from to lines.old.items }
+    ensures capacity { vec_capacity lines.new ≡ vec_capacity lines.old }
+{
+    let end = lines.len();
+    lines[from..].rotate_left(to - from);
+    lines.truncate(end - (to - from));
+}
+
+impl LineList for LineVec {
+    ghost lines = { λ list. list.lines.items };
+
+    ghost line_room = { λ list. vec_capacity list.lines - vec_len list.lines };
+
+    ghost mark_room = { λ list. 2 ^ 64 };
+
+    ghost are_lines = { λ list. list.are_lines };
+
+    fn new(alloc: Global) -> Result<LineVec, AllocError> {
+        let mut lines = Vec::with_capacity(alloc, 1)?;
+        lines.push(Line::new(alloc, "\n")?)?;
+        Ok(LineVec { lines })
+    }
+
+    fn len(&self) -> usize {
+        self.lines.len()
+    }
+
+    fn line(&self, index: usize) -> &Line {
+        &self.lines[index]
+    }
+
+    fn locate(&self, offset: usize) -> (usize, usize) {
+        find_column(&self.lines, offset)
+    }
+
+    fn prefix(&self, count: usize) -> Sums<WORDS> {
+        sum_of(&self.lines[..count])
+    }
+
+    fn next_with(&self, slot: TagSlot, from: usize) -> Option<usize> {
+        match first_with(&self.lines[from..], slot) {
+            Some(index) => Some(from + index),
+            None => None,
+        }
+    }
+
+    fn previous_with(&self, slot: TagSlot, to: usize) -> Option<usize> {
+        let free = free_of_slot(&self.lines[..to], slot);
+        if free < to {
+            Some(to - free - 1)
+        } else {
+            None
+        }
+    }
+
+    fn next_marked(&self, from: usize) -> Option<usize> {
+        match first_marked(&self.lines[from..]) {
+            Some(index) => Some(from + index),
+            None => None,
+        }
+    }
+
+    fn previous_marked(&self, to: usize) -> Option<usize> {
+        let free = free_of_marks(&self.lines[..to]);
+        if free < to {
+            Some(to - free - 1)
+        } else {
+            None
+        }
+    }
+
+    fn mark_line(&self, number: MarkNo) -> Option<usize> {
+        first_with_mark(&self.lines, number)
+    }
+
+    fn reserve(&mut self, count: usize, numbers: usize) -> Result<(), AllocError> {
+        self.lines.reserve(count)?;
+        Ok(())
+    }
+
+    fn take_mark(&mut self, number: MarkNo) {
+        take_marks(&mut self.lines, number);
+    }
+
+    fn splice(&mut self, from: usize, count: usize, new: Vec<Line>) {
+        let start = from + new.len();
+        put_lines(&mut self.lines, from, new);
+        drop_lines(&mut self.lines, start, start + count);
+    }
 }
