@@ -5,4 +5,5 @@ pub mod MarkRows
 pub mod SlotLaws
 pub mod StepLaws
 pub mod TagLaws
+pub mod VecLaws
 pub mod WholeLaws
