@@ -1,13 +1,13 @@
 -- Lines that are looked through one by one, from the first on or from the last back.
-use Rattle.std.proofs.Common.{◌≡◌, ℕ, ◌+◌, ◌-◌, ◌<◌, ◌≤◌, Bool, true, false, cond, List, [], ◌∷◌, ◌++◌, Option, None, Some, length, get_or, take, drop, refl, sym, ap, ap₂, subst, ◌∙◌, arith, length-append, length-drop, take-append-drop}
-use Rattle.std.specs.Prelude.{IfSome, nat_lt, not, slice_get}
+use Rattle.std.proofs.Common.{◌≡◌, ℕ, ◌+◌, ◌-◌, ◌<◌, ◌≤◌, Bool, true, false, cond, List, [], ◌∷◌, ◌++◌, None, Some, length, get_or, take, drop, sym, ap, subst, ◌∙◌, arith, length-append, take-append-drop}
+use Rattle.std.specs.Prelude.{IfSome, nat_lt, not}
 use Rattle.std.specs.List.{position, prefix_len, suffix_len}
 use Rattle.std.proofs.lemmas.Bool.Decides.{nat_tests}
 use Rattle.std.proofs.lemmas.List.{drop_all, drop_more, take_more}
 use Rattle.std.proofs.lemmas.List.Sums.{prefix_len-drop_all, prefix_len-drop_no, prefix_len-drop_yes, suffix_len-take_no, suffix_len-take_yes}
 use Rattle.std.proofs.lemmas.Option.{slice_get-get_or}
 use Rattle.toggle_sums.specs.CountLaws.{plus-no_text}
-use Rattle.toggle_sums.specs.Counts.{Count, CountsFit, plus}
+use Rattle.toggle_sums.specs.Counts.{CountsFit, plus}
 use Rattle.segments.specs.Columns.{LineContent, joined, line_count}
 use Rattle.line_lists.specs.Lists.{Holds, IsCounted, count_of}
 use Rattle.line_lists.specs.Texts.{whole}

@@ -11,7 +11,7 @@ use Rattle.text_model.specs.declared.places.Place.{Place}
 use Rattle.text_model.specs.Content.{Marks}
 use Rattle.text_model.specs.Splices.{inserted, removed}
 use Rattle.text_model.proofs.PlaceLaws.{same_marks}
-use Rattle.segments.specs.Columns.{LineContent, joined, joined_marks, later, line_count, plain_line}
+use Rattle.segments.specs.Columns.{LineContent, joined, joined_marks, later, plain_line}
 use Rattle.line_lists.specs.Edits.{without_mark}
 use Rattle.line_lists.specs.Lists.{AreApart, AreLines, AreRows, GoesBefore, IsCounted, count_of, spliced}
 use Rattle.line_lists.specs.Texts.{whole}
@@ -79,6 +79,7 @@ without-none number =
     finite.get-empty nat_cmp q
     ∙ sym (finite.get-remove nat_cmp_total finite.empty number q ∙ ap (cond (eq_by_cmp nat_cmp q number) None) (finite.get-empty nat_cmp q) ∙ still_none (eq_by_cmp nat_cmp q number) None refl)) in
     λ i. record { columns = []; marks = marks i }
+
 pub whole-without : (number : ℕ) (lines : List LineContent) → whole (map (without_mark number) lines) ≡ without_mark number (whole lines)
 whole-without number [] = without-none number
 whole-without number (line ∷ lines) = ap (joined (without_mark number line)) (whole-without number lines) ∙ without-joined number line (whole lines)
@@ -97,10 +98,11 @@ apart-without number first second apart = λ q place is.
 
 before-without : (number : ℕ) (line : LineContent) (lines : List LineContent) → GoesBefore line lines → GoesBefore (without_mark number line) (map (without_mark number) lines)
 before-without number line [] goes = λ q place is. goes q place (stood number line.marks q place is)
-before-without number line (next ∷ lines) goes =
-    ((λ q place is. goes.0 q place (stood number line.marks q place is)),
-    subst (λ (rest : LineContent). AreApart (finite.remove line.marks number) rest.marks) (sym (whole-without number (next ∷ lines)))
-    (apart-without number line.marks (whole (next ∷ lines)).marks goes.1))
+before-without number line (next ∷ lines) goes = (
+  (λ q place is. goes.0 q place (stood number line.marks q place is)),
+  subst (λ (rest : LineContent). AreApart (finite.remove line.marks number) rest.marks) (sym (whole-without number (next ∷ lines)))
+      (apart-without number line.marks (whole (next ∷ lines)).marks goes.1),
+)
 
 rows-without : (number : ℕ) (lines : List LineContent) → AreRows lines → AreRows (map (without_mark number) lines)
 rows-without number [] rows = tt

@@ -183,11 +183,7 @@ impl LineList for LineVec {
 
     fn previous_with(&self, slot: TagSlot, to: usize) -> Option<usize> {
         let free = free_of_slot(&self.lines[..to], slot);
-        if free < to {
-            Some(to - free - 1)
-        } else {
-            None
-        }
+        if free < to { Some(to - free - 1) } else { None }
     }
 
     fn next_marked(&self, from: usize) -> Option<usize> {
@@ -199,11 +195,7 @@ impl LineList for LineVec {
 
     fn previous_marked(&self, to: usize) -> Option<usize> {
         let free = free_of_marks(&self.lines[..to]);
-        if free < to {
-            Some(to - free - 1)
-        } else {
-            None
-        }
+        if free < to { Some(to - free - 1) } else { None }
     }
 
     fn mark_line(&self, number: MarkNo) -> Option<usize> {
