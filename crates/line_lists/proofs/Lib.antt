@@ -1,10 +1,12 @@
 pub mod CountRows
 pub mod DraftLaws
 pub mod FindLaws
+pub mod ListLaws
 pub mod MadeLaws
 pub mod MarkRows
 pub mod RowLaws
 pub mod SlotLaws
 pub mod StepLaws
 pub mod TagLaws
+pub mod VecLaws
 pub mod WholeLaws

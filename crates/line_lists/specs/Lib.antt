@@ -1,5 +1,6 @@
 pub mod Drafts
 pub mod Edits
 pub mod Lists
+pub mod RowLaws
 pub mod Texts
 pub mod Toggling

@@ -3,6 +3,8 @@
 
 mod drafts;
 pub mod laws;
+mod line_vec;
 mod lists;
 
+pub use line_vec::LineVec;
 pub use lists::LineList;

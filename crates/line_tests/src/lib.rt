@@ -1,8 +1,10 @@
-//! The tests of lines: calls at both ends of a line, and random edits against plain lists (`segments`). A crate with
-//! tests is proved twice, so they stand apart.
+//! The tests of lines: calls at both ends of a line, and random edits against plain lists (`segments`), and each call
+//! of a list of lines (`line_lists`). A crate with tests is proved twice, so they stand apart.
 #![tactic(auto)]
 
 #[cfg(test)]
 mod edits;
 #[cfg(test)]
 mod lines;
+#[cfg(test)]
+mod lists;
