@@ -176,3 +176,8 @@ pub parent_said : (h : Held) (parent : Option NodePtr) (slot : ℕ) → is_used 
 parent_said Spare parent slot u = absurd (false≢true u)
 parent_said (Line line) parent slot u = refl
 parent_said (Inner room) parent slot u = refl
+
+pub spare_room : (h : Held) → is_used h ≡ false → room_in h ≡ 0
+spare_room Spare u = refl
+spare_room (Line line) u = absurd (false≢true (sym u))
+spare_room (Inner room) u = absurd (false≢true (sym u))

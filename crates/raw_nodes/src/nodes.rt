@@ -113,7 +113,7 @@ fn take_room(rooms: &mut Vec<Box<Room>>) -> Box<Room>
 /// What a new node is: this line, or an inner node in one of the free rooms.
 pub fn hold(rooms: &mut Vec<Box<Room>>, line: Option<Line>) -> Held
     requires { rooms_for line ≤ length rooms.old.items }
-    ensures record { record_in result None 0 ≡ blank line }
+    ensures says { record_in result None 0 ≡ blank line }
     ensures used { is_used result ≡ true }
     ensures room { room_in result ≡ rooms_for line }
     ensures rooms { length rooms.new.items + rooms_for line ≡ length rooms.old.items }
