@@ -165,8 +165,8 @@ chain_append ps ms ns (suc n) (Some p) q m t e f c =
       place_stays ps q p place,
       ap (λ k. get_or (ms ++ m ∷ []) k 0) same ∙ get_or_append_left ms (m ∷ []) 0 (number_in ps p) (omega (arith, place, e)) ∙ c.1,
       subst (λ o. IsChain (ps ++ q ∷ []) (ms ++ m ∷ []) (ns ++ t ∷ []) n o)
-      (sym (ap (λ k. get_or (ns ++ t ∷ []) k None) same ∙ get_or_append_left ns (t ∷ []) None (number_in ps p) (omega (arith, place, f))))
-      (chain_append ps ms ns n (get_or ns (number_in ps p) None) q m t e f c.2),
+          (sym (ap (λ k. get_or (ns ++ t ∷ []) k None) same ∙ get_or_append_left ns (t ∷ []) None (number_in ps p) (omega (arith, place, f))))
+          (chain_append ps ms ns n (get_or ns (number_in ps p) None) q m t e f c.2),
     )
 
 pub last_at : {X : Type 0} (xs : List X) (x d : X) (i : ℕ) → i ≡ length xs → get_or (xs ++ x ∷ []) i d ≡ x

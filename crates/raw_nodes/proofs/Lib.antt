@@ -7,4 +7,6 @@ pub mod LinkLaws
 pub mod MapLaws
 pub mod NameLaws
 pub mod PlaceLaws
+pub mod RowLaws
+pub mod UpdateLaws
 pub mod WalkSteps

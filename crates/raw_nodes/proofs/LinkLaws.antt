@@ -1,7 +1,7 @@
 -- A link to a node is the name of the node.
-use Rattle.std.proofs.Common.{◌≡◌, refl, sym, ap, ◌∙◌, subst}
-use Rattle.std.specs.Prelude.{Option, None, Some}
-use denote.RawPtr.{Ptr, block_ptr, null_ptr, block_of, count_of, InBlock}
+use Rattle.std.proofs.Common.{◌≡◌, sym, ap, ◌∙◌, subst}
+use Rattle.std.specs.Prelude.{Some}
+use denote.RawPtr.{Ptr, block_ptr, null_ptr, count_of, InBlock}
 use Rattle.raw_nodes.specs.Links.{name_at}
 use Rattle.raw_nodes.specs.declared.names.NodePtr.{NodePtr}
 use Rattle.raw_nodes.proofs.PlaceLaws.{name_is}

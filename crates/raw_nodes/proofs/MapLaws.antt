@@ -1,15 +1,15 @@
 -- The map of a store, by name.
-use Rattle.std.proofs.Common.{◌≡◌, ℕ, ◌<◌, ◌≤◌, ◌+◌, Bool, true, false, cond, ◌⊎◌, inl, inr, List, [], ◌∷◌, ◌++◌, length, get_or, set, refl, sym, ap, ◌∙◌, subst, arith}
+use Rattle.std.proofs.Common.{◌≡◌, ℕ, ◌<◌, ◌+◌, Bool, true, false, cond, inl, inr, List, [], ◌∷◌, ◌++◌, length, get_or, set, refl, sym, ap, ◌∙◌, subst, arith}
 use Prim.Native.Nat.{zero, suc, ◌-◌}
 use mathlib.Core.Bool.{false≢true}
-use Rattle.std.specs.Prelude.{◌≢◌, IfSome, IsSome, Option, None, Some, is_some, option_map}
+use Rattle.std.specs.Prelude.{◌≢◌, IfSome, IsSome, Option, None, Some, is_some}
 use Rattle.std.specs.FinMap.{empty, get, insert, len, remove, get-empty, get-insert, get-remove, len-insert, len-remove, empty_of_len, same_map}
 use Rattle.std.specs.Ordering.{eq_by_cmp}
 use Rattle.std.proofs.lemmas.List.{get_or-set_same, get_or-set_other}
 use Rattle.raw_nodes.specs.Cells.{IsPlace, name_cmp, number_in}
-use Rattle.raw_nodes.specs.Records.{Record, Records, records_of, update, updated}
+use Rattle.raw_nodes.specs.Records.{Record, Records, records_of}
 use Rattle.raw_nodes.specs.declared.names.NodePtr.{NodePtr}
-use Rattle.raw_nodes.proofs.PlaceLaws.{apart, name_antisym, name_total, one_of_tied, same_number, same_or_other, tied}
+use Rattle.raw_nodes.proofs.PlaceLaws.{apart, name_antisym, name_total, same_number, same_or_other, tied}
 
 -- ---- what a change leaves at each name
 pub get_inserted : (m : Records) (p : NodePtr) (v : Record) → get (insert m p v) p ≡ Some v
@@ -23,6 +23,19 @@ get_removed m p = get-remove name_total m p p ∙ ap (λ y. cond y None (get m p
 
 pub get_unmoved : (m : Records) (p q : NodePtr) → (q ≡ p → ⊥) → get (remove m p) q ≡ get m q
 get_unmoved m p q n = get-remove name_total m p q ∙ ap (λ y. cond y None (get m q)) (apart q p n)
+
+pub some_of : {X : Type 0} (o : Option X) → IsSome o → (x : X) × (o ≡ Some x)
+some_of None s = absurd (false≢true s)
+some_of (Some x) s = (x, refl)
+
+pub at_some : {X : Type 0} (o : Option X) (P : X → Type 0) (x : X) → IfSome o P → o ≡ Some x → P x
+at_some o P x h e = subst (λ q. IfSome q P) e h
+
+pub kept_insert : (m : Records) (p : NodePtr) (v : Record) (q : NodePtr) → IsSome (get m q) → IsSome (get (insert m p v) q)
+kept_insert m p v q s = elim (same_or_other q p) [
+  | inl e ↦ subst (λ r. IsSome (get (insert m p v) r)) (sym e) (subst (λ o. IsSome o) (sym (get_inserted m p v)) refl)
+  | inr n ↦ subst (λ o. IsSome o) (sym (get_other m p v q n)) s
+]
 
 -- ---- what is found among the cells of places
 cell_step : (b : Bool) (o : Option Record) (cs : List (Option Record)) (n : ℕ) → cond b o (get_or cs n None) ≡ get_or (o ∷ cs) (cond b 0 (suc n)) None

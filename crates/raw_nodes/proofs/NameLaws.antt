@@ -1,6 +1,5 @@
 -- What a name says of the node that it leads to, and what a change of the node does.
-use Rattle.std.proofs.Common.{◌≡◌, ℕ, ◌<◌, ◌+◌, true, false, List, [], ◌∷◌, ◌++◌, length, get_or, set, map, replicate, refl, sym, ap, ap₂, ◌∙◌, subst, arith}
-use Prim.Native.Nat.{zero, suc}
+use Rattle.std.proofs.Common.{◌≡◌, ℕ, ◌<◌, ◌+◌, true, false, List, [], ◌∷◌, ◌++◌, length, get_or, set, map, replicate, refl, sym, ap, ◌∙◌, subst, arith}
 use mathlib.Core.Bool.{false≢true}
 use Rattle.std.specs.Prelude.{IfSome, IsSome, Option, None, Some, is_some}
 use Rattle.segments.specs.Columns.{LineContent}
@@ -13,7 +12,7 @@ use Rattle.raw_nodes.specs.Cells.{IsPlace, node_at, number_in}
 use Rattle.raw_nodes.specs.Chain.{IsChain, flag_of, marks_of, nexts_of, numbers_of, room_in, room_of}
 use Rattle.raw_nodes.specs.HeldLending.{IsLine, IsRoom, RoomBox}
 use Rattle.raw_nodes.specs.Links.{link_name}
-use Rattle.raw_nodes.specs.Records.{Record, Records, cell_of, cells_of, if_used, inner_record, is_used, nones, line_in, record_in, record_of, records_in, records_of, update, updated, with_child, with_line, with_parent, with_sum}
+use Rattle.raw_nodes.specs.Records.{Record, cell_of, cells_of, if_used, inner_record, is_used, nones, line_in, record_in, record_of, records_in, records_of, update, updated, with_child, with_line, with_parent, with_sum}
 use Rattle.raw_nodes.specs.declared.names.Link.{Link}
 use Rattle.raw_nodes.specs.declared.names.NodePtr.{NodePtr}
 use Rattle.raw_nodes.specs.declared.nodes.Held.{Held}
@@ -22,6 +21,7 @@ use Rattle.raw_nodes.specs.declared.nodes.Node.{Node}
 use Rattle.raw_nodes.specs.declared.nodes.Room.{Room}
 use Rattle.raw_nodes.proofs.ChainLaws.{cell_is, given_cells, made_cells, is_used_at, numbered_set, room_moved, used_chain, used_count}
 use Rattle.raw_nodes.proofs.HeapSteps.{any_default}
+use Rattle.raw_nodes.proofs.RowLaws.{get_or-nones}
 use Rattle.raw_nodes.proofs.MapLaws.{get_record, place_of_name, records_grown, records_set, records_unset}
 
 -- the name is that of a node in use
@@ -152,11 +152,6 @@ pub line_off : (h : Held) → ((line : LineContent) → h ≡ Line line → ⊥)
 line_off Spare n = refl
 line_off (Line line) n = absurd (n line refl)
 line_off (Inner room) n = refl
-
-get_or-nones : (n i : ℕ) → get_or (replicate {A = Option NodePtr} n None) i None ≡ None
-get_or-nones zero i = refl
-get_or-nones (suc n) zero = refl
-get_or-nones (suc n) (suc i) = get_or-nones n i
 
 -- a node that has no room has no children
 pub childless : (h : Held) (parent : Option NodePtr) (slot : ℕ) → is_used h ≡ true → ((room : RoomBox.Denot) → h ≡ Inner room → ⊥) → (record_in h parent slot).children ≡ nones

@@ -1,6 +1,6 @@
 -- Names in order, and where one stands among others.
-use Rattle.std.proofs.Common.{◌≡◌, ℕ, ◌<◌, ◌≤◌, ◌+◌, Bool, true, false, cond, ◌⊎◌, inl, inr, List, [], ◌∷◌, ◌++◌, length, get_or, refl, sym, ap, ◌∙◌, subst, arith}
-use Prim.Native.Nat.{zero, suc}
+use Rattle.std.proofs.Common.{◌≡◌, ℕ, ◌<◌, Bool, true, false, cond, ◌⊎◌, inl, inr, List, [], ◌∷◌, ◌++◌, length, get_or, refl, sym, ap, ◌∙◌, subst, arith}
+use Prim.Native.Nat.{suc}
 use base.Stored.{Coded-set}
 use mathlib.Core.Bool.{false≢true}
 use mathlib.Core.HLevel.{Σ_prop_path}
@@ -12,7 +12,7 @@ use Rattle.std.specs.declared.cmp.Ordering.{Ordering}
 use Rattle.std.specs.declared.cmp.Ordering.TheVariants.{Less, Equal, Greater}
 use Rattle.std.proofs.lemmas.Bool.{false_from_ne_true}
 use Rattle.std.proofs.lemmas.List.{get_or-map, length-map}
-use denote.RawPtr.{Ptr, block_ptr, null_ptr, block_of, coded_ptr}
+use denote.RawPtr.{Ptr, block_ptr, block_of, coded_ptr}
 use Rattle.raw_nodes.specs.Cells.{IsPlace, NotIn, ats, name_cmp, number_in}
 use Rattle.raw_nodes.specs.declared.names.NodePtr.{NodePtr}
 

@@ -6,3 +6,4 @@ pub mod LineLending
 pub mod Links
 pub mod Names
 pub mod Records
+pub mod Rows

@@ -1,5 +1,5 @@
 -- The map of a store: from the name of each node in use to its record.
-use Rattle.std.specs.Prelude.{◌≡◌, ℕ, Bool, true, false, Option, None, Some, List, [], ◌∷◌, map, replicate, slice_set}
+use Rattle.std.specs.Prelude.{ℕ, Bool, true, false, Option, None, Some, List, [], ◌∷◌, map, replicate, slice_set}
 use Rattle.std.specs.FinMap as finite
 use Rattle.segments.specs.Columns.{LineContent, line_count}
 use Rattle.toggle_sums.specs.Counts.{Count, no_text}
@@ -9,7 +9,6 @@ use Rattle.raw_nodes.specs.declared.names.NodePtr.{NodePtr}
 use Rattle.raw_nodes.specs.declared.nodes.Held.{Held}
 use Rattle.raw_nodes.specs.declared.nodes.Held.TheVariants.{Spare, Line, Inner}
 use Rattle.raw_nodes.specs.declared.nodes.Node.{Node}
-use Rattle.raw_nodes.specs.declared.nodes.Room.{Room}
 
 -- what a node in use says: its parent and its slot there, the names in its own slots, what is counted of the text
 -- below it, and its line, if it is one

@@ -1,9 +1,8 @@
 -- `adopt` moves what the parts own into the heap.
-use Rattle.raw_nodes.proofs.WalkSteps.{◌≡◌, List, [], ◌∷◌, refl, sym, ap, ◌∙◌, rewrite, ftrue, flft, named, fact, id⊢, vint, tables, ‵, raw, ◌⊛◌, ◌$◌, ◌∵◌, !, qed, move, keep, use2, split, join, fsplit, fsplit3, fjoin, feq_i, feq_l, suffices, group, enter, of_opd, stop, fld, no_more, and_then, returns, alloc_all, pass_all, free_all, look_at, get, sets, yes, MutRef, plain, nothing, owned, opens, closes, heard, Stays, walk_of, stay_dropped, Goes-dropped, stay_ref, Goes-ref}
+use Rattle.raw_nodes.proofs.WalkSteps.{◌≡◌, List, [], ◌∷◌, refl, sym, ap, ◌∙◌, rewrite, ftrue, flft, named, fact, id⊢, tables, ‵, raw, ◌⊛◌, ◌$◌, ◌∵◌, !, qed, move, keep, use2, split, join, fsplit, fsplit3, fjoin, feq_i, feq_l, suffices, group, enter, of_opd, stop, fld, no_more, and_then, returns, alloc_all, pass_all, free_all, look_at, get, sets, yes, MutRef, plain, nothing, owned, opens, closes, heard, Stays, walk_of, stay_dropped, Goes-dropped, stay_ref, Goes-ref}
 use types.ByLocal.{get_in}
 use types.Part.{whole, sub, agg}
-use mir.Syntax.{w64}
-use types.Kit.{flt_l, use0, by, fpack}
+use types.Kit.{use0, by, fpack}
 use contract.Monad.{fact_i}
 use base.Logic.{SProp, ent, emp}
 use prog.Wp.{WpFn}
@@ -11,7 +10,6 @@ use mathlib.Core.List.{◌++◌}
 use mathlib.Core.Path.{subst}
 use mir.Val.{Val, vptr, vstruct, vcons, vnil}
 use lib.ListN.{length}
-use denote.Builtin.{usize}
 use denote.RawPtr.{block_ptr, count_of}
 use Rattle.std.specs.Ptr.{Ptr}
 use Rattle.std.proofs.lemmas.List.{length-map, map-append}

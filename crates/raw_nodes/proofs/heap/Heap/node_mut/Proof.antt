@@ -3,12 +3,11 @@ use Rattle.raw_nodes.proofs.WalkSteps.{◌≡◌, ℕ, List, [], ◌∷◌, refl
 use types.ByLocal.{sets_last, get_in, is}
 use types.Part.{whole, sub}
 use types.Kit.{fpack, split3}
-use Prim.Native.Nat.{◌<◌}
 use types.Logic.{Logic, sem}
 use base.Fml.{GName, Fml, fsep}
 use base.Logic.{ent, sep, never, fst∗}
 use mir.Val.{Val, vptr}
-use lib.ListN.{length, get_or}
+use lib.ListN.{get_or}
 use seplogic.Ra.Ura.{Ura}
 use denote.Exit.{no}
 use denote.Follow.{follows, lends_Part}

@@ -1,4 +1,4 @@
-use Rattle.std.proofs.Common.{◌≡◌, ap, count_by, is_some, map, sym, refl, ◌∙◌}
+use Rattle.std.proofs.Common.{◌≡◌, ap, count_by, is_some, map, sym, ◌∙◌}
 use Rattle.raw_nodes.specs.Links.{link_name}
 use Rattle.raw_nodes.specs.Names.{records}
 use Rattle.raw_nodes.specs.Records.{record_in}

@@ -1,4 +1,4 @@
-use Rattle.std.proofs.Common.{◌≡◌, Some, None, ap, sym, refl, true, ◌∙◌}
+use Rattle.std.proofs.Common.{◌≡◌, Some, None, ap, sym, refl, ◌∙◌}
 use Rattle.raw_nodes.specs.Chain.{room_in}
 use Rattle.raw_nodes.specs.Links.{link_name}
 use Rattle.std.specs.Prelude.{is_some}
@@ -20,12 +20,14 @@ pub returns-then-not-is_line : goal.returns-then-not-is_line
 unfolding records
 returns-then-not-is_line g c =
     let h = c.args.self.now.heap in let p = c.args.name in let x = c.node.result.now in let e = c.node.ensures in
-    let used = in_use h.places h.values p x h.paired c.requires e in
-    ((refl, (λ w. tt), refl), record {
-      writes_back = tt;
-      value = read_entry h.places h.values p x h.paired c.requires e (λ r. None ≡ r.line)
-          (sym (line_said x.held _ x.slot used ∙ no_line x.held (sym c.if-not-is_line.ensures)));
-    })
+    let used = in_use h.places h.values p x h.paired c.requires e in (
+      (refl, (λ w. tt), refl),
+      record {
+        writes_back = tt;
+        value = read_entry h.places h.values p x h.paired c.requires e (λ r. None ≡ r.line)
+            (sym (line_said x.held _ x.slot used ∙ no_line x.held (sym c.if-not-is_line.ensures)));
+      },
+    )
 
 pub line_mut-requires : goal.line_mut-requires
 unfolding records
@@ -38,21 +40,33 @@ pub invariant_of-self-lent : goal.invariant_of-self-lent
 unfolding records
 invariant_of-self-lent g c = λ w.
     let a = c.args.self.now in let h = a.heap in let p = c.args.name in let x = c.node_mut.result.now in let e = c.node_mut.ensures.value in (
-      a.listed, (
-      chain_kept h.places h.values p x _ h.paired c.requires e refl a.spares a.first_spare a.chained, (
-      count_kept h.places h.values p x _ h.paired c.requires e refl a.spares a.counted, (
-      numbers_kept h.places h.values p x _ h.paired c.requires e refl refl a.numbered, (
-      rooms_kept h.places h.values p x _ h.paired c.requires e refl _ a.room_count (sym (ap room_in c.line_mut.ensures.value)) a.roomed, (a.fitting, tt)))))
+      a.listed,
+      (
+        chain_kept h.places h.values p x _ h.paired c.requires e refl a.spares a.first_spare a.chained,
+        (
+          count_kept h.places h.values p x _ h.paired c.requires e refl a.spares a.counted,
+          (
+            numbers_kept h.places h.values p x _ h.paired c.requires e refl refl a.numbered,
+            (
+              rooms_kept h.places h.values p x _ h.paired c.requires e refl _ a.room_count (sym (ap room_in c.line_mut.ensures.value)) a.roomed,
+              (a.fitting, tt),
+            ),
+          ),
+        ),
+      ),
     )
 
 pub returns : goal.returns
 unfolding records
 returns g c =
-    let a = c.args.self.now in let h = a.heap in let p = c.args.name in let x = c.node_mut.result.now in let e = c.node_mut.ensures.value in ((
-      refl,
-      (λ w. record { records = rewritten h.places h.values p x _ h.paired c.requires e refl (λ r. with_line r w) (lined x.held _ w _ x.slot c.line_mut.ensures.value); spares = refl; rooms = refl }),
-      refl,
-    ), record {
-      writes_back = tt;
-      value = read_entry h.places h.values p x h.paired c.requires e (λ r. Some c.line_mut.result.now ≡ r.line) (sym (ap (λ k. (record_in k (link_name x.parent) x.slot).line) c.line_mut.ensures.value));
-    })
+    let a = c.args.self.now in let h = a.heap in let p = c.args.name in let x = c.node_mut.result.now in let e = c.node_mut.ensures.value in (
+      (
+        refl,
+        (λ w. record { records = rewritten h.places h.values p x _ h.paired c.requires e refl (λ r. with_line r w) (lined x.held _ w _ x.slot c.line_mut.ensures.value); spares = refl; rooms = refl }),
+        refl,
+      ),
+      record {
+        writes_back = tt;
+        value = read_entry h.places h.values p x h.paired c.requires e (λ r. Some c.line_mut.result.now ≡ r.line) (sym (ap (λ k. (record_in k (link_name x.parent) x.slot).line) c.line_mut.ensures.value));
+      },
+    )

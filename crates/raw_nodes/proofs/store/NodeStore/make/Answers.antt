@@ -1,7 +1,7 @@
-use Rattle.std.proofs.Common.{◌≡◌, ℕ, ◌+◌, ◌-◌, Option, ap, arith, set, subst, sym, refl, ◌∙◌}
+use Rattle.std.proofs.Common.{◌≡◌, ◌+◌, ◌-◌, Option, ap, arith, set, subst, sym, refl, ◌∙◌}
 use Rattle.std.specs.FinMap as finite
 use Rattle.raw_nodes.specs.Cells.{number_in}
-use Rattle.raw_nodes.specs.Chain.{IsChain, marks_of, nexts_of, room_in}
+use Rattle.raw_nodes.specs.Chain.{IsChain, marks_of, nexts_of}
 use Rattle.raw_nodes.specs.Names.{records}
 use Rattle.raw_nodes.specs.Records.{blank, record_in, records_in}
 use Rattle.raw_nodes.specs.declared.names.NodePtr.{NodePtr}

@@ -1,8 +1,4 @@
-use Rattle.std.proofs.Common.{◌≡◌}
-use Rattle.std.specs.FinMap as finite
-use Rattle.std.specs.Prelude.{[]}
 use Rattle.raw_nodes.specs.Names.{records}
-use Rattle.raw_nodes.specs.Records.{records_of, cells_of}
 use Rattle.raw_nodes.proofs.MapLaws.{none_of}
 use Rattle.raw_nodes.proofs.store.NodeStore.new.Goals as goal
 

@@ -1,7 +1,5 @@
-use Rattle.std.proofs.Common.{◌≡◌, Some, None, ap, get_or, map, sym, refl, ◌∙◌}
-use Rattle.raw_nodes.specs.Links.{link_name}
+use Rattle.std.proofs.Common.{◌≡◌, ◌∙◌}
 use Rattle.raw_nodes.specs.Names.{records}
-use Rattle.raw_nodes.specs.Records.{record_in}
 use Rattle.raw_nodes.proofs.NameLaws.{in_use, name_place, parent_said, read_entry}
 use Rattle.raw_nodes.proofs.store.NodeStore.parent.Goals as goal
 

@@ -1,7 +1,7 @@
-use Rattle.std.proofs.Common.{◌≡◌, ap, sym, refl, ◌∙◌}
+use Rattle.std.proofs.Common.{◌≡◌, ap, sym, refl}
 use Rattle.raw_nodes.specs.Chain.{room_in}
 use Rattle.raw_nodes.specs.Names.{records}
-use Rattle.raw_nodes.specs.Records.{record_of, with_child}
+use Rattle.raw_nodes.specs.Records.{with_child}
 use Rattle.raw_nodes.proofs.NameLaws.{chain_kept, count_kept, in_use, name_place, numbers_kept, rewritten, room_if, rooms_kept, told_entry, lodged}
 use Rattle.raw_nodes.proofs.store.NodeStore.set_child.Goals as goal
 
@@ -32,5 +32,5 @@ pub returns-clause-records : goal.returns-clause-records
 unfolding records
 returns-clause-records g c =
     let a = c.args.self.now in let h = a.heap in let p = c.args.name in let named = c.requires.name.0 in let x = c.node_mut.result.now in let e = c.node_mut.ensures.value in
-    rewritten h.places h.values p x _ h.paired named e refl (λ r. with_child r c.args.i c.args.child) 
+    rewritten h.places h.values p x _ h.paired named e refl (λ r. with_child r c.args.i c.args.child)
     (lodged x.held c.room_mut.result.now c.deref_mut.result.now _ x.slot c.args.i c.of.result c.args.child c.room_mut.ensures.value c.deref_mut.ensures.value c.of.ensures)

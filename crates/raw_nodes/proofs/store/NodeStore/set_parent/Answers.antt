@@ -1,4 +1,4 @@
-use Rattle.std.proofs.Common.{◌≡◌, ap, sym, refl, ◌∙◌}
+use Rattle.std.proofs.Common.{ap, refl, ◌∙◌}
 use Rattle.raw_nodes.specs.Names.{records}
 use Rattle.raw_nodes.specs.Records.{record_in, with_parent}
 use Rattle.raw_nodes.proofs.NameLaws.{chain_kept, count_kept, in_use, name_place, numbers_kept, parented, rewritten, rooms_kept}

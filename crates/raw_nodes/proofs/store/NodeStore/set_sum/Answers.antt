@@ -1,7 +1,7 @@
-use Rattle.std.proofs.Common.{◌≡◌, ap, sym, refl, ◌∙◌}
+use Rattle.std.proofs.Common.{◌≡◌, ap, sym, refl}
 use Rattle.raw_nodes.specs.Chain.{room_in}
 use Rattle.raw_nodes.specs.Names.{records}
-use Rattle.raw_nodes.specs.Records.{record_of, with_sum}
+use Rattle.raw_nodes.specs.Records.{with_sum}
 use Rattle.raw_nodes.proofs.NameLaws.{chain_kept, count_kept, in_use, name_place, numbers_kept, rewritten, room_if, rooms_kept, told_entry, summed}
 use Rattle.raw_nodes.proofs.store.NodeStore.set_sum.Goals as goal
 
