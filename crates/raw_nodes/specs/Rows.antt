@@ -1,5 +1,5 @@
 -- The children of a record as a list: the names in its first slots.
-use Rattle.std.specs.Prelude.{ℕ, ◌-◌, Option, None, Some, List, [], ◌++◌, length, map, replicate}
+use Rattle.std.specs.Prelude.{◌-◌, Option, None, Some, List, [], ◌++◌, length, map, replicate}
 use Rattle.std.specs.List.{filter_map}
 use Rattle.std.specs.FinMap as finite
 use Rattle.raw_nodes.specs.Records.{Record, Records}
