@@ -1,4 +1,3 @@
-// The nodes in raw memory. The pointers stay in this module.
 ghost use Rattle.raw_nodes.specs.Cells.{IsLast, IsPlace, NotIn, ats, node_at, nodes_lent, nodes_own};
 ghost use Rattle.raw_nodes.specs.declared.names.NodePtr.{NodePtr};
 ghost use Rattle.raw_nodes.specs.contracts.nodes.Node as node;
@@ -35,7 +34,8 @@ impl Heap {
         Heap {}
     }
 
-    // Sound by `requires`: the heap owns the node at each of its places.
+    /// The node of a name.
+    // By `requires` and `also_shares`: the heap lends the node at each of its places.
     pub fn node(&self, name: NodePtr) -> &Node
         requires { IsPlace self.now.places name }
         ensures { result.now ≡ node_at self.now.places self.now.values name result.now }
@@ -44,7 +44,8 @@ impl Heap {
         unsafe { &*at }
     }
 
-    // Sound by `requires`: the heap owns the node at each of its places, and lends none beside it.
+    /// The node of a name, to be changed.
+    // By `requires` and `also_owns`: the heap owns the node at each of its places, and lends no other meanwhile.
     pub fn node_mut(&mut self, name: NodePtr) -> &mut Node
         requires { IsPlace self.old.places name }
         ensures* writes_back { sem 𝓛 (LendsNode self.entry name result) }
@@ -55,6 +56,7 @@ impl Heap {
     }
 
     /// Takes over a node, as the last.
+    // By the parts' `also_owns`: the node and the right to free it go from them to the heap.
     pub fn adopt(&mut self, parts: Parts<Node, Global>) -> NodePtr
         ensures places { self.new.places ≡ self.old.places ++ result ∷ [] }
         ensures values { self.new.values ≡ self.old.values ++ parts.value ∷ [] }
@@ -65,6 +67,7 @@ impl Heap {
     }
 
     /// Gives up the last node.
+    // By `requires` and `also_owns`: the node and the right to free it go from the heap to the parts.
     pub fn release(&mut self, name: NodePtr, alloc: Global) -> Parts<Node, Global>
         requires { IsLast self.old.places name }
         ensures places { self.old.places ≡ self.new.places ++ name ∷ [] }

@@ -21,12 +21,14 @@ pub struct Link {
 impl Link {
     ghost use Rattle.raw_nodes.specs.Links.{link_name};
 
+    // By `start`: null is 0 bytes into no block.
     pub fn none() -> Link
         ensures { link_name result ≡ None }
     {
         Link { at: null_mut() }
     }
 
+    // By `start` of the name: a block's beginning.
     pub fn of(name: Option<NodePtr>) -> Link
         ensures { link_name result ≡ name }
     {
@@ -42,6 +44,7 @@ impl Link {
         self.name().is_some()
     }
 
+    // By `start`: a pointer to a block's beginning, or to none, may be compared with null.
     pub fn name(self) -> Option<NodePtr>
         ensures { result ≡ link_name self }
     {
