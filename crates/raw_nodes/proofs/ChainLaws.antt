@@ -1,20 +1,22 @@
 -- What a change of one node does to the spares and to the counts.
-use Rattle.std.proofs.Common.{◌≡◌, ℕ, ◌<◌, ◌≤◌, ◌+◌, Bool, true, false, List, [], ◌∷◌, ◌++◌, length, get_or, set, refl, sym, ap, ◌∙◌, subst, arith, length-append}
+use Rattle.std.proofs.Common.{◌≡◌, ℕ, ◌<◌, ◌≤◌, ◌+◌, Bool, true, false, List, [], ◌∷◌, ◌++◌, length, get_or, set, map, drop, refl, sym, ap, ◌∙◌, subst, arith, length-append}
 use Prim.Native.Nat.{zero, suc, ◌-◌}
 use lib.ListN.{length-set}
+use mathlib.Core.Bool.{false≢true}
 use mathlib.Core.Logic.{∥∥₁_map, ∥∥₁_elim}
 use base.Stored.{Coded-set, coded_ℕ}
 use Rattle.std.proofs.Math.Bridge.{le_prop}
-use Rattle.std.specs.Prelude.{IfSome, IsSome, ◌≢◌, Option, None, Some}
+use Rattle.std.specs.Prelude.{IfSome, IsSome, ◌≢◌, Option, None, Some, is_some, unwrap_or}
 use Rattle.std.specs.List.{range_with_len, sum_by}
 use Rattle.std.proofs.lemmas.List.{get_or-set_same, get_or-set_other, map-set, map-append, length-map, get_or-map, get_or_append_left, set-get_or}
 use Rattle.std.proofs.lemmas.List.FromFn.{get_or-range_with_len}
 use Rattle.std.proofs.lemmas.List.Sums.{sum_by-set, sum_by-cons, sum_by_push}
-use Rattle.raw_nodes.specs.Cells.{IsPlace, NotIn, ats, number_in}
-use Rattle.raw_nodes.specs.Chain.{if_spare, if_free, flag_of, mark_of, marks_of, next_of, nexts_of, number_of, numbers_of, room_of, IsChain}
+use Rattle.raw_nodes.specs.Cells.{IsLast, IsPlace, NotIn, ats, number_in}
+use Rattle.raw_nodes.specs.Chain.{before_of, befores_of, if_spare, if_free, flag_of, mark_of, marks_of, next_of, nexts_of, number_of, numbers_of, room_of, IsChain}
 use Rattle.raw_nodes.specs.Records.{Record, record_of, if_used, is_used, cell_of, cells_of}
 use Rattle.raw_nodes.specs.declared.names.NodePtr.{NodePtr}
 use Rattle.raw_nodes.specs.declared.nodes.Node.{Node}
+use Rattle.raw_nodes.proofs.HeapSteps.{unsnoc}
 use Rattle.raw_nodes.proofs.PlaceLaws.{number_new, number_stays}
 
 used_flag : (y : Bool) (r : Record) → IsSome (if_used y r) → y ≡ true
@@ -229,3 +231,49 @@ room_moved xs i x w h e = let moved = sum_by-set room_of xs i w x h in let befor
 
 pub room_grown : (xs : List Node) (w : Node) → room_of w ≡ 0 → sum_by room_of (xs ++ w ∷ []) ≡ sum_by room_of xs
 room_grown xs w none = let more = sum_by_push room_of xs w in omega (arith, more, none)
+
+-- ---- the nodes one before the other
+pub listed_set : (ps : List NodePtr) (xs : List Node) (i : ℕ) (x w : Node) (last : Option NodePtr) → x ≡ get_or xs i x → before_of w ≡ before_of x
+    → befores_of xs ++ last ∷ [] ≡ None ∷ map Some ps → befores_of (set xs i w) ++ last ∷ [] ≡ None ∷ map Some ps
+listed_set ps xs i x w last e n h =
+    ap (λ bs. bs ++ last ∷ []) (map-set before_of xs i w ∙ ap (set (befores_of xs) i) n ∙ sym (map-set before_of xs i x) ∙ ap befores_of (ap (set xs i) e ∙ set-get_or xs i x)) ∙ h
+
+pub listed_grown : (ps : List NodePtr) (xs : List Node) (w : Node) (p : NodePtr) (last : Option NodePtr) → before_of w ≡ last
+    → befores_of xs ++ last ∷ [] ≡ None ∷ map Some ps → befores_of (xs ++ w ∷ []) ++ Some p ∷ [] ≡ None ∷ map Some (ps ++ p ∷ [])
+listed_grown ps xs w p last n h =
+    ap (λ bs. bs ++ Some p ∷ []) (map-append before_of xs (w ∷ []) ∙ ap (λ o. befores_of xs ++ o ∷ []) n ∙ h)
+    ∙ ap (λ os. None ∷ os) (sym (map-append (λ q. Some q) ps (p ∷ [])))
+
+snoc : {X : Type 0} (xs ys : List X) (x y : X) → xs ++ x ∷ [] ≡ ys ++ y ∷ [] → (xs ≡ ys) × (x ≡ y)
+snoc [] [] x y e = (refl, ap (λ l. get_or l 0 x) e)
+snoc [] (z ∷ ys) x y e = let long = ap length e in let more = length-append ys (y ∷ []) in absurd (omega (arith, long, more))
+snoc (z ∷ xs) [] x y e = let long = ap length e in let more = length-append xs (x ∷ []) in absurd (omega (arith, long, more))
+snoc (z ∷ xs) (v ∷ ys) x y e =
+    let rest = snoc xs ys x y (ap (drop 1) e) in let head : z ≡ v = ap (λ l. get_or l 0 z) e in ((λ j. head j ∷ rest.0 j), rest.1)
+
+some_same : (p q : NodePtr) → Some p ≡ Some q → p ≡ q
+some_same p q e = ap (λ (o : Option NodePtr). unwrap_or o p) e
+
+-- the last node is the last place
+pub listed_last : (bs : List (Option NodePtr)) (ps : List NodePtr) (p : NodePtr) → bs ++ Some p ∷ [] ≡ None ∷ map Some ps → IsLast ps p
+listed_last bs [] p h = absurd (false≢true (ap is_some (sym (snoc bs [] (Some p) None h).1)))
+listed_last bs (q ∷ ps) p h =
+    let end = unsnoc (q ∷ ps) (omega arith) in
+    let both = snoc bs (None ∷ map Some end.0) (Some p) (Some end.1) (h ∙ ap (λ l. None ∷ map Some l) end.2 ∙ ap (λ os. None ∷ os) (map-append (λ q. Some q) end.0 (end.1 ∷ []))) in
+    (end.0, end.2 ∙ ap (λ r. end.0 ++ r ∷ []) (sym (some_same p end.1 both.1)))
+
+-- where there is no last node there is none
+pub listed_none : (bs : List (Option NodePtr)) (ps : List NodePtr) → bs ++ None ∷ [] ≡ None ∷ map Some ps → ps ≡ []
+listed_none bs [] h = refl
+listed_none bs (q ∷ ps) h =
+    let end = unsnoc (q ∷ ps) (omega arith) in
+    let both = snoc bs (None ∷ map Some end.0) None (Some end.1) (h ∙ ap (λ l. None ∷ map Some l) end.2 ∙ ap (λ os. None ∷ os) (map-append (λ q. Some q) end.0 (end.1 ∷ []))) in
+    absurd (false≢true (ap is_some both.1))
+
+-- what is left is listed, without the last node
+pub listed_fewer : (ps qs : List NodePtr) (xs ys : List Node) (w : Node) (p : NodePtr) (last : Option NodePtr) → ps ≡ qs ++ p ∷ [] → xs ≡ ys ++ w ∷ [] → last ≡ before_of w
+    → befores_of xs ++ Some p ∷ [] ≡ None ∷ map Some ps → befores_of ys ++ last ∷ [] ≡ None ∷ map Some qs
+listed_fewer ps qs xs ys w p last e f n h =
+    ap (λ o. befores_of ys ++ o ∷ []) n
+    ∙ (snoc (befores_of ys ++ before_of w ∷ []) (None ∷ map Some qs) (Some p) (Some p)
+    (ap (λ bs. bs ++ Some p ∷ []) (sym (ap befores_of f ∙ map-append before_of ys (w ∷ []))) ∙ h ∙ ap (λ l. None ∷ map Some l) e ∙ ap (λ os. None ∷ os) (map-append (λ q. Some q) qs (p ∷ [])))).0

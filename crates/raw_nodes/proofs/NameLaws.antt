@@ -1,5 +1,6 @@
 -- What a name says of the node that it leads to, and what a change of the node does.
 use Rattle.std.proofs.Common.{◌≡◌, ℕ, ◌<◌, ◌+◌, true, false, List, [], ◌∷◌, ◌++◌, length, get_or, set, map, refl, sym, ap, ◌∙◌, subst, arith}
+use lib.ListN.{length-set}
 use mathlib.Core.Bool.{false≢true}
 use Rattle.std.specs.Prelude.{IfSome, IsSome, Option, None, Some, is_some}
 use Rattle.segments.specs.Columns.{LineContent}
@@ -9,7 +10,7 @@ use Rattle.std.specs.FinMap.{get, insert, remove}
 use Rattle.std.specs.List.{range_with_len, sum_by}
 use Rattle.std.proofs.lemmas.List.{map-append, map-set, length-map, get_or-map}
 use Rattle.raw_nodes.specs.Cells.{IsPlace, node_at, number_in}
-use Rattle.raw_nodes.specs.Chain.{IsChain, flag_of, marks_of, nexts_of, numbers_of, room_in, room_of}
+use Rattle.raw_nodes.specs.Chain.{IsChain, before_of, befores_of, flag_of, marks_of, nexts_of, numbers_of, room_in, room_of}
 use Rattle.raw_nodes.specs.HeldLending.{IsLine, IsRoom, RoomBox}
 use Rattle.raw_nodes.specs.Links.{link_name}
 use Rattle.raw_nodes.specs.Records.{Record, cell_of, cells_of, if_used, inner_record, is_used, nones, line_in, record_in, record_of, records_in, records_of, update, updated, with_child, with_line, with_parent, with_sum}
@@ -19,7 +20,7 @@ use Rattle.raw_nodes.specs.declared.nodes.Held.{Held}
 use Rattle.raw_nodes.specs.declared.nodes.Held.TheVariants.{Spare, Line, Inner}
 use Rattle.raw_nodes.specs.declared.nodes.Node.{Node}
 use Rattle.raw_nodes.specs.declared.nodes.Room.{Room}
-use Rattle.raw_nodes.proofs.ChainLaws.{cell_is, given_cells, made_cells, is_used_at, numbered_set, room_moved, used_chain, used_count}
+use Rattle.raw_nodes.proofs.ChainLaws.{cell_is, given_cells, made_cells, is_used_at, listed_set, numbered_set, room_moved, used_chain, used_count}
 use Rattle.raw_nodes.proofs.HeapSteps.{any_default}
 use Rattle.raw_nodes.proofs.RowLaws.{get_or-nones}
 use Rattle.raw_nodes.proofs.MapLaws.{get_record, place_of_name, records_grown, records_set, records_unset}
@@ -96,6 +97,12 @@ module _ (ps : List NodePtr) (xs : List Node) (p : NodePtr) (x w : Node) (paired
 
   pub count_kept : (n : ℕ) → n ≡ sum_by flag_of xs → n ≡ sum_by flag_of (set xs j w)
   count_kept n h = used_count xs j x w n (name_within ps xs p x paired named e) e (in_use ps xs p x paired named e) v h
+
+  pub listed_kept : (last : Option NodePtr) → before_of w ≡ before_of x → befores_of xs ++ last ∷ [] ≡ None ∷ map Some ps → befores_of (set xs j w) ++ last ∷ [] ≡ None ∷ map Some ps
+  listed_kept last same h = listed_set ps xs j x w last e same h
+
+  pub whole_kept : (n : ℕ) → n ≡ length xs → n ≡ length (set xs j w)
+  whole_kept n h = h ∙ sym (length-set xs j w)
 
   pub numbers_kept : w.number ≡ x.number → numbers_of xs ≡ range_with_len 0 (length xs) → numbers_of (set xs j w) ≡ range_with_len 0 (length (set xs j w))
   numbers_kept same h = numbered_set xs j x w e same h

@@ -49,6 +49,13 @@ next_of x = link_name x.parent
 abbrev pub nexts_of : List Node → List (Option NodePtr)
 nexts_of = map next_of
 
+-- the one before, among all nodes
+abbrev pub before_of : Node → Option NodePtr
+before_of x = link_name x.before
+
+abbrev pub befores_of : List Node → List (Option NodePtr)
+befores_of = map before_of
+
 abbrev pub number_of : Node → ℕ
 number_of x = x.number
 

@@ -24,11 +24,12 @@ pub enum Held {
     Inner(Box<Room>),
 }
 
-/// A node, as it lies in memory, with its number among all. A spare's parent is the next spare, and its slot the number
-/// of those behind it.
+/// A node, as it lies in memory, with its number among all, and a link to the one before it. A spare's parent is the
+/// next spare, and its slot the number of those behind it.
 #[derive(Drop)]
 pub struct Node {
     pub parent: Link,
+    pub before: Link,
     pub slot: usize,
     pub number: usize,
     pub held: Held,

@@ -1,7 +1,7 @@
-ghost use Rattle.raw_nodes.specs.Chain.{IsChain, flag_of, marks_of, nexts_of, numbers_of, room_of, rooms_for};
+ghost use Rattle.raw_nodes.specs.Chain.{IsChain, befores_of, flag_of, marks_of, nexts_of, numbers_of, room_of, rooms_for};
 ghost use Rattle.std.specs.FinMap as finite;
 ghost use Rattle.std.specs.List.{range_with_len};
-ghost use Rattle.std.specs.Prelude.{◌≡◌, ◌≢◌, ◌+◌, ◌<◌, ◌≤◌, IfSome, None, OnErr, OnOk, count_by, false, is_some, length, option_map, slice_index_or, sum_by, true, vec_capacity};
+ghost use Rattle.std.specs.Prelude.{◌≡◌, ◌≢◌, ◌+◌, ◌^◌, ◌<◌, ◌≤◌, [], ◌∷◌, ◌++◌, IfSome, None, Some, OnErr, OnOk, count_by, false, is_some, length, map, option_map, slice_index_or, sum_by, true, vec_capacity};
 
 use crate::heap::Heap;
 use crate::names::{Link, NodePtr};
@@ -20,13 +20,16 @@ use toggle_sums::Sums;
 pub struct NodeStore<C: Ticks> {
     alloc: Global,
     heap: Heap,
-    names: Vec<NodePtr>,
+    last: Option<NodePtr>,
+    count: usize,
     first_spare: Option<NodePtr>,
     spares: usize,
     rooms: Vec<Box<Room>>,
     room_count: usize,
     counter: PhantomData<C>,
-    ghost listed: { names.items ≡ heap.places },
+    ghost listed: { befores_of heap.values ++ last ∷ [] ≡ None ∷ map Some heap.places },
+    ghost whole: { count ≡ length heap.values },
+    ghost small: { count < 2 ^ 64 },
     ghost chained: { ∥ IsChain heap.places (marks_of heap.values) (nexts_of heap.values) spares first_spare ∥₁ },
     ghost counted: { spares ≡ sum_by flag_of heap.values },
     ghost numbered: { numbers_of heap.values ≡ range_with_len 0 (length heap.values) },
@@ -49,7 +52,8 @@ impl<C: Ticks> NodeStore<C> {
         NodeStore {
             alloc,
             heap: Heap::new(),
-            names: Vec::new(alloc),
+            last: None,
+            count: 0,
             first_spare: None,
             spares: 0,
             rooms: Vec::new(alloc),
@@ -214,16 +218,20 @@ impl<C: Ticks> NodeStore<C> {
         ensures records { records self.new ≡ records self.old }
         ensures rooms { rooms self.new ≡ rooms self.old }
     {
-        self.names.reserve(1)?;
+        if self.count == usize::MAX {
+            return Err(AllocError);
+        }
         let node = Node {
             parent: Link::of(self.first_spare),
+            before: Link::of(self.last),
             slot: self.spares,
-            number: self.names.len(),
+            number: self.count,
             held: Held::Spare,
         };
         let place = Box::new(self.alloc, node)?;
         let name = self.heap.adopt(Parts::of(place));
-        self.names.push_reserved(name);
+        self.last = Some(name);
+        self.count += 1;
         self.first_spare = Some(name);
         self.spares += 1;
         Ok(())
@@ -288,7 +296,8 @@ impl<C: Ticks> Drop for NodeStore<C> {
         let NodeStore {
             alloc,
             mut heap,
-            mut names,
+            mut last,
+            count: _,
             first_spare: _,
             spares: _,
             rooms,
@@ -296,8 +305,10 @@ impl<C: Ticks> Drop for NodeStore<C> {
             counter: _,
         } = self;
         drop(rooms);
-        while let Some(name) = names.pop() {
-            drop(heap.release(name, alloc).into_box());
+        while let Some(name) = last {
+            let node = heap.release(name, alloc).into_box();
+            last = node.before.name();
+            drop(node);
         }
         heap.finish();
     }

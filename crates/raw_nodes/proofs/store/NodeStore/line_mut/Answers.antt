@@ -5,7 +5,7 @@ use Rattle.std.specs.Prelude.{is_some}
 use Rattle.raw_nodes.specs.Names.{records}
 use Rattle.raw_nodes.specs.declared.nodes.Node.{Node}
 use Rattle.raw_nodes.specs.Records.{line_in, record_in, with_line}
-use Rattle.raw_nodes.proofs.NameLaws.{chain_kept, count_kept, in_use, line_if, line_said, lined, name_place, name_within, no_line, numbers_kept, read_entry, rewritten, rooms_kept, same_node}
+use Rattle.raw_nodes.proofs.NameLaws.{listed_kept, whole_kept, chain_kept, count_kept, in_use, line_if, line_said, lined, name_place, name_within, no_line, numbers_kept, read_entry, rewritten, rooms_kept, same_node}
 use Rattle.raw_nodes.proofs.store.NodeStore.line_mut.Goals as goal
 
 pub node-requires : goal.node-requires
@@ -40,16 +40,22 @@ pub invariant_of-self-lent : goal.invariant_of-self-lent
 unfolding records
 invariant_of-self-lent g c = λ w.
     let a = c.args.self.now in let h = a.heap in let p = c.args.name in let x = c.node_mut.result.now in let e = c.node_mut.ensures.value in (
-      a.listed,
+      listed_kept h.places h.values p x _ h.paired c.requires e refl a.last refl a.listed,
       (
-        chain_kept h.places h.values p x _ h.paired c.requires e refl a.spares a.first_spare a.chained,
+        whole_kept h.places h.values p x _ h.paired c.requires e refl a.count a.whole,
         (
-          count_kept h.places h.values p x _ h.paired c.requires e refl a.spares a.counted,
+          a.small,
           (
-            numbers_kept h.places h.values p x _ h.paired c.requires e refl refl a.numbered,
+            chain_kept h.places h.values p x _ h.paired c.requires e refl a.spares a.first_spare a.chained,
             (
-              rooms_kept h.places h.values p x _ h.paired c.requires e refl _ a.room_count (sym (ap room_in c.line_mut.ensures.value)) a.roomed,
-              (a.fitting, tt),
+              count_kept h.places h.values p x _ h.paired c.requires e refl a.spares a.counted,
+              (
+                numbers_kept h.places h.values p x _ h.paired c.requires e refl refl a.numbered,
+                (
+                  rooms_kept h.places h.values p x _ h.paired c.requires e refl _ a.room_count (sym (ap room_in c.line_mut.ensures.value)) a.roomed,
+                  (a.fitting, tt),
+                ),
+              ),
             ),
           ),
         ),

@@ -2,7 +2,7 @@ use Rattle.std.proofs.Common.{◌≡◌, ap, sym, refl}
 use Rattle.raw_nodes.specs.Chain.{room_in}
 use Rattle.raw_nodes.specs.Names.{records}
 use Rattle.raw_nodes.specs.Records.{with_child}
-use Rattle.raw_nodes.proofs.NameLaws.{chain_kept, count_kept, in_use, name_place, numbers_kept, rewritten, room_if, rooms_kept, told_entry, lodged}
+use Rattle.raw_nodes.proofs.NameLaws.{listed_kept, whole_kept, chain_kept, count_kept, in_use, name_place, numbers_kept, rewritten, room_if, rooms_kept, told_entry, lodged}
 use Rattle.raw_nodes.proofs.store.NodeStore.set_child.Goals as goal
 
 pub node_mut-requires : goal.node_mut-requires
@@ -20,7 +20,9 @@ unfolding records
 invariant_of-self g c =
     let a = c.args.self.now in let h = a.heap in let p = c.args.name in let named = c.requires.name.0 in let x = c.node_mut.result.now in let e = c.node_mut.ensures.value in
     record {
-      listed = a.listed;
+      listed = listed_kept h.places h.values p x _ h.paired named e refl a.last refl a.listed;
+      whole = whole_kept h.places h.values p x _ h.paired named e refl a.count a.whole;
+      small = a.small;
       chained = chain_kept h.places h.values p x _ h.paired named e refl a.spares a.first_spare a.chained;
       counted = count_kept h.places h.values p x _ h.paired named e refl a.spares a.counted;
       numbered = numbers_kept h.places h.values p x _ h.paired named e refl refl a.numbered;

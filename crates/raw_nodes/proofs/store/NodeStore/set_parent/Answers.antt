@@ -1,7 +1,7 @@
 use Rattle.std.proofs.Common.{ap, refl, ◌∙◌}
 use Rattle.raw_nodes.specs.Names.{records}
 use Rattle.raw_nodes.specs.Records.{record_in, with_parent}
-use Rattle.raw_nodes.proofs.NameLaws.{chain_kept, count_kept, in_use, name_place, numbers_kept, parented, rewritten, rooms_kept}
+use Rattle.raw_nodes.proofs.NameLaws.{listed_kept, whole_kept, chain_kept, count_kept, in_use, name_place, numbers_kept, parented, rewritten, rooms_kept}
 use Rattle.raw_nodes.proofs.store.NodeStore.set_parent.Goals as goal
 
 pub node_mut-node-requires : goal.node_mut-node-requires
@@ -14,7 +14,9 @@ invariant_of-self g c =
     let a = c.args.self.now in let h = a.heap in let p = c.args.name in let x = c.node_mut-node.result.now in let e = c.node_mut-node.ensures.value in
     let used = in_use h.places h.values p x h.paired c.requires e in
     record {
-      listed = a.listed;
+      listed = listed_kept h.places h.values p x _ h.paired c.requires e used a.last refl a.listed;
+      whole = whole_kept h.places h.values p x _ h.paired c.requires e used a.count a.whole;
+      small = a.small;
       chained = chain_kept h.places h.values p x _ h.paired c.requires e used a.spares a.first_spare a.chained;
       counted = count_kept h.places h.values p x _ h.paired c.requires e used a.spares a.counted;
       numbered = numbers_kept h.places h.values p x _ h.paired c.requires e used refl a.numbered;
