@@ -28,6 +28,18 @@ fn two_names(rt: HostRuntime) -> Result<(), Fail> {
 }
 
 #[test]
+fn after_a_refusal(rt: HostRuntime) -> Result<(), Fail> {
+    let mut store: NodeStore<Steps> = NodeStore::new(rt.alloc());
+    if store.reserve(2).is_err() {
+        store.reserve(2)?;
+    }
+    let name = store.make(None);
+    store.make(None);
+    assert!(rt; store.same(name, name));
+    Ok(())
+}
+
+#[test]
 fn links(rt: HostRuntime) -> Result<(), Fail> {
     let mut store: NodeStore<Steps> = NodeStore::new(rt.alloc());
     let mut steps = Steps::new();
