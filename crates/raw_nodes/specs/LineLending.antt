@@ -16,6 +16,7 @@ pub record WroteLine {C : Type 0} {G : Ghosts C} (s t : NodeStore C G) (p : Node
   pub spares : spares t ≡ spares s
   pub rooms : rooms t ≡ rooms s
 
-abbrev pub LendsLine : (R : RattleType) (G : Ghosts R.Denot) → MutBor (NodeStore R.Denot G) → NodePtr → Option (MutBor LineContent) → Fml
+abbrev pub LendsLine : (R : RattleType) (G : Ghosts R.Denot) → MutBor (NodeStore R.Denot G) → NodePtr
+    → Option (MutBor LineContent) → Fml
 LendsLine R G s p r =
     LendsSo (the_row R G) line.the_row s r (λ n w. OnSome r (WroteLine s.now n p w)) (λ n. n ≡ s.now)

@@ -1,5 +1,5 @@
 -- The words of a store's contracts.
-use Rattle.std.specs.Prelude.{◌≡◌, ℕ, Option, None, IfSome, IsSome, length}
+use Rattle.std.specs.Prelude.{◌≡◌, ℕ, ◌+◌, Option, None, IfSome, IsSome, length}
 use Rattle.std.specs.FinMap as finite
 use Rattle.raw_nodes.specs.Records.{Record, Records, records_in}
 use Rattle.raw_nodes.specs.declared.names.NodePtr.{NodePtr}
@@ -18,6 +18,10 @@ module _ {C : Type 0} {G : Ghosts C} where
   -- how many rooms for children there are beside them
   abbrev pub rooms : NodeStore C G → ℕ
   rooms s = length s.rooms.items
+
+  -- how many nodes there are, spares and those in use
+  abbrev pub nodes : NodeStore C G → ℕ
+  nodes s = spares s + finite.len (records s)
 
   -- the record under a name
   abbrev pub entry : NodeStore C G → NodePtr → Option Record

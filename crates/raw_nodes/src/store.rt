@@ -39,7 +39,7 @@ pub struct NodeStore<C: Ticks> {
 
 impl<C: Ticks> NodeStore<C> {
     ghost use Rattle.raw_nodes.specs.LineLending.{LendsLine};
-    ghost use Rattle.raw_nodes.specs.Names.{IsInner, IsName, entry, records, rooms, spares};
+    ghost use Rattle.raw_nodes.specs.Names.{IsInner, IsName, entry, nodes, records, rooms, spares};
     ghost use Rattle.raw_nodes.specs.Records.{blank, update, with_child, with_parent, with_sum};
     ghost use Rattle.std.specs.Borrow.{sem};
 
@@ -259,7 +259,7 @@ impl<C: Ticks> NodeStore<C> {
         ensures records { records self.new ≡ finite.insert (records self.old) result (blank line) }
         ensures spares { spares self.new + 1 ≡ spares self.old }
         ensures rooms { rooms self.new + rooms_for line ≡ rooms self.old }
-        ensures total { spares self.new + finite.len (records self.new) ≡ spares self.old + finite.len (records self.old) }
+        ensures total { nodes self.new ≡ nodes self.old }
     {
         let name = self.first_spare.unwrap();
         let held = hold(&mut self.rooms, line);
@@ -279,7 +279,7 @@ impl<C: Ticks> NodeStore<C> {
         ensures records { records self.new ≡ finite.remove (records self.old) name }
         ensures spares { spares self.new ≡ spares self.old + 1 }
         ensures rooms { rooms self.new ≡ rooms self.old + rooms_for result }
-        ensures total { spares self.new + finite.len (records self.new) ≡ spares self.old + finite.len (records self.old) }
+        ensures total { nodes self.new ≡ nodes self.old }
     {
         let node = self.heap.node_mut(name);
         let held = std::mem::replace(&mut node.held, Held::Spare);
