@@ -1,0 +1,94 @@
+ghost use Rattle.raw_nodes.specs.Names.{rooms, spares};
+ghost use Rattle.std.specs.Prelude.{◌≤◌};
+
+use raw_nodes::{NodeStore, Steps};
+use segments::Line;
+use std::test::Fail;
+
+/// Two nodes are made and given back, the first one first: the next two come in the other order.
+fn turn(store: &mut NodeStore<Steps>)
+    requires spares { 2 ≤ spares store.old }
+    requires rooms { 2 ≤ rooms store.old }
+{
+    let first = store.make(None);
+    let second = store.make(None);
+    store.give_back(first);
+    store.give_back(second);
+}
+
+#[test]
+fn two_names(rt: HostRuntime) -> Result<(), Fail> {
+    let mut store: NodeStore<Steps> = NodeStore::new(rt.alloc());
+    store.reserve(2)?;
+    let first = store.make(None);
+    let second = store.make(None);
+    assert!(rt; !store.same(first, second));
+    assert!(rt; store.same(second, second));
+    Ok(())
+}
+
+#[test]
+fn after_a_refusal(rt: HostRuntime) -> Result<(), Fail> {
+    let mut store: NodeStore<Steps> = NodeStore::new(rt.alloc());
+    if store.reserve(2).is_err() {
+        store.reserve(2)?;
+    }
+    let name = store.make(None);
+    store.make(None);
+    assert!(rt; store.same(name, name));
+    Ok(())
+}
+
+#[test]
+fn links(rt: HostRuntime) -> Result<(), Fail> {
+    let mut store: NodeStore<Steps> = NodeStore::new(rt.alloc());
+    let mut steps = Steps::new();
+    store.reserve(2)?;
+    let below = store.make(None);
+    let top = store.make(None);
+    assert!(rt; store.parent(below, &mut steps).is_none());
+    store.set_child(top, 3, Some(below));
+    store.set_parent(below, Some(top), 3);
+    assert_eq!(rt; store.slot(below), 3);
+    assert!(rt; store.parent(below, &mut steps).is_some());
+    assert_eq!(rt; store.children(top), 1);
+    assert!(rt; store.child(top, 3, &mut steps).is_some());
+    assert!(rt; store.child(top, 2, &mut steps).is_none());
+    Ok(())
+}
+
+#[test]
+fn lines(rt: HostRuntime) -> Result<(), Fail> {
+    let mut store: NodeStore<Steps> = NodeStore::new(rt.alloc());
+    store.reserve_lines(1)?;
+    let name = store.make(Some(Line::new(rt.alloc(), "a line\n")?));
+    assert!(rt; store.line(name).is_some());
+    let given = store.give_back(name);
+    assert!(rt; given.is_some_and(|line| line.len() == 7));
+    Ok(())
+}
+
+#[test]
+fn a_line_to_change(rt: HostRuntime) -> Result<(), Fail> {
+    let mut store: NodeStore<Steps> = NodeStore::new(rt.alloc());
+    store.reserve_lines(1)?;
+    let name = store.make(Some(Line::new(rt.alloc(), "a line\n")?));
+    assert!(rt; store.line_mut(name).is_some_and(|line| line.len() == 7));
+    Ok(())
+}
+
+#[test]
+fn a_thousand(rt: HostRuntime) -> Result<(), Fail> {
+    let mut store: NodeStore<Steps> = NodeStore::new(rt.alloc());
+    for _ in 0..1000 {
+        store.reserve(2)?;
+        turn(&mut store);
+    }
+    let mut left: usize = 1000;
+    store.reserve(left)?;
+    while left > 0 {
+        store.make(None);
+        left -= 1;
+    }
+    Ok(())
+}

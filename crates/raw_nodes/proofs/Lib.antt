@@ -1,0 +1,12 @@
+pub mod AsBox
+pub mod ChainLaws
+pub mod HeapApart
+pub mod HeapShared
+pub mod HeapSteps
+pub mod LinkLaws
+pub mod MapLaws
+pub mod NameLaws
+pub mod PlaceLaws
+pub mod RowLaws
+pub mod UpdateLaws
+pub mod WalkSteps

@@ -1,0 +1,10 @@
+use Rattle.std.proofs.Common.{◌≡◌, [], ◌∷◌, ◌++◌, length, map}
+use Rattle.std.specs.Prelude.{None, Some}
+use Rattle.raw_nodes.specs.Chain.{befores_of}
+use Rattle.raw_nodes.proofs.store.NodeStore.drop.Given as goal
+
+abbrev pub invariant-loop-last : goal.invariant-loop-last
+invariant-loop-last g l = befores_of l.heap.values ++ l.last ∷ [] ≡ None ∷ map Some l.heap.places
+
+abbrev pub decreases-loop-last : goal.decreases-loop-last
+decreases-loop-last g l = length l.heap.places

@@ -1,0 +1,14 @@
+use Rattle.std.proofs.Common.{◌≡◌, ◌≤◌, ◌-◌}
+use Rattle.raw_nodes.specs.Names.{records, rooms, spares}
+use Rattle.raw_nodes.proofs.store.NodeStore.reserve.Given as goal
+
+abbrev pub invariant-loop-self : goal.invariant-loop-self
+invariant-loop-self g l = record {
+  records : records l.self ≡ records l.fn.self;
+  reserved : l.count ≤ spares l.self;
+  more : spares l.fn.self ≤ spares l.self;
+  rooms : rooms l.fn.self ≤ rooms l.self;
+}
+
+abbrev pub decreases-loop-self : goal.decreases-loop-self
+decreases-loop-self g l = l.count - rooms l.self

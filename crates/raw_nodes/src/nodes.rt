@@ -1,0 +1,144 @@
+ghost use Rattle.raw_nodes.specs.Chain.{room_in, rooms_for};
+ghost use Rattle.raw_nodes.specs.Links.{link_name};
+ghost use Rattle.raw_nodes.specs.Records.{blank, is_used, line_in, nones, record_in};
+ghost use Rattle.std.specs.Prelude.{◌≡◌, ◌+◌, ◌<◌, ◌≤◌, None, count_by, is_some, length, map, slice_index_or, true, vec_capacity};
+ghost use Rattle.toggle_sums.specs.Counts.{no_text};
+
+use crate::names::{Link, NodePtr};
+use segments::Line;
+use text_model::WORDS;
+use toggle_sums::Sums;
+
+/// The children of an inner node, and what is counted of the text below it.
+#[derive(Drop)]
+pub struct Room {
+    pub children: [Link; 12],
+    pub sum: Sums<WORDS>,
+}
+
+/// What a node is.
+#[derive(Drop)]
+pub enum Held {
+    Spare,
+    Line(Line),
+    Inner(Box<Room>),
+}
+
+/// A node, as it lies in memory, with its number among all, and a link to the one before it. A spare's parent is the
+/// next spare, and its slot the number of those behind it.
+#[derive(Drop)]
+pub struct Node {
+    pub parent: Link,
+    pub before: Link,
+    pub slot: usize,
+    pub number: usize,
+    pub held: Held,
+}
+
+impl Room {
+    pub fn empty() -> Room
+        ensures children { map link_name result.children ≡ nones }
+        ensures sum { result.sum ≡ no_text }
+    {
+        Room {
+            children: [Link::none(); 12],
+            sum: Sums::counting(0, 0, 0),
+        }
+    }
+
+    /// The child in a slot.
+    pub fn child(&self, i: usize) -> Option<NodePtr>
+        requires { i < 12 }
+        ensures { result ≡ slice_index_or (map link_name self.now.children) i None }
+    {
+        self.children[i].name()
+    }
+
+    /// How many children there are.
+    pub fn count(&self) -> usize
+        ensures { result ≡ count_by is_some (map link_name self.now.children) }
+    {
+        self.children.iter().filter(|link| link.is_name()).count()
+    }
+}
+
+impl Held {
+    ghost use Rattle.raw_nodes.specs.HeldLending.{IsLine, IsRoom, LendsBox, LendsText};
+    ghost use Rattle.std.specs.Borrow.{sem};
+    ghost use Rattle.raw_nodes.specs.declared.nodes.Held.TheVariants as held;
+
+    pub fn is_line(&self) -> bool
+        ensures { result ≡ is_some (line_in self.now) }
+    {
+        matches!(self, Held::Line(_))
+    }
+
+    /// The line that a node is.
+    pub fn line_mut(&mut self) -> &mut Line
+        requires { IsLine self.old }
+        ensures* writes_back { sem 𝓛 (LendsText self.entry result) }
+        ensures value { self.old ≡ held.Line result.now }
+    {
+        match self {
+            Held::Line(line) => line,
+            _ => unreachable!(),
+        }
+    }
+
+    /// The room of an inner node.
+    pub fn room_mut(&mut self) -> &mut Box<Room>
+        requires { IsRoom self.old }
+        ensures* writes_back { sem 𝓛 (LendsBox self.entry result) }
+        ensures value { self.old ≡ held.Inner result.now }
+    {
+        match self {
+            Held::Inner(room) => room,
+            _ => unreachable!(),
+        }
+    }
+}
+
+/// A room without children, from the free ones.
+fn take_room(rooms: &mut Vec<Box<Room>>) -> Box<Room>
+    requires { 1 ≤ length rooms.old.items }
+    ensures children { map link_name result.value.children ≡ nones }
+    ensures sum { result.value.sum ≡ no_text }
+    ensures rooms { length rooms.new.items + 1 ≡ length rooms.old.items }
+    ensures capacity { vec_capacity rooms.new ≡ vec_capacity rooms.old }
+{
+    let mut room = rooms.pop().unwrap();
+    *room = Room::empty();
+    room
+}
+
+/// What a new node is: this line, or an inner node in one of the free rooms.
+pub fn hold(rooms: &mut Vec<Box<Room>>, line: Option<Line>) -> Held
+    requires { rooms_for line ≤ length rooms.old.items }
+    ensures says { record_in result None 0 ≡ blank line }
+    ensures used { is_used result ≡ true }
+    ensures room { room_in result ≡ rooms_for line }
+    ensures rooms { length rooms.new.items + rooms_for line ≡ length rooms.old.items }
+    ensures capacity { vec_capacity rooms.new ≡ vec_capacity rooms.old }
+{
+    match line {
+        Some(line) => Held::Line(line),
+        None => Held::Inner(take_room(rooms)),
+    }
+}
+
+/// Hands out the line of what was a node, or puts its room to the free ones.
+pub fn put_back(rooms: &mut Vec<Box<Room>>, held: Held) -> Option<Line>
+    requires { length rooms.old.items + room_in held ≤ vec_capacity rooms.old }
+    ensures line { result ≡ line_in held }
+    ensures rooms { length rooms.new.items ≡ length rooms.old.items + room_in held }
+    ensures capacity { vec_capacity rooms.new ≡ vec_capacity rooms.old }
+{
+    match held {
+        Held::Line(line) => Some(line),
+        Held::Inner(room) => {
+            rooms.push_reserved(room);
+            None
+        }
+        Held::Spare => None,
+    }
+}

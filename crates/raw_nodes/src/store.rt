@@ -1,0 +1,315 @@
+ghost use Rattle.raw_nodes.specs.Chain.{IsChain, befores_of, flag_of, marks_of, nexts_of, numbers_of, room_of, rooms_for};
+ghost use Rattle.std.specs.FinMap as finite;
+ghost use Rattle.std.specs.List.{range_with_len};
+ghost use Rattle.std.specs.Prelude.{◌≡◌, ◌≢◌, ◌+◌, ◌^◌, ◌<◌, ◌≤◌, [], ◌∷◌, ◌++◌, IfSome, None, Some, OnErr, OnOk, count_by, false, is_some, length, map, option_map, slice_index_or, sum_by, true, vec_capacity};
+
+use crate::heap::Heap;
+use crate::names::{Link, NodePtr};
+use crate::nodes::{Held, Node, Room, hold, put_back};
+use crate::parts::Parts;
+use crate::ticks::Ticks;
+use segments::Line;
+use std::alloc::{AllocError, Global};
+use std::marker::PhantomData;
+use text_model::WORDS;
+use toggle_sums::Sums;
+
+/// Nodes in memory of their own: a finite map from names to records, and a number of spares. A node is a line, or it is
+/// an inner node, which has a sum and up to 12 children. Both become of spares, and an inner node takes a room for its
+/// children besides. Links count no steps but by `child`, `parent` and `sum`.
+pub struct NodeStore<C: Ticks> {
+    alloc: Global,
+    heap: Heap,
+    last: Option<NodePtr>,
+    count: usize,
+    first_spare: Option<NodePtr>,
+    spares: usize,
+    rooms: Vec<Box<Room>>,
+    room_count: usize,
+    counter: PhantomData<C>,
+    ghost listed: { befores_of heap.values ++ last ∷ [] ≡ None ∷ map Some heap.places },
+    ghost whole: { count ≡ length heap.values },
+    ghost small: { count < 2 ^ 64 },
+    ghost chained: { ∥ IsChain heap.places (marks_of heap.values) (nexts_of heap.values) spares first_spare ∥₁ },
+    ghost counted: { spares ≡ sum_by flag_of heap.values },
+    ghost numbered: { numbers_of heap.values ≡ range_with_len 0 (length heap.values) },
+    ghost roomed: { length rooms.items + sum_by room_of heap.values ≡ room_count },
+    ghost fitting: { room_count ≤ vec_capacity rooms },
+}
+
+impl<C: Ticks> NodeStore<C> {
+    ghost use Rattle.raw_nodes.specs.LineLending.{LendsLine};
+    ghost use Rattle.raw_nodes.specs.Names.{IsInner, IsName, entry, nodes, records, rooms, spares};
+    ghost use Rattle.raw_nodes.specs.Records.{blank, update, with_child, with_parent, with_sum};
+    ghost use Rattle.std.specs.Borrow.{sem};
+
+    /// A store without nodes. It takes no memory.
+    pub fn new(alloc: Global) -> NodeStore<C>
+        ensures records { records result ≡ finite.empty }
+        ensures spares { spares result ≡ 0 }
+        ensures rooms { rooms result ≡ 0 }
+    {
+        NodeStore {
+            alloc,
+            heap: Heap::new(),
+            last: None,
+            count: 0,
+            first_spare: None,
+            spares: 0,
+            rooms: Vec::new(alloc),
+            room_count: 0,
+            counter: PhantomData,
+        }
+    }
+
+    /// A node's own slot number in its parent.
+    pub fn slot(&self, name: NodePtr) -> usize
+        requires { IsName self.now name }
+        ensures { IfSome (entry self.now name) (λ r. result ≡ r.slot) }
+    {
+        self.heap.node(name).slot
+    }
+
+    /// A node's parent.
+    pub fn parent(&self, name: NodePtr, ticks: &mut C) -> Option<NodePtr>
+        requires { IsName self.now name }
+        ensures value { IfSome (entry self.now name) (λ r. result ≡ r.parent) }
+        ensures tick { C.count ticks.new ≡ C.count ticks.old + 1 }
+    {
+        ticks.tick();
+        self.heap.node(name).parent.name()
+    }
+
+    /// The child in a slot.
+    pub fn child(&self, name: NodePtr, i: usize, ticks: &mut C) -> Option<NodePtr>
+        requires name { IsName self.now name }
+        requires index { i < 12 }
+        ensures value { IfSome (entry self.now name) (λ r. result ≡ slice_index_or r.children i None) }
+        ensures tick { C.count ticks.new ≡ C.count ticks.old + 1 }
+    {
+        ticks.tick();
+        match &self.heap.node(name).held {
+            Held::Inner(room) => room.child(i),
+            _ => None,
+        }
+    }
+
+    /// What is counted of the text below a node.
+    pub fn sum(&self, name: NodePtr, ticks: &mut C) -> Sums<WORDS>
+        requires { IsName self.now name }
+        ensures value { IfSome (entry self.now name) (λ r. result ≡ r.sum) }
+        ensures tick { C.count ticks.new ≡ C.count ticks.old + 1 }
+    {
+        ticks.tick();
+        match &self.heap.node(name).held {
+            Held::Line(line) => line.sum(),
+            Held::Inner(room) => room.sum,
+            Held::Spare => Sums::counting(0, 0, 0),
+        }
+    }
+
+    /// How many children there are.
+    pub fn children(&self, name: NodePtr) -> usize
+        requires { IsName self.now name }
+        ensures { IfSome (entry self.now name) (λ r. result ≡ count_by is_some r.children) }
+    {
+        match &self.heap.node(name).held {
+            Held::Inner(room) => room.count(),
+            _ => 0,
+        }
+    }
+
+    /// Whether two names are one.
+    pub fn same(&self, a: NodePtr, b: NodePtr) -> bool
+        requires names { IsName self.now a × IsName self.now b }
+        ensures yes { result ≡ true → a ≡ b }
+        ensures no { result ≡ false → a ≢ b }
+    {
+        self.heap.node(a).number == self.heap.node(b).number
+    }
+
+    /// A node's line, if it is one.
+    pub fn line(&self, name: NodePtr) -> Option<&Line>
+        requires { IsName self.now name }
+        ensures { IfSome (entry self.now name) (λ r. option_map (λ x. x.now) result ≡ r.line) }
+    {
+        match &self.heap.node(name).held {
+            Held::Line(line) => Some(line),
+            _ => None,
+        }
+    }
+
+    /// A node's line, if it is one, to be changed. What is counted of it follows.
+    pub fn line_mut(&mut self, name: NodePtr) -> Option<&mut Line>
+        requires { IsName self.old name }
+        ensures* writes_back { sem 𝓛 (LendsLine C.row C.Ticks self.entry name result) }
+        ensures value { IfSome (entry self.old name) (λ r. option_map (λ x. x.now) result ≡ r.line) }
+    {
+        if !self.heap.node(name).held.is_line() {
+            return None;
+        }
+        Some(self.heap.node_mut(name).held.line_mut())
+    }
+
+    /// Says what is counted of the text below an inner node.
+    pub fn set_sum(&mut self, name: NodePtr, sum: Sums<WORDS>)
+        requires { IsInner self.old name }
+        ensures records { records self.new ≡ update (records self.old) name (λ r. with_sum r sum) }
+        ensures spares { spares self.new ≡ spares self.old }
+        ensures rooms { rooms self.new ≡ rooms self.old }
+    {
+        self.heap.node_mut(name).held.room_mut().sum = sum;
+    }
+
+    /// Links a node to its parent, where it has a slot number, or to none.
+    pub fn set_parent(&mut self, name: NodePtr, parent: Option<NodePtr>, slot: usize)
+        requires { IsName self.old name }
+        ensures records { records self.new ≡ update (records self.old) name (λ r. with_parent r parent slot) }
+        ensures spares { spares self.new ≡ spares self.old }
+        ensures rooms { rooms self.new ≡ rooms self.old }
+    {
+        let node = self.heap.node_mut(name);
+        node.parent = Link::of(parent);
+        node.slot = slot;
+    }
+
+    /// Puts a child, or none, into a slot of an inner node.
+    pub fn set_child(&mut self, name: NodePtr, i: usize, child: Option<NodePtr>)
+        requires name { IsInner self.old name }
+        requires index { i < 12 }
+        ensures records { records self.new ≡ update (records self.old) name (λ r. with_child r i child) }
+        ensures spares { spares self.new ≡ spares self.old }
+        ensures rooms { rooms self.new ≡ rooms self.old }
+    {
+        self.heap.node_mut(name).held.room_mut().children[i] = Link::of(child);
+    }
+
+    /// Brings the spares, and the rooms beside them, to `count` at least. Fails for want of memory.
+    pub fn reserve(&mut self, count: usize) -> Result<(), AllocError>
+        ensures spares { OnOk result (count ≤ spares self.new) }
+        ensures rooms { OnOk result (count ≤ rooms self.new) }
+        ensures records { records self.new ≡ records self.old }
+        ensures more { (spares self.old ≤ spares self.new) × (rooms self.old ≤ rooms self.new) }
+    {
+        self.reserve_lines(count)?;
+        while self.rooms.len() < count {
+            self.grow_rooms()?;
+        }
+        Ok(())
+    }
+
+    /// Brings the spares to `count` at least, for nodes that are lines. Fails for want of memory.
+    pub fn reserve_lines(&mut self, count: usize) -> Result<(), AllocError>
+        ensures spares { OnOk result (count ≤ spares self.new) }
+        ensures records { records self.new ≡ records self.old }
+        ensures more { spares self.old ≤ spares self.new }
+        ensures rooms { rooms self.new ≡ rooms self.old }
+    {
+        while self.spares < count {
+            self.grow()?;
+        }
+        Ok(())
+    }
+
+    /// One more spare.
+    fn grow(&mut self) -> Result<(), AllocError>
+        ensures ok { OnOk result (spares self.new ≡ spares self.old + 1) }
+        ensures err { OnErr result (spares self.new ≡ spares self.old) }
+        ensures records { records self.new ≡ records self.old }
+        ensures rooms { rooms self.new ≡ rooms self.old }
+    {
+        if self.count == usize::MAX {
+            return Err(AllocError);
+        }
+        let node = Node {
+            parent: Link::of(self.first_spare),
+            before: Link::of(self.last),
+            slot: self.spares,
+            number: self.count,
+            held: Held::Spare,
+        };
+        let place = Box::new(self.alloc, node)?;
+        let name = self.heap.adopt(Parts::of(place));
+        self.last = Some(name);
+        self.count += 1;
+        self.first_spare = Some(name);
+        self.spares += 1;
+        Ok(())
+    }
+
+    /// One more room.
+    fn grow_rooms(&mut self) -> Result<(), AllocError>
+        ensures ok { OnOk result (rooms self.new ≡ rooms self.old + 1) }
+        ensures err { OnErr result (rooms self.new ≡ rooms self.old) }
+        ensures records { records self.new ≡ records self.old }
+        ensures spares { spares self.new ≡ spares self.old }
+    {
+        self.rooms.reserve(self.room_count - self.rooms.len() + 1)?;
+        let room = Box::new(self.alloc, Room::empty())?;
+        self.rooms.push_reserved(room);
+        self.room_count += 1;
+        Ok(())
+    }
+
+    /// A spare becomes a node: this line, or an inner node with no children, which takes a room.
+    pub fn make(&mut self, line: Option<Line>) -> NodePtr
+        requires spare { 0 < spares self.old }
+        requires room { rooms_for line ≤ rooms self.old }
+        ensures fresh { entry self.old result ≡ None }
+        ensures records { records self.new ≡ finite.insert (records self.old) result (blank line) }
+        ensures spares { spares self.new + 1 ≡ spares self.old }
+        ensures rooms { rooms self.new + rooms_for line ≡ rooms self.old }
+        ensures total { nodes self.new ≡ nodes self.old }
+    {
+        let name = self.first_spare.unwrap();
+        let held = hold(&mut self.rooms, line);
+        let node = self.heap.node_mut(name);
+        self.first_spare = node.parent.name();
+        self.spares -= 1;
+        node.parent = Link::none();
+        node.slot = 0;
+        node.held = held;
+        name
+    }
+
+    /// A node becomes a spare, and its line is handed out, if it is one. An inner node gives its room back.
+    pub fn give_back(&mut self, name: NodePtr) -> Option<Line>
+        requires { IsName self.old name }
+        ensures line { IfSome (entry self.old name) (λ r. result ≡ r.line) }
+        ensures records { records self.new ≡ finite.remove (records self.old) name }
+        ensures spares { spares self.new ≡ spares self.old + 1 }
+        ensures rooms { rooms self.new ≡ rooms self.old + rooms_for result }
+        ensures total { nodes self.new ≡ nodes self.old }
+    {
+        let node = self.heap.node_mut(name);
+        let held = std::mem::replace(&mut node.held, Held::Spare);
+        node.slot = self.spares;
+        node.parent = Link::of(self.first_spare);
+        self.first_spare = Some(name);
+        self.spares += 1;
+        put_back(&mut self.rooms, held)
+    }
+}
+
+impl<C: Ticks> Drop for NodeStore<C> {
+    fn drop(self) {
+        let NodeStore {
+            alloc,
+            mut heap,
+            mut last,
+            count: _,
+            first_spare: _,
+            spares: _,
+            rooms,
+            room_count: _,
+            counter: _,
+        } = self;
+        drop(rooms);
+        while let Some(name) = last {
+            let node = heap.release(name, alloc).into_box();
+            last = node.before.name();
+            drop(node);
+        }
+        heap.finish();
+    }
+}
