@@ -7,7 +7,9 @@
 
 PROGRAM = crates/tktext/out/tktext
 LINE_BENCH = crates/line_bench/out/line_bench
+NODE_MEMORY = crates/node_memory/out/node_memory
 SHIM = out/refuse.so
+WEIGH = out/weigh.so
 SEEDS ?= 300
 FIRST ?= 0
 SOURCES = crates.txt $(shell find crates -name '*.rt' -o -name '*.antt' | grep -v /out/)
@@ -24,15 +26,20 @@ $(SHIM): tools/refuse.c
 	mkdir -p out
 	cc -shared -fPIC -O1 -o $@ $<
 
-# `rt ci` puts back an out/ that was there before it, so an old program is taken away first.
-test: $(SHIM)
-	rm -rf crates/tktext/out
+$(WEIGH): tools/weigh.c
+	mkdir -p out
+	cc -shared -fPIC -O1 -o $@ $<
+
+# `rt ci` puts back an out/ that was there before it, so old programs are taken away first.
+test: $(SHIM) $(WEIGH)
+	rm -rf crates/tktext/out crates/node_memory/out
 	python3 tools/total.py 'python3 tools/gate.py' \
 	  'python3 tools/selftest.py' \
 	  'python3 tools/fuzz.py --program $(PROGRAM) --seeds 300' \
 	  'python3 tools/refusals.py --program $(PROGRAM) --shim $(SHIM)' \
 	  'python3 tools/idle.py --program $(PROGRAM)' \
-	  'python3 tools/devices.py --program $(PROGRAM)'
+	  'python3 tools/devices.py --program $(PROGRAM)' \
+	  'python3 tools/memory.py --program $(NODE_MEMORY) --shim $(WEIGH)'
 
 fuzz: $(PROGRAM)
 	python3 tools/fuzz.py --program $(PROGRAM) --seeds $(SEEDS) --first $(FIRST)
