@@ -127,6 +127,6 @@ pub toggled-makes : (before behind old : List LineContent) (line new : LineConte
 toggled-makes before behind old line new offset column slots old_is place inside new_is = record {
   rows = λ rows. subst (λ x. AreRows (before ++ x ∷ behind)) (sym new_is) (toggled-rows column slots before behind line (subst AreRows (sym old_is) rows));
   whole =
-    ap (λ x. whole (before ++ x ∷ behind)) new_is ∙ toggled-whole column slots before behind line inside
-    ∙ ap₂ (λ n xs. with_toggled n slots (whole xs)) (sym place) old_is;
+      ap (λ x. whole (before ++ x ∷ behind)) new_is ∙ toggled-whole column slots before behind line inside
+      ∙ ap₂ (λ n xs. with_toggled n slots (whole xs)) (sym place) old_is;
 }
