@@ -1,6 +1,8 @@
 pub mod CountRows
 pub mod MadeLaws
 pub mod MarkRows
+pub mod NewlineRows
+pub mod PlaceRows
 pub mod SlotLaws
 pub mod StepLaws
 pub mod TagLaws

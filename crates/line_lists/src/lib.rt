@@ -4,5 +4,6 @@
 pub mod laws;
 mod line_vec;
 mod lists;
+mod queries;
 
 pub use lists::LineList;
