@@ -1,8 +1,12 @@
 pub mod CountRows
+pub mod LineStarts
 pub mod MadeLaws
+pub mod MarkPlaces
 pub mod MarkRows
+pub mod NearMarks
 pub mod NewlineRows
 pub mod PlaceRows
+pub mod SearchRows
 pub mod SlotLaws
 pub mod StepLaws
 pub mod TagLaws

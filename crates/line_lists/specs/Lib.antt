@@ -1,4 +1,5 @@
 pub mod Edits
 pub mod Lists
+pub mod Places
 pub mod Texts
 pub mod Toggling

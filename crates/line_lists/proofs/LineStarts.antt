@@ -1,0 +1,49 @@
+-- Where the lines in a row begin.
+use Rattle.std.proofs.Common.{◌≡◌, ℕ, zero, suc, ◌+◌, ◌<◌, ◌≤◌, List, [], ◌∷◌, Some, length, take, get_or, refl, sym, ap, subst, ◌∙◌, arith, length-append}
+use Rattle.std.specs.Prelude.{IfSome, slice_get}
+use Rattle.std.proofs.lemmas.List.{take_all}
+use Rattle.std.proofs.lemmas.Option.{slice_get-get_or}
+use Rattle.segments.specs.Columns.{LineContent, plain_line}
+use Rattle.line_lists.specs.Places.{IsAt}
+use Rattle.line_lists.specs.Texts.{whole}
+use Rattle.line_lists.proofs.SearchRows.{line_at}
+
+abbrev pub start_of : List LineContent → ℕ → ℕ
+start_of lines k = length (whole (take k lines)).columns
+
+abbrev pub length_at : List LineContent → ℕ → ℕ
+length_at lines k = length (line_at lines k).columns
+
+pub there : (lines : List LineContent) (k : ℕ) → k < length lines → slice_get lines k ≡ Some (line_at lines k)
+there lines k within = slice_get-get_or lines k (plain_line []) within
+
+pub start-more : (line : LineContent) (lines : List LineContent) (k : ℕ) → start_of (line ∷ lines) (suc k) ≡ length line.columns + start_of lines k
+start-more line lines k = length-append line.columns (whole (take k lines)).columns
+
+pub start-next : (lines : List LineContent) (k : ℕ) → k < length lines → start_of lines (suc k) ≡ start_of lines k + length_at lines k
+start-next [] k within = absurd (omega arith)
+start-next (line ∷ lines) zero within = start-more line lines 0 ∙ (let same : length line.columns + 0 ≡ 0 + length line.columns = omega arith in same)
+start-next (line ∷ lines) (suc k) within = let small : k < length lines = omega arith in omega (arith, start-more line lines (suc k), start-more line lines k, start-next lines k small)
+
+pub start-rises : (lines : List LineContent) (j k : ℕ) → j ≤ k → start_of lines j ≤ start_of lines k
+start-rises lines zero k ordered = omega arith
+start-rises [] (suc j) zero ordered = omega arith
+start-rises [] (suc j) (suc k) ordered = omega arith
+start-rises (line ∷ lines) (suc j) zero ordered = absurd (omega arith)
+start-rises (line ∷ lines) (suc j) (suc k) ordered = let less : j ≤ k = omega arith in omega (arith, start-more line lines j, start-more line lines k, start-rises lines j k less)
+
+pub start-all : (lines : List LineContent) → start_of lines (length lines) ≡ length (whole lines).columns
+start-all lines = ap (λ part. length (whole part).columns) (take_all (length lines) lines (omega arith))
+
+-- a line before another ends before it
+pub start-before : (lines : List LineContent) (j k : ℕ) → j < k → k ≤ length lines → start_of lines j + length_at lines j ≤ start_of lines k
+start-before lines j k before within = let small : j < length lines = omega arith in let less : suc j ≤ k = omega arith in omega (arith, start-next lines j small, start-rises lines (suc j) k less)
+
+-- where the line isn't the last, the offset is before the next one
+pub at-inside : (lines : List LineContent) (offset k column : ℕ) → IsAt lines offset k column → suc k < length lines → column < length_at lines k
+at-inside lines offset k column at more = subst (λ found. IfSome found (λ (here : LineContent). column < length here.columns)) (there lines k at.within) (at.inside more)
+
+pub at-before : (lines : List LineContent) (offset k column j : ℕ) → IsAt lines offset k column → k < j → j < length lines → offset < start_of lines j
+at-before lines offset k column j at behind within =
+    let more : suc k < length lines = omega arith in let less : j ≤ length lines = omega arith in
+    omega (arith, at.behind, at-inside lines offset k column at more, start-before lines k j behind less)
