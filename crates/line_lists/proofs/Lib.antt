@@ -3,6 +3,7 @@ pub mod LineStarts
 pub mod MadeLaws
 pub mod MarkPlaces
 pub mod MarkRows
+pub mod MarksAtRows
 pub mod NearMarks
 pub mod NewlineRows
 pub mod PlaceRows

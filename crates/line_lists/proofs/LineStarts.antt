@@ -1,9 +1,10 @@
 -- Where the lines in a row begin.
-use Rattle.std.proofs.Common.{◌≡◌, ℕ, zero, suc, ◌+◌, ◌<◌, ◌≤◌, List, [], ◌∷◌, Some, length, take, get_or, refl, sym, ap, subst, ◌∙◌, arith, length-append}
+use Rattle.std.proofs.Common.{◌≡◌, ℕ, zero, suc, ◌+◌, ◌-◌, ◌<◌, ◌≤◌, List, [], ◌∷◌, Some, length, take, get_or, refl, sym, ap, subst, ◌∙◌, arith, length-append}
 use Rattle.std.specs.Prelude.{IfSome, slice_get}
 use Rattle.std.proofs.lemmas.List.{take_all}
-use Rattle.std.proofs.lemmas.Option.{slice_get-get_or}
+use Rattle.std.proofs.lemmas.Option.{get_or_from_slice_get, slice_get-get_or}
 use Rattle.segments.specs.Columns.{LineContent, plain_line}
+use Rattle.line_lists.specs.Lists.{Holds}
 use Rattle.line_lists.specs.Places.{IsAt}
 use Rattle.line_lists.specs.Texts.{whole}
 use Rattle.line_lists.proofs.SearchRows.{line_at}
@@ -34,6 +35,33 @@ start-rises (line ∷ lines) (suc j) (suc k) ordered = let less : j ≤ k = omeg
 
 pub start-all : (lines : List LineContent) → start_of lines (length lines) ≡ length (whole lines).columns
 start-all lines = ap (λ part. length (whole part).columns) (take_all (length lines) lines (omega arith))
+
+-- the line that is lent
+pub lent : (lines : List LineContent) (k : ℕ) (line : LineContent) → slice_get lines k ≡ Some line → line_at lines k ≡ line
+lent lines k line is = get_or_from_slice_get lines k line (plain_line []) is
+
+pub lent-within : (lines : List LineContent) (k column : ℕ) (line : LineContent) → slice_get lines k ≡ Some line → column ≤ length line.columns
+    → IfSome (slice_get lines k) (λ (here : LineContent). column ≤ length here.columns)
+lent-within lines k column line is within = subst (λ found. IfSome found (λ (here : LineContent). column ≤ length here.columns)) (sym is) within
+
+-- a column of a line lies in the text
+pub column-within : (lines : List LineContent) (k column : ℕ) → k < length lines → IfSome (slice_get lines k) (λ (here : LineContent). column ≤ length here.columns)
+    → start_of lines k + column ≤ length (whole lines).columns
+column-within lines k column within inside =
+    let small : column ≤ length_at lines k = subst (λ found. IfSome found (λ (here : LineContent). column ≤ length here.columns)) (there lines k within) inside in
+    let most : suc k ≤ length lines = omega arith in
+    omega (arith, small, start-next lines k within, start-rises lines (suc k) (length lines) most, start-all lines)
+
+-- from the end of the text on an offset is counted in the last line
+pub at-end : (lines : List LineContent) (offset last start : ℕ) → 0 < length lines → last ≡ length lines - 1 → start ≡ start_of lines last → start ≤ offset → IsAt lines offset last (offset - start)
+at-end lines offset last start some is starts behind = record {
+  behind = omega (arith, starts);
+  within = omega (arith, is);
+  inside = λ more. absurd (omega (arith, is, more));
+}
+
+pub at-held : (lines : List LineContent) (offset k column : ℕ) → Holds lines offset k column → IsAt lines offset k column
+at-held lines offset k column holds = record { behind = holds.behind; within = holds.within; inside = λ more. holds.inside }
 
 -- a line before another ends before it
 pub start-before : (lines : List LineContent) (j k : ℕ) → j < k → k ≤ length lines → start_of lines j + length_at lines j ≤ start_of lines k

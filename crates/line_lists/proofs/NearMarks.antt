@@ -35,7 +35,7 @@ NonePrevious at marks = (number : ℕ) (place : Place) → finite.get marks numb
 same_offset : (x y : ℕ) → Some x ≡ Some y → x ≡ y
 same_offset x y same = cc
 
-if_some : {A : Type 0} (P : A → Type 0) (found : Option A) (x : A) → found ≡ Some x → IfSome found P → P x
+pub if_some : {A : Type 0} (P : A → Type 0) (found : Option A) (x : A) → found ≡ Some x → IfSome found P → P x
 if_some P found x is holds = subst (λ o. IfSome o P) is holds
 
 pub next-of : (at : ℕ) (marks : Marks) (n : ℕ) → next_mark at marks ≡ Some n → Next at marks n
@@ -110,7 +110,7 @@ none-previous-is at marks none = none_previous at marks (previous_mark at marks)
 
 -- ---- in lines in a row
 -- a number is below another, the same, or above it
-three_ways : {A : Type 0} (j k : ℕ) → (j < k → A) → (j ≡ k → A) → (k < j → A) → A
+pub three_ways : {A : Type 0} (j k : ℕ) → (j < k → A) → (j ≡ k → A) → (k < j → A) → A
 three_ways j k less same more = elim (cases_lt j k) [
     | inl before ↦ less before
     | inr behind ↦ elim (cases_lt k j) [
@@ -125,7 +125,7 @@ module _ (lines : List LineContent) (rows : AreRows lines) where
   offset_in number place k inner stands = let same = ap (λ (p : Place). p.offset) stands.at in omega (arith, same)
 
   -- what stands in a line before another stands before its start, and what stands in one behind at its start or behind it
-  stands-before : (number : ℕ) (place : Place) (j : ℕ) (inner : Place) (k : ℕ) → InLine lines number place j inner → j < k → k < length lines → place.offset < start_of lines k
+  pub stands-before : (number : ℕ) (place : Place) (j : ℕ) (inner : Place) (k : ℕ) → InLine lines number place j inner → j < k → k < length lines → place.offset < start_of lines k
   stands-before number place j inner k stands less within =
       let last : suc j < length lines = omega arith in
       let most : k ≤ length lines = omega arith in
@@ -205,7 +205,7 @@ module _ (lines : List LineContent) (rows : AreRows lines) where
         omega (arith, starts, here, at.behind, none-next-of column (line_at lines k).marks none number inner (inner_is i k number inner same stands.is)))
         (λ more. absurd (has-none (line_at lines i) number inner (free i (omega (arith, more)) stands.within) stands.is)))
 
-    behind_at : (number : ℕ) (place : Place) (i : ℕ) (inner : Place) → InLine lines number place i inner → k < i → offset < place.offset
+    pub behind_at : (number : ℕ) (place : Place) (i : ℕ) (inner : Place) → InLine lines number place i inner → k < i → offset < place.offset
     behind_at number place i inner stands more =
         let last : suc k < length lines = omega (arith, stands.within, more) in
         omega (arith, stands-behind number place i inner k stands more, at.behind, at-inside lines offset k column at last)

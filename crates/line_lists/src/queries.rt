@@ -1,13 +1,16 @@
 //! The queries of a text over any list of its lines: sums say where a line stands, the rest is asked of that line.
 
-ghost use Rattle.std.specs.Prelude.{◌≡◌, ◌<◌, ◌≤◌, length, slice_get, Some};
+ghost use Rattle.std.specs.Prelude.{◌≡◌, ◌+◌, ◌<◌, ◌≤◌, length, take, slice_get, Some, IfSome};
+ghost use Rattle.std.specs.FinMap as finite;
 ghost use Rattle.text_model.specs.Content.{characters, flags, slot_sets};
 ghost use Rattle.text_model.specs.Lines.{lines, line_of, line_start};
+ghost use Rattle.text_model.specs.MarkOrder.{marks_at, next_mark, previous_mark};
 ghost use Rattle.text_model.specs.TagBits.{slot_count};
-ghost use Rattle.line_lists.specs.Texts.{content_of};
+ghost use Rattle.line_lists.specs.Places.{IsAt};
+ghost use Rattle.line_lists.specs.Texts.{content_of, whole};
 
 use crate::lists::LineList;
-use text_model::{TagSet, TagSlot};
+use text_model::{MarkNo, Place, TagSet, TagSlot};
 
 /// How many characters the text has.
 pub fn len<L: LineList>(list: &L) -> usize
@@ -69,4 +72,77 @@ pub fn line_of<L: LineList>(list: &L, offset: usize) -> usize
         return list.len();
     }
     list.locate(offset).0
+}
+
+/// The line that holds an offset, and the column there; from the end of the text on they are those of the last line.
+fn place_of<L: LineList>(list: &L, offset: usize) -> (usize, usize)
+    ensures { IsAt (L.lines list.now) offset result.0 result.1 }
+{
+    if offset < len(list) {
+        return list.locate(offset);
+    }
+    let last = list.len() - 1;
+    (last, offset - list.prefix(last).characters())
+}
+
+/// The offset of a column of a line.
+fn offset_of<L: LineList>(list: &L, index: usize, column: usize) -> usize
+    requires known { index < length (L.lines list.now) }
+    requires within { IfSome (slice_get (L.lines list.now) index) (λ line. column ≤ length line.columns) }
+    ensures value { result ≡ length (whole (take index (L.lines list.now))).columns + column }
+    ensures bound { result ≤ length (content_of (L.lines list.now)).cells }
+{
+    list.prefix(index).characters() + column
+}
+
+/// The place of the mark of a number, if there is one.
+pub fn mark_place<L: LineList>(list: &L, number: MarkNo) -> Option<Place>
+    ensures value { result ≡ finite.get (content_of (L.lines list.now)).marks number.0 }
+    ensures bound { IfSome result (λ place. place.offset ≤ length (content_of (L.lines list.now)).cells) }
+{
+    let index = list.mark_line(number)?;
+    let place = list.line(index).mark_place(number)?;
+    Some(Place {
+        offset: offset_of(list, index, place.offset),
+        gravity: place.gravity,
+    })
+}
+
+/// The least offset at or above this one at which a mark stands.
+pub fn next_mark<L: LineList>(list: &L, offset: usize) -> Option<usize>
+    ensures value { result ≡ next_mark offset (content_of (L.lines list.now)).marks }
+    ensures above { IfSome result (λ next. offset ≤ next) }
+    ensures bound { IfSome result (λ next. next ≤ length (content_of (L.lines list.now)).cells) }
+{
+    let (index, column) = place_of(list, offset);
+    if let Some(next) = list.line(index).next_mark(column) {
+        return Some(offset_of(list, index, next));
+    }
+    let later = list.next_marked(index + 1)?;
+    let next = list.line(later).next_mark(0)?;
+    Some(offset_of(list, later, next))
+}
+
+/// The greatest offset below this one at which a mark stands.
+pub fn previous_mark<L: LineList>(list: &L, offset: usize) -> Option<usize>
+    ensures value { result ≡ previous_mark offset (content_of (L.lines list.now)).marks }
+    ensures below { IfSome result (λ previous. previous < offset) }
+    ensures bound { IfSome result (λ previous. previous ≤ length (content_of (L.lines list.now)).cells) }
+{
+    let (index, column) = place_of(list, offset);
+    if let Some(previous) = list.line(index).previous_mark(column) {
+        return Some(offset_of(list, index, previous));
+    }
+    let earlier = list.previous_marked(index)?;
+    let line = list.line(earlier);
+    let previous = line.previous_mark(line.len())?;
+    Some(offset_of(list, earlier, previous))
+}
+
+/// Of the marks that stand at an offset, in the order of their numbers, the one at an index.
+pub fn mark_at<L: LineList>(list: &L, offset: usize, index: usize) -> Option<MarkNo>
+    ensures { result ≡ slice_get (marks_at offset (content_of (L.lines list.now)).marks) index }
+{
+    let (line, column) = place_of(list, offset);
+    list.line(line).mark_at(column, index)
 }
