@@ -1,7 +1,7 @@
 -- The nearest mark of lines in a row: in the line of the offset, else in the nearest line that has one.
 use Rattle.std.proofs.Common.{◌≡◌, ℕ, zero, suc, ◌+◌, ◌<◌, ◌≤◌, Bool, true, false, List, Option, None, Some, length, refl, sym, ap, subst, ◌∙◌, inl, inr, arith}
 use Rattle.std.specs.FinMap as finite
-use Rattle.std.specs.Prelude.{IfSome}
+use Rattle.std.specs.Prelude.{IfSome, slice_get}
 use Rattle.std.proofs.lemmas.Bool.{cases_lt}
 use Rattle.text_model.specs.declared.places.Place.{Place}
 use Rattle.text_model.specs.Content.{Marks}
@@ -11,7 +11,7 @@ use Rattle.segments.specs.Columns.{LineContent, later}
 use Rattle.line_lists.specs.Lists.{AreRows, has_marks}
 use Rattle.line_lists.specs.Places.{IsAt}
 use Rattle.line_lists.specs.Texts.{whole}
-use Rattle.line_lists.proofs.LineStarts.{at-before, at-inside, length_at, start-before, start-rises, start_of}
+use Rattle.line_lists.proofs.LineStarts.{at-before, at-inside, length_at, lent, start-before, start-rises, start_of}
 use Rattle.line_lists.proofs.MarkPlaces.{InLine, has-none, has-some, mark-before, mark-in, mark-out, mark-within}
 use Rattle.line_lists.proofs.SearchRows.{FailFrom, NextAt, PreviousAt, line_at}
 
@@ -279,3 +279,7 @@ pub previous-some : {A : Type 0} (lines : List LineContent) (k : ℕ) → AreRow
 previous-some lines k rows more some none =
     let mark = has-some (line_at lines k) some in
     absurd (omega (arith, none-previous-of (length_at lines k) (line_at lines k).marks none mark.0 mark.1 mark.2, mark-before lines k rows more mark.0 mark.1 mark.2))
+
+-- what a line that is lent tells
+pub lent-found : (lines : List LineContent) (k : ℕ) (line : LineContent) (f : Marks → Option ℕ) (result found : Option ℕ) → slice_get lines k ≡ Some line → result ≡ f line.marks → result ≡ found → f (line_at lines k).marks ≡ found
+lent-found lines k line f result found is value same = ap (λ (l : LineContent). f l.marks) (lent lines k line is) ∙ sym value ∙ same
