@@ -4,6 +4,7 @@ pub mod MadeLaws
 pub mod MarkPlaces
 pub mod MarkRows
 pub mod MarksAtRows
+pub mod NearChanges
 pub mod NearMarks
 pub mod NewlineRows
 pub mod PlaceRows
@@ -11,4 +12,5 @@ pub mod SearchRows
 pub mod SlotLaws
 pub mod StepLaws
 pub mod TagLaws
+pub mod ToggleColumns
 pub mod WholeLaws

@@ -2,6 +2,7 @@
 
 ghost use Rattle.std.specs.Prelude.{◌≡◌, ◌+◌, ◌<◌, ◌≤◌, length, take, slice_get, Some, IfSome};
 ghost use Rattle.std.specs.FinMap as finite;
+ghost use Rattle.text_model.specs.Changes.{next_change, previous_change};
 ghost use Rattle.text_model.specs.Content.{characters, flags, slot_sets};
 ghost use Rattle.text_model.specs.Lines.{lines, line_of, line_start};
 ghost use Rattle.text_model.specs.MarkOrder.{marks_at, next_mark, previous_mark};
@@ -145,4 +146,50 @@ pub fn mark_at<L: LineList>(list: &L, offset: usize, index: usize) -> Option<Mar
 {
     let (line, column) = place_of(list, offset);
     list.line(line).mark_at(column, index)
+}
+
+/// Where the run of characters that are like the one at an offset in a tag ends: the least offset above it at which the
+/// tag differs, else the length.
+pub fn next_change<L: LineList>(list: &L, offset: usize, slot: TagSlot) -> usize
+    requires within { offset < length (content_of (L.lines list.now)).cells }
+    requires known { slot.0 < slot_count }
+    ensures value { result ≡ next_change (flags slot.0 (content_of (L.lines list.now)).cells) offset }
+    ensures above { offset < result }
+    ensures bound { result ≤ length (content_of (L.lines list.now)).cells }
+{
+    let (index, column) = list.locate(offset);
+    if let Some(next) = list.line(index).next_toggle(column + 1, slot) {
+        return offset_of(list, index, next);
+    }
+    match list.next_with(slot, index + 1) {
+        None => len(list),
+        Some(later) => match list.line(later).next_toggle(0, slot) {
+            None => len(list),
+            Some(next) => offset_of(list, later, next),
+        },
+    }
+}
+
+/// Where the run of characters that are like the one before an offset in a tag begins.
+pub fn previous_change<L: LineList>(list: &L, offset: usize, slot: TagSlot) -> usize
+    requires some { 0 < offset }
+    requires within { offset ≤ length (content_of (L.lines list.now)).cells }
+    requires known { slot.0 < slot_count }
+    ensures value { result ≡ previous_change (flags slot.0 (content_of (L.lines list.now)).cells) offset }
+    ensures below { result < offset }
+{
+    let (index, column) = place_of(list, offset);
+    if let Some(previous) = list.line(index).previous_toggle(column, slot) {
+        return offset_of(list, index, previous);
+    }
+    match list.previous_with(slot, index) {
+        None => 0,
+        Some(earlier) => {
+            let line = list.line(earlier);
+            match line.previous_toggle(line.len(), slot) {
+                None => 0,
+                Some(previous) => offset_of(list, earlier, previous),
+            }
+        }
+    }
 }
