@@ -1,6 +1,7 @@
 -- Where the lines in a row begin.
-use Rattle.std.proofs.Common.{◌≡◌, ℕ, zero, suc, ◌+◌, ◌-◌, ◌<◌, ◌≤◌, List, [], ◌∷◌, Some, length, take, get_or, refl, sym, ap, subst, ◌∙◌, arith, length-append}
+use Rattle.std.proofs.Common.{◌≡◌, ℕ, zero, suc, ◌+◌, ◌-◌, ◌<◌, ◌≤◌, List, [], ◌∷◌, Some, length, take, get_or, refl, sym, ap, subst, ◌∙◌, inl, inr, arith, length-append}
 use Rattle.std.specs.Prelude.{IfSome, slice_get}
+use Rattle.std.proofs.lemmas.Bool.{cases_lt}
 use Rattle.std.proofs.lemmas.List.{take_all}
 use Rattle.std.proofs.lemmas.Option.{get_or_from_slice_get, slice_get-get_or}
 use Rattle.segments.specs.Columns.{LineContent, plain_line}
@@ -75,3 +76,20 @@ pub at-before : (lines : List LineContent) (offset k column j : ℕ) → IsAt li
 at-before lines offset k column j at behind within =
     let more : suc k < length lines = omega arith in let less : j ≤ length lines = omega arith in
     omega (arith, at.behind, at-inside lines offset k column at more, start-before lines k j behind less)
+
+pub lent-inner : (lines : List LineContent) (offset k column : ℕ) → Holds lines offset k column → column < length_at lines k
+lent-inner lines offset k column holds = subst (λ found. IfSome found (λ (here : LineContent). column < length here.columns)) (there lines k holds.within) holds.inside
+
+-- within the text an offset is within its line
+pub at-within : (lines : List LineContent) (offset k column : ℕ) → IsAt lines offset k column → offset ≤ length (whole lines).columns → column ≤ length_at lines k
+at-within lines offset k column at last =
+    elim (cases_lt (suc k) (length lines)) [
+      | inl more ↦ omega (arith, at-inside lines offset k column at more)
+      | inr less ↦
+          let all : length lines ≡ suc k = omega (arith, at.within) in
+          let end = ap (start_of lines) (sym all) ∙ start-all lines in
+          omega (arith, at.behind, last, end, start-next lines k at.within)
+    ]
+
+pub lent-length : (lines : List LineContent) (k : ℕ) (line : LineContent) → slice_get lines k ≡ Some line → length_at lines k ≡ length line.columns
+lent-length lines k line is = ap (λ (l : LineContent). length l.columns) (lent lines k line is)

@@ -1,6 +1,6 @@
 -- The nearest change of a tag in lines in a row: in the line of the offset, else in the nearest line where its slot is
 -- toggled.
-use Rattle.std.proofs.Common.{◌≡◌, ℕ, zero, suc, ◌+◌, ◌-◌, ◌<◌, ◌≤◌, Bool, true, false, List, [], ◌∷◌, Option, None, Some, length, take, get_or, refl, sym, ap, subst, ◌∙◌, inl, inr, arith, length-append}
+use Rattle.std.proofs.Common.{◌≡◌, ℕ, zero, suc, ◌+◌, ◌-◌, ◌<◌, ◌≤◌, Bool, true, false, List, [], ◌∷◌, Option, None, Some, length, take, get_or, refl, sym, ap, ap₂, subst, ◌∙◌, inl, inr, arith, length-append}
 use Rattle.std.specs.Prelude.{IfSome, slice_get}
 use Rattle.std.proofs.lemmas.Bool.{cases_lt}
 use Rattle.std.proofs.lemmas.Option.{slice_get-get_or, get_or_from_slice_get}
@@ -10,7 +10,7 @@ use Rattle.segments.specs.Columns.{Column, LineContent, next_toggle, previous_to
 use Rattle.line_lists.specs.Lists.{Holds, has_toggle}
 use Rattle.line_lists.specs.Places.{IsAt}
 use Rattle.line_lists.specs.Texts.{content_of, whole}
-use Rattle.line_lists.proofs.LineStarts.{at-before, at-inside, column-within, length_at, start-all, start-before, start-more, start-next, start-rises, start_of, there}
+use Rattle.line_lists.proofs.LineStarts.{at-before, length_at, lent, start-all, start-before, start-more, start-next, start-rises, start_of, there}
 use Rattle.line_lists.proofs.NearMarks.{three_ways}
 use Rattle.line_lists.proofs.PlaceRows.{column-at, inside}
 use Rattle.line_lists.proofs.SearchRows.{FailFrom, FailIn, NextAt, NextIn, PreviousAt, PreviousIn, found-next, found-previous, line_at, none-next, none-previous}
@@ -184,3 +184,25 @@ module _ (lines : List LineContent) (slot : ℕ) where
         fails_at k j d 0 column none same (omega arith) (omega (arith, starts, is.at, less, at.behind)))
         (λ after. absurd (omega (arith, not_behind i j d is less after, less)))))
         (λ positive. absurd (omega (arith, positive)))
+
+-- ---- what a line that is lent tells
+module _ (lines : List LineContent) (slot k : ℕ) (line : LineContent) (is : slice_get lines k ≡ Some line) where
+  pub lent-next : (from at n : ℕ) (result : Option ℕ) → result ≡ next_toggle slot at line.columns → result ≡ Some n → at ≡ from → NextIn no_column (toggles_slot slot) from (line_at lines k).columns n
+  lent-next from at n result value found same =
+      found-next no_column (toggles_slot slot) from (line_at lines k).columns n
+      (ap₂ (λ (l : LineContent) f. next_toggle slot f l.columns) (lent lines k line is) (sym same) ∙ sym value ∙ found)
+
+  pub lent-none-next : (from at : ℕ) (result : Option ℕ) → result ≡ next_toggle slot at line.columns → result ≡ None → at ≡ from → FailIn no_column (toggles_slot slot) (line_at lines k).columns from (length_at lines k)
+  lent-none-next from at result value none same =
+      none-next no_column (toggles_slot slot) from (line_at lines k).columns
+      (ap₂ (λ (l : LineContent) f. next_toggle slot f l.columns) (lent lines k line is) (sym same) ∙ sym value ∙ none)
+
+  pub lent-previous : (to at n : ℕ) (result : Option ℕ) → to ≤ length_at lines k → result ≡ previous_toggle slot at line.columns → result ≡ Some n → at ≡ to → PreviousIn no_column (toggles_slot slot) to (line_at lines k).columns n
+  lent-previous to at n result within value found same =
+      found-previous no_column (toggles_slot slot) to (line_at lines k).columns within n
+      (ap₂ (λ (l : LineContent) f. previous_toggle slot f l.columns) (lent lines k line is) (sym same) ∙ sym value ∙ found)
+
+  pub lent-none-previous : (to at : ℕ) (result : Option ℕ) → to ≤ length_at lines k → result ≡ previous_toggle slot at line.columns → result ≡ None → at ≡ to → FailIn no_column (toggles_slot slot) (line_at lines k).columns 0 to
+  lent-none-previous to at result within value none same =
+      none-previous no_column (toggles_slot slot) to (line_at lines k).columns within
+      (ap₂ (λ (l : LineContent) f. previous_toggle slot f l.columns) (lent lines k line is) (sym same) ∙ sym value ∙ none)
