@@ -12,5 +12,6 @@ pub mod SearchRows
 pub mod SlotLaws
 pub mod StepLaws
 pub mod TagLaws
+pub mod TextRows
 pub mod ToggleColumns
 pub mod WholeLaws

@@ -1,16 +1,18 @@
 //! The queries of a text over any list of its lines: sums say where a line stands, the rest is asked of that line.
 
-ghost use Rattle.std.specs.Prelude.{◌≡◌, ◌+◌, ◌<◌, ◌≤◌, length, take, slice_get, Some, IfSome};
+ghost use Rattle.std.specs.Prelude.{◌≡◌, ◌+◌, ◌<◌, ◌≤◌, ◌++◌, length, take, slice_get, slice_range, Some, IfSome, IfOk, OnOk, chars, string_bytes};
 ghost use Rattle.std.specs.FinMap as finite;
 ghost use Rattle.text_model.specs.Changes.{next_change, previous_change};
 ghost use Rattle.text_model.specs.Content.{characters, flags, slot_sets};
 ghost use Rattle.text_model.specs.Lines.{lines, line_of, line_start};
 ghost use Rattle.text_model.specs.MarkOrder.{marks_at, next_mark, previous_mark};
+ghost use Rattle.segments.specs.Columns.{characters as line_characters};
 ghost use Rattle.text_model.specs.TagBits.{slot_count};
 ghost use Rattle.line_lists.specs.Places.{IsAt};
 ghost use Rattle.line_lists.specs.Texts.{content_of, whole};
 
 use crate::lists::LineList;
+use std::alloc::AllocError;
 use text_model::{MarkNo, Place, TagSet, TagSlot};
 
 /// How many characters the text has.
@@ -192,4 +194,64 @@ pub fn previous_change<L: LineList>(list: &L, offset: usize, slot: TagSlot) -> u
             }
         }
     }
+}
+
+/// Adds the characters of a line from one column to another to a text.
+fn push_part<L: LineList>(
+    list: &L,
+    index: usize,
+    from: usize,
+    to: usize,
+    text: &mut String,
+) -> Result<(), AllocError>
+    requires known { index < length (L.lines list.now) }
+    requires ordered { from ≤ to }
+    requires within { IfSome (slice_get (L.lines list.now) index) (λ line. to ≤ length line.columns) }
+    ensures { OnOk result (chars (string_bytes text.new) ≡ chars (string_bytes text.old)
+        ++ slice_range (line_characters (whole (L.lines list.now)).columns)
+            (length (whole (take index (L.lines list.now))).columns + from)
+            (length (whole (take index (L.lines list.now))).columns + to)) }
+{
+    let part = list.line(index).copy_text(from, to)?;
+    text.push_str(&part)?;
+    Ok(())
+}
+
+/// Adds the characters of the lines from one to another to a text.
+fn push_lines<L: LineList>(
+    list: &L,
+    from: usize,
+    to: usize,
+    text: &mut String,
+) -> Result<(), AllocError>
+    requires ordered { from ≤ to }
+    requires within { to ≤ length (L.lines list.now) }
+    ensures { OnOk result (chars (string_bytes text.new) ≡ chars (string_bytes text.old)
+        ++ slice_range (line_characters (whole (L.lines list.now)).columns)
+            (length (whole (take from (L.lines list.now))).columns)
+            (length (whole (take to (L.lines list.now))).columns)) }
+{
+    for index in from..to {
+        push_part(list, index, 0, list.line(index).len(), text)?;
+    }
+    Ok(())
+}
+
+/// The characters from one offset to another.
+pub fn copy_text<L: LineList>(list: &L, start: usize, end: usize) -> Result<String, AllocError>
+    requires ordered { start ≤ end }
+    requires within { end ≤ length (content_of (L.lines list.now)).cells }
+    ensures { IfOk result (λ text.
+        chars (string_bytes text) ≡ slice_range (characters (content_of (L.lines list.now)).cells) start end) }
+{
+    let (first, column) = place_of(list, start);
+    let (last, to) = place_of(list, end);
+    let line = list.line(first);
+    if first == last {
+        return line.copy_text(column, to);
+    }
+    let mut text = line.copy_text(column, line.len())?;
+    push_lines(list, first + 1, last, &mut text)?;
+    push_part(list, last, 0, to, &mut text)?;
+    Ok(text)
 }

@@ -1,0 +1,55 @@
+-- The characters of lines in a row, from one offset to another.
+use Rattle.std.proofs.Common.{◌≡◌, ℕ, zero, suc, ◌+◌, ◌-◌, ◌<◌, ◌≤◌, List, [], ◌∷◌, ◌++◌, length, map, take, drop, refl, sym, ap, ap₂, ◌∙◌, arith, length-drop}
+use Rattle.std.specs.Prelude.{slice_range}
+use Rattle.std.proofs.Math.Seq.{drop-append-add, take-nil}
+use Rattle.std.proofs.lemmas.List.{drop-append-le, length-map, map-append, take-append-le}
+use Rattle.segments.specs.Columns.{Column, LineContent, characters}
+use Rattle.line_lists.specs.Texts.{whole}
+use Rattle.line_lists.proofs.LineStarts.{length_at, start_of, there}
+use Rattle.line_lists.proofs.PlaceRows.{whole-at}
+use Rattle.line_lists.proofs.SearchRows.{line_at}
+
+take-both : {A : Type 0} (m n : ℕ) (xs : List A) → take (m + n) xs ≡ take m xs ++ take n (drop m xs)
+take-both zero n xs = ap (λ k. take k xs) (let same : 0 + n ≡ n = omega arith in same)
+take-both (suc m) n [] = take-nil (suc m + n) ∙ sym (take-nil n)
+take-both (suc m) n (x ∷ xs) = ap (λ k. take k (x ∷ xs)) (let same : suc m + n ≡ suc (m + n) = omega arith in same) ∙ ap (λ rest. x ∷ rest) (take-both m n xs)
+
+drop-none : {A : Type 0} (k : ℕ) → drop {A = A} k [] ≡ []
+drop-none zero = refl
+drop-none (suc k) = refl
+
+drop-both : {A : Type 0} (m n : ℕ) (xs : List A) → drop m (drop n xs) ≡ drop (n + m) xs
+drop-both m zero xs = ap (λ k. drop k xs) (let same : m ≡ 0 + m = omega arith in same)
+drop-both m (suc n) [] = drop-none m ∙ sym (drop-none (suc n + m))
+drop-both m (suc n) (x ∷ xs) = drop-both m n xs ∙ ap (λ k. drop k (x ∷ xs)) (let same : suc (n + m) ≡ suc n + m = omega arith in same)
+
+-- two parts, one behind the other
+pub slice-join : {A : Type 0} (xs : List A) (a b c : ℕ) → a ≤ b → b ≤ c → slice_range xs a b ++ slice_range xs b c ≡ slice_range xs a c
+slice-join xs a b c first second =
+    let all : (b - a) + (c - b) ≡ c - a = omega arith in
+    let here : a + (b - a) ≡ b = omega arith in
+    sym (ap (λ k. take k (drop a xs)) (sym all) ∙ take-both (b - a) (c - b) (drop a xs)
+    ∙ ap (λ rest. take (b - a) (drop a xs) ++ take (c - b) rest) (drop-both (b - a) a xs ∙ ap (λ k. drop k xs) here))
+
+pub slice-none : {A : Type 0} (xs : List A) (a : ℕ) → slice_range xs a a ≡ []
+slice-none xs a = ap (λ k. take k (drop a xs)) (let none : a - a ≡ 0 = omega arith in none)
+
+-- a part of a line
+pub slice-line : (lines : List LineContent) (k from to : ℕ) → k < length lines → from ≤ to → to ≤ length_at lines k
+    → slice_range (characters (whole lines).columns) (start_of lines k + from) (start_of lines k + to) ≡ slice_range (characters (line_at lines k).columns) from to
+slice-line lines k from to within ordered inside =
+    let of = λ (column : Column). column.character in
+    let front = (whole (take k lines)).columns in
+    let line = (line_at lines k).columns in
+    let back = (whole (drop (suc k) lines)).columns in
+    let row = ap (λ (row : LineContent). characters row.columns) (whole-at lines k (line_at lines k) (there lines k within)) ∙ map-append of front (line ++ back) ∙ ap (λ rest. characters front ++ rest) (map-append of line back) in
+    let long : length (characters front) ≡ length front = length-map front of in
+    let wide : length (characters line) ≡ length line = length-map line of in
+    let at : start_of lines k + from ≡ length (characters front) + from = omega (arith, long) in
+    let count : (start_of lines k + to) - (start_of lines k + from) ≡ to - from = omega arith in
+    ap₂ (λ xs n. take n (drop (start_of lines k + from) xs)) row count
+    ∙ ap (take (to - from))
+    (ap (λ n. drop n (characters front ++ (characters line ++ characters back))) at
+    ∙ drop-append-add (characters front) (characters line ++ characters back) from
+    ∙ drop-append-le from (characters line) (characters back) (omega (arith, wide)))
+    ∙ take-append-le (to - from) (drop from (characters line)) (characters back) (omega (arith, wide, length-drop from (characters line)))
