@@ -1,5 +1,5 @@
 -- Where the marks of lines in a row stand in the text.
-use Rattle.std.proofs.Common.{◌≡◌, ℕ, zero, suc, ◌+◌, ◌<◌, ◌≤◌, Bool, true, false, cond, nat_lt, ◌==◌, List, [], ◌∷◌, Option, None, Some, length, take, drop, refl, sym, ap, ap₂, subst, ◌∙◌, arith, length-append, length-drop}
+use Rattle.std.proofs.Common.{◌≡◌, ℕ, suc, ◌+◌, ◌<◌, true, false, cond, ◌==◌, List, [], ◌∷◌, Option, None, Some, length, take, drop, refl, sym, ap, ap₂, ◌∙◌, arith, length-drop}
 use Rattle.std.specs.FinMap as finite
 use Rattle.std.specs.FinMap.{find}
 use Rattle.std.specs.Ordering.{eq_by_cmp, nat_cmp}
@@ -40,14 +40,17 @@ in_front : (line : LineContent) (lines : List LineContent) (number : ℕ) (place
     → ((other : Place) → finite.get (whole lines).marks number ≡ Some other → InSomeLine lines number other) → InSomeLine (line ∷ lines) number place
 in_front line lines number place None here none found is rest = (0, place, record { within = omega arith; is = found ∙ is; at = later_none place })
 in_front line lines number place (Some other) here found_behind found is rest =
-    let inner = rest other found_behind in
-    (suc inner.0, inner.1, record {
-      within = omega (arith, inner.2.within);
-      is = inner.2.is;
-      at =
-      sym (place_same _ _ is) ∙ ap (later (length line.columns)) inner.2.at
-      ∙ later_more (length line.columns) (start_of lines inner.0) (start_of (line ∷ lines) (suc inner.0)) inner.1 (start-more line lines inner.0);
-    })
+    let inner = rest other found_behind in (
+      suc inner.0,
+      inner.1,
+      record {
+        within = omega (arith, inner.2.within);
+        is = inner.2.is;
+        at =
+            sym (place_same _ _ is) ∙ ap (later (length line.columns)) inner.2.at
+            ∙ later_more (length line.columns) (start_of lines inner.0) (start_of (line ∷ lines) (suc inner.0)) inner.1 (start-more line lines inner.0);
+      },
+    )
 
 pub mark-in : (lines : List LineContent) (number : ℕ) (place : Place) → finite.get (whole lines).marks number ≡ Some place → InSomeLine lines number place
 mark-in [] number place is = absurd (let no : None ≡ Some place = sym (finite.get-empty nat_cmp number) ∙ is in cc)

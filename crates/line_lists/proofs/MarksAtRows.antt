@@ -1,5 +1,5 @@
 -- The marks at an offset of lines in a row are those at its column in its line.
-use Rattle.std.proofs.Common.{◌≡◌, ℕ, zero, suc, ◌+◌, ◌<◌, ◌≤◌, Bool, true, false, cond, ◌&&◌, ◌==◌, T, List, [], ◌∷◌, Option, None, Some, length, map, refl, sym, ap, ap₂, subst, ◌∙◌, arith}
+use Rattle.std.proofs.Common.{◌≡◌, ℕ, ◌+◌, Bool, true, false, cond, ◌&&◌, ◌==◌, T, List, [], ◌∷◌, Option, None, Some, map, refl, sym, ap, ◌∙◌, arith}
 use Rattle.std.specs.Cmp.{nat_cmp_total, unsigned_tied}
 use Rattle.std.specs.FinMap as finite
 use Rattle.std.specs.FinMap.{find, is_sorted, nat_cmp-IsAntisymmetric}
@@ -10,14 +10,13 @@ use Rattle.std.specs.Prelude.{option_map}
 use Rattle.std.proofs.lemmas.Bool.Decides.{nat_tests}
 use Rattle.text_model.specs.declared.places.MarkNo.{MarkNo}
 use Rattle.text_model.specs.declared.places.Place.{Place}
-use Rattle.text_model.specs.Content.{Marks}
 use Rattle.text_model.specs.MarkOrder.{marks_at}
 use Rattle.segments.specs.Columns.{LineContent, later}
 use Rattle.line_lists.specs.Lists.{AreRows}
 use Rattle.line_lists.specs.Places.{IsAt}
 use Rattle.line_lists.specs.Texts.{whole}
 use Rattle.line_lists.proofs.LineStarts.{start_of}
-use Rattle.line_lists.proofs.MarkPlaces.{InLine, mark-in, mark-out}
+use Rattle.line_lists.proofs.MarkPlaces.{mark-in, mark-out}
 use Rattle.line_lists.proofs.NearMarks.{behind_at, stands-before, three_ways}
 use Rattle.line_lists.proofs.SearchRows.{line_at}
 

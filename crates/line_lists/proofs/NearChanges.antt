@@ -1,6 +1,6 @@
 -- The nearest change of a tag in lines in a row: in the line of the offset, else in the nearest line where its slot is
 -- toggled.
-use Rattle.std.proofs.Common.{◌≡◌, ℕ, zero, suc, ◌+◌, ◌-◌, ◌<◌, ◌≤◌, Bool, true, false, List, [], ◌∷◌, Option, None, Some, length, take, get_or, refl, sym, ap, ap₂, subst, ◌∙◌, inl, inr, arith, length-append}
+use Rattle.std.proofs.Common.{◌≡◌, ℕ, suc, ◌+◌, ◌-◌, ◌<◌, ◌≤◌, Bool, true, false, List, [], ◌∷◌, Option, None, Some, length, get_or, refl, sym, ap, ap₂, subst, ◌∙◌, inl, inr, arith, length-append}
 use Rattle.std.specs.Prelude.{IfSome, slice_get}
 use Rattle.std.proofs.lemmas.Bool.{cases_lt}
 use Rattle.std.proofs.lemmas.Option.{slice_get-get_or, get_or_from_slice_get}
@@ -12,9 +12,9 @@ use Rattle.line_lists.specs.Places.{IsAt}
 use Rattle.line_lists.specs.Texts.{content_of, whole}
 use Rattle.line_lists.proofs.LineStarts.{at-before, length_at, lent, start-all, start-before, start-more, start-next, start-rises, start_of, there}
 use Rattle.line_lists.proofs.NearMarks.{three_ways}
-use Rattle.line_lists.proofs.PlaceRows.{column-at, inside}
+use Rattle.line_lists.proofs.PlaceRows.{column-at}
 use Rattle.line_lists.proofs.SearchRows.{FailFrom, FailIn, NextAt, NextIn, PreviousAt, PreviousIn, found-next, found-previous, line_at, none-next, none-previous}
-use Rattle.line_lists.proofs.ToggleColumns.{next-change-is, no-toggle, no_column, previous-change-is, some-toggle, toggles_slot}
+use Rattle.line_lists.proofs.ToggleColumns.{next-change-is, no-toggle, no_column, previous-change-is, toggles_slot}
 
 -- ---- each offset is held
 record Held (lines : List LineContent) (i j column : ℕ) : Type 0 where
@@ -26,11 +26,15 @@ abbrev HeldSomewhere : List LineContent → ℕ → Type 0
 HeldSomewhere lines i = (j : ℕ) × (column : ℕ) × Held lines i j column
 
 held_behind : (line : LineContent) (lines : List LineContent) (i rest : ℕ) → i ≡ length line.columns + rest → HeldSomewhere lines rest → HeldSomewhere (line ∷ lines) i
-held_behind line lines i rest is held = (suc held.0, held.1, record {
-  at = omega (arith, is, held.2.at, start-more line lines held.0);
-  within = omega (arith, held.2.within);
-  inner = held.2.inner;
-})
+held_behind line lines i rest is held = (
+  suc held.0,
+  held.1,
+  record {
+    at = omega (arith, is, held.2.at, start-more line lines held.0);
+    within = omega (arith, held.2.within);
+    inner = held.2.inner;
+  },
+)
 
 located : (lines : List LineContent) (i : ℕ) → i < length (whole lines).columns → HeldSomewhere lines i
 located [] i within = absurd (omega arith)

@@ -1,5 +1,5 @@
 -- The nearest mark of lines in a row: in the line of the offset, else in the nearest line that has one.
-use Rattle.std.proofs.Common.{◌≡◌, ℕ, zero, suc, ◌+◌, ◌<◌, ◌≤◌, Bool, true, false, List, Option, None, Some, length, refl, sym, ap, subst, ◌∙◌, inl, inr, arith}
+use Rattle.std.proofs.Common.{◌≡◌, ℕ, suc, ◌+◌, ◌<◌, ◌≤◌, true, List, Option, None, Some, length, refl, sym, ap, subst, ◌∙◌, inl, inr, arith}
 use Rattle.std.specs.FinMap as finite
 use Rattle.std.specs.Prelude.{IfSome, slice_get}
 use Rattle.std.proofs.lemmas.Bool.{cases_lt}
@@ -11,7 +11,7 @@ use Rattle.segments.specs.Columns.{LineContent, later}
 use Rattle.line_lists.specs.Lists.{AreRows, has_marks}
 use Rattle.line_lists.specs.Places.{IsAt}
 use Rattle.line_lists.specs.Texts.{whole}
-use Rattle.line_lists.proofs.LineStarts.{at-before, at-inside, length_at, lent, start-before, start-rises, start_of}
+use Rattle.line_lists.proofs.LineStarts.{at-before, at-inside, length_at, lent, start-before, start_of}
 use Rattle.line_lists.proofs.MarkPlaces.{InLine, has-none, has-some, mark-before, mark-in, mark-out, mark-within}
 use Rattle.line_lists.proofs.SearchRows.{FailFrom, NextAt, PreviousAt, line_at}
 
@@ -43,9 +43,9 @@ next-of at marks n is = record {
   marked = if_some (IsMarked marks) _ n is (next_mark-marked at marks);
   above = if_some (λ next. at ≤ next) _ n is (next_mark-above at marks);
   least = λ number place got above.
-    let near = next_mark-least at marks number place got above in
-    let same : near.0 ≡ n = same_offset near.0 n (sym near.1 ∙ is) in
-    omega (arith, same, near.2);
+      let near = next_mark-least at marks number place got above in
+      let same : near.0 ≡ n = same_offset near.0 n (sym near.1 ∙ is) in
+      omega (arith, same, near.2);
 }
 
 pub next-is : (at : ℕ) (marks : Marks) (n : ℕ) → Next at marks n → next_mark at marks ≡ Some n
@@ -78,9 +78,9 @@ previous-of at marks n is = record {
   marked = if_some (IsMarked marks) _ n is (previous_mark-marked at marks);
   below = if_some (λ previous. previous < at) _ n is (previous_mark-below at marks);
   greatest = λ number place got below.
-    let near = previous_mark-greatest at marks number place got below in
-    let same : near.0 ≡ n = same_offset near.0 n (sym near.1 ∙ is) in
-    omega (arith, same, near.2);
+      let near = previous_mark-greatest at marks number place got below in
+      let same : near.0 ≡ n = same_offset near.0 n (sym near.1 ∙ is) in
+      omega (arith, same, near.2);
 }
 
 pub previous-is : (at : ℕ) (marks : Marks) (n : ℕ) → Previous at marks n → previous_mark at marks ≡ Some n
@@ -112,12 +112,12 @@ none-previous-is at marks none = none_previous at marks (previous_mark at marks)
 -- a number is below another, the same, or above it
 pub three_ways : {A : Type 0} (j k : ℕ) → (j < k → A) → (j ≡ k → A) → (k < j → A) → A
 three_ways j k less same more = elim (cases_lt j k) [
-    | inl before ↦ less before
-    | inr behind ↦ elim (cases_lt k j) [
-        | inl above ↦ more above
-        | inr below ↦ same (omega arith)
-      ]
+  | inl before ↦ less before
+  | inr behind ↦ elim (cases_lt k j) [
+    | inl above ↦ more above
+    | inr below ↦ same (omega arith)
   ]
+]
 
 module _ (lines : List LineContent) (rows : AreRows lines) where
   -- the offset of what stands in a line
@@ -138,9 +138,12 @@ module _ (lines : List LineContent) (rows : AreRows lines) where
 
   -- a mark of a line is one of the text
   marked-out : (k n : ℕ) → k < length lines → IsMarked (line_at lines k).marks n → IsMarked (whole lines).marks (start_of lines k + n)
-  marked-out k n within mark =
-      (mark.0, later (start_of lines k) mark.1, mark-out lines mark.0 (later (start_of lines k) mark.1) k mark.1 rows (record { within = within; is = mark.2; at = refl }),
-      omega (arith, mark.3))
+  marked-out k n within mark = (
+    mark.0,
+    later (start_of lines k) mark.1,
+    mark-out lines mark.0 (later (start_of lines k) mark.1) k mark.1 rows (record { within = within; is = mark.2; at = refl }),
+    omega (arith, mark.3),
+  )
 
   inner_is : (j k number : ℕ) (inner : Place) → j ≡ k → finite.get (line_at lines j).marks number ≡ Some inner → finite.get (line_at lines k).marks number ≡ Some inner
   inner_is j k number inner same is = subst (λ i. finite.get (line_at lines i).marks number ≡ Some inner) same is
@@ -154,15 +157,15 @@ module _ (lines : List LineContent) (rows : AreRows lines) where
           marked = marked-out k n at.within next.marked;
           above = omega (arith, at.behind, next.above);
           least = λ number place got above.
-            let found = mark-in lines number place got in
-            let j = found.0 in let inner = found.1 in let stands = found.2 in
-            let here = offset_in number place j inner stands in
-            three_ways j k
-            (λ less. absurd (omega (arith, stands-before number place j inner k stands less at.within, above, at.behind)))
-            (λ same.
-            let starts = ap (start_of lines) same in
-            omega (arith, starts, here, at.behind, next.least number inner (inner_is j k number inner same stands.is) (omega (arith, starts, here, above, at.behind))))
-            (λ more. omega (arith, stands-behind number place j inner k stands more, bound, next.marked.3));
+              let found = mark-in lines number place got in
+              let j = found.0 in let inner = found.1 in let stands = found.2 in
+              let here = offset_in number place j inner stands in
+              three_ways j k
+              (λ less. absurd (omega (arith, stands-before number place j inner k stands less at.within, above, at.behind)))
+              (λ same.
+              let starts = ap (start_of lines) same in
+              omega (arith, starts, here, at.behind, next.least number inner (inner_is j k number inner same stands.is) (omega (arith, starts, here, above, at.behind))))
+              (λ more. omega (arith, stands-behind number place j inner k stands more, bound, next.marked.3));
         })
 
     pub next-later : (j n : ℕ) → next_mark column (line_at lines k).marks ≡ None → NextAt has_marks (suc k) lines j → next_mark 0 (line_at lines j).marks ≡ Some n
@@ -176,20 +179,20 @@ module _ (lines : List LineContent) (rows : AreRows lines) where
           marked = marked-out j n near.within next.marked;
           above = omega (arith, start);
           least = λ number place got above.
-            let found = mark-in lines number place got in
-            let i = found.0 in let inner = found.1 in let stands = found.2 in
-            let here = offset_in number place i inner stands in
-            three_ways i k
-            (λ less. absurd (omega (arith, stands-before number place i inner k stands less at.within, above, at.behind)))
-            (λ same.
-            let starts = ap (start_of lines) same in
-            absurd (omega (arith, starts, here, at.behind, above, none-next-of column (line_at lines k).marks none number inner (inner_is i k number inner same stands.is))))
-            (λ more. three_ways i j
-            (λ less. absurd (has-none (line_at lines i) number inner (near.free i (omega (arith, more)) less) stands.is))
-            (λ same.
-            let starts = ap (start_of lines) same in
-            omega (arith, starts, here, next.least number inner (inner_is i j number inner same stands.is) (omega arith)))
-            (λ behind. omega (arith, stands-behind number place i inner j stands behind, bound, next.marked.3)));
+              let found = mark-in lines number place got in
+              let i = found.0 in let inner = found.1 in let stands = found.2 in
+              let here = offset_in number place i inner stands in
+              three_ways i k
+              (λ less. absurd (omega (arith, stands-before number place i inner k stands less at.within, above, at.behind)))
+              (λ same.
+              let starts = ap (start_of lines) same in
+              absurd (omega (arith, starts, here, at.behind, above, none-next-of column (line_at lines k).marks none number inner (inner_is i k number inner same stands.is))))
+              (λ more. three_ways i j
+              (λ less. absurd (has-none (line_at lines i) number inner (near.free i (omega (arith, more)) less) stands.is))
+              (λ same.
+              let starts = ap (start_of lines) same in
+              omega (arith, starts, here, next.least number inner (inner_is i j number inner same stands.is) (omega arith)))
+              (λ behind. omega (arith, stands-behind number place i inner j stands behind, bound, next.marked.3)));
         })
 
     pub next-nowhere : next_mark column (line_at lines k).marks ≡ None → FailFrom has_marks lines (suc k) (length lines) → next_mark offset (whole lines).marks ≡ None
@@ -217,15 +220,15 @@ module _ (lines : List LineContent) (rows : AreRows lines) where
           marked = marked-out k n at.within previous.marked;
           below = omega (arith, at.behind, previous.below);
           greatest = λ number place got below.
-            let found = mark-in lines number place got in
-            let i = found.0 in let inner = found.1 in let stands = found.2 in
-            let here = offset_in number place i inner stands in
-            three_ways i k
-            (λ less. omega (arith, stands-before number place i inner k stands less at.within))
-            (λ same.
-            let starts = ap (start_of lines) same in
-            omega (arith, starts, here, at.behind, previous.greatest number inner (inner_is i k number inner same stands.is) (omega (arith, starts, here, below, at.behind))))
-            (λ more. absurd (omega (arith, behind_at number place i inner stands more, below)));
+              let found = mark-in lines number place got in
+              let i = found.0 in let inner = found.1 in let stands = found.2 in
+              let here = offset_in number place i inner stands in
+              three_ways i k
+              (λ less. omega (arith, stands-before number place i inner k stands less at.within))
+              (λ same.
+              let starts = ap (start_of lines) same in
+              omega (arith, starts, here, at.behind, previous.greatest number inner (inner_is i k number inner same stands.is) (omega (arith, starts, here, below, at.behind))))
+              (λ more. absurd (omega (arith, behind_at number place i inner stands more, below)));
         })
 
     pub previous-earlier : (j n : ℕ) → previous_mark column (line_at lines k).marks ≡ None → PreviousAt has_marks k lines j → previous_mark (length_at lines j) (line_at lines j).marks ≡ Some n
@@ -239,21 +242,21 @@ module _ (lines : List LineContent) (rows : AreRows lines) where
           marked = marked-out j n within previous.marked;
           below = omega (arith, at.behind, previous.below, start-before lines j k near.below most);
           greatest = λ number place got below.
-            let found = mark-in lines number place got in
-            let i = found.0 in let inner = found.1 in let stands = found.2 in
-            let here = offset_in number place i inner stands in
-            three_ways i k
-            (λ less. three_ways i j
-            (λ before. omega (arith, stands-before number place i inner j stands before within))
-            (λ same.
-            let starts = ap (start_of lines) same in
-            let inside = inner_is i j number inner same stands.is in
-            omega (arith, starts, here, previous.greatest number inner inside (mark-before lines j rows last number inner inside)))
-            (λ behind. absurd (has-none (line_at lines i) number inner (near.free i (omega (arith, behind)) less) stands.is)))
-            (λ same.
-            let starts = ap (start_of lines) same in
-            absurd (omega (arith, starts, here, below, at.behind, none-previous-of column (line_at lines k).marks none number inner (inner_is i k number inner same stands.is))))
-            (λ more. absurd (omega (arith, behind_at number place i inner stands more, below)));
+              let found = mark-in lines number place got in
+              let i = found.0 in let inner = found.1 in let stands = found.2 in
+              let here = offset_in number place i inner stands in
+              three_ways i k
+              (λ less. three_ways i j
+              (λ before. omega (arith, stands-before number place i inner j stands before within))
+              (λ same.
+              let starts = ap (start_of lines) same in
+              let inside = inner_is i j number inner same stands.is in
+              omega (arith, starts, here, previous.greatest number inner inside (mark-before lines j rows last number inner inside)))
+              (λ behind. absurd (has-none (line_at lines i) number inner (near.free i (omega (arith, behind)) less) stands.is)))
+              (λ same.
+              let starts = ap (start_of lines) same in
+              absurd (omega (arith, starts, here, below, at.behind, none-previous-of column (line_at lines k).marks none number inner (inner_is i k number inner same stands.is))))
+              (λ more. absurd (omega (arith, behind_at number place i inner stands more, below)));
         })
 
     pub previous-nowhere : previous_mark column (line_at lines k).marks ≡ None → FailFrom has_marks lines 0 k → previous_mark offset (whole lines).marks ≡ None

@@ -1,12 +1,12 @@
 -- What the nearest element that passes a test tells of the elements between: of columns in a line, and of lines.
-use Rattle.std.proofs.Common.{◌≡◌, ℕ, zero, suc, ◌+◌, ◌-◌, ◌<◌, ◌≤◌, Bool, true, false, not, cond, nat_lt, List, [], Option, None, Some, length, take, drop, get_or, refl, sym, ap, subst, ◌∙◌, inl, inr, arith, length-drop}
+use Rattle.std.proofs.Common.{◌≡◌, ℕ, zero, suc, ◌+◌, ◌-◌, ◌<◌, ◌≤◌, Bool, true, false, not, cond, nat_lt, List, [], Option, None, Some, length, take, drop, get_or, refl, sym, ap, ◌∙◌, inl, inr, arith, length-drop}
 use Rattle.std.specs.Prelude.{option_map, if◌then◌else◌}
 use Rattle.std.specs.List.{position, position_or_len, suffix_len}
 use Rattle.std.proofs.lemmas.Bool.{cases_lt}
 use Rattle.std.proofs.lemmas.Bool.Decides.{nat_tests}
-use Rattle.std.proofs.lemmas.List.{get_or-drop, length-take-le}
+use Rattle.std.proofs.lemmas.List.{get_or-drop}
 use Rattle.std.proofs.lemmas.List.Quantifiers.{position-Some}
-use Rattle.std.proofs.lemmas.List.Sums.{fails_before_first, suffix_len-le-length, suffix_len-take_no, suffix_len-take_yes}
+use Rattle.std.proofs.lemmas.List.Sums.{fails_before_first, suffix_len-take_no, suffix_len-take_yes}
 use Rattle.segments.specs.Columns.{LineContent, plain_line}
 use Rattle.line_lists.specs.Lists.{next_line, previous_line}
 
@@ -54,8 +54,8 @@ found-next d test from xs k is = which (position test (drop from xs)) refl is wh
         within = omega (arith, at, facts.0, long);
         passes = ap test (ap (λ i. get_or xs i d) (sym at) ∙ sym (get_or-drop from xs n d)) ∙ facts.1;
         free = λ j more less.
-          let back : from + (j - from) ≡ j = omega arith in
-          ap test (ap (λ i. get_or xs i d) (sym back) ∙ sym (get_or-drop from xs (j - from) d)) ∙ facts.2 (j - from) (omega (arith, at));
+            let back : from + (j - from) ≡ j = omega arith in
+            ap test (ap (λ i. get_or xs i d) (sym back) ∙ sym (get_or-drop from xs (j - from) d)) ∙ facts.2 (j - from) (omega (arith, at));
       }
 
 none_past : (p n : ℕ) → cond (nat_lt p n) (Some p) None ≡ None → n ≤ p

@@ -1,5 +1,5 @@
 -- The characters of lines in a row, from one offset to another.
-use Rattle.std.proofs.Common.{◌≡◌, ℕ, zero, suc, ◌+◌, ◌-◌, ◌<◌, ◌≤◌, List, [], ◌∷◌, ◌++◌, length, map, take, drop, refl, sym, ap, ap₂, ◌∙◌, arith, add-one, append_assoc, inl, inr, length-drop}
+use Rattle.std.proofs.Common.{◌≡◌, ℕ, zero, suc, ◌+◌, ◌-◌, ◌<◌, ◌≤◌, List, [], ◌∷◌, ◌++◌, length, take, drop, refl, sym, ap, ap₂, ◌∙◌, arith, add-one, inl, inr, length-drop}
 use Rattle.std.specs.Prelude.{slice_range}
 use Rattle.std.proofs.lemmas.Bool.{cases_lt}
 use Rattle.std.proofs.Math.Seq.{drop-append-add, take-nil}
@@ -8,7 +8,7 @@ use Rattle.segments.specs.Columns.{Column, LineContent, characters}
 use Rattle.text_model.specs.Content.{characters as cell_characters}
 use Rattle.line_lists.specs.Places.{IsAt}
 use Rattle.line_lists.specs.Texts.{content_of, whole}
-use Rattle.line_lists.proofs.LineStarts.{at-before, at-inside, at-within, length_at, start-before, start-next, start-rises, start_of, there}
+use Rattle.line_lists.proofs.LineStarts.{at-before, at-within, length_at, start-next, start-rises, start_of, there}
 use Rattle.line_lists.proofs.PlaceRows.{characters-content, whole-at}
 use Rattle.line_lists.proofs.SearchRows.{line_at}
 

@@ -1,15 +1,14 @@
 -- Where a tag changes is where its slot is toggled: over the columns of a text.
-use Rattle.std.proofs.Common.{◌≡◌, ℕ, zero, suc, ◌+◌, ◌-◌, ◌<◌, ◌≤◌, Bool, true, false, not, ◌||◌, List, [], ◌∷◌, ◌++◌, Some, length, map, take, get_or, refl, sym, ap, ap₂, ◌∙◌, arith}
+use Rattle.std.proofs.Common.{◌≡◌, ℕ, zero, suc, ◌+◌, ◌-◌, ◌<◌, ◌≤◌, Bool, true, false, ◌||◌, List, [], ◌∷◌, length, take, get_or, refl, sym, ap, ap₂, ◌∙◌, arith}
 use Rattle.std.specs.FinSet as set
 use Rattle.std.specs.Cmp.{nat_cmp_total}
 use Rattle.std.specs.Ordering.{nat_cmp}
-use Rattle.std.specs.Prelude.{slice_get}
 use Rattle.std.proofs.Math.Seq.{take-suc}
 use Rattle.std.proofs.lemmas.List.{length-map}
 use Rattle.std.proofs.lemmas.Option.{get_or_from_slice_get}
 use Rattle.text_model.specs.declared.cells.Cell.{Cell}
 use Rattle.text_model.specs.Changes.{flag_at, is_alike, next_change, previous_change}
-use Rattle.text_model.specs.Content.{Slots, flags}
+use Rattle.text_model.specs.Content.{flags}
 use Rattle.text_model.specs.SlotSets.{differing}
 use Rattle.text_model.proofs.ChangeLaws.{next_change_is, previous_change_is}
 use Rattle.toggle_sums.specs.CountLaws.{contains-differing, differing-empty, either}

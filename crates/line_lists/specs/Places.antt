@@ -7,4 +7,5 @@ use Rattle.line_lists.specs.Texts.{whole}
 pub record IsAt (lines : List LineContent) (offset line column : ℕ) : Type 0 where
   pub behind : offset ≡ length (whole (take line lines)).columns + column
   pub within : line < length lines
-  pub inside : suc line < length lines → IfSome (slice_get lines line) (λ (here : LineContent). column < length here.columns)
+  pub inside :
+      suc line < length lines → IfSome (slice_get lines line) (λ (here : LineContent). column < length here.columns)

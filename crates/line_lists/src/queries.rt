@@ -209,8 +209,8 @@ fn push_part<L: LineList>(
     requires within { IfSome (slice_get (L.lines list.now) index) (λ line. to ≤ length line.columns) }
     ensures { OnOk result (chars (string_bytes text.new) ≡ chars (string_bytes text.old)
         ++ slice_range (line_characters (whole (L.lines list.now)).columns)
-            (length (whole (take index (L.lines list.now))).columns + from)
-            (length (whole (take index (L.lines list.now))).columns + to)) }
+        (length (whole (take index (L.lines list.now))).columns + from)
+        (length (whole (take index (L.lines list.now))).columns + to)) }
 {
     let part = list.line(index).copy_text(from, to)?;
     text.push_str(&part)?;
@@ -228,8 +228,8 @@ fn push_lines<L: LineList>(
     requires within { to ≤ length (L.lines list.now) }
     ensures { OnOk result (chars (string_bytes text.new) ≡ chars (string_bytes text.old)
         ++ slice_range (line_characters (whole (L.lines list.now)).columns)
-            (length (whole (take from (L.lines list.now))).columns)
-            (length (whole (take to (L.lines list.now))).columns)) }
+        (length (whole (take from (L.lines list.now))).columns)
+        (length (whole (take to (L.lines list.now))).columns)) }
 {
     for index in from..to {
         push_part(list, index, 0, list.line(index).len(), text)?;

@@ -1,5 +1,5 @@
-use Rattle.std.proofs.Common.{◌≡◌, ◌<◌, sym, subst, length}
-use Rattle.line_lists.proofs.PlaceRows.{character-at, inside, length-content}
+use Rattle.std.proofs.Common.{◌<◌, subst}
+use Rattle.line_lists.proofs.PlaceRows.{character-at, length-content}
 use Rattle.line_lists.proofs.queries.char_at.Goals as goal
 
 -- src/queries.rt:31:27

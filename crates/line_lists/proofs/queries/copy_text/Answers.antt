@@ -1,9 +1,8 @@
-use Rattle.std.proofs.Common.{◌≡◌, ◌+◌, ◌<◌, ◌≤◌, ◌∙◌, ap, ap₂, sym, subst, arith, length}
+use Rattle.std.proofs.Common.{◌<◌, ◌≤◌, ◌∙◌, ap, ap₂, sym, subst, arith, length}
 use Rattle.std.specs.Prelude.{chars, slice_range, string_bytes, IfSome}
 use Rattle.std.proofs.lemmas.Result.{IfOk-weaker}
-use Rattle.text_model.specs.Content.{characters as cell_characters}
 use Rattle.segments.specs.Columns.{LineContent, characters}
-use Rattle.line_lists.specs.Texts.{content_of, whole}
+use Rattle.line_lists.specs.Texts.{whole}
 use Rattle.line_lists.proofs.CountRows.{count-lines}
 use Rattle.line_lists.proofs.LineStarts.{at-within, length_at, lent, lent-length, there}
 use Rattle.line_lists.proofs.PlaceRows.{length-content}

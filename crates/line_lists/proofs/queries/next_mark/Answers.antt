@@ -1,4 +1,4 @@
-use Rattle.std.proofs.Common.{◌≡◌, ◌+◌, ◌≤◌, ◌∙◌, ap, sym, Some, None, suc, arith, length, add-one}
+use Rattle.std.proofs.Common.{◌+◌, ◌≤◌, ◌∙◌, ap, sym, Some, None, suc, arith, add-one}
 use Rattle.text_model.specs.MarkOrder.{next_mark}
 use Rattle.text_model.proofs.MarkOrderLaws.{next_mark-above}
 use Rattle.line_lists.specs.Lists.{has_marks, next_line}

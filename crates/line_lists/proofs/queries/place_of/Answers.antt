@@ -1,4 +1,4 @@
-use Rattle.std.proofs.Common.{◌≡◌, ◌-◌, ◌≤◌, ◌∙◌, ap, sym, take, length, arith}
+use Rattle.std.proofs.Common.{◌-◌, ◌∙◌, ap, take, arith}
 use Rattle.toggle_sums.specs.Counts.{Count}
 use Rattle.line_lists.proofs.CountRows.{count-characters}
 use Rattle.line_lists.proofs.LineStarts.{at-end}

@@ -1,4 +1,4 @@
-use Rattle.std.proofs.Common.{◌≡◌, ◌+◌, ◌<◌, ◌≤◌, ◌∙◌, ap, sym, Some, None, suc, arith, length, add-one}
+use Rattle.std.proofs.Common.{◌<◌, ◌≤◌, ◌∙◌, ap, sym, Some, None, suc, arith, length}
 use Rattle.text_model.specs.MarkOrder.{previous_mark}
 use Rattle.text_model.proofs.MarkOrderLaws.{previous_mark-below}
 use Rattle.segments.specs.Columns.{LineContent}
@@ -6,7 +6,7 @@ use Rattle.line_lists.specs.Lists.{has_marks}
 use Rattle.line_lists.specs.Texts.{whole}
 use Rattle.line_lists.proofs.LineStarts.{length_at, lent}
 use Rattle.line_lists.proofs.NearMarks.{if_some, lent-found, previous-earlier, previous-here, previous-nowhere, previous-some}
-use Rattle.line_lists.proofs.SearchRows.{line_at, previous-found, previous-none}
+use Rattle.line_lists.proofs.SearchRows.{previous-found, previous-none}
 use Rattle.line_lists.proofs.queries.previous_mark.Goals as goal
 
 -- src/queries.rt:136:9

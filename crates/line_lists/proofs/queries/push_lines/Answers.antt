@@ -1,4 +1,4 @@
-use Rattle.std.proofs.Common.{◌≡◌, ◌+◌, ◌<◌, ◌≤◌, ◌++◌, ◌∙◌, ap, ap₂, sym, arith, suc, length, add-one, append_assoc}
+use Rattle.std.proofs.Common.{◌≡◌, ◌+◌, ◌<◌, ◌≤◌, ◌++◌, ◌∙◌, ap, ap₂, sym, arith, length, add-one, append_assoc}
 use Rattle.std.specs.Prelude.{chars, slice_range, string_bytes}
 use Rattle.std.proofs.lemmas.List.{append-nil}
 use Rattle.segments.specs.Columns.{characters}

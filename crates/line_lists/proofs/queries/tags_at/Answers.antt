@@ -1,4 +1,4 @@
-use Rattle.std.proofs.Common.{◌≡◌, ◌<◌, ◌∙◌, sym, ap, ap₂, subst}
+use Rattle.std.proofs.Common.{◌<◌, ◌∙◌, sym, ap, ap₂, subst}
 use Rattle.std.specs.Prelude.{Some}
 use Rattle.text_model.specs.SlotSets.{differing}
 use Rattle.toggle_sums.specs.Counts.{Count}
