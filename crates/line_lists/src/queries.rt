@@ -1,0 +1,257 @@
+//! The queries of a text over any list of its lines: sums say where a line stands, the rest is asked of that line.
+
+ghost use Rattle.std.specs.Prelude.{◌≡◌, ◌+◌, ◌<◌, ◌≤◌, ◌++◌, length, take, slice_get, slice_range, Some, IfSome, IfOk, OnOk, chars, string_bytes};
+ghost use Rattle.std.specs.FinMap as finite;
+ghost use Rattle.text_model.specs.Changes.{next_change, previous_change};
+ghost use Rattle.text_model.specs.Content.{characters, flags, slot_sets};
+ghost use Rattle.text_model.specs.Lines.{lines, line_of, line_start};
+ghost use Rattle.text_model.specs.MarkOrder.{marks_at, next_mark, previous_mark};
+ghost use Rattle.segments.specs.Columns.{characters as line_characters};
+ghost use Rattle.text_model.specs.TagBits.{slot_count};
+ghost use Rattle.line_lists.specs.Places.{IsAt};
+ghost use Rattle.line_lists.specs.Texts.{content_of, whole};
+
+use crate::lists::LineList;
+use std::alloc::AllocError;
+use text_model::{MarkNo, Place, TagSet, TagSlot};
+
+/// How many characters the text has.
+pub fn len<L: LineList>(list: &L) -> usize
+    ensures { result ≡ length (content_of (L.lines list.now)).cells }
+{
+    list.prefix(list.len()).characters()
+}
+
+/// How many lines the text has, which is how many newlines.
+pub fn lines<L: LineList>(list: &L) -> usize
+    ensures { result ≡ lines (characters (content_of (L.lines list.now)).cells) }
+{
+    list.len()
+}
+
+/// The character at an offset.
+pub fn char_at<L: LineList>(list: &L, offset: usize) -> char
+    requires { offset < length (content_of (L.lines list.now)).cells }
+    ensures { slice_get (characters (content_of (L.lines list.now)).cells) offset ≡ Some result }
+{
+    let (index, column) = list.locate(offset);
+    list.line(index).char_at(column)
+}
+
+/// The tags of the character at an offset.
+pub fn tags_at<L: LineList>(list: &L, offset: usize) -> TagSet
+    requires { offset < length (content_of (L.lines list.now)).cells }
+    ensures { slice_get (slot_sets (content_of (L.lines list.now)).cells) offset ≡ Some result }
+{
+    let (index, column) = list.locate(offset);
+    let here = list.line(index).tags_before(column);
+    list.prefix(index).odd_slots().differing(&here)
+}
+
+/// Whether the character at an offset has a tag.
+pub fn has_tag<L: LineList>(list: &L, offset: usize, slot: TagSlot) -> bool
+    requires within { offset < length (content_of (L.lines list.now)).cells }
+    requires known { slot.0 < slot_count }
+    ensures { slice_get (flags slot.0 (content_of (L.lines list.now)).cells) offset ≡ Some result }
+{
+    tags_at(list, offset).has(slot)
+}
+
+/// The offset of the first character of a line; the length for the line behind the last.
+pub fn line_start<L: LineList>(list: &L, line: usize) -> usize
+    requires { line ≤ lines (characters (content_of (L.lines list.now)).cells) }
+    ensures value { result ≡ line_start line (characters (content_of (L.lines list.now)).cells) }
+    ensures bound { result ≤ length (content_of (L.lines list.now)).cells }
+{
+    list.prefix(line).characters()
+}
+
+/// The line that an offset stands in, which is how many newlines stand before it.
+pub fn line_of<L: LineList>(list: &L, offset: usize) -> usize
+    requires { offset ≤ length (content_of (L.lines list.now)).cells }
+    ensures { result ≡ line_of (characters (content_of (L.lines list.now)).cells) offset }
+{
+    if offset == len(list) {
+        return list.len();
+    }
+    list.locate(offset).0
+}
+
+/// The line that holds an offset, and the column there; from the end of the text on they are those of the last line.
+fn place_of<L: LineList>(list: &L, offset: usize) -> (usize, usize)
+    ensures { IsAt (L.lines list.now) offset result.0 result.1 }
+{
+    if offset < len(list) {
+        return list.locate(offset);
+    }
+    let last = list.len() - 1;
+    (last, offset - list.prefix(last).characters())
+}
+
+/// The offset of a column of a line.
+fn offset_of<L: LineList>(list: &L, index: usize, column: usize) -> usize
+    requires known { index < length (L.lines list.now) }
+    requires within { IfSome (slice_get (L.lines list.now) index) (λ line. column ≤ length line.columns) }
+    ensures value { result ≡ length (whole (take index (L.lines list.now))).columns + column }
+    ensures bound { result ≤ length (content_of (L.lines list.now)).cells }
+{
+    list.prefix(index).characters() + column
+}
+
+/// The place of the mark of a number, if there is one.
+pub fn mark_place<L: LineList>(list: &L, number: MarkNo) -> Option<Place>
+    ensures value { result ≡ finite.get (content_of (L.lines list.now)).marks number.0 }
+    ensures bound { IfSome result (λ place. place.offset ≤ length (content_of (L.lines list.now)).cells) }
+{
+    let index = list.mark_line(number)?;
+    let place = list.line(index).mark_place(number)?;
+    Some(Place {
+        offset: offset_of(list, index, place.offset),
+        gravity: place.gravity,
+    })
+}
+
+/// The least offset at or above this one at which a mark stands.
+pub fn next_mark<L: LineList>(list: &L, offset: usize) -> Option<usize>
+    ensures value { result ≡ next_mark offset (content_of (L.lines list.now)).marks }
+    ensures above { IfSome result (λ next. offset ≤ next) }
+    ensures bound { IfSome result (λ next. next ≤ length (content_of (L.lines list.now)).cells) }
+{
+    let (index, column) = place_of(list, offset);
+    if let Some(next) = list.line(index).next_mark(column) {
+        return Some(offset_of(list, index, next));
+    }
+    let later = list.next_marked(index + 1)?;
+    let next = list.line(later).next_mark(0)?;
+    Some(offset_of(list, later, next))
+}
+
+/// The greatest offset below this one at which a mark stands.
+pub fn previous_mark<L: LineList>(list: &L, offset: usize) -> Option<usize>
+    ensures value { result ≡ previous_mark offset (content_of (L.lines list.now)).marks }
+    ensures below { IfSome result (λ previous. previous < offset) }
+    ensures bound { IfSome result (λ previous. previous ≤ length (content_of (L.lines list.now)).cells) }
+{
+    let (index, column) = place_of(list, offset);
+    if let Some(previous) = list.line(index).previous_mark(column) {
+        return Some(offset_of(list, index, previous));
+    }
+    let earlier = list.previous_marked(index)?;
+    let line = list.line(earlier);
+    let previous = line.previous_mark(line.len())?;
+    Some(offset_of(list, earlier, previous))
+}
+
+/// Of the marks that stand at an offset, in the order of their numbers, the one at an index.
+pub fn mark_at<L: LineList>(list: &L, offset: usize, index: usize) -> Option<MarkNo>
+    ensures { result ≡ slice_get (marks_at offset (content_of (L.lines list.now)).marks) index }
+{
+    let (line, column) = place_of(list, offset);
+    list.line(line).mark_at(column, index)
+}
+
+/// Where the run of characters that are like the one at an offset in a tag ends: the least offset above it at which the
+/// tag differs, else the length.
+pub fn next_change<L: LineList>(list: &L, offset: usize, slot: TagSlot) -> usize
+    requires within { offset < length (content_of (L.lines list.now)).cells }
+    requires known { slot.0 < slot_count }
+    ensures value { result ≡ next_change (flags slot.0 (content_of (L.lines list.now)).cells) offset }
+    ensures above { offset < result }
+    ensures bound { result ≤ length (content_of (L.lines list.now)).cells }
+{
+    let (index, column) = list.locate(offset);
+    if let Some(next) = list.line(index).next_toggle(column + 1, slot) {
+        return offset_of(list, index, next);
+    }
+    match list.next_with(slot, index + 1) {
+        None => len(list),
+        Some(later) => match list.line(later).next_toggle(0, slot) {
+            None => len(list),
+            Some(next) => offset_of(list, later, next),
+        },
+    }
+}
+
+/// Where the run of characters that are like the one before an offset in a tag begins.
+pub fn previous_change<L: LineList>(list: &L, offset: usize, slot: TagSlot) -> usize
+    requires some { 0 < offset }
+    requires within { offset ≤ length (content_of (L.lines list.now)).cells }
+    requires known { slot.0 < slot_count }
+    ensures value { result ≡ previous_change (flags slot.0 (content_of (L.lines list.now)).cells) offset }
+    ensures below { result < offset }
+{
+    let (index, column) = place_of(list, offset);
+    if let Some(previous) = list.line(index).previous_toggle(column, slot) {
+        return offset_of(list, index, previous);
+    }
+    match list.previous_with(slot, index) {
+        None => 0,
+        Some(earlier) => {
+            let line = list.line(earlier);
+            match line.previous_toggle(line.len(), slot) {
+                None => 0,
+                Some(previous) => offset_of(list, earlier, previous),
+            }
+        }
+    }
+}
+
+/// Adds the characters of a line from one column to another to a text.
+fn push_part<L: LineList>(
+    list: &L,
+    index: usize,
+    from: usize,
+    to: usize,
+    text: &mut String,
+) -> Result<(), AllocError>
+    requires known { index < length (L.lines list.now) }
+    requires ordered { from ≤ to }
+    requires within { IfSome (slice_get (L.lines list.now) index) (λ line. to ≤ length line.columns) }
+    ensures { OnOk result (chars (string_bytes text.new) ≡ chars (string_bytes text.old)
+        ++ slice_range (line_characters (whole (L.lines list.now)).columns)
+        (length (whole (take index (L.lines list.now))).columns + from)
+        (length (whole (take index (L.lines list.now))).columns + to)) }
+{
+    let part = list.line(index).copy_text(from, to)?;
+    text.push_str(&part)?;
+    Ok(())
+}
+
+/// Adds the characters of the lines from one to another to a text.
+fn push_lines<L: LineList>(
+    list: &L,
+    from: usize,
+    to: usize,
+    text: &mut String,
+) -> Result<(), AllocError>
+    requires ordered { from ≤ to }
+    requires within { to ≤ length (L.lines list.now) }
+    ensures { OnOk result (chars (string_bytes text.new) ≡ chars (string_bytes text.old)
+        ++ slice_range (line_characters (whole (L.lines list.now)).columns)
+        (length (whole (take from (L.lines list.now))).columns)
+        (length (whole (take to (L.lines list.now))).columns)) }
+{
+    for index in from..to {
+        push_part(list, index, 0, list.line(index).len(), text)?;
+    }
+    Ok(())
+}
+
+/// The characters from one offset to another.
+pub fn copy_text<L: LineList>(list: &L, start: usize, end: usize) -> Result<String, AllocError>
+    requires ordered { start ≤ end }
+    requires within { end ≤ length (content_of (L.lines list.now)).cells }
+    ensures { IfOk result (λ text.
+        chars (string_bytes text) ≡ slice_range (characters (content_of (L.lines list.now)).cells) start end) }
+{
+    let (first, column) = place_of(list, start);
+    let (last, to) = place_of(list, end);
+    let line = list.line(first);
+    if first == last {
+        return line.copy_text(column, to);
+    }
+    let mut text = line.copy_text(column, line.len())?;
+    push_lines(list, first + 1, last, &mut text)?;
+    push_part(list, last, 0, to, &mut text)?;
+    Ok(text)
+}
