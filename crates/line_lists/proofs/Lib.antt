@@ -1,5 +1,6 @@
 pub mod CountRows
 pub mod DraftLaws
+pub mod EditLaws
 pub mod FindLaws
 pub mod LineStarts
 pub mod ListLaws

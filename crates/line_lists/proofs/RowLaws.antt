@@ -1,5 +1,5 @@
 -- Lines of a text, of which one changes.
-use Rattle.std.proofs.Common.{◌≡◌, ℕ, ◌+◌, ◌<◌, ◌≤◌, List, [], ◌∷◌, ◌++◌, Option, None, Some, length, get_or, map, take, drop, refl, sym, ap, ap₂, subst, ◌∙◌, arith, append_assoc, take-append-drop}
+use Rattle.std.proofs.Common.{◌≡◌, ◌≢◌, ℕ, ◌+◌, ◌<◌, ◌≤◌, List, [], ◌∷◌, ◌++◌, Option, None, Some, length, get_or, map, take, drop, refl, sym, ap, ap₂, subst, ◌∙◌, arith, append_assoc, take-append-drop}
 use Rattle.std.specs.FinMap as finite
 use Rattle.std.specs.Prelude.{option_map}
 use Rattle.text_model.specs.declared.places.Place.{Place}
@@ -41,28 +41,46 @@ free-parts a b number free =
 abbrev pub AreAmong : Marks → Marks → Type 0
 AreAmong first second = (number : ℕ) → finite.get second number ≡ None → finite.get first number ≡ None
 
-pub apart-among : (a b c : Marks) → AreApart a b → AreAmong c b → AreApart a c
-apart-among a b c apart among number place is = among number (apart number place is)
+first_there : (len : ℕ) (found : Option Place) (place : Place) → or_else (option_map (later len) found) (Some place) ≢ None
+first_there len None place is = cc
+first_there len (Some other) place is = cc
 
--- lines before others that change, where no mark is new
-pub rows-before : (before rest new : List LineContent) → 0 < length rest → 0 < length new → AreRows (before ++ rest) → AreRows new → AreAmong (whole new).marks (whole rest).marks → AreRows (before ++ new)
-rows-before [] rest new some more rows next among = next
-rows-before (x ∷ []) (r ∷ rest) (n ∷ new) some more rows next among =
-    (rows.0, (rows.1.0, apart-among x.marks (whole (r ∷ rest)).marks (whole (n ∷ new)).marks rows.1.1 among), next)
-rows-before (x ∷ y ∷ before) rest new some more rows next among =
+-- a mark of the first of two parts is one of both
+there-joined : (a b : LineContent) (number : ℕ) (place : Place) → finite.get a.marks number ≡ Some place → finite.get (joined a b).marks number ≢ None
+there-joined a b number place is free =
+    first_there (length a.columns) (finite.get b.marks number) place
+    (ap (or_else (option_map (later (length a.columns)) (finite.get b.marks number))) (sym is) ∙ sym (get-joined_marks (length a.columns) a.marks b.marks number) ∙ free)
+
+-- each number that marks something in one marks nothing that is new in others
+abbrev pub StayFree : Marks → Marks → Marks → Type 0
+StayFree marks old new = (number : ℕ) → finite.get marks number ≢ None → finite.get old number ≡ None → finite.get new number ≡ None
+
+more-free : (a b : LineContent) (old new : Marks) → StayFree (joined a b).marks old new → StayFree b.marks old new
+more-free a b old new stay number there = stay number (λ free. there (free-parts a b number free).0)
+
+-- lines before others that change, where no mark of theirs is new
+pub rows-among : (before rest new : List LineContent) → 0 < length rest → 0 < length new → AreRows (before ++ rest) → AreRows new → StayFree (whole before).marks (whole rest).marks (whole new).marks → AreRows (before ++ new)
+rows-among [] rest new some more rows next stay = next
+rows-among (x ∷ []) (r ∷ rest) (n ∷ new) some more rows next stay =
+    let apart : AreApart x.marks (whole (n ∷ new)).marks = λ number place is. stay number (there-joined x (whole []) number place is) (rows.1.1 number place is) in
+    (rows.0, (rows.1.0, apart), next)
+rows-among (x ∷ y ∷ before) rest new some more rows next stay =
     let apart : AreApart x.marks (whole (y ∷ before ++ new)).marks = λ number place is.
     let free = free-parts (whole (y ∷ before)) (whole rest) number (ap (λ (line : LineContent). finite.get line.marks number) (sym (whole-append (y ∷ before) rest)) ∙ rows.1.1 number place is) in
     ap (λ (line : LineContent). finite.get line.marks number) (whole-append (y ∷ before) new)
-    ∙ free-joined (whole (y ∷ before)) (whole new) number free.1 (among number free.0) in
-    (rows.0, (rows.1.0, apart), rows-before (y ∷ before) rest new some more rows.2 next among)
-rows-before (x ∷ []) [] new some more rows next among = absurd (omega (arith, some))
-rows-before (x ∷ []) (r ∷ rest) [] some more rows next among = absurd (omega (arith, more))
+    ∙ free-joined (whole (y ∷ before)) (whole new) number free.1 (stay number (there-joined x (whole (y ∷ before)) number place is) free.0) in
+    (rows.0, (rows.1.0, apart), rows-among (y ∷ before) rest new some more rows.2 next (more-free x (whole (y ∷ before)) (whole rest).marks (whole new).marks stay))
+rows-among (x ∷ []) [] new some more rows next stay = absurd (omega (arith, some))
+rows-among (x ∷ []) (r ∷ rest) [] some more rows next stay = absurd (omega (arith, more))
+
+pub rows-before : (before rest new : List LineContent) → 0 < length rest → 0 < length new → AreRows (before ++ rest) → AreRows new → AreAmong (whole new).marks (whole rest).marks → AreRows (before ++ new)
+rows-before before rest new some more rows next among = rows-among before rest new some more rows next (λ number there. among number)
 
 pub rows-behind : (before rest : List LineContent) → AreRows (before ++ rest) → AreRows rest
 rows-behind [] rest rows = rows
 rows-behind (x ∷ before) rest rows = rows-behind before rest rows.2
 
-among-first : (line new : LineContent) (behind : List LineContent) → AreAmong new.marks line.marks → AreAmong (whole (new ∷ behind)).marks (whole (line ∷ behind)).marks
+pub among-first : (line new : LineContent) (behind : List LineContent) → AreAmong new.marks line.marks → AreAmong (whole (new ∷ behind)).marks (whole (line ∷ behind)).marks
 among-first line new behind among number free =
     let parts = free-parts line (whole behind) number free in free-joined new (whole behind) number (among number parts.1) parts.0
 

@@ -1,5 +1,6 @@
-ghost use Rattle.std.specs.Prelude.{◌≡◌, ℕ, ◌+◌, ◌-◌, ◌<◌, ◌≤◌, ◌^◌, List, ◌∷◌, [], ◌++◌, IfOk, OnOk, length, take, vec_len, vec_capacity, true, false};
-ghost use Rattle.segments.specs.Columns.{LineContent};
+ghost use Rattle.std.specs.Prelude.{◌≡◌, ℕ, ◌+◌, ◌-◌, ◌<◌, ◌≤◌, ◌^◌, List, ◌∷◌, [], ◌++◌, IfOk, OnOk, length, take, vec_len, vec_capacity, true, false, chars};
+ghost use Rattle.text_model.specs.Lines.{lines};
+ghost use Rattle.segments.specs.Columns.{LineContent, after_text};
 ghost use Rattle.line_lists.specs.Texts.{whole};
 ghost use Rattle.line_lists.specs.Drafts.{BeginsBehind, BeginsBy, CanFollow, IsDraft, IsFound, IsReached, IsTaken, IsText, NextBegins, StandsAt, copies_of, drafted_at, line_start, lines_before, made_lines, taken_lines, text_at};
 ghost use Rattle.line_lists.specs.Edits.{with_toggled};
@@ -358,6 +359,26 @@ impl<'a, L: LineList> Draft<'a, L> {
     {
         let Found { mut stop, column } = self.take(offset)?;
         stop.copy.line.toggle(column, slots)?;
+        self.put(stop);
+        Ok(())
+    }
+
+    /// Puts a text without newlines in before the character at an offset.
+    pub fn insert_within(&mut self, offset: usize, text: &str) -> Result<(), AllocError>
+        requires is { IsText (L.lines self.old.list.now) self.old.front.items self.old.back.items }
+        requires within { offset
+            < length (text_at (L.lines self.old.list.now) self.old.front.items self.old.back.items).columns }
+        requires free { lines (chars text.now) ≡ 0 }
+        requires counted { length (text_at (L.lines self.old.list.now) self.old.front.items self.old.back.items).columns
+            + length (chars text.now) < 2 ^ 64 }
+        ensures list { self.new.list.now ≡ self.old.list.now }
+        ensures is { OnOk result (IsText (L.lines self.new.list.now) self.new.front.items self.new.back.items) }
+        ensures new { OnOk result (text_at (L.lines self.new.list.now) self.new.front.items self.new.back.items
+            ≡ after_text offset (chars text.now)
+            (text_at (L.lines self.old.list.now) self.old.front.items self.old.back.items)) }
+    {
+        let Found { mut stop, column } = self.take(offset)?;
+        stop.copy.line.insert_text(column, text)?;
         self.put(stop);
         Ok(())
     }

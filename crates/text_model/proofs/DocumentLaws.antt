@@ -25,7 +25,7 @@ ends_in_newline-drop (suc at) [] within = absurd (omega arith)
 ends_in_newline-drop (suc at) (x ∷ []) within = absurd (omega arith)
 ends_in_newline-drop (suc at) (x ∷ next ∷ text) within = ends_in_newline-drop at (next ∷ text) (omega arith)
 
-ends_with_rest : (front : List ℕ) (at : ℕ) (text : List ℕ) → at < length text → ends_in_newline (front ++ drop at text) ≡ ends_in_newline text
+pub ends_with_rest : (front : List ℕ) (at : ℕ) (text : List ℕ) → at < length text → ends_in_newline (front ++ drop at text) ≡ ends_in_newline text
 ends_with_rest front at text within =
     ends_in_newline-append front (drop at text) (omega (arith, length-drop at text)) ∙ ends_in_newline-drop at text within
 

@@ -1,0 +1,129 @@
+-- What a text that goes into a line, and a mark that is put in it, make of the lines of a text.
+use Rattle.std.proofs.Common.{◌≡◌, ℕ, ◌+◌, ◌<◌, ◌≤◌, List, [], ◌∷◌, ◌++◌, Option, None, Some, length, take, refl, sym, ap, ap₂, subst, ◌∙◌, arith, length-append}
+use Rattle.std.specs.FinMap as finite
+use Rattle.std.specs.Ordering.{nat_cmp}
+use Rattle.std.specs.Prelude.{option_map}
+use Rattle.std.proofs.lemmas.List.{length-map}
+use Rattle.text_model.specs.declared.places.Place.{Place}
+use Rattle.text_model.specs.Content.{Marks, map_marks}
+use Rattle.text_model.specs.Documents.{ends_in_newline}
+use Rattle.text_model.specs.Lines.{lines}
+use Rattle.text_model.specs.Splices.{inserted, moved}
+use Rattle.text_model.proofs.DocumentLaws.{ends_with_rest}
+use Rattle.text_model.proofs.LineLaws.{lines-inserted}
+use Rattle.text_model.proofs.PlaceLaws.{get-map_marks}
+use Rattle.text_model.proofs.SpliceLaws.{length-inserted, map-inserted}
+use Rattle.text_model.proofs.StepLaws.{moved_le}
+use Rattle.segments.specs.Columns.{Column, LineContent, after_text, characters, joined, later, plain_columns}
+use Rattle.line_lists.specs.Lists.{AreApart, AreRows, GoesBefore, IsLine, StandBefore, StandWithin}
+use Rattle.line_lists.specs.Texts.{whole}
+use Rattle.line_lists.proofs.MarkRows.{get-joined_marks, or_else}
+use Rattle.line_lists.proofs.RowLaws.{AreAmong, Makes, among-first, rows-before, rows-behind, whole-around}
+use Rattle.line_lists.proofs.WholeLaws.{after_text-between}
+
+-- ---- the marks of lines before others stand before their end
+joined_one : (len end : ℕ) (found first : Option Place) (place : Place) → ((here : Place) → first ≡ Some here → here.offset < len)
+    → ((here : Place) → found ≡ Some here → here.offset < end) → or_else (option_map (later len) found) first ≡ Some place → place.offset < len + end
+joined_one len end None first place one two is = omega (arith, one place is)
+joined_one len end (Some here) first place one two is =
+    let same : here.offset + len ≡ place.offset = ap (λ (p : Place). p.offset) (let tie : later len here ≡ place = cc in tie) in omega (arith, same, two here refl)
+
+joined-stands : (a b : LineContent) → StandBefore (length a.columns) a.marks → StandBefore (length b.columns) b.marks → StandBefore (length (joined a b).columns) (joined a b).marks
+joined-stands a b one two number place is =
+    let below = joined_one (length a.columns) (length b.columns) (finite.get b.marks number) (finite.get a.marks number) place (one number) (two number)
+    (sym (get-joined_marks (length a.columns) a.marks b.marks number) ∙ is) in
+    subst (λ n. place.offset < n) (sym (length-append a.columns b.columns)) below
+
+first-stands : (line : LineContent) (before rest : List LineContent) → 0 < length rest → GoesBefore line (before ++ rest) → StandBefore (length line.columns) line.marks
+first-stands line [] [] some goes = absurd (omega (arith, some))
+first-stands line [] (next ∷ rest) some goes = goes.0
+first-stands line (next ∷ before) rest some goes = goes.0
+
+pub rows-stand : (before rest : List LineContent) → 0 < length rest → AreRows (before ++ rest) → StandBefore (length (whole before).columns) (whole before).marks
+rows-stand [] rest some rows = λ number place is. absurd (let no : None ≡ Some place = sym (finite.get-empty nat_cmp number) ∙ is in cc)
+rows-stand (x ∷ before) rest some rows = joined-stands x (whole before) (first-stands x before rest some rows.1) (rows-stand before rest some rows.2)
+
+-- ---- a line that changes, where no mark is new
+apart-first : (a b c : Marks) → AreAmong b a → AreApart a c → AreApart b c
+apart-first a b c among apart number place is =
+    elim (finite.get a number) as (λ found. finite.get a number ≡ found → finite.get c number ≡ None) [
+      | None ↦ λ free. absurd (let no : None ≡ Some place = sym (among number free) ∙ is in cc)
+      | Some here ↦ λ there. apart number here there
+    ] refl
+
+goes-changed : (line new : LineContent) (behind : List LineContent) → AreAmong new.marks line.marks
+    → (StandBefore (length line.columns) line.marks → StandBefore (length new.columns) new.marks)
+    → (StandWithin (length line.columns) line.marks → StandWithin (length new.columns) new.marks) → GoesBefore line behind → GoesBefore new behind
+goes-changed line new [] among before within goes = within goes
+goes-changed line new (next ∷ others) among before within goes = (before goes.0, apart-first line.marks new.marks (whole (next ∷ others)).marks among goes.1)
+
+-- ---- a text goes in
+characters-plain : (text : List ℕ) → characters (plain_columns text) ≡ text
+characters-plain [] = refl
+characters-plain (c ∷ text) = ap (λ cs. c ∷ cs) (characters-plain text)
+
+characters-text : (at : ℕ) (text : List ℕ) (xs : List Column) → characters (inserted at (plain_columns text) xs) ≡ inserted at text (characters xs)
+characters-text at text xs =
+    map-inserted (λ (column : Column). column.character) at (plain_columns text) xs ∙ ap (λ new. inserted at new (characters xs)) (characters-plain text)
+
+pub length-text : (at : ℕ) (text : List ℕ) (xs : List Column) → at ≤ length xs → length (inserted at (plain_columns text) xs) ≡ length xs + length text
+length-text at text xs within = length-inserted at (plain_columns text) xs within ∙ ap (λ n. length xs + n) (length-map text _)
+
+text-line : (at : ℕ) (text : List ℕ) (line : LineContent) → at < length line.columns → lines text ≡ 0 → IsLine line → IsLine (after_text at text line)
+text-line at text line within free is =
+    let short : at < length (characters line.columns) = omega (arith, within, length-map line.columns (λ (column : Column). column.character)) in
+    let chars = characters-text at text line.columns in
+    let ends = ap ends_in_newline chars ∙ ends_with_rest (take at (characters line.columns) ++ text) at (characters line.columns) short ∙ is.ends in
+    let once : lines (characters (inserted at (plain_columns text) line.columns)) ≡ 1 = omega (arith, ap lines chars, lines-inserted at text (characters line.columns), free, is.once) in
+    record { ends = ends; once = once }
+
+text-among : (f : Place → Place) (marks : Marks) → AreAmong (map_marks f marks) marks
+text-among f marks number free = get-map_marks f marks number ∙ ap (option_map f) free
+
+moved_one : (at count end : ℕ) (found : Option Place) (place : Place) → ((here : Place) → found ≡ Some here → here.offset < end)
+    → option_map (moved at count) found ≡ Some place → place.offset < end + count
+moved_one at count end None place stand is = absurd (let no : None ≡ Some place = is in cc)
+moved_one at count end (Some here) place stand is =
+    let same : moved at count here ≡ place = cc in
+    let below = moved_le at count here.offset here (omega arith) in
+    omega (arith, ap (λ (p : Place). p.offset) same, below, stand here refl)
+
+moved-stands : (at count end : ℕ) (marks : Marks) → StandBefore end marks → StandBefore (end + count) (map_marks (moved at count) marks)
+moved-stands at count end marks stand number place is =
+    moved_one at count end (finite.get marks number) place (stand number) (sym (get-map_marks (moved at count) marks number) ∙ is)
+
+text-goes : (at : ℕ) (text : List ℕ) (line : LineContent) (behind : List LineContent) → at < length line.columns → GoesBefore line behind → GoesBefore (after_text at text line) behind
+text-goes at text line behind within goes =
+    let long = length-text at text line.columns (omega arith) in
+    let moves = moved-stands at (length text) in
+    goes-changed line (after_text at text line) behind (text-among (moved at (length text)) line.marks)
+    (λ stand number place is. omega (arith, moves (length line.columns) line.marks stand number place is, long))
+    (λ stand number place is. omega (arith, moves (length line.columns + 1) line.marks (λ q here there. omega (arith, stand q here there)) number place is, long))
+    goes
+
+text-rows : (at : ℕ) (text : List ℕ) (before behind : List LineContent) (line : LineContent) → at < length line.columns → lines text ≡ 0 → AreRows (before ++ line ∷ behind)
+    → AreRows (before ++ after_text at text line ∷ behind)
+text-rows at text before behind line within free rows =
+    let rest = rows-behind before (line ∷ behind) rows in
+    let new = after_text at text line in
+    rows-before before (line ∷ behind) (new ∷ behind) (omega arith) (omega arith) rows (text-line at text line within free rest.0, text-goes at text line behind within rest.1, rest.2)
+    (among-first line new behind (text-among (moved at (length text)) line.marks))
+
+text-whole : (at : ℕ) (text : List ℕ) (before behind : List LineContent) (line : LineContent) → at < length line.columns → AreRows (before ++ line ∷ behind)
+    → whole (before ++ after_text at text line ∷ behind) ≡ after_text (length (whole before).columns + at) text (whole (before ++ line ∷ behind))
+text-whole at text before behind line within rows =
+    whole-around before behind (after_text at text line)
+    ∙ sym (ap (after_text (length (whole before).columns + at) text) (whole-around before behind line)
+    ∙ after_text-between at text (whole before) line (whole behind) (rows-stand before (line ∷ behind) (omega arith) rows) within)
+
+-- what is made of lines of a text
+pub inserted-makes : (before behind old : List LineContent) (line new : LineContent) (offset column : ℕ) (text : List ℕ) → before ++ line ∷ behind ≡ old → offset ≡ length (whole before).columns + column
+    → column < length line.columns → lines text ≡ 0 → AreRows old → new ≡ after_text column text line → Makes (after_text offset text) old (before ++ new ∷ behind)
+inserted-makes before behind old line new offset column text old_is place inside free rows new_is =
+    let here = subst AreRows (sym old_is) rows in
+    record {
+      rows = λ _. subst (λ x. AreRows (before ++ x ∷ behind)) (sym new_is) (text-rows column text before behind line inside free here);
+      whole =
+          ap (λ x. whole (before ++ x ∷ behind)) new_is ∙ text-whole column text before behind line inside here
+          ∙ ap₂ (λ n xs. after_text n text (whole xs)) (sym place) old_is;
+    }

@@ -1,0 +1,52 @@
+use Rattle.std.proofs.Common.{length, sym, ap, ◌∙◌, subst, arith}
+use Rattle.std.specs.Prelude.{chars}
+use Rattle.segments.specs.Columns.{LineContent}
+use Rattle.line_lists.specs.Drafts.{copies_of, drafted_at, lines_before, lines_behind}
+use Rattle.line_lists.specs.Lists.{AreRows}
+use Rattle.line_lists.specs.Texts.{whole}
+use Rattle.line_lists.proofs.EditLaws.{inserted-makes, length-text}
+use Rattle.line_lists.proofs.drafts.Draft.insert_within.Goals as goal
+
+pub put-requires-clause-counted : goal.put-requires-clause-counted
+put-requires-clause-counted g c =
+    let lines = g.L.LineList.lines c.take.new.self.list.now in
+    let found = c.in_ok-stop.field-0 in
+    let copy = found.stop.copy in
+    let copies = copies_of c.take.new.self.front.items in
+    let before = lines_before copies copy lines in
+    let behind = lines_behind copies copy c.take.new.self.back.items lines in
+    let place = c.in_ok-stop.ensures.place in
+    let text = chars c.args.text.now in
+    let makes = inserted-makes before behind _ copy.line c.insert_text.new.self c.args.offset found.column text c.in_ok-stop.ensures.same place.place place.inside c.requires.free c.requires.is.rows c.in_ok-insert_text.ensures.new in
+    let old = drafted_at (g.L.LineList.lines c.args.self.now.list.now) c.args.self.now.front.items c.args.self.now.back.items in
+    let long = ap (λ (line : LineContent). length line.columns) makes.whole ∙ length-text c.args.offset text (whole old).columns (omega (arith, c.requires.within)) in
+    omega (arith, long, c.requires.counted)
+
+pub returns-clause-is : goal.returns-clause-is
+returns-clause-is g c =
+    let lines = g.L.LineList.lines c.take.new.self.list.now in
+    let found = c.in_ok-stop.field-0 in
+    let copy = found.stop.copy in
+    let copies = copies_of c.take.new.self.front.items in
+    let before = lines_before copies copy lines in
+    let behind = lines_behind copies copy c.take.new.self.back.items lines in
+    let place = c.in_ok-stop.ensures.place in
+    let text = chars c.args.text.now in
+    let makes = inserted-makes before behind _ copy.line c.insert_text.new.self c.args.offset found.column text c.in_ok-stop.ensures.same place.place place.inside c.requires.free c.requires.is.rows c.in_ok-insert_text.ensures.new in
+    record {
+      draft = c.put.ensures.is;
+      rows = subst AreRows (sym c.put.ensures.lines) (makes.rows c.requires.is.rows);
+    }
+
+pub returns-clause-new : goal.returns-clause-new
+returns-clause-new g c =
+    let lines = g.L.LineList.lines c.take.new.self.list.now in
+    let found = c.in_ok-stop.field-0 in
+    let copy = found.stop.copy in
+    let copies = copies_of c.take.new.self.front.items in
+    let before = lines_before copies copy lines in
+    let behind = lines_behind copies copy c.take.new.self.back.items lines in
+    let place = c.in_ok-stop.ensures.place in
+    let text = chars c.args.text.now in
+    let makes = inserted-makes before behind _ copy.line c.insert_text.new.self c.args.offset found.column text c.in_ok-stop.ensures.same place.place place.inside c.requires.free c.requires.is.rows c.in_ok-insert_text.ensures.new in
+    ap whole c.put.ensures.lines ∙ makes.whole
