@@ -189,7 +189,7 @@ snoc_at (y ∷ []) zero x long is = let same : y ≡ x = cc in ap (λ z. z ∷ [
 snoc_at (y ∷ z ∷ zs) zero x long is = absurd (omega (arith, long))
 snoc_at (y ∷ ys) (suc n) x long is = ap (λ rest. y ∷ rest) (snoc_at ys n x (omega (arith, long)) is)
 
-none_at : {A : Type 0} (xs : List A) (n : ℕ) → slice_get xs n ≡ None → length xs ≤ n
+pub none_at : {A : Type 0} (xs : List A) (n : ℕ) → slice_get xs n ≡ None → length xs ≤ n
 none_at [] n is = omega arith
 none_at {A = A} (x ∷ xs) zero is = let no : ◌≡◌ {A = Option A} (Some x) None = is in absurd (cc)
 none_at (x ∷ xs) (suc n) is = omega (arith, none_at xs n is)

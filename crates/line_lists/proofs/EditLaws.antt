@@ -15,9 +15,9 @@ use Rattle.text_model.proofs.PlaceLaws.{get-map_marks}
 use Rattle.text_model.proofs.SpliceLaws.{length-inserted, map-inserted}
 use Rattle.text_model.proofs.StepLaws.{moved_le}
 use Rattle.segments.specs.Columns.{Column, LineContent, after_text, characters, joined, later, plain_columns}
+use Rattle.segments.proofs.MarkLaws.{get-joined_marks, or_else}
 use Rattle.line_lists.specs.Lists.{AreApart, AreRows, GoesBefore, IsLine, StandBefore, StandWithin}
 use Rattle.line_lists.specs.Texts.{whole}
-use Rattle.line_lists.proofs.MarkRows.{get-joined_marks, or_else}
 use Rattle.line_lists.proofs.RowLaws.{AreAmong, Makes, among-first, rows-before, rows-behind, whole-around}
 use Rattle.line_lists.proofs.WholeLaws.{after_text-between}
 

@@ -11,7 +11,8 @@ use Rattle.line_lists.specs.Drafts.{AreStops, IsDraft, IsFound, IsReached, IsTak
 use Rattle.line_lists.specs.Lists.{Holds, count_of}
 use Rattle.line_lists.specs.Texts.{whole}
 use Rattle.line_lists.proofs.CountRows.{count-characters}
-use Rattle.line_lists.proofs.DraftLaws.{copies-snoc, counted-between, drafted-append, length-whole, made-snoc, start-is, stops-front, stops-last, stops-snoc, take-more, used-append}
+use Rattle.line_lists.proofs.DraftLaws.{copies-snoc, counted-between, drafted-append, length-whole, made-snoc, none_at, start-is, stops-front, stops-last, stops-snoc, take-more, used-append}
+use Rattle.line_lists.proofs.PlaceRows.{split_at}
 use Rattle.line_lists.proofs.WholeLaws.{whole-one}
 
 -- where lines begin
@@ -27,15 +28,6 @@ begin-rises lines i j ordered =
     let same : begin lines (i + (j - i)) ≡ begin lines j = ap (begin lines) (let n : i + (j - i) ≡ j = omega arith in n) in
     omega (arith, more, same)
 
--- a list around one of its elements
-split_after : {A : Type 0} (xs : List A) (n : ℕ) (x : A) → slice_get xs n ≡ Some x → xs ≡ take n xs ++ x ∷ drop (suc n) xs
-split_after {A = A} [] n x is = let no : ◌≡◌ {A = Option A} None (Some x) = is in absurd (cc)
-split_after (y ∷ ys) zero x is = let same : y ≡ x = cc in ap (λ z. z ∷ ys) same
-split_after (y ∷ ys) (suc n) x is = ap (λ rest. y ∷ rest) (split_after ys n x is)
-
-pub split_at : {A : Type 0} (xs : List A) (n : ℕ) (x : A) → slice_get xs n ≡ Some x → xs ≡ take n xs ++ x ∷ drop (n + 1) xs
-split_at xs n x is = split_after xs n x is ∙ ap (λ k. take n xs ++ x ∷ drop k xs) (let same : suc n ≡ n + 1 = omega arith in same)
-
 -- where a line ends
 begin_after : (lines : List LineContent) (n : ℕ) (line : LineContent) → slice_get lines n ≡ Some line → begin lines (suc n) ≡ begin lines n + length line.columns
 begin_after [] n line is = let no : ◌≡◌ {A = Option LineContent} None (Some line) = is in absurd (cc)
@@ -45,14 +37,9 @@ begin_after (x ∷ xs) (suc n) line is = omega (arith, begin_after xs n line is,
 pub begin-next : (lines : List LineContent) (n : ℕ) (line : LineContent) → slice_get lines n ≡ Some line → begin lines (n + 1) ≡ begin lines n + length line.columns
 begin-next lines n line is = ap (begin lines) (let same : n + 1 ≡ suc n = omega arith in same) ∙ begin_after lines n line is
 
-none_below : {A : Type 0} (xs : List A) (n : ℕ) → slice_get xs n ≡ None → length xs ≤ n
-none_below [] n is = omega arith
-none_below {A = A} (x ∷ xs) zero is = let no : ◌≡◌ {A = Option A} (Some x) None = is in absurd (cc)
-none_below (x ∷ xs) (suc n) is = omega (arith, none_below xs n is)
-
 line_ends : (lines : List LineContent) (line column : ℕ) (here : Option LineContent) → slice_get lines line ≡ here → line < length lines → IfSome here (λ (x : LineContent). column < length x.columns)
     → begin lines line + column < begin lines (line + 1)
-line_ends lines line column None is within inside = absurd (omega (arith, within, none_below lines line is))
+line_ends lines line column None is within inside = absurd (omega (arith, within, none_at lines line is))
 line_ends lines line column (Some x) is within inside = omega (arith, inside, begin-next lines line x is)
 
 pub found : (reached : Reached) (lines : List LineContent) (offset place line column : ℕ) → reached.characters ≤ offset → place ≡ offset - reached.characters + begin lines reached.used
@@ -129,7 +116,7 @@ opened-rest lines front copy one is =
     ap (λ n. (before ++ take copy.kept rest) ++ copy.line ∷ drop n lines) (let same : used copies + covered copy ≡ used copies + (copy.kept + 1) = omega (arith, one) in same)
     ∙ ap (λ xs. (before ++ take copy.kept rest) ++ copy.line ∷ xs) (sym (drop-rest (used copies) (copy.kept + 1) lines))
     ∙ append_assoc before (take copy.kept rest) (copy.line ∷ drop (copy.kept + 1) rest)
-    ∙ ap (λ xs. before ++ xs) (sym (split_at rest copy.kept copy.line here))
+    ∙ ap (λ xs. before ++ xs) (sym (split_at rest copy.kept copy.line here ∙ ap (λ n. take copy.kept rest ++ copy.line ∷ drop n rest) (let same : suc copy.kept ≡ copy.kept + 1 = omega arith in same)))
     ∙ sym (drafted-append copies [] lines)
 
 -- a kept line is copied before the next copy

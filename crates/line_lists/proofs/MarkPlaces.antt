@@ -9,10 +9,11 @@ use Rattle.std.specs.Cmp.{unsigned_tied}
 use Rattle.text_model.specs.declared.places.Place.{Place}
 use Rattle.text_model.specs.Content.{Marks}
 use Rattle.segments.specs.Columns.{LineContent, later}
+use Rattle.segments.proofs.MarkLaws.{get-joined_marks, or_else}
 use Rattle.line_lists.specs.Lists.{AreApart, AreRows, GoesBefore, StandBefore, StandWithin, has_mark, has_marks}
 use Rattle.line_lists.specs.Texts.{whole}
 use Rattle.line_lists.proofs.LineStarts.{length_at, start-more, start_of, there}
-use Rattle.line_lists.proofs.MarkRows.{get-joined_marks, get-row, or_else}
+use Rattle.line_lists.proofs.MarkRows.{get-row}
 use Rattle.line_lists.proofs.NewlineRows.{row-at}
 use Rattle.line_lists.proofs.PlaceRows.{whole-at}
 use Rattle.line_lists.proofs.SearchRows.{FailFrom, line_at}

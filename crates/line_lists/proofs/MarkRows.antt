@@ -12,25 +12,7 @@ use Rattle.text_model.specs.Content.{Marks, map_marks}
 use Rattle.text_model.specs.Splices.{drawn, goes_behind, is_right, moved}
 use Rattle.text_model.proofs.PlaceLaws.{get-map_marks, same_marks}
 use Rattle.segments.specs.Columns.{joined_marks, later}
-
-abbrev pub or_else : Option Place → Option Place → Option Place
-or_else None other = other
-or_else (Some place) other = Some place
-
-find_both : (q : ℕ) (es fs : List (ℕ × Place)) → find nat_cmp q (es ++ fs) ≡ or_else (find nat_cmp q es) (find nat_cmp q fs)
-find_both q [] fs = refl
-find_both q (e ∷ es) fs =
-    elim (eq_by_cmp nat_cmp q e.0) as (λ b. cond b (Some e.1) (find nat_cmp q (es ++ fs)) ≡ or_else (cond b (Some e.1) (find nat_cmp q es)) (find nat_cmp q fs)) [
-      | true ↦ refl
-      | false ↦ find_both q es fs
-    ]
-
-pub get-joined_marks : (len : ℕ) (first second : Marks) (q : ℕ)
-    → finite.get (joined_marks len first second) q ≡ or_else (option_map (later len) (finite.get second q)) (finite.get first q)
-get-joined_marks len first second q =
-    let entries = finite.entries (map_marks (later len) second) in
-    finite.get-from_entries nat_cmp_total (entries ++ finite.entries first) q ∙ find_both q entries (finite.entries first)
-    ∙ ap₂ or_else (sym (finite.get-entries (map_marks (later len) second) q) ∙ get-map_marks (later len) second q) (sym (finite.get-entries first q))
+use Rattle.segments.proofs.MarkLaws.{get-joined_marks, or_else}
 
 -- ---- three in a row
 later_twice : (one two : ℕ) (place : Place) → later one (later two place) ≡ later (one + two) place

@@ -10,11 +10,11 @@ use Rattle.text_model.specs.Documents.{ends_in_newline}
 use Rattle.text_model.specs.Lines.{lines}
 use Rattle.text_model.specs.Splices.{changed}
 use Rattle.segments.specs.Columns.{Column, LineContent, characters, joined, later, toggled_first, toggled_more}
+use Rattle.segments.proofs.MarkLaws.{get-joined_marks, or_else}
 use Rattle.line_lists.specs.Edits.{with_toggled}
 use Rattle.line_lists.specs.Lists.{AreApart, AreRows, GoesBefore, IsLine, StandBefore, StandWithin}
 use Rattle.line_lists.specs.Texts.{whole}
 use Rattle.line_lists.specs.Toggling.{toggled_before}
-use Rattle.line_lists.proofs.MarkRows.{get-joined_marks, or_else}
 use Rattle.line_lists.proofs.StepLaws.{slice-one}
 use Rattle.line_lists.proofs.WholeLaws.{between, length-toggled, whole-append, with_toggled-between}
 

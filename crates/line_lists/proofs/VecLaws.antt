@@ -12,11 +12,11 @@ use Rattle.text_model.specs.Content.{Marks}
 use Rattle.text_model.specs.Splices.{inserted, removed}
 use Rattle.text_model.proofs.PlaceLaws.{same_marks}
 use Rattle.segments.specs.Columns.{LineContent, joined, joined_marks, later, plain_line}
+use Rattle.segments.proofs.MarkLaws.{get-joined_marks, or_else}
 use Rattle.line_lists.specs.Edits.{without_mark}
 use Rattle.line_lists.specs.Lists.{AreApart, AreLines, AreRows, GoesBefore, IsCounted, count_of, spliced}
 use Rattle.line_lists.specs.Texts.{whole}
 use Rattle.line_lists.proofs.CountRows.{counted-part}
-use Rattle.line_lists.proofs.MarkRows.{get-joined_marks, or_else}
 
 -- the part before an index is counted
 pub counted-front : (n : ℕ) (xs : List LineContent) → IsCounted (count_of xs) → IsCounted (count_of (take n xs))

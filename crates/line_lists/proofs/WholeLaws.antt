@@ -14,10 +14,11 @@ use Rattle.text_model.proofs.PlaceLaws.{same_marks}
 use Rattle.text_model.proofs.SpliceLaws.{changed-append_left, changed-append_right, inserted-append_left, inserted-append_right, length-changed, length-inserted}
 use Rattle.segments.specs.Columns.{Column, LineContent, after_removal, after_text, joined, joined_marks, later, plain_columns, plain_line, toggled_first, toggles, with_toggle, without_columns}
 use Rattle.toggle_sums.specs.Toggles.{parity}
+use Rattle.segments.proofs.MarkLaws.{or_else, tied_same}
 use Rattle.line_lists.specs.Edits.{with_cleared, with_mark, with_toggled, without_mark}
 use Rattle.line_lists.specs.Texts.{whole}
 use Rattle.line_lists.specs.Toggling.{cleared, toggled_before}
-use Rattle.line_lists.proofs.MarkRows.{StandBefore, StandWithin, drawn-Lifts, get-row, joined_marks-associative, joined_marks-none, map_marks-row, moved-Lifts, none-joined_marks, or_else, row}
+use Rattle.line_lists.proofs.MarkRows.{StandBefore, StandWithin, drawn-Lifts, get-row, joined_marks-associative, joined_marks-none, map_marks-row, moved-Lifts, none-joined_marks, row}
 
 pub joined-associative : (a b c : LineContent) → joined a (joined b c) ≡ joined (joined a b) c
 joined-associative a b c =
@@ -148,9 +149,6 @@ with_cleared-between slot from to front line back ordered within =
     λ i. record { columns = columns i; marks = marks i }
 
 -- ---- marks
-tied_same : (a b : ℕ) → eq_by_cmp nat_cmp a b ≡ true → a ≡ b
-tied_same a b is = let test : (a == b) ≡ true = sym (unsigned_tied a b) ∙ is in grind (arith, nat_tests)
-
 put_row : (test : Bool) (one two : ℕ) (place : Place) (x y z : Option Place) → (test ≡ true → z ≡ None)
     → cond test (Some (later one place)) (or_else (option_map (later one) (or_else (option_map (later two) z) y)) x)
     ≡ or_else (option_map (later one) (or_else (option_map (later two) z) (cond test (Some place) y))) x

@@ -46,7 +46,7 @@ tied a b same = ap is_eq (is_equal a b same)
 apart : (a b : ℕ) → a ≢ b → eq_by_cmp nat_cmp a b ≡ false
 apart a b other = unsigned_tied a b ∙ grind (arith, nat_tests)
 
-tied_same : (a b : ℕ) → eq_by_cmp nat_cmp a b ≡ true → a ≡ b
+pub tied_same : (a b : ℕ) → eq_by_cmp nat_cmp a b ≡ true → a ≡ b
 tied_same a b is = let test : (a == b) ≡ true = sym (unsigned_tied a b) ∙ is in grind (arith, nat_tests)
 
 is_true : (test : Bool) → T test → test ≡ true
@@ -187,7 +187,7 @@ pub put_all_more : (list : List Mark) (i : ℕ) (mark : Mark) (len : ℕ) (old n
 put_all_more list i mark len old new within is =
     ap (put_all (drop (i + 1) list) len) is ∙ sym (at_drop_more (λ rest. put_all rest len old) list i mark within)
 
-abbrev or_else : Option Place → Option Place → Option Place
+abbrev pub or_else : Option Place → Option Place → Option Place
 or_else None other = other
 or_else (Some place) other = Some place
 
@@ -220,7 +220,7 @@ find_both q (e ∷ es) fs =
       | false ↦ find_both q es fs
     ]
 
-get-joined_marks : (len : ℕ) (first second : Marks) (q : ℕ)
+pub get-joined_marks : (len : ℕ) (first second : Marks) (q : ℕ)
     → finite.get (joined_marks len first second) q ≡ or_else (option_map (later len) (finite.get second q)) (finite.get first q)
 get-joined_marks len first second q =
     let entries = finite.entries (map_marks (later len) second) in
