@@ -2,9 +2,11 @@
 # make test    the gate, and then the checks that the gate can't do; the last line counts them
 # make fuzz    the program against the plain model on random scripts: SEEDS=300 of them, FIRST=0 on
 # make gate    the gate alone, and its processor time over that of `rt selftest`; with nothing beside it
-# make bench   the program's time per command as the text grows, and its memory as the script does, into docs/bench.txt
+# make bench   the program's time per command as the text grows, and its memory as the script does, into docs/bench.txt;
+#              what is done to one long line, into docs/bench_lines.txt
 
 PROGRAM = crates/tktext/out/tktext
+LINE_BENCH = crates/line_bench/out/line_bench
 SHIM = out/refuse.so
 SEEDS ?= 300
 FIRST ?= 0
@@ -35,8 +37,13 @@ test: $(SHIM)
 fuzz: $(PROGRAM)
 	python3 tools/fuzz.py --program $(PROGRAM) --seeds $(SEEDS) --first $(FIRST)
 
-bench: $(PROGRAM)
+$(LINE_BENCH): $(SOURCES)
+	cd crates/line_bench && rt run > /dev/null
+	@touch $@
+
+bench: $(PROGRAM) $(LINE_BENCH)
 	python3 tools/bench.py --program $(PROGRAM) --out docs/bench.txt
+	python3 tools/bench_lines.py --program $(LINE_BENCH) --out docs/bench_lines.txt
 
 gate:
 	python3 tools/gate.py --ratio

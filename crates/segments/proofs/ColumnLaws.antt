@@ -4,11 +4,11 @@ use Rattle.std.proofs.lemmas.Bool.{cases_eq}
 use Rattle.std.proofs.lemmas.List.{take_all}
 use Rattle.std.specs.FinSet as set
 use Rattle.text_model.specs.SlotSets.{differing}
-use Rattle.toggle_sums.specs.Toggles.{parity}
-use Rattle.toggle_sums.specs.CountLaws.{differing-empty, empty-differing}
+use Rattle.toggle_sums.specs.Toggles.{parity, presence}
+use Rattle.toggle_sums.specs.CountLaws.{differing-empty, empty-differing, empty-union}
 use Rattle.segments.specs.declared.toggles.Toggled.{Toggled}
 use Rattle.segments.specs.Columns.{Column, characters, plain_columns, tags_before, toggles}
-use Rattle.segments.specs.Entries.{LieIn, odd_of, toggled_at}
+use Rattle.segments.specs.Entries.{LieIn, any_of, odd_of, toggled_at}
 use Rattle.segments.specs.Kept.{columns_from}
 use Rattle.segments.proofs.EntryLaws.{front_alone, LieIn-both, LieIn-take, met, none_before, passed}
 
@@ -31,13 +31,31 @@ take-columns (suc n) at [] entries = refl
 take-columns (suc n) at (character ∷ text) entries =
     ap (λ (columns : List Column). record { character = character; toggled = toggled_at entries at } ∷ columns) (take-columns n (suc at) text entries)
 
+pub drop-columns : (n at : ℕ) (text : List ℕ) (entries : List Toggled) → drop n (columns_from at text entries) ≡ columns_from (at + n) (drop n text) entries
+drop-columns zero at text entries =
+    let same : at ≡ at + 0 = omega arith in
+    ap (λ n. columns_from n text entries) same
+drop-columns (suc n) at [] entries = refl
+drop-columns (suc n) at (character ∷ text) entries =
+    let same : suc at + n ≡ at + suc n = omega arith in
+    drop-columns n (suc at) text entries ∙ ap (λ m. columns_from m (drop n text) entries) same
+
+pub columns-append : (at : ℕ) (front behind : List ℕ) (entries : List Toggled) → columns_from at (front ++ behind) entries ≡ columns_from at front entries ++ columns_from (at + length front) behind entries
+columns-append at [] behind entries =
+    let same : at ≡ at + 0 = omega arith in
+    ap (λ n. columns_from n behind entries) same
+columns-append at (character ∷ front) behind entries =
+    let same : suc at + length front ≡ at + suc (length front) = omega arith in
+    ap (λ (columns : List Column). record { character = character; toggled = toggled_at entries at } ∷ columns)
+    (columns-append (suc at) front behind entries ∙ ap (λ n. columns_from (suc at) front entries ++ columns_from n behind entries) same)
+
 -- entries before the first column and behind the last one make no difference
 columns-passed : (at : ℕ) (text : List ℕ) (entry : Toggled) (entries : List Toggled) → entry.column < at → columns_from at text (entry ∷ entries) ≡ columns_from at text entries
 columns-passed at [] entry entries before = refl
 columns-passed at (character ∷ text) entry entries before =
     ap₂ (λ slots (columns : List Column). record { character = character; toggled = slots } ∷ columns) (passed entry entries at (omega arith)) (columns-passed (suc at) text entry entries (omega arith))
 
-columns-front : (at from to : ℕ) (text : List ℕ) (front behind : List Toggled) → LieIn from to behind → at + length text ≤ from → columns_from at text (front ++ behind) ≡ columns_from at text front
+pub columns-front : (at from to : ℕ) (text : List ℕ) (front behind : List Toggled) → LieIn from to behind → at + length text ≤ from → columns_from at text (front ++ behind) ≡ columns_from at text front
 columns-front at from to [] front behind lie far = refl
 columns-front at from to (character ∷ text) front behind lie far =
     ap₂ (λ slots (columns : List Column). record { character = character; toggled = slots } ∷ columns) (front_alone front behind at (none_before from to behind at lie (omega arith))) (columns-front (suc at) from to text front behind lie (omega arith))
@@ -60,6 +78,26 @@ parity-columns at to (character ∷ text) (entry ∷ entries) is lie =
           (none_before (suc at) to (entry ∷ entries) at (later, lie.1, lie.2) (omega arith))
           (parity-columns (suc at) to text (entry ∷ entries) (omega arith) (later, lie.1, lie.2))
           ∙ empty-differing (odd_of (entry ∷ entries))
+    ]
+
+-- the presence of the columns is that of the entries
+pub presence-columns : (at to : ℕ) (text : List ℕ) (entries : List Toggled) → to ≡ at + length text → LieIn at to entries → presence (toggles (columns_from at text entries)) ≡ any_of entries
+presence-columns at to [] [] is lie = refl
+presence-columns at to [] (entry ∷ entries) is lie = absurd (omega (arith, lie.0, lie.1))
+presence-columns at to (character ∷ text) [] is lie =
+    ap (set.union set.empty) (presence-columns (suc at) to text [] (omega arith) tt) ∙ empty-union set.empty
+presence-columns at to (character ∷ text) (entry ∷ entries) is lie =
+    elim (cases_eq entry.column at) [
+      | inl here ↦
+          ap₂ set.union
+          (met entry entries at here ∙ ap (differing entry.slots) (none_before (suc entry.column) to entries at lie.2 (omega arith)) ∙ differing-empty entry.slots)
+          (ap (λ columns. presence (toggles columns)) (columns-passed (suc at) text entry entries (omega arith)) ∙ presence-columns (suc at) to text entries (omega arith) (subst (λ n. LieIn (suc n) to entries) here lie.2))
+      | inr other ↦
+          let later : suc at ≤ entry.column = omega (arith, lie.0) in
+          ap₂ set.union
+          (none_before (suc at) to (entry ∷ entries) at (later, lie.1, lie.2) (omega arith))
+          (presence-columns (suc at) to text (entry ∷ entries) (omega arith) (later, lie.1, lie.2))
+          ∙ empty-union (any_of (entry ∷ entries))
     ]
 
 -- the slots toggled an odd number of times up to a column are those of the entries up to it

@@ -12,9 +12,9 @@ use Rattle.text_model.specs.TagBits.{slot_count, slots_of}
 use Rattle.text_model.specs.TagBitLaws.{contains-slots_below}
 use Rattle.text_model.specs.Content.{Slots}
 use Rattle.text_model.specs.SlotSets.{differing}
-use Rattle.toggle_sums.specs.CountLaws.{differing-associative, same_slots}
+use Rattle.toggle_sums.specs.CountLaws.{differing-associative, same_slots, union-associative}
 use Rattle.segments.specs.declared.toggles.Toggled.{Toggled}
-use Rattle.segments.specs.Entries.{LieIn, odd_of, toggled_at}
+use Rattle.segments.specs.Entries.{LieIn, any_of, odd_of, toggled_at}
 
 -- one entry more that stands before a column
 more_before : (from to column : ℕ) (entries : List Toggled) (i : ℕ) (d : Toggled) → LieIn from to entries → LieIn from column (take i entries) → i < length entries → (get_or entries i d).column < column → LieIn from column (take (suc i) entries)
@@ -37,6 +37,13 @@ pub odd_more : (entries : List Toggled) (i : ℕ) (d : Toggled) (so_far whole : 
 odd_more entries i d so_far whole within is =
     differing-associative so_far (get_or entries i d).slots (odd_of (drop (i + 1) entries))
     ∙ ap (λ es. differing so_far (odd_of es)) (sym (drop_more entries i d within))
+    ∙ is
+
+-- the presence so far, and that of the rest
+pub any_more : (entries : List Toggled) (i : ℕ) (d : Toggled) (so_far whole : Slots) → i < length entries → set.union so_far (any_of (drop i entries)) ≡ whole → set.union (set.union so_far (get_or entries i d).slots) (any_of (drop (i + 1) entries)) ≡ whole
+any_more entries i d so_far whole within is =
+    union-associative so_far (get_or entries i d).slots (any_of (drop (i + 1) entries))
+    ∙ ap (λ es. set.union so_far (any_of es)) (sym (drop_more entries i d within))
     ∙ is
 
 not_one : (x n q : ℕ) → (q < n → x ≡ 0) → (nat_lt q n && (x == 1)) ≡ false

@@ -1,6 +1,14 @@
+pub mod ChangeLaws
 pub mod ColumnLaws
 pub mod EntryLaws
+pub mod InsertionLaws
 pub mod MarkLaws
+pub mod MarkOrderLaws
+pub mod MarkPlaceLaws
+pub mod MovedLaws
+pub mod NextLaws
+pub mod PartLaws
 pub mod PreviousLaws
+pub mod SpanLaws
 pub mod TextLaws
 pub mod ToggleLaws

@@ -6,7 +6,7 @@ use Rattle.std.specs.FinSet as set
 use Rattle.segments.specs.declared.toggles.Toggled.{Toggled}
 use Rattle.segments.specs.Entries.{LieIn, later_of, previous_entry}
 
-abbrev own : ℕ → ℕ → Toggled → Option ℕ
+abbrev pub own : ℕ → ℕ → Toggled → Option ℕ
 own slot column entry = if nat_lt entry.column column && set.contains entry.slots slot then Some entry.column else None
 
 pub LieIn-all : (from to : ℕ) (entries : List Toggled) → LieIn from to entries → LieIn 0 to entries
@@ -16,7 +16,7 @@ LieIn-all from to (entry ∷ entries) lie = (omega arith, lie.1, lie.2)
 own_none : (slot column : ℕ) (entry : Toggled) → (nat_lt entry.column column && set.contains entry.slots slot) ≡ false → own slot column entry ≡ None
 own_none slot column entry test = ap (λ b. if b then Some entry.column else None) test
 
-behind_none : (slot column from to : ℕ) (entries : List Toggled) → LieIn from to entries → column ≤ from → previous_entry slot column entries ≡ None
+pub behind_none : (slot column from to : ℕ) (entries : List Toggled) → LieIn from to entries → column ≤ from → previous_entry slot column entries ≡ None
 behind_none slot column from to [] lie far = refl
 behind_none slot column from to (entry ∷ entries) lie far =
     let test : (nat_lt entry.column column && set.contains entry.slots slot) ≡ false = grind (arith, nat_tests, lie.0, far) in

@@ -1,12 +1,12 @@
 -- Where the columns of a text begin in its bytes.
-use Rattle.std.proofs.Common.{◌≡◌, ℕ, zero, suc, ◌+◌, ◌-◌, ◌<◌, ◌≤◌, cond, nat_lt, List, [], ◌∷◌, ◌++◌, length, take, drop, get_or, refl, sym, ap, ap₂, ◌∙◌, arith, append-nil, length-append, length-drop, length-take-le, drop-drop, take-append-drop}
-use Rattle.std.specs.Prelude.{chars, encode_utf8, encode_utf8_all, slice_get, slice_index, IsUtf8, Some}
+use Rattle.std.proofs.Common.{◌≡◌, ℕ, zero, suc, ◌+◌, ◌-◌, ◌<◌, ◌≤◌, List, [], ◌∷◌, ◌++◌, length, take, drop, sym, ap, ap₂, ◌∙◌, arith, append-nil, length-append, length-drop, length-take-le, drop-drop, take-append-drop}
+use Rattle.std.specs.Prelude.{chars, encode_utf8, encode_utf8_all, slice_get, IsUtf8, Some}
 use Rattle.std.specs.Char.{len_utf8}
 use Rattle.std.specs.Str.{IsAscii, IsCharBoundary}
 use Rattle.text_model.specs.Splices.{inserted, removed}
 use Rattle.std.proofs.lemmas.Bool.Decides.{nat_tests}
 use Rattle.std.proofs.lemmas.List.{append_cancel_right}
-use Rattle.std.proofs.lemmas.Str.{chars-append, chars-IsAscii, chars-nil, chars_past_char, drop_past_char, encode_ascii, encodes-chars, IsAscii-drop, IsAscii-take, IsCharBoundary-from_ascii, IsCharBoundary-past_char, IsUtf8-append, IsUtf8-drop, IsUtf8-nil, IsUtf8-take, length-encode, length-le-encodes, len_utf8_bounds}
+use Rattle.std.proofs.lemmas.Str.{chars-append, chars-nil, chars_past_char, drop_past_char, encode_ascii, encodes-chars, IsCharBoundary-past_char, IsUtf8-append, IsUtf8-drop, IsUtf8-nil, IsUtf8-take, length-encode, length-le-encodes, len_utf8_bounds}
 
 pub some_bytes : (bytes : List ℕ) → 0 < length (chars bytes) → 0 < length bytes
 some_bytes [] some = absurd (omega (arith, ap length chars-nil))

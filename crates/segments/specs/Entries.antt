@@ -1,5 +1,5 @@
 -- The toggles of a line by their columns, which rise.
-use Rattle.std.specs.Prelude.{ℕ, suc, ◌+◌, ◌-◌, ◌<◌, ◌≤◌, ◌^◌, ◌==◌, Bool, ◌&&◌, nat_lt, nat_le, Option, None, Some, List, [], ◌∷◌, ⊤, if◌then◌else◌}
+use Rattle.std.specs.Prelude.{ℕ, suc, ◌+◌, ◌-◌, ◌<◌, ◌≤◌, ◌^◌, ◌==◌, ◌&&◌, nat_lt, nat_le, Option, None, Some, List, [], ◌∷◌, ⊤, if◌then◌else◌}
 use Rattle.std.specs.List.{filter}
 use Rattle.std.specs.FinSet as set
 use Rattle.text_model.specs.Content.{Slots}

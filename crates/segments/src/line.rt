@@ -12,8 +12,8 @@ use crate::marks::{
     next_mark, previous_mark, put_mark, take_mark,
 };
 use crate::toggles::{
-    Toggled, count_before, flip, move_back, move_on, next_toggle, odd_slots, previous_toggle,
-    remove_columns, slots_at,
+    Toggled, count_before, flip, move_on, move_rest_back, move_rest_on, next_toggle, odd_slots,
+    previous_toggle, remove_columns, slots_at,
 };
 use std::alloc::{AllocError, AllocFailed, Global};
 use std::marker::Model;
@@ -200,7 +200,7 @@ impl Line {
         let mut toggles = Vec::from_slice(self.alloc, &self.toggles[count..])?;
         let marks = marks_behind(self.alloc, &self.marks, column)?;
         let text = self.text.cut(column)?;
-        move_back(&mut toggles, column);
+        move_rest_back(&mut toggles, 0, column);
         self.toggles.truncate(count);
         keep_before(&mut self.marks, column);
         Ok(Line {
@@ -229,6 +229,10 @@ impl Line {
         ensures refused { OnErr result (self.new ≡ self.old) }
     {
         let len = self.text.len();
+        // More characters than a number can count have no room in memory.
+        if other.text.len() > usize::MAX - len {
+            return Err(AllocError);
+        }
         let count = self.toggles.len();
         let marks = joined_marks(self.alloc, &self.marks, &other.marks, len)?;
         self.toggles.extend_from_slice(&other.toggles)?;
@@ -236,7 +240,7 @@ impl Line {
             self.toggles.truncate(count);
             return Err(AllocError);
         }
-        move_on(&mut self.toggles[count..], len);
+        move_rest_on(&mut self.toggles, count, len);
         self.marks = marks;
         Ok(())
     }
@@ -251,7 +255,7 @@ impl Line {
         self.text.insert(column, text)?;
         let count = self.text.len() - len;
         let start = count_before(&self.toggles, column);
-        move_on(&mut self.toggles[start..], count);
+        move_rest_on(&mut self.toggles, start, count);
         move_marks(&mut self.marks, column, count);
         Ok(())
     }

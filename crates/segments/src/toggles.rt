@@ -1,10 +1,10 @@
-ghost use Rattle.std.specs.Prelude.{◌≡◌, ℕ, ◌+◌, ◌<◌, ◌≤◌, ◌^◌, ◌==◌, ⊤, true, length, map, take, drop, vec_len, Option, Some, None, option_map, IfSome, OnOk, OnErr, ◌-◌, if◌then◌else◌};
+ghost use Rattle.std.specs.Prelude.{◌≡◌, ℕ, ◌+◌, ◌<◌, ◌≤◌, ◌^◌, ◌==◌, ⊤, true, length, map, take, drop, vec_len, Option, Some, None, option_map, IfSome, OnOk, OnErr, ◌-◌, if◌then◌else◌, [], ◌++◌};
 ghost use Rattle.std.specs.List.{All};
 ghost use Rattle.std.specs.FinSet as set;
 ghost use Rattle.text_model.specs.SlotSets.{differing};
 ghost use Rattle.text_model.specs.Splices.{removed};
 ghost use Rattle.text_model.specs.TagBits.{slot_count};
-ghost use Rattle.segments.specs.Entries.{CanMoveBack, CanMoveOn, LieIn, flipped, moved_back, moved_on, next_entry, odd_of, previous_entry, toggled_at, without_span};
+ghost use Rattle.segments.specs.Entries.{CanMoveBack, CanMoveOn, LieIn, entries_in, flipped, moved_back, moved_on, next_entry, odd_of, previous_entry, toggled_at, without_span};
 
 use std::alloc::AllocError;
 use text_model::{TagSet, TagSlot};
@@ -73,6 +73,26 @@ pub fn move_back(toggles: &mut [Toggled], count: usize)
     }
 }
 
+/// Moves the toggles from an index on so many columns on.
+pub fn move_rest_on(toggles: &mut Vec<Toggled>, start: usize, count: usize)
+    requires within { start ≤ vec_len toggles.old }
+    requires room { All (CanMoveOn count) (drop start toggles.old.items) }
+    ensures { toggles.new.items ≡
+        take start toggles.old.items ++ map (moved_on count) (drop start toggles.old.items) }
+{
+    move_on(&mut toggles[start..], count);
+}
+
+/// Moves the toggles from an index on so many columns back.
+pub fn move_rest_back(toggles: &mut Vec<Toggled>, start: usize, count: usize)
+    requires within { start ≤ vec_len toggles.old }
+    requires room { All (CanMoveBack count) (drop start toggles.old.items) }
+    ensures { toggles.new.items ≡
+        take start toggles.old.items ++ map (moved_back count) (drop start toggles.old.items) }
+{
+    move_back(&mut toggles[start..], count);
+}
+
 /// Takes the toggles from one index to another out.
 fn drop_range(toggles: &mut Vec<Toggled>, from: usize, to: usize)
     requires ordered { from ≤ to }
@@ -121,6 +141,7 @@ fn gather(toggles: &mut Vec<Toggled>, from: usize, to: usize, len: usize)
     requires within { to < len }
     ensures lie { LieIn 0 len toggles.new.items }
     ensures slots { (at : ℕ) → toggled_at toggles.new.items at ≡ without_span from to at toggles.old.items }
+    ensures gap { entries_in from to toggles.new.items ≡ [] }
 {
     let start = count_before(toggles, from);
     let mut end = count_before(toggles, to);
@@ -158,7 +179,7 @@ pub fn remove_columns(toggles: &mut Vec<Toggled>, from: usize, to: usize, len: u
     }
     gather(toggles, from, to, len);
     let start = count_before(toggles, from);
-    move_back(&mut toggles[start..], to - from);
+    move_rest_back(toggles, start, to - from);
 }
 
 /// The slots that are toggled at the index of a column, if that entry is the column's.

@@ -1,7 +1,6 @@
 use Rattle.std.proofs.Common.{◌≡◌, length, drop, sym, ap, ◌∙◌, arith}
 use Rattle.std.specs.Prelude.{chars}
-use Rattle.std.specs.Str.{IsAscii}
-use Rattle.std.proofs.lemmas.Str.{chars-IsAscii, IsAscii-drop, IsAscii-take, IsCharBoundary-from_ascii}
+use Rattle.std.proofs.lemmas.Str.{chars-IsAscii, IsAscii-drop, IsCharBoundary-from_ascii}
 use Rattle.segments.proofs.TextLaws.{front_of, is_ascii}
 use Rattle.segments.proofs.characters.byte_of.Goals as goal
 

@@ -1,5 +1,4 @@
-use Rattle.std.proofs.Common.{sym, ◌∙◌, arith}
-use Rattle.segments.proofs.TextLaws.{some_bytes}
+use Rattle.std.proofs.Common.{sym, ◌∙◌}
 use Rattle.segments.proofs.characters.first_character.Goals as goal
 
 pub returns : goal.returns

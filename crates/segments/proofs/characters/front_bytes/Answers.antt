@@ -1,6 +1,5 @@
 use Rattle.std.proofs.Common.{◌≡◌, ◌+◌, ◌-◌, ◌++◌, drop, sym, ap, ◌∙◌, arith}
 use Rattle.std.specs.Prelude.{chars, encode_utf8}
-use Rattle.std.specs.Str.{IsCharBoundary}
 use Rattle.std.proofs.lemmas.Str.{IsCharBoundary-start}
 use Rattle.segments.proofs.TextLaws.{column_on}
 use Rattle.segments.proofs.characters.front_bytes.Goals as goal

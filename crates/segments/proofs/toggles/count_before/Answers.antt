@@ -1,4 +1,4 @@
-use Rattle.std.proofs.Common.{◌≤◌, subst, sym, ap, arith}
+use Rattle.std.proofs.Common.{ap, arith}
 use Rattle.segments.specs.declared.toggles.Toggled.{Toggled}
 use Rattle.segments.proofs.EntryLaws.{before_more, behind_all}
 use Rattle.segments.proofs.toggles.count_before.Goals as goal

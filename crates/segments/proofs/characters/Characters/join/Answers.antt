@@ -1,4 +1,4 @@
-use Rattle.std.proofs.Common.{◌≡◌, ◌++◌, sym, ap, ap₂, ◌∙◌, arith, length, length-append}
+use Rattle.std.proofs.Common.{◌≡◌, ◌++◌, ap, ap₂, ◌∙◌, arith, length, length-append}
 use Rattle.std.specs.Prelude.{chars, string_bytes}
 use Rattle.std.proofs.lemmas.Str.{chars-append, IsUtf8-string_bytes}
 use Rattle.segments.proofs.TextLaws.{fewer_characters}

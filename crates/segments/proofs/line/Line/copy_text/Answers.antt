@@ -1,4 +1,4 @@
-use Rattle.std.proofs.Common.{length, sym, ap, ◌∙◌, arith}
+use Rattle.std.proofs.Common.{length, ap, arith}
 use Rattle.segments.specs.Columns.{LineContent}
 use Rattle.segments.proofs.ColumnLaws.{characters-columns, length-columns}
 use Rattle.segments.proofs.line.Line.copy_text.Goals as goal
