@@ -18,6 +18,7 @@ use Rattle.raw_nodes.specs.Rows.{kids, row}
 use Rattle.line_tree.specs.Finds.{HasRow}
 use Rattle.line_tree.specs.Changes.{Among, CanFill, CanPut, FitsSum, Puts, refilled, relinked, sum_all, sums}
 use Rattle.line_tree.specs.Growth.{Grows, IsWide, KeepsLink, KeepsWide, lines_of, names_of, parted, with_line}
+use Rattle.toggle_sums.specs.CountLaws.{plus-associative, plus-commutative}
 use Rattle.line_tree.proofs.SumLaws.{total-append}
 use Rattle.line_tree.proofs.TreeLaws.{named-row}
 use Rattle.line_tree.proofs.AmongLaws.{among-right}
@@ -135,10 +136,7 @@ total-with_line ls k x =
     let a = total (take k ls) in let b = total (drop k ls) in let d = total (lines zero x) in
     let new : total (with_line ls k x) ≡ plus a (plus d b) = total-append (take k ls) (lines zero x ++ drop k ls) ∙ ap (plus a) (total-append (lines zero x) (drop k ls)) in
     let old : total ls ≡ plus a b = ap total (sym (take-append-drop k ls)) ∙ total-append (take k ls) (drop k ls) in
-    let new_chars = ap (λ s. s.characters) new in let new_lines = ap (λ s. s.lines) new in let old_chars = ap (λ s. s.characters) old in let old_lines = ap (λ s. s.lines) old in
-    let chars : (total (with_line ls k x)).characters ≡ (total ls).characters + (total (lines zero x)).characters = omega arith in
-    let lines' : (total (with_line ls k x)).lines ≡ (total ls).lines + (total (lines zero x)).lines = omega arith in
-    λ i. record { chars = chars i; lines = lines' i }
+    new ∙ ap (plus a) (plus-commutative d b) ∙ sym (plus-associative a b d) ∙ ap (λ s. plus s d) (sym old)
 
 -- ---- the new child can be put in
 pub can-put : (m l : Records) (h : ℕ) (p : NodePtr) (ts : List (Tree h)) (k : ℕ) (x : Tree 0) (us : List (Tree h)) (at : ℕ) (y : NodePtr) → Grows m l h ts k x us → IsSome (finite.get m p) → (Among p (names_of h ts) → ⊥) → p ≢ x.0

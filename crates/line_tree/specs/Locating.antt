@@ -9,19 +9,19 @@ use Rattle.line_tree.specs.Trees.{Named, total}
 use Rattle.raw_nodes.specs.Rows.{kids}
 use Rattle.line_tree.specs.Shape.{lines_at, sum_at}
 
-abbrev pub chars_at : Records → NodePtr → ℕ
-chars_at m p = (sum_at m p).characters
+abbrev pub characters_at : Records → NodePtr → ℕ
+characters_at m p = (sum_at m p).characters
 
 -- how many characters the children have
-abbrev pub chars_below : Records → NodePtr → ℕ
-chars_below m p = sum_by (chars_at m) (kids m p)
+abbrev pub characters_below : Records → NodePtr → ℕ
+characters_below m p = sum_by (characters_at m) (kids m p)
 
 -- the child with character k, the number of that character in it, and how many lines stand before it
 pub record Spots (m : Records) (p : NodePtr) (k : ℕ) (s : Spot) : Type 0 where
   pub slot : ℕ
   pub child : slice_get (kids m p) slot ≡ Some s.child
-  pub place : sum_by (chars_at m) (take slot (kids m p)) + s.rest ≡ k
-  pub rest : s.rest < chars_at m s.child
+  pub place : sum_by (characters_at m) (take slot (kids m p)) + s.rest ≡ k
+  pub rest : s.rest < characters_at m s.child
   pub lines : s.lines ≡ sum_by (lines_at m) (take slot (kids m p))
 
 -- character p stands in line k, at this column
@@ -37,5 +37,5 @@ pub record Within (ls xs : List Named) (k r p : ℕ) : Type 0 where
   pub back : List Named
   pub split : ls ≡ front ++ (xs ++ back)
   pub long : length front ≡ k
-  pub chars : (total front).characters + r ≡ p
+  pub characters : (total front).characters + r ≡ p
   pub rest : r < (total xs).characters

@@ -3,7 +3,7 @@ ghost use Rattle.raw_nodes.specs.Names.{records};
 ghost use Rattle.line_tree.specs.Trees.{total};
 ghost use Rattle.line_tree.specs.Shape.{IsTree, lines_in};
 ghost use Rattle.line_tree.specs.Finds.{HasRow, lines_below};
-ghost use Rattle.line_tree.specs.Locating.{IsPlaceAt, Spots, chars_below};
+ghost use Rattle.line_tree.specs.Locating.{IsPlaceAt, Spots, characters_below};
 
 use raw_nodes::{NodePtr, NodeStore, Ticks};
 
@@ -18,7 +18,7 @@ pub struct Spot {
 /// The child that has character `offset` of those below a node.
 fn find_char<C: Ticks>(store: &NodeStore<C>, node: NodePtr, offset: usize, ticks: &mut C) -> Spot
     requires row { HasRow (records store.now) node }
-    requires within { offset < chars_below (records store.now) node }
+    requires within { offset < characters_below (records store.now) node }
     requires fits { lines_below (records store.now) node < 2 ^ 64 }
     ensures spots { Spots (records store.now) node offset result }
     ensures ticks { C.count ticks.new ≤ C.count ticks.old + 24 }
@@ -28,10 +28,11 @@ fn find_char<C: Ticks>(store: &NodeStore<C>, node: NodePtr, offset: usize, ticks
     for slot in 0..12 {
         if let Some(child) = store.child(node, slot, ticks) {
             let sum = store.sum(child, ticks);
-            if rest < sum.characters() {
+            let characters = sum.characters();
+            if rest < characters {
                 return Spot { child, lines, rest };
             }
-            rest -= sum.characters();
+            rest -= characters;
             lines += sum.lines();
         }
     }
