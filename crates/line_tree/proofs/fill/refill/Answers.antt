@@ -6,8 +6,11 @@ use Rattle.line_tree.specs.Finds.{HasRow}
 use Rattle.line_tree.specs.Changes.{FitsSum, refilled, relinked, resummed, sums}
 use Rattle.line_tree.proofs.AmongLaws.{get-among}
 use Rattle.line_tree.proofs.FillLaws.{relinked-has_row, relinked-sums, row-some}
+use Rattle.line_tree.proofs.UpdateLaws.{inner-fill}
 use Rattle.line_tree.proofs.fill.refill.Goals as goal
-use Rattle.line_tree.proofs.fill.refill.Goals.{After-relink}
+
+pub relink-requires-clause-node : goal.relink-requires-clause-node
+relink-requires-clause-node g c = inner-fill (records c.args.store.now) c.args.node c.requires.fill.0 c.requires.fill.2
 
 pub relink-requires-clause-children : goal.relink-requires-clause-children
 relink-requires-clause-children g c i d is = let cs = c.requires.fill.0 in

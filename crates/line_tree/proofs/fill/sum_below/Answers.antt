@@ -39,7 +39,7 @@ plus-sum-requires g c = let m = records c.args.store.now in let rest = sums m (d
     let child = child_is m c.args.node c.requires.row c.child.result c.loop-slot.slot c.child.ensures.value in
     let step = some_step m c.args.node c.requires.row c.loop-slot.slot c.child.result c.in-Some.child c.sum-more.result c.loop-slot-test.true child c.in-Some.is c.sum-more.ensures.value in
     let sum = c.loop-slot.sum in let more = c.sum-more.result in
-    fits-both sum more (fits-left (plus sum more) rest (subst FitsSum (sym (plus-associative sum more rest ∙ ap (plus sum) (sym step) ∙ c.loop-slot.invariant.sum)) c.requires.fits))
+    (omega arith, fits-both sum more (fits-left (plus sum more) rest (subst FitsSum (sym (plus-associative sum more rest ∙ ap (plus sum) (sym step) ∙ c.loop-slot.invariant.sum)) c.requires.fits)))
 
 pub loop-slot-preserved : goal.loop-slot-preserved
 loop-slot-preserved g c = let m = records c.args.store.now in let rest = sums m (drop (c.loop-slot.slot + 1) (row (kids m c.args.node))) in
