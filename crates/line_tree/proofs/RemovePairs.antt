@@ -26,7 +26,7 @@ use Rattle.line_tree.proofs.TreeLaws.{child-tree, row-tree, tops-tree_at}
 use Rattle.line_tree.proofs.AmongLaws.{among-or, get-among}
 use Rattle.line_tree.proofs.DistinctLaws.{distinct-apart, distinct-left, distinct-right}
 use Rattle.line_tree.proofs.FillLaws.{refilled-other}
-use Rattle.line_tree.proofs.UpdateLaws.{named-refilled}
+use Rattle.line_tree.proofs.UpdateLaws.{InnerIn, inner-refilled, inner-row, named-refilled}
 use Rattle.line_tree.proofs.FrameLaws.{tops-among}
 use Rattle.line_tree.proofs.BuildLaws.{built, sum-trees, tree-is}
 use Rattle.line_tree.proofs.GrowLaws.{all-append, in-cases, in-left, in-right, names-append, of-one}
@@ -70,6 +70,7 @@ module _ (m : Records) (g : ℕ) (p : NodePtr) (k : ℕ) (can : CanRemove m (suc
     pub balanced : AllByRecursion (IsBalanced (suc g)) trees
     pub same : finite.get n p ≡ finite.get m p
     pub named : (q : NodePtr) → IsSome (finite.get l q) → IsSome (finite.get n q)
+    pub still_inner : (q : NodePtr) → InnerIn l q → InnerIn n q
     pub slot : (s : ℕ) → o ≡ Some s → s < length cs
     pub gone : (s : ℕ) (q : NodePtr) → o ≡ Some s → slice_get cs s ≡ Some q → Among q (names_of (suc g) trees) → ⊥
     pub lost : Cleans m l (suc g) f.child x → (q : NodePtr) → Among q (names_of (suc g) ts) → (Among q (names_of (suc g) trees) → ⊥) → q ≢ x → (finite.get n q ≡ None) ⊎ IsGone o q
@@ -210,6 +211,7 @@ module _ (m : Records) (g : ℕ) (p : NodePtr) (k : ℕ) (can : CanRemove m (suc
             balanced = sides new balanced;
             same = turn-same n new turn ∙ node-same m (suc g) p k can f finds l x rem;
             named = λ q s. subst (λ z. IsSome (finite.get z q)) (sym shares.same) (named-refilled (refilled l a (row (take half (kids l a ++ kids l b)))) b (row (drop half (kids l a ++ kids l b))) q (named-refilled l a (row (take half (kids l a ++ kids l b))) q s));
+            still_inner = λ q s. subst (λ z. InnerIn z q) (sym shares.same) (inner-refilled (refilled l a (row (take half (kids l a ++ kids l b)))) b (row (drop half (kids l a ++ kids l b))) q (inner-refilled l a (row (take half (kids l a ++ kids l b))) q s));
             slot = λ s e. absurd (none-some s e);
             gone = λ s q e at. absurd (none-some s e);
             lost = λ clean q s out n2. inl (off-two n new turn clean q s out (λ i. out (in-right (suc g) left (new ++ right) q (in-left (suc g) new right q (share-inside l g a b xs ys hold_a hold_b two-apart half q i)))) n2);
@@ -243,6 +245,7 @@ module _ (m : Records) (g : ℕ) (p : NodePtr) (k : ℕ) (can : CanRemove m (suc
             balanced = sides new balanced;
             same = turn-same n new turn ∙ node-same m (suc g) p k can f finds l x rem;
             named = λ q s. subst (λ z. IsSome (finite.get z q)) (sym merges.same) (named-refilled l a (row (kids l a ++ kids l b)) q s);
+            still_inner = λ q s. subst (λ z. InnerIn z q) (sym merges.same) (inner-refilled l a (row (kids l a ++ kids l b)) q s);
             slot = λ s e. let w = slice_get_within cs (suc j) b at_b in let i = same_Some (suc j) s e in omega arith;
             gone = λ s q e at r. merged-out (subst (λ z. Among z (names_of (suc g) (left ++ (new ++ right)))) (same_Some q b (sym at ∙ ap (slice_get cs) (sym (same_Some (suc j) s e)) ∙ at_b)) r);
             lost = λ clean q s out n2. elim (among-or q (names_of (suc g) two)) [
@@ -269,6 +272,7 @@ module _ (m : Records) (g : ℕ) (p : NodePtr) (k : ℕ) (can : CanRemove m (suc
     ]);
     same = node-same m (suc g) p k can f finds l x rem;
     named = λ q s. s;
+    still_inner = λ q s. s;
     slot = λ s e. absurd (none-some s e);
     gone = λ s q e at. absurd (none-some s e);
     lost = λ clean q s out n2. inl (now-lost m (suc g) p k can f finds l x rem clean q s out n2);
@@ -322,6 +326,10 @@ module _ (m : Records) (g : ℕ) (p : NodePtr) (k : ℕ) (can : CanRemove m (suc
     pub removes-ready : (u : Records) → u ≡ refilled n p (row (without (kids n p) o)) → Removes m u (suc (suc g)) p k x
     removes-ready u is = finish m n u (suc g) p k x is-ready.trees can is-ready.shrinks is-ready.same fill-trees is-ready.balanced long-ready.1
         (is ∙ ap (λ zs. refilled n p (row (without zs o))) kids-ready ∙ ap (λ zs. refilled n p (row zs)) (sym is-ready.tops))
+
+    -- a child is no line
+    pub inner-ready : (s : ℕ) (b : NodePtr) → slice_get (kids n p) s ≡ Some b → InnerIn n b
+    inner-ready s b at = is-ready.still_inner b (inner-row l b (row-tree l g b (child-tree l (suc g) cs s b shrinks.holds (ap (λ zs. slice_get zs s) (sym kids-ready) ∙ at))))
 
     -- the child without children is given back
     pub removes-gone : (u : Records) (s : ℕ) (b : NodePtr) → o ≡ Some s → slice_get (kids n p) s ≡ Some b → u ≡ refilled n p (row (without (kids n p) o)) → Removes m (finite.remove u b) (suc (suc g)) p k x

@@ -1,12 +1,15 @@
 -- What new children of a node leave of the names, and of what is no line.
-use Rattle.std.proofs.Common.{◌≡◌, ℕ, suc, inl, inr, List, [], ◌∷◌, refl, sym, ◌∙◌, subst}
+use Rattle.std.proofs.Common.{◌≡◌, ℕ, suc, inl, inr, List, [], ◌∷◌, refl, sym, ap, ◌∙◌, subst}
 use Rattle.std.specs.Prelude.{IfSome, IsSome}
 use Rattle.std.specs.Option.{option_map}
 use Rattle.std.specs.FinMap as finite
 use Rattle.std.specs.declared.option.Option.{Option}
 use Rattle.std.specs.declared.option.Option.TheVariants.{None, Some}
+use Rattle.segments.specs.Columns.{LineContent}
+use Rattle.raw_nodes.specs.Chain.{rooms_for}
 use Rattle.raw_nodes.specs.Records.{Record, Records, update, with_child, with_parent, with_sum}
 use Rattle.raw_nodes.specs.declared.names.NodePtr.{NodePtr}
+use Rattle.raw_nodes.proofs.MapLaws.{at_some, some_of}
 use Rattle.raw_nodes.proofs.PlaceLaws.{same_or_other}
 use Rattle.raw_nodes.proofs.UpdateLaws.{get-update, get-update-other, named-update, update-named}
 use Rattle.line_tree.specs.Finds.{HasRow}
@@ -53,7 +56,7 @@ mapped-inner : (o : Option Record) (f : Record → Record) → ((r : Record) →
 mapped-inner None f same none = none
 mapped-inner (Some r) f same none = same r ∙ none
 
-inner-update : (m : Records) (p : NodePtr) (f : Record → Record) (q : NodePtr) → ((r : Record) → (f r).line ≡ r.line) → InnerIn m q → InnerIn (update m p f) q
+pub inner-update : (m : Records) (p : NodePtr) (f : Record → Record) (q : NodePtr) → ((r : Record) → (f r).line ≡ r.line) → InnerIn m q → InnerIn (update m p f) q
 inner-update m p f q same inner = (named-update m p f q inner.0, elim (same_or_other q p) [
   | inl e ↦ subst (λ z. IfSome (finite.get (update m p f) z) (λ r. r.line ≡ None)) (sym e)
       (subst (λ o. IfSome o (λ r. r.line ≡ None)) (sym (get-update m p f)) (mapped-inner (finite.get m p) f same (subst (λ z. IfSome (finite.get m z) (λ r. r.line ≡ None)) e inner.1)))
@@ -67,3 +70,11 @@ inner-link_one m p i (Some c) q inner = inner-update (update m p (λ r. with_chi
 pub inner-relinked : (m : Records) (p : NodePtr) (i : ℕ) (os : List (Option NodePtr)) (q : NodePtr) → InnerIn m q → InnerIn (relinked m p i os) q
 inner-relinked m p i [] q inner = inner
 inner-relinked m p i (o ∷ os) q inner = inner-relinked (link_one m p i o) p (suc i) os q (inner-link_one m p i o q inner)
+
+pub inner-refilled : (m : Records) (p : NodePtr) (os : List (Option NodePtr)) (q : NodePtr) → InnerIn m q → InnerIn (refilled m p os) q
+inner-refilled m p os q inner = let n = relinked m p 0 os in inner-update n p (λ r. with_sum r (sums n os)) q (λ r. refl) (inner-relinked m p 0 os q inner)
+
+-- it has a room, which it gives back
+pub room-given : (m : Records) (p : NodePtr) (o : Option LineContent) → InnerIn m p → IfSome (finite.get m p) (λ r. o ≡ r.line) → rooms_for o ≡ 1
+room-given m p o inner says = let r = some_of (finite.get m p) inner.0 in
+    ap rooms_for (at_some (finite.get m p) (λ x. o ≡ x.line) r.0 says r.1 ∙ at_some (finite.get m p) (λ x. x.line ≡ None) r.0 inner.1 r.1)

@@ -56,8 +56,8 @@ lead-found-requires-clause-within g t c = let m = records c.args.store.now in
 
 pub insert_in-requires : goal.insert_in-requires
 insert_in-requires g t c κs inside = let m = records c.args.store.now in
-    let node = c.requires.node in let room = c.requires.room in let not = c.if-height-eq1.false in
-    (omega (arith, c.decreases), (inside, (omega arith, (can-child m (c.args.height - 1) c.args.node c.args.k c.args.line (above m c.args.height c.args.node c.args.k c.args.line c.requires.insert c.requires.node) c.lead-found.result c.lead-found.ensures, omega arith))))
+    let node = c.requires.node in let spares = c.requires.spares in let rooms = c.requires.rooms in let not = c.if-height-eq1.false in
+    (omega (arith, c.decreases), (inside, (omega arith, (can-child m (c.args.height - 1) c.args.node c.args.k c.args.line (above m c.args.height c.args.node c.args.k c.args.line c.requires.insert c.requires.node) c.lead-found.result c.lead-found.ensures, (omega arith, omega arith)))))
 
 pub overflow_add-found : goal.overflow_add-found
 overflow_add-found g t c = let m = records c.args.store.now in
@@ -102,3 +102,12 @@ pub returns-in-None-clause-count : goal.returns-in-None-clause-count
 returns-in-None-clause-count g t c = let l = records c.insert_in.new.store in
     let n = ap finite.len c.resum.ensures.records ∙ len-resummed l c.args.node (row (kids l c.args.node)) in
     let s = c.resum.ensures.spares in let before = c.insert_in.ensures.count in omega arith
+
+pub returns-then-height-eq1-clause-rooms : goal.returns-then-height-eq1-clause-rooms
+returns-then-height-eq1-clause-rooms g t c = let s = c.put.ensures.spares in let r = c.put.ensures.rooms in omega arith
+
+pub returns-in-Some-clause-rooms : goal.returns-in-Some-clause-rooms
+returns-in-Some-clause-rooms g t c = let before = c.insert_in.ensures.rooms in let s = c.put-in-Some.ensures.spares in let r = c.put-in-Some.ensures.rooms in omega arith
+
+pub returns-in-None-clause-rooms : goal.returns-in-None-clause-rooms
+returns-in-None-clause-rooms g t c = let before = c.insert_in.ensures.rooms in let s = c.resum.ensures.spares in let r = c.resum.ensures.rooms in omega arith

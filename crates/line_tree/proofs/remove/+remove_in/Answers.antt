@@ -8,9 +8,9 @@ use Rattle.raw_nodes.specs.declared.names.NodePtr.{NodePtr}
 use Rattle.raw_nodes.specs.Rows.{kids, row}
 use Rattle.line_tree.specs.Shrinking.{CanRemove, Cleans, Removes, Settles}
 use Rattle.line_tree.proofs.TreeLaws.{below-tree, row-tree}
-use Rattle.line_tree.proofs.UpdateLaws.{named-refilled}
+use Rattle.line_tree.proofs.UpdateLaws.{InnerIn, inner-refilled, named-refilled, room-given}
 use Rattle.line_tree.proofs.RemoveSteps.{can-below, child-now, cleans-low, has-now, low-fill, low-removes, low-slot, two-kids}
-use Rattle.line_tree.proofs.RemovePairs.{below-now, can-mend, cleans-gone, cleans-ready, fill-ready, has-ready, removes-gone, removes-ready, slot-ready}
+use Rattle.line_tree.proofs.RemovePairs.{below-now, can-mend, cleans-gone, cleans-ready, fill-ready, has-ready, inner-ready, removes-gone, removes-ready, slot-ready}
 use Rattle.std.proofs.Common.{ap, ◌∙◌}
 use Rattle.line_tree.proofs.RoomLaws.{len-gone, len-refilled, len-settles}
 use Rattle.line_tree.proofs.remove.+remove_in.Goals as goal
@@ -153,3 +153,19 @@ returns-in-None-clause-count g t c = let l = records c.remove_in-line.new.store 
     let a = len-settles l n c.args.node c.find-found.result.slot c.find-found.result.child c.settle.result c.settle.ensures.settles in
     let d = ap finite.len c.refresh.ensures.records ∙ len-refilled n c.args.node (row (kids n c.args.node)) in
     let s1 = c.remove_in-line.ensures.count in let s2 = c.settle.ensures.spares in let s3 = c.refresh.ensures.spares in omega arith
+
+pub returns-then-height-eq1-clause-rooms : goal.returns-then-height-eq1-clause-rooms
+returns-then-height-eq1-clause-rooms g t c = let s = c.drop_child.ensures.spares in let r = c.drop_child.ensures.rooms in omega arith
+
+pub returns-in-Some-clause-rooms : goal.returns-in-Some-clause-rooms
+returns-in-Some-clause-rooms g t c = let m = records c.args.store.now in let p = c.args.node in let k = c.args.k in let g2 = c.args.height - 2 in let can = above m c.args.height p k c.requires.node c.if-height-eq1.false c.requires.remove in let f = c.find-found.result in let finds = c.find-found.ensures.found in let l = records c.remove_in-line.new.store in let x = c.remove_in-line.result in let rem = child m l c.args.height f.child f.rest x c.requires.node c.if-height-eq1.false c.remove_in-line.ensures.removes in let n = records c.settle.new.store in let settles = subst (λ o. Settles l n p f.slot f.child o) c.in-Some.is c.settle.ensures.settles in
+    let gone = c.drop_child-gone.result in
+    let inner = subst (λ z. InnerIn z gone) (sym c.drop_child-gone.ensures.records)
+    (inner-refilled n p (row (remove (kids n p) c.in-Some.slot)) gone (inner-ready m g2 p k can f finds l x rem n (Some c.in-Some.slot) settles c.in-Some.slot gone c.drop_child-gone.ensures.child)) in
+    let one = room-given (records c.drop_child-gone.new.store) gone c.give_back.result inner c.give_back.ensures.line in
+    let r1 = c.remove_in-line.ensures.rooms in let r2 = c.settle.ensures.rooms in let r3 = c.drop_child-gone.ensures.rooms in let r4 = c.give_back.ensures.rooms in
+    let s2 = c.settle.ensures.spares in let s3 = c.drop_child-gone.ensures.spares in let s4 = c.give_back.ensures.spares in omega arith
+
+pub returns-in-None-clause-rooms : goal.returns-in-None-clause-rooms
+returns-in-None-clause-rooms g t c =
+    let r1 = c.remove_in-line.ensures.rooms in let r2 = c.settle.ensures.rooms in let r3 = c.refresh.ensures.rooms in let s2 = c.settle.ensures.spares in let s3 = c.refresh.ensures.spares in omega arith
