@@ -59,6 +59,11 @@ pub set_parent-requires : goal.set_parent-requires
 set_parent-requires g c = let m = records c.args.store.now in let r = c.args.root in
     (row-above m c.args.height r c.requires.positive c.if-height-eq1.false c.requires.lower).each 0 c.unwrap-child.result (sym c.kid.ensures ∙ c.unwrap-child.ensures)
 
+pub give_back-requires : goal.give_back-requires
+give_back-requires g c = let m = records c.args.store.now in let r = c.args.root in
+    subst (λ n. IsSome (finite.get n r)) (sym c.set_parent.ensures.records)
+    (named-update m c.unwrap-child.result (λ x. with_parent x None 0) r (named-row m r (row-above m c.args.height r c.requires.positive c.if-height-eq1.false c.requires.lower)))
+
 pub returns-clause-lowers : goal.returns-clause-lowers
 returns-clause-lowers g c = let m = records c.args.store.now in let r = c.args.root in let h = c.args.height in let d = c.unwrap-child.result in
     let has = row-above m h r c.requires.positive c.if-height-eq1.false c.requires.lower in

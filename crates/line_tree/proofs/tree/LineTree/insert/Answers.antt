@@ -62,12 +62,22 @@ returns-in_default-clause-lines g c = let m = records c.self.inside.store in let
     (subst (λ ls. FitsSum (plus (total ls) (line_count c.args.line))) (sym (ap (λ v. v.lines) c.self.view_is)) c.requires.fits)).1
     ∙ ap (λ ls. insert ls c.args.k (c.new_line-name.result, c.args.line)) (ap (λ v. v.lines) c.self.view_is)
 
-pub returns-in-Some-clause-room : goal.returns-in-Some-clause-room
-returns-in-Some-clause-room g c = let m = records c.self.inside.store in let n = records c.new_line-name.new.store in let l = records c.insert_in.new.store in
+pub returns-in-Some-clause-nodes : goal.returns-in-Some-clause-nodes
+returns-in-Some-clause-nodes g c = let m = records c.self.inside.store in let n = records c.new_line-name.new.store in let l = records c.insert_in.new.store in
     let a = len-line m n c.new_line-name.result c.args.line c.new_line-name.ensures.line in let b = len-root l (records c.join-self-inside.new.store) c.join-self-inside.result (c.self.inside.root ∷ c.in-Some.sibling ∷ []) c.join-self-inside.ensures.root in
-    let s1 = c.new_line-name.ensures.spares in let s2 = c.insert_in.ensures.count in let s3 = c.join-self-inside.ensures.spares in let v = ap (λ z. z.room) c.self.view_is in omega arith
+    let s1 = c.new_line-name.ensures.spares in let s2 = c.insert_in.ensures.count in let s3 = c.join-self-inside.ensures.spares in let v = ap (λ z. z.nodes) c.self.view_is in omega arith
 
-pub returns-in_default-clause-room : goal.returns-in_default-clause-room
-returns-in_default-clause-room g c = let m = records c.self.inside.store in let n = records c.new_line-name.new.store in
+pub returns-in_default-clause-nodes : goal.returns-in_default-clause-nodes
+returns-in_default-clause-nodes g c = let m = records c.self.inside.store in let n = records c.new_line-name.new.store in
     let a = len-line m n c.new_line-name.result c.args.line c.new_line-name.ensures.line in
-    let s1 = c.new_line-name.ensures.spares in let s2 = c.insert_in.ensures.count in let v = ap (λ z. z.room) c.self.view_is in omega arith
+    let s1 = c.new_line-name.ensures.spares in let s2 = c.insert_in.ensures.count in let v = ap (λ z. z.nodes) c.self.view_is in omega arith
+
+pub returns-in-Some-clause-rooms : goal.returns-in-Some-clause-rooms
+returns-in-Some-clause-rooms g c =
+    let s1 = c.new_line-name.ensures.spares in let s3 = c.join-self-inside.ensures.spares in let v = ap (λ z. z.spares) c.self.view_is in
+    let r1 = c.new_line-name.ensures.rooms in let r2 = c.insert_in.ensures.rooms in let r3 = c.join-self-inside.ensures.rooms in let w = ap (λ z. z.rooms) c.self.view_is in omega arith
+
+pub returns-in_default-clause-rooms : goal.returns-in_default-clause-rooms
+returns-in_default-clause-rooms g c =
+    let s1 = c.new_line-name.ensures.spares in let v = ap (λ z. z.spares) c.self.view_is in
+    let r1 = c.new_line-name.ensures.rooms in let r2 = c.insert_in.ensures.rooms in let w = ap (λ z. z.rooms) c.self.view_is in omega arith
