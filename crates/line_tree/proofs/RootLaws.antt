@@ -1,16 +1,18 @@
 -- A new line, and a new root.
 use Rattle.std.proofs.Common.{◌≡◌, ℕ, zero, suc, ◌-◌, ◌*◌, ◌^◌, ◌<◌, ◌≤◌, ◌⊎◌, inl, inr, List, [], ◌∷◌, ◌++◌, length, take, drop, refl, sym, ap, ◌∙◌, subst, arith}
-use Rattle.std.specs.Prelude.{◌≢◌, IsSome}
+use Rattle.std.specs.Prelude.{◌≢◌, IsSome, chars, slice_index}
 use Rattle.std.specs.List.{AllByRecursion, insert}
 use mathlib.Core.Bool.{Bool, true, false, false≢true}
 use Rattle.std.specs.FinMap as finite
+use Rattle.std.specs.FinMap.{len-empty}
 use Rattle.std.specs.declared.option.Option.{Option}
 use Rattle.std.specs.declared.option.Option.TheVariants.{None, Some}
 use Rattle.std.proofs.lemmas.List.{append-nil}
 use Rattle.std.proofs.lemmas.Option.{same_Some}
+use Rattle.std.proofs.lemmas.Str.{chars-IsAscii}
 use Rattle.raw_nodes.proofs.MapLaws.{get_inserted, get_other, kept_insert}
 use Rattle.raw_nodes.specs.Records.{Records, blank, with_sum}
-use Rattle.segments.specs.Columns.{LineContent, line_count}
+use Rattle.segments.specs.Columns.{LineContent, line_count, plain_line}
 use Rattle.raw_nodes.specs.declared.names.NodePtr.{NodePtr}
 use Rattle.line_tree.specs.Trees.{IsBalanced, IsBalancedRoot, Tree, inner, least_below_root, lines, names, tops, total}
 use Rattle.toggle_sums.specs.Counts.{plus}
@@ -19,7 +21,7 @@ use Rattle.raw_nodes.specs.Rows.{row}
 use Rattle.line_tree.specs.Changes.{Among, CanFill, Distinct, FitsSum, refilled, relinked, sum_all, sums}
 use Rattle.line_tree.specs.Growth.{CanInsert, HasNoParent, Inserts, IsWide, NewLine, NewRoot, Stands, StandsAlone, lines_of, names_of, trees, with_line}
 use Rattle.line_tree.proofs.BuildLaws.{built, sum-trees, tree-is}
-use Rattle.line_tree.proofs.FillLaws.{at-update, relinked-row, sum_all-same}
+use Rattle.line_tree.proofs.FillLaws.{at-update, relinked-row, relinked-sums, sum_all-same}
 use Rattle.line_tree.proofs.FrameLaws.{all-same, holds-same, names-all-held, names-held, tops-among}
 use Rattle.line_tree.proofs.GrowLaws.{of-one, to-one, unnamed}
 use Rattle.line_tree.proofs.AmongLaws.{among-or}
@@ -236,6 +238,22 @@ pub named-one : (m : Records) (child : NodePtr) → IsSome (finite.get m child) 
 named-one m child has c b = elim b [ inl e ↦ subst (λ z. IsSome (finite.get m z)) (sym e) has | inr e ↦ absurd e ]
 
 -- ---- the first line
+pub top-sum : (m : Records) (a x : NodePtr) → finite.get m a ≡ None → IsSome (finite.get m x)
+    → sums (relinked (finite.insert m a (blank None)) a 0 (row (x ∷ []))) (row (x ∷ [])) ≡ sum_at m x
+top-sum m a x fresh named = let made = finite.insert m a (blank None) in
+    relinked-sums made a (x ∷ []) ∙ plus-no_text (sum_at made x) ∙ ap sum_of (get_other m a (blank None) x (λ e. unnamed m x named (ap (finite.get m) e ∙ fresh)))
+
+lone-ascii : (i : ℕ) → slice_index (10 ∷ []) i < 128
+lone-ascii zero = omega arith
+lone-ascii (suc i) = omega arith
+
+pub lone-line : plain_line (chars (10 ∷ [])) ≡ plain_line (10 ∷ [])
+lone-line = ap plain_line (chars-IsAscii (10 ∷ []) lone-ascii)
+
+pub lone-fits : FitsSum (line_count (plain_line (10 ∷ [])))
+lone-fits = let none : finite.len (plain_line (10 ∷ [])).marks ≡ 0 = len-empty _ _ in
+    record { lines = omega arith; characters = omega arith; marks = omega arith }
+
 pub first-root : (m n u : Records) (x : NodePtr) (line : LineContent) → NewLine m n x line → FitsSum (line_count line) → (a : NodePtr) → NewRoot n u a (x ∷ []) → Stands u 1 a × (lines_in u 1 a ≡ (x, line) ∷ [])
 first-root m n u x line new fits a root =
     let t = tree_at n 0 x in let made = finite.insert n a (blank None) in

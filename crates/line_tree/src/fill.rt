@@ -3,6 +3,7 @@ ghost use Rattle.std.specs.List.{insert};
 ghost use Rattle.raw_nodes.specs.Names.{IsInner, IsName, records, rooms, spares};
 ghost use Rattle.raw_nodes.specs.Rows.{kids, row};
 ghost use Rattle.line_tree.specs.Finds.{HasRow};
+ghost use Rattle.line_tree.specs.Shape.{sum_at};
 ghost use Rattle.line_tree.specs.Growth.{NewRoot};
 ghost use Rattle.line_tree.specs.Changes.{CanFill, CanPut, FitsSum, Puts, link_one, refilled, relinked, resummed, sum_all, sums};
 
@@ -106,10 +107,10 @@ pub fn join<C: Ticks>(
     root
 }
 
-/// A new node above one.
-pub fn top<C: Ticks>(store: &mut NodeStore<C>, child: NodePtr, ticks: &mut C) -> NodePtr
+/// A new node above one, whose sum is given.
+pub fn top<C: Ticks>(store: &mut NodeStore<C>, child: NodePtr, sum: Sums<WORDS>) -> NodePtr
     requires child { IsName store.old child }
-    requires fits { FitsSum (sum_all (records store.old) (child ∷ [])) }
+    requires sum { sum ≡ sum_at (records store.old) child }
     requires spare { 0 < spares store.old }
     requires room { 0 < rooms store.old }
     ensures root { NewRoot (records store.old) (records store.new) result (child ∷ []) }
@@ -119,7 +120,8 @@ pub fn top<C: Ticks>(store: &mut NodeStore<C>, child: NodePtr, ticks: &mut C) ->
     let root = store.make(None);
     let mut children = [None; 12];
     children[0] = Some(child);
-    refill(store, root, &children, ticks);
+    relink(store, root, &children);
+    store.set_sum(root, sum);
     root
 }
 

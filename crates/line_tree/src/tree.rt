@@ -50,16 +50,17 @@ impl<C: Ticks> LineTree<C> {
     ghost use Rattle.line_tree.specs.Places.{IsLineAt, line_names};
     ghost use Rattle.line_tree.specs.Locating.{IsPlaceAt};
 
-    /// A tree of one line, the lone newline.
-    pub fn new(alloc: Global, ticks: &mut C) -> Result<LineTree<C>, AllocError>
+    /// A tree of one line, the lone newline. Fails for want of memory.
+    pub fn new(alloc: Global) -> Result<LineTree<C>, AllocError>
         ensures { IfOk result (λ t. (p : _) × (t.lines ≡ (p, plain_line (10 ∷ [])) ∷ [])) }
     {
         let line = Line::new(alloc, "\n")?;
+        let sum = line.sum();
         let mut store = NodeStore::new(alloc);
         store.reserve(1)?;
         store.reserve_lines(2)?;
         let name = new_line(&mut store, line);
-        let root = top(&mut store, name, ticks);
+        let root = top(&mut store, name, sum);
         Ok(LineTree {
             store,
             root,
@@ -67,7 +68,7 @@ impl<C: Ticks> LineTree<C> {
         })
     }
 
-    /// Brings the spares, and the rooms beside them, to `count` at least.
+    /// Brings the spares, and the rooms beside them, to `count` at least. Fails for want of memory.
     pub fn reserve(&mut self, count: usize) -> Result<(), AllocError>
         ensures spares { OnOk result (count ≤ self.new.spares) }
         ensures rooms { OnOk result (count ≤ self.new.rooms) }
