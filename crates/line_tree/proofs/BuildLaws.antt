@@ -1,28 +1,28 @@
 -- A node that was given children is a tree of theirs.
 use Rattle.std.proofs.Common.{◌≡◌, ℕ, zero, suc, ◌-◌, inl, inr, List, [], ◌∷◌, ◌++◌, length, map, replicate, refl, sym, ap, ◌∙◌, subst}
 use Rattle.std.specs.Prelude.{◌≢◌, IsSome}
-use Rattle.std.specs.List.{AllByRecursion, filter_map}
 use Rattle.std.specs.FinMap as finite
+use Rattle.std.specs.List.{AllByRecursion, filter_map}
 use Rattle.std.specs.declared.option.Option.{Option}
 use Rattle.std.specs.declared.option.Option.TheVariants.{None, Some}
-use Rattle.raw_nodes.proofs.PlaceLaws.{same_or_other}
-use Rattle.raw_nodes.proofs.MapLaws.{some_of}
-use Rattle.raw_nodes.specs.Records.{Record, Records, update, with_child, with_parent, with_sum}
-use Rattle.raw_nodes.specs.declared.names.NodePtr.{NodePtr}
-use Rattle.line_tree.specs.Trees.{Tree, inner, lines, names, tops, total}
 use Rattle.toggle_sums.specs.Counts.{plus}
-use Rattle.line_tree.specs.Shape.{Holds, IsNode, Links, line_of, tree_at}
+use Rattle.raw_nodes.specs.Records.{Record, Records, update, with_child, with_parent, with_sum}
 use Rattle.raw_nodes.specs.Rows.{kids, kids_of, row}
+use Rattle.raw_nodes.specs.declared.names.NodePtr.{NodePtr}
+use Rattle.raw_nodes.proofs.MapLaws.{some_of}
+use Rattle.raw_nodes.proofs.PlaceLaws.{same_or_other}
+use Rattle.raw_nodes.proofs.RowLaws.{somes, somes-row}
+use Rattle.raw_nodes.proofs.UpdateLaws.{get-update-other}
 use Rattle.line_tree.specs.Changes.{Among, CanFill, Distinct, link_one, refilled, relinked, sum_all, sums}
 use Rattle.line_tree.specs.Growth.{lines_of, names_of}
+use Rattle.line_tree.specs.Shape.{Holds, IsNode, Links, line_of, tree_at}
+use Rattle.line_tree.specs.Trees.{Tree, inner, lines, names, tops, total}
 use Rattle.line_tree.proofs.AmongLaws.{among-left, among-right}
 use Rattle.line_tree.proofs.DistinctLaws.{distinct-right}
 use Rattle.line_tree.proofs.FillLaws.{at-update, refilled-other, relinked-other, relinked-row, relinked-sums}
 use Rattle.line_tree.proofs.FrameLaws.{SameBody, body-same, body-trans, holds-moved, inner-no-top, links-same, tops-among}
-use Rattle.raw_nodes.proofs.RowLaws.{somes, somes-row}
 use Rattle.line_tree.proofs.SumLaws.{total-append}
 use Rattle.line_tree.proofs.TreeLaws.{sum-held}
-use Rattle.raw_nodes.proofs.UpdateLaws.{get-update-other}
 use Rattle.line_tree.proofs.UpdateLaws.{named-link_one}
 
 -- ---- links

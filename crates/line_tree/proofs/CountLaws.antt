@@ -4,14 +4,14 @@ use Rattle.std.specs.Prelude.{IsSome}
 use Rattle.std.specs.List.{AllByRecursion}
 use Rattle.std.specs.declared.option.Option.{Option}
 use Rattle.std.specs.declared.option.Option.TheVariants.{None, Some}
-use mathlib.Core.Bool.{false≢true}
 use Rattle.std.proofs.Math.Nat.{mul-le-mul_right, pow-succ'}
-use Rattle.raw_nodes.specs.Records.{Records}
+use mathlib.Core.Bool.{false≢true}
 use Rattle.segments.specs.Columns.{LineContent}
+use Rattle.raw_nodes.specs.Records.{Records}
 use Rattle.raw_nodes.specs.declared.names.NodePtr.{NodePtr}
-use Rattle.line_tree.specs.Trees.{IsBalanced, IsBalancedRoot, Tree, lines, names}
-use Rattle.line_tree.specs.Shape.{Holds}
 use Rattle.line_tree.specs.Growth.{lines_of, names_of}
+use Rattle.line_tree.specs.Shape.{Holds}
+use Rattle.line_tree.specs.Trees.{IsBalanced, IsBalancedRoot, Tree, lines, names}
 
 one-line : (p : NodePtr) (o : Option LineContent) → IsSome o → length (lines zero (p, o)) ≡ 1
 one-line p None s = absurd (false≢true s)

@@ -1,19 +1,19 @@
 -- The children of a node without one of them, and those of two nodes.
 use Rattle.std.proofs.Common.{◌≡◌, ℕ, zero, suc, ◌+◌, ◌<◌, ◌≤◌, inl, inr, List, [], ◌∷◌, ◌++◌, length, take, drop, sym, ap, ◌∙◌, subst, arith, length-append, length-take, length-drop}
 use Rattle.std.specs.Prelude.{IsSome, slice_get}
-use Rattle.std.specs.List.{remove}
 use Rattle.std.specs.FinMap as finite
+use Rattle.std.specs.List.{remove}
 use Rattle.std.specs.declared.option.Option.TheVariants.{None}
 use Rattle.std.proofs.lemmas.List.{take-append-drop}
 use Rattle.std.proofs.lemmas.List.Edits.{length-remove}
 use Rattle.std.proofs.lemmas.Option.{slice_get_past}
-use Rattle.raw_nodes.specs.Records.{Records}
-use Rattle.raw_nodes.specs.declared.names.NodePtr.{NodePtr}
 use Rattle.toggle_sums.specs.Counts.{plus}
+use Rattle.raw_nodes.specs.Records.{Records}
 use Rattle.raw_nodes.specs.Rows.{kids, row}
+use Rattle.raw_nodes.specs.declared.names.NodePtr.{NodePtr}
+use Rattle.raw_nodes.proofs.RowLaws.{length-row}
 use Rattle.line_tree.specs.Changes.{Among, CanEven, CanFill, FitsSum, refilled, sum_all}
 use Rattle.line_tree.proofs.AmongLaws.{among-cases, among-drop, among-get, among-take}
-use Rattle.raw_nodes.proofs.RowLaws.{length-row}
 use Rattle.line_tree.proofs.FillLaws.{refilled-other, refilled-sum, sum_all-append, sum_all-same}
 use Rattle.line_tree.proofs.SumLaws.{fits-left, fits-right}
 use Rattle.line_tree.proofs.UpdateLaws.{named-refilled}

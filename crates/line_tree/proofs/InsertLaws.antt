@@ -1,37 +1,37 @@
 -- An insertion at a node, from the insertion at its child.
 use Rattle.std.proofs.Common.{◌≡◌, ℕ, zero, suc, ◌+◌, ◌≤◌, inl, inr, List, [], ◌∷◌, ◌++◌, length, take, drop, map, refl, sym, ap, ◌∙◌, subst, arith}
 use Rattle.std.specs.Prelude.{◌≢◌, IsSome, option_to_list, slice_get}
-use Rattle.std.specs.List.{AllByRecursion, insert}
 use Rattle.std.specs.FinMap as finite
+use Rattle.std.specs.List.{AllByRecursion, insert}
 use Rattle.std.specs.declared.option.Option.{Option}
 use Rattle.std.specs.declared.option.Option.TheVariants.{None, Some}
-use mathlib.Core.Bool.{false≢true}
 use Rattle.std.proofs.lemmas.List.{drop-map, length-map, map-append, take-map}
 use Rattle.std.proofs.lemmas.List.Concat.{flat_map-append}
 use Rattle.std.proofs.lemmas.List.Edits.{length-insert}
 use Rattle.std.proofs.lemmas.Option.{none-some, same_Some, slice_get_within}
-use Rattle.raw_nodes.proofs.PlaceLaws.{same_or_other}
-use Rattle.raw_nodes.specs.Records.{Records, with_sum}
-use Rattle.segments.specs.Columns.{LineContent}
-use Rattle.raw_nodes.specs.declared.names.NodePtr.{NodePtr}
+use mathlib.Core.Bool.{false≢true}
 use Rattle.toggle_sums.specs.Counts.{Count, plus}
-use Rattle.line_tree.specs.declared.find.Found.{Found}
-use Rattle.line_tree.specs.Trees.{IsBalanced, Tree, inner, lines, names, tops, total}
-use Rattle.line_tree.specs.Shape.{Holds, IsTree, Links, lines_in, sum_at, tree_at}
+use Rattle.segments.specs.Columns.{LineContent}
+use Rattle.raw_nodes.specs.Records.{Records, with_sum}
 use Rattle.raw_nodes.specs.Rows.{kids, kids_of, row}
-use Rattle.line_tree.specs.Finds.{HasRow, Leads}
+use Rattle.raw_nodes.specs.declared.names.NodePtr.{NodePtr}
+use Rattle.raw_nodes.proofs.PlaceLaws.{same_or_other}
 use Rattle.line_tree.specs.Changes.{Among, CanPut, Distinct, FitsSum, Puts, resummed, sums}
+use Rattle.line_tree.specs.Finds.{HasRow, Leads}
 use Rattle.line_tree.specs.Growth.{CanInsert, Grows, Inserts, KeepsLink, KeepsWide, lines_of, names_of, trees}
-use Rattle.line_tree.proofs.SumLaws.{total-append}
-use Rattle.line_tree.proofs.TreeLaws.{child-tree, count-tree, counted, named-tree, row-tree, sum-held, top-tree_at, tops-tree_at}
+use Rattle.line_tree.specs.Shape.{Holds, IsTree, Links, lines_in, sum_at, tree_at}
+use Rattle.line_tree.specs.Trees.{IsBalanced, Tree, inner, lines, names, tops, total}
+use Rattle.line_tree.specs.declared.find.Found.{Found}
 use Rattle.line_tree.proofs.AmongLaws.{among-get, among-left, among-right}
+use Rattle.line_tree.proofs.BuildLaws.{sum-trees}
 use Rattle.line_tree.proofs.DistinctLaws.{distinct-left, distinct-right}
 use Rattle.line_tree.proofs.FillLaws.{at-update, sums-row}
 use Rattle.line_tree.proofs.FrameLaws.{inner-no-top, tops-among}
-use Rattle.line_tree.proofs.BuildLaws.{sum-trees}
 use Rattle.line_tree.proofs.GrowLaws.{all-append, all-left, all-right, grows-line, grows-wide, names-append, of-one}
 use Rattle.line_tree.proofs.SplitLaws.{grows-put, grows-resum, parted-is}
 use Rattle.line_tree.proofs.StepLaws.{all-balanced, at-place, can-put, keeps-after, keeps-put, keeps-resum, keeps-same, links-kept, split-insert, split-same, total-with_line, wide-balanced, wide-put, wide-same, wide-some}
+use Rattle.line_tree.proofs.SumLaws.{total-append}
+use Rattle.line_tree.proofs.TreeLaws.{child-tree, count-tree, counted, named-tree, row-tree, sum-held, top-tree_at, tops-tree_at}
 
 pub length-lines : (m : Records) (ts : List (Tree 0)) → AllByRecursion (Holds m 0) ts → length (lines_of 0 ts) ≡ length ts
 length-lines m [] all = refl

@@ -1,25 +1,25 @@
 -- Ways down by characters.
 use Rattle.std.proofs.Common.{◌≡◌, ℕ, zero, suc, ◌+◌, ◌<◌, ◌≤◌, List, [], ◌∷◌, ◌++◌, length, take, drop, map, refl, sym, ap, ◌∙◌, subst, arith, append_assoc, length-append}
 use Rattle.std.specs.Prelude.{slice_get}
+use Rattle.std.specs.FinMap as finite
 use Rattle.std.specs.List.{AllByRecursion, flat_map, sum_by}
 use Rattle.std.specs.declared.option.Option.{Option}
 use Rattle.std.specs.declared.option.Option.TheVariants.{None, Some}
 use Rattle.std.proofs.lemmas.List.{append-nil, take_at}
 use Rattle.std.proofs.lemmas.List.Concat.{flat_map-append}
 use Rattle.std.proofs.lemmas.List.Sums.{sum_by-cons}
-use Rattle.raw_nodes.specs.Records.{Records}
 use Rattle.segments.specs.Columns.{LineContent}
-use Rattle.raw_nodes.specs.declared.names.NodePtr.{NodePtr}
-use Rattle.line_tree.specs.declared.locate.Spot.{Spot}
-use Rattle.line_tree.specs.Trees.{Named, lines, total}
-use Rattle.line_tree.specs.Shape.{Holds, IsTree, line_of, lines_in, tree_at}
+use Rattle.raw_nodes.specs.Records.{Records}
 use Rattle.raw_nodes.specs.Rows.{kids}
+use Rattle.raw_nodes.specs.declared.names.NodePtr.{NodePtr}
 use Rattle.line_tree.specs.Locating.{IsPlaceAt, Spots, Within, characters_at, characters_below}
-use Rattle.std.specs.FinMap as finite
-use Rattle.line_tree.proofs.SumLaws.{total-append}
-use Rattle.line_tree.proofs.TreeLaws.{child-tree, counted, get-right, sum-held, top-tree_at}
+use Rattle.line_tree.specs.Shape.{Holds, IsTree, line_of, lines_in, tree_at}
+use Rattle.line_tree.specs.Trees.{Named, lines, total}
+use Rattle.line_tree.specs.declared.locate.Spot.{Spot}
 use Rattle.line_tree.proofs.GrowLaws.{all-left}
 use Rattle.line_tree.proofs.StepLaws.{at-place}
+use Rattle.line_tree.proofs.SumLaws.{total-append}
+use Rattle.line_tree.proofs.TreeLaws.{child-tree, counted, get-right, sum-held, top-tree_at}
 
 characters-tree : (m : Records) (h : ℕ) (p : NodePtr) → IsTree m h p → characters_at m p ≡ (total (lines_in m h p)).characters
 characters-tree m h p is = ap (characters_at m) (sym (top-tree_at m h p)) ∙ ap (λ s. s.characters) (sum-held m h (tree_at m h p) is)

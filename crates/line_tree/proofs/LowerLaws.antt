@@ -1,35 +1,35 @@
 -- A root with one child, and a record out of the tree.
 use Rattle.std.proofs.Common.{◌≡◌, ℕ, zero, suc, ◌-◌, ◌<◌, ◌≤◌, inl, inr, List, [], ◌∷◌, ◌++◌, length, map, refl, sym, ap, ◌∙◌, subst, arith}
 use Rattle.std.specs.Prelude.{◌≢◌, IsSome, slice_get}
-use Rattle.std.specs.List.{AllByRecursion, remove}
 use Rattle.std.specs.FinMap as finite
+use Rattle.std.specs.List.{AllByRecursion, remove}
 use Rattle.std.specs.declared.option.Option.{Option}
 use Rattle.std.specs.declared.option.Option.TheVariants.{None, Some}
-use mathlib.Core.Bool.{false≢true}
 use Rattle.std.proofs.lemmas.Bool.{cases_lt}
 use Rattle.std.proofs.lemmas.List.{append-nil}
 use Rattle.std.proofs.lemmas.Option.{none-some, same_Some}
-use Rattle.raw_nodes.proofs.MapLaws.{get_unmoved, some_of}
-use Rattle.raw_nodes.specs.Records.{Record, Records, update, with_parent}
+use mathlib.Core.Bool.{false≢true}
 use Rattle.segments.specs.Columns.{LineContent}
-use Rattle.raw_nodes.specs.declared.names.NodePtr.{NodePtr}
-use Rattle.line_tree.specs.Trees.{IsBalanced, IsBalancedRoot, Named, Tree, inner, lines, names, total}
-use Rattle.line_tree.specs.Shape.{Holds, IsTree, lines_in, tree_at}
+use Rattle.raw_nodes.specs.Records.{Record, Records, update, with_parent}
 use Rattle.raw_nodes.specs.Rows.{kids}
-use Rattle.line_tree.specs.Places.{IsLineAt}
+use Rattle.raw_nodes.specs.declared.names.NodePtr.{NodePtr}
+use Rattle.raw_nodes.proofs.MapLaws.{get_unmoved, some_of}
+use Rattle.raw_nodes.proofs.UpdateLaws.{get-update-other, remove-named, update-named}
 use Rattle.line_tree.specs.Changes.{Among, Distinct, FitsSum}
 use Rattle.line_tree.specs.Growth.{IsWide, Stands, StandsAlone, lines_of, names_of}
+use Rattle.line_tree.specs.Places.{IsLineAt}
+use Rattle.line_tree.specs.Shape.{Holds, IsTree, lines_in, tree_at}
 use Rattle.line_tree.specs.Shrinking.{CanLower, CanRemove, Cleans, Lowers, Removes}
-use Rattle.line_tree.proofs.TreeLaws.{get-left, get-right, top-tree_at}
-use Rattle.line_tree.proofs.DistinctLaws.{distinct-left}
+use Rattle.line_tree.specs.Trees.{IsBalanced, IsBalancedRoot, Named, Tree, inner, lines, names, total}
 use Rattle.line_tree.proofs.AmongLaws.{among-left, among-or}
-use Rattle.line_tree.proofs.FillLaws.{at-update}
-use Rattle.raw_nodes.proofs.UpdateLaws.{get-update-other, remove-named, update-named}
-use Rattle.line_tree.proofs.FrameLaws.{holds-moved, holds-same}
 use Rattle.line_tree.proofs.BuildLaws.{tree-is}
+use Rattle.line_tree.proofs.DistinctLaws.{distinct-left}
+use Rattle.line_tree.proofs.FillLaws.{at-update}
+use Rattle.line_tree.proofs.FrameLaws.{holds-moved, holds-same}
 use Rattle.line_tree.proofs.GrowLaws.{of-one, to-one, unnamed}
 use Rattle.line_tree.proofs.PlaceLaws.{named_line}
 use Rattle.line_tree.proofs.RemoveLaws.{fits-remove}
+use Rattle.line_tree.proofs.TreeLaws.{get-left, get-right, top-tree_at}
 
 -- ---- the line of a name
 pub record HasLine (m : Records) (x : NodePtr) (l : LineContent) : Type 0 where

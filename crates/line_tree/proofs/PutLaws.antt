@@ -1,23 +1,23 @@
 -- One more child for a node, with room and without.
 use Rattle.std.proofs.Common.{◌≡◌, ℕ, zero, suc, ◌-◌, ◌≤◌, inl, inr, List, [], ◌∷◌, ◌++◌, length, take, drop, map, replicate, cond, refl, sym, ap, ◌∙◌, subst, arith, length-drop, length-take}
 use Rattle.std.specs.Prelude.{◌≢◌, IfSome, IsSome, is_some}
-use Rattle.std.specs.List.{count_by, insert}
 use Rattle.std.specs.FinMap as finite
+use Rattle.std.specs.List.{count_by, insert}
 use Rattle.std.specs.declared.option.Option.{Option}
 use Rattle.std.specs.declared.option.Option.TheVariants.{None, Some}
 use Rattle.std.proofs.lemmas.List.{take-append-drop}
 use Rattle.std.proofs.lemmas.List.Sums.{sum_by-cons}
 use Rattle.std.proofs.lemmas.Option.{none-some}
-use Rattle.raw_nodes.proofs.MapLaws.{at_some, get_inserted, get_other, kept_insert, some_of}
-use Rattle.raw_nodes.specs.Records.{Records, blank}
-use Rattle.raw_nodes.specs.declared.names.NodePtr.{NodePtr}
 use Rattle.toggle_sums.specs.Counts.{plus}
+use Rattle.raw_nodes.specs.Records.{Records, blank}
 use Rattle.raw_nodes.specs.Rows.{kids, row}
-use Rattle.line_tree.specs.Shape.{sum_at, sum_of}
-use Rattle.line_tree.specs.Finds.{HasRow}
-use Rattle.line_tree.specs.Changes.{Among, CanFill, CanPut, FitsSum, refilled, sum_all}
-use Rattle.line_tree.proofs.AmongLaws.{among-drop, among-get, among-insert, among-take}
+use Rattle.raw_nodes.specs.declared.names.NodePtr.{NodePtr}
+use Rattle.raw_nodes.proofs.MapLaws.{at_some, get_inserted, get_other, kept_insert, some_of}
 use Rattle.raw_nodes.proofs.RowLaws.{length-row}
+use Rattle.line_tree.specs.Changes.{Among, CanFill, CanPut, FitsSum, refilled, sum_all}
+use Rattle.line_tree.specs.Finds.{HasRow}
+use Rattle.line_tree.specs.Shape.{sum_at, sum_of}
+use Rattle.line_tree.proofs.AmongLaws.{among-drop, among-get, among-insert, among-take}
 use Rattle.line_tree.proofs.FillLaws.{refilled-other, refilled-sum, sum_all-append, sum_all-same}
 use Rattle.line_tree.proofs.SumLaws.{fits-left, fits-right}
 use Rattle.line_tree.proofs.UpdateLaws.{named-refilled}

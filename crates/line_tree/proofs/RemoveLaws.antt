@@ -1,28 +1,28 @@
 -- A removal at a node, from the removal at its child.
 use Rattle.std.proofs.Common.{◌≡◌, ℕ, zero, suc, ◌+◌, ◌<◌, ◌≤◌, List, [], ◌∷◌, ◌++◌, length, take, drop, map, refl, sym, ap, ◌∙◌, subst, arith}
 use Rattle.std.specs.Prelude.{◌≢◌}
-use Rattle.std.specs.List.{AllByRecursion, remove}
 use Rattle.std.specs.FinMap as finite
+use Rattle.std.specs.List.{AllByRecursion, remove}
 use Rattle.std.proofs.lemmas.List.{length-map}
-use Rattle.raw_nodes.proofs.MapLaws.{get_unmoved}
-use Rattle.raw_nodes.specs.Records.{Records}
-use Rattle.raw_nodes.specs.declared.names.NodePtr.{NodePtr}
 use Rattle.toggle_sums.specs.Counts.{Count, plus}
-use Rattle.line_tree.specs.Trees.{IsBalanced, Named, Tree, names, tops, total}
+use Rattle.raw_nodes.specs.Records.{Records}
 use Rattle.raw_nodes.specs.Rows.{kids, row}
-use Rattle.line_tree.specs.Shape.{tree_at}
-use Rattle.line_tree.specs.Finds.{HasRow}
+use Rattle.raw_nodes.specs.declared.names.NodePtr.{NodePtr}
+use Rattle.raw_nodes.proofs.MapLaws.{get_unmoved}
+use Rattle.raw_nodes.proofs.RowLaws.{length-row}
 use Rattle.line_tree.specs.Changes.{Among, CanFill, FitsSum, refilled}
+use Rattle.line_tree.specs.Finds.{HasRow}
 use Rattle.line_tree.specs.Growth.{IsWide, KeepsLink, lines_of, names_of}
+use Rattle.line_tree.specs.Shape.{tree_at}
 use Rattle.line_tree.specs.Shrinking.{CanRemove, Removes, Shrinks}
+use Rattle.line_tree.specs.Trees.{IsBalanced, Named, Tree, names, tops, total}
+use Rattle.line_tree.proofs.BuildLaws.{sum-trees, tree-is}
+use Rattle.line_tree.proofs.FrameLaws.{holds-same, names-all-held, tops-among}
+use Rattle.line_tree.proofs.GrowLaws.{to-one}
+use Rattle.line_tree.proofs.ShrinkLaws.{shrinks-up}
+use Rattle.line_tree.proofs.StepLaws.{keeps-after, keeps-refilled, keeps-then}
 use Rattle.line_tree.proofs.SumLaws.{fits-left, fits-right, total-append}
 use Rattle.line_tree.proofs.TreeLaws.{top-tree_at}
-use Rattle.raw_nodes.proofs.RowLaws.{length-row}
-use Rattle.line_tree.proofs.FrameLaws.{holds-same, names-all-held, tops-among}
-use Rattle.line_tree.proofs.BuildLaws.{sum-trees, tree-is}
-use Rattle.line_tree.proofs.GrowLaws.{to-one}
-use Rattle.line_tree.proofs.StepLaws.{keeps-after, keeps-refilled, keeps-then}
-use Rattle.line_tree.proofs.ShrinkLaws.{shrinks-up}
 
 -- ---- sums
 part-fits : (a c b : Count) → FitsSum (plus a (plus c b)) → FitsSum c

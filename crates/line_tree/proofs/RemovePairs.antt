@@ -1,42 +1,42 @@
 -- A removal at a node whose child shares with a neighbour.
 use Rattle.std.proofs.Common.{◌≡◌, ℕ, suc, ◌+◌, ◌<◌, ◌≤◌, ◌⊎◌, inl, inr, List, [], ◌∷◌, ◌++◌, length, take, drop, map, refl, sym, ap, ◌∙◌, subst, arith, length-append, length-take, length-drop}
 use Rattle.std.specs.Prelude.{◌≢◌, IsSome, slice_get}
-use Rattle.std.specs.List.{AllByRecursion, remove}
 use Rattle.std.specs.FinMap as finite
+use Rattle.std.specs.List.{AllByRecursion, remove}
 use Rattle.std.specs.declared.option.Option.{Option}
 use Rattle.std.specs.declared.option.Option.TheVariants.{None, Some}
+use Rattle.std.proofs.lemmas.Bool.{cases_eq}
 use Rattle.std.proofs.lemmas.List.{length-map, map-append}
 use Rattle.std.proofs.lemmas.List.Concat.{flat_map-append}
 use Rattle.std.proofs.lemmas.List.Edits.{length-remove}
 use Rattle.std.proofs.lemmas.Option.{none-some, same_Some, slice_get_within}
+use Rattle.toggle_sums.specs.Counts.{plus}
+use Rattle.raw_nodes.specs.Records.{Records}
+use Rattle.raw_nodes.specs.Rows.{kids, kids_of, row}
+use Rattle.raw_nodes.specs.declared.names.NodePtr.{NodePtr}
 use Rattle.raw_nodes.proofs.MapLaws.{get_removed, get_unmoved}
 use Rattle.raw_nodes.proofs.PlaceLaws.{same_or_other}
-use Rattle.raw_nodes.specs.Records.{Records}
-use Rattle.raw_nodes.specs.declared.names.NodePtr.{NodePtr}
-use Rattle.line_tree.specs.declared.find.Found.{Found}
-use Rattle.line_tree.specs.Trees.{IsBalanced, Named, Tree, inner, lines, names, tops, total}
-use Rattle.toggle_sums.specs.Counts.{plus}
-use Rattle.line_tree.specs.Shape.{Holds, tree_at}
-use Rattle.raw_nodes.specs.Rows.{kids, kids_of, row}
-use Rattle.line_tree.specs.Finds.{Finds, HasRow}
 use Rattle.line_tree.specs.Changes.{Among, CanEven, CanFill, Distinct, FitsSum, Mends, Merges, Shares, refilled, sum_all}
+use Rattle.line_tree.specs.Finds.{Finds, HasRow}
 use Rattle.line_tree.specs.Growth.{IsWide, lines_of, names_of}
+use Rattle.line_tree.specs.Shape.{Holds, tree_at}
 use Rattle.line_tree.specs.Shrinking.{CanMend, CanRemove, Cleans, Removes, Settles, Shrinks, Turns}
-use Rattle.line_tree.proofs.TreeLaws.{child-tree, row-tree, tops-tree_at}
+use Rattle.line_tree.specs.Trees.{IsBalanced, Named, Tree, inner, lines, names, tops, total}
+use Rattle.line_tree.specs.declared.find.Found.{Found}
 use Rattle.line_tree.proofs.AmongLaws.{among-or, get-among}
+use Rattle.line_tree.proofs.BuildLaws.{built, sum-trees, tree-is}
 use Rattle.line_tree.proofs.DistinctLaws.{distinct-apart, distinct-left, distinct-right}
 use Rattle.line_tree.proofs.FillLaws.{refilled-other}
-use Rattle.line_tree.proofs.UpdateLaws.{InnerIn, inner-refilled, inner-row, named-refilled}
 use Rattle.line_tree.proofs.FrameLaws.{tops-among}
-use Rattle.line_tree.proofs.BuildLaws.{built, sum-trees, tree-is}
 use Rattle.line_tree.proofs.GrowLaws.{all-append, in-cases, in-left, in-right, names-append, of-one}
-use Rattle.line_tree.proofs.ShrinkLaws.{shrinks-turns, turns-wide}
-use Rattle.line_tree.proofs.PairLaws.{Pair, kids-both, merge-inside, pair-of, share-inside, turns-merge, turns-share, two-lines, two-right}
-use Rattle.line_tree.proofs.StepLaws.{all-drop, all-take}
-use Rattle.line_tree.proofs.RemoveLaws.{can-fill, drop-tree, finish, fits-part, removes-drop}
-use Rattle.std.proofs.lemmas.Bool.{cases_eq}
 use Rattle.line_tree.proofs.InsertLaws.{has-kept}
+use Rattle.line_tree.proofs.PairLaws.{Pair, kids-both, merge-inside, pair-of, share-inside, turns-merge, turns-share, two-lines, two-right}
+use Rattle.line_tree.proofs.RemoveLaws.{can-fill, drop-tree, finish, fits-part, removes-drop}
 use Rattle.line_tree.proofs.RemoveSteps.{all-from, balanced-but, balanced-child, fits-now, has-now, in-drop, in-take, kids-same, node-same, now-lost, pair-place, pair-remove, pair-same, shrinks-now}
+use Rattle.line_tree.proofs.ShrinkLaws.{shrinks-turns, turns-wide}
+use Rattle.line_tree.proofs.StepLaws.{all-drop, all-take}
+use Rattle.line_tree.proofs.TreeLaws.{child-tree, row-tree, tops-tree_at}
+use Rattle.line_tree.proofs.UpdateLaws.{InnerIn, inner-refilled, inner-row, named-refilled}
 
 -- the children that are left
 abbrev pub without : List NodePtr → Option ℕ → List NodePtr

@@ -1,34 +1,33 @@
 -- One level of a removal.
 use Rattle.std.proofs.Common.{◌≡◌, ℕ, zero, suc, ◌+◌, ◌<◌, ◌≤◌, inl, inr, List, [], ◌∷◌, ◌++◌, length, take, drop, map, refl, sym, ap, ◌∙◌, subst, arith, length-take}
 use Rattle.std.specs.Prelude.{◌≢◌, slice_get}
-use Rattle.std.specs.List.{AllByRecursion, remove}
 use Rattle.std.specs.FinMap as finite
+use Rattle.std.specs.List.{AllByRecursion, remove}
 use Rattle.std.specs.declared.option.Option.{Option}
 use Rattle.std.specs.declared.option.Option.TheVariants.{None, Some}
 use Rattle.std.proofs.lemmas.List.{drop-map, length-map, map-append, take-map}
 use Rattle.std.proofs.lemmas.List.Concat.{flat_map-append}
 use Rattle.std.proofs.lemmas.List.Edits.{length-remove}
-use Rattle.std.proofs.lemmas.Option.{none-some, same_Some, slice_get-map, slice_get_within}
+use Rattle.std.proofs.lemmas.Option.{none-some, same_Some, slice_get-map, slice_get_within, slice_get-get_or}
 use Rattle.raw_nodes.specs.Records.{Records}
-use Rattle.raw_nodes.specs.declared.names.NodePtr.{NodePtr}
-use Rattle.line_tree.specs.declared.find.Found.{Found}
-use Rattle.line_tree.specs.Trees.{IsBalanced, Tree, lines, names, tops, total}
-use Rattle.line_tree.specs.Shape.{Holds, IsTree, lines_in, tree_at}
 use Rattle.raw_nodes.specs.Rows.{kids, kids_of, row}
-use Rattle.line_tree.specs.Finds.{Finds, HasRow}
+use Rattle.raw_nodes.specs.declared.names.NodePtr.{NodePtr}
 use Rattle.line_tree.specs.Changes.{Among, CanFill, Distinct, FitsSum, refilled}
+use Rattle.line_tree.specs.Finds.{Finds, HasRow}
 use Rattle.line_tree.specs.Growth.{IsWide, lines_of, names_of}
+use Rattle.line_tree.specs.Shape.{Holds, IsTree, lines_in, tree_at}
 use Rattle.line_tree.specs.Shrinking.{CanRemove, Cleans, Removes, Shrinks}
-use Rattle.line_tree.proofs.TreeLaws.{child-tree, count-tree, counted, named-tree, row-tree, top-tree_at, tops-tree_at}
+use Rattle.line_tree.specs.Trees.{IsBalanced, Tree, lines, names, tops, total}
+use Rattle.line_tree.specs.declared.find.Found.{Found}
 use Rattle.line_tree.proofs.AmongLaws.{among-cases, among-left, among-right}
-use Rattle.line_tree.proofs.DistinctLaws.{distinct-left, distinct-right}
 use Rattle.line_tree.proofs.BuildLaws.{tree-is, trees-is}
+use Rattle.line_tree.proofs.DistinctLaws.{distinct-left, distinct-right}
 use Rattle.line_tree.proofs.GrowLaws.{all-left, all-right, in-cases, in-left, in-right, names-append, of-one}
-use Rattle.line_tree.proofs.StepLaws.{at-place}
-use Rattle.line_tree.proofs.ShrinkLaws.{shrinks-line, shrinks-up, shrinks-wide}
-use Rattle.std.proofs.lemmas.Option.{slice_get-get_or}
 use Rattle.line_tree.proofs.InsertLaws.{all-get, length-lines, lines-balanced}
 use Rattle.line_tree.proofs.RemoveLaws.{can-fill, finish, fits-part, fits-remove}
+use Rattle.line_tree.proofs.ShrinkLaws.{shrinks-line, shrinks-up, shrinks-wide}
+use Rattle.line_tree.proofs.StepLaws.{at-place}
+use Rattle.line_tree.proofs.TreeLaws.{child-tree, count-tree, counted, named-tree, row-tree, top-tree_at, tops-tree_at}
 
 -- ---- lists by index
 all-but : {X : Type 0} (P : X → Type 0) (ls : List X) (t : X) (rs : List X) → AllByRecursion P ls → AllByRecursion P rs → (j : ℕ) (u : X) → slice_get (ls ++ (t ∷ rs)) j ≡ Some u → j ≢ length ls → P u

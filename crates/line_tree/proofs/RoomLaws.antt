@@ -5,18 +5,18 @@ use Rattle.std.specs.FinMap as finite
 use Rattle.std.specs.FinMap.{empty_of_len, get-empty, len-empty, len-insert, len-remove, same_map}
 use Rattle.std.specs.declared.option.Option.{Option}
 use Rattle.std.specs.declared.option.Option.TheVariants.{None, Some}
-use Rattle.raw_nodes.proofs.PlaceLaws.{name_antisym, name_total}
-use Rattle.raw_nodes.specs.Records.{Record, Records, blank, update, with_child, with_parent, with_sum}
-use Rattle.raw_nodes.specs.Cells.{name_cmp}
+use Rattle.std.proofs.lemmas.Bool.{cases_lt}
+use mathlib.Core.Bool.{false≢true}
 use Rattle.segments.specs.Columns.{LineContent}
-use Rattle.raw_nodes.specs.declared.names.NodePtr.{NodePtr}
+use Rattle.raw_nodes.specs.Cells.{name_cmp}
+use Rattle.raw_nodes.specs.Records.{Record, Records, blank, update, with_child, with_parent, with_sum}
 use Rattle.raw_nodes.specs.Rows.{kids, row}
+use Rattle.raw_nodes.specs.declared.names.NodePtr.{NodePtr}
+use Rattle.raw_nodes.proofs.PlaceLaws.{name_antisym, name_total}
+use Rattle.raw_nodes.proofs.UpdateLaws.{len-update, remove-named}
 use Rattle.line_tree.specs.Changes.{Among, Evens, Puts, link_one, refilled, relinked, resummed, sums}
 use Rattle.line_tree.specs.Growth.{NewLine, NewRoot}
 use Rattle.line_tree.specs.Shrinking.{Settles}
-use Rattle.raw_nodes.proofs.UpdateLaws.{len-update, remove-named}
-use mathlib.Core.Bool.{false≢true}
-use Rattle.std.proofs.lemmas.Bool.{cases_lt}
 
 len-new : (m : Records) (p : NodePtr) (r : Record) → finite.get m p ≡ None → finite.len (finite.insert m p r) ≡ finite.len m + 1
 len-new m p r e = len-insert name_total m p r ∙ ap (λ o. cond (is_some o) (finite.len m) (finite.len m + 1)) e

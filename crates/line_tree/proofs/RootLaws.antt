@@ -1,36 +1,36 @@
 -- A new line, and a new root.
 use Rattle.std.proofs.Common.{◌≡◌, ℕ, zero, suc, ◌-◌, ◌*◌, ◌^◌, ◌<◌, ◌≤◌, ◌⊎◌, inl, inr, List, [], ◌∷◌, ◌++◌, length, take, drop, refl, sym, ap, ◌∙◌, subst, arith}
 use Rattle.std.specs.Prelude.{◌≢◌, IsSome, chars, slice_index}
-use Rattle.std.specs.List.{AllByRecursion, insert}
-use mathlib.Core.Bool.{Bool, true, false, false≢true}
 use Rattle.std.specs.FinMap as finite
 use Rattle.std.specs.FinMap.{len-empty}
+use Rattle.std.specs.List.{AllByRecursion, insert}
 use Rattle.std.specs.declared.option.Option.{Option}
 use Rattle.std.specs.declared.option.Option.TheVariants.{None, Some}
 use Rattle.std.proofs.lemmas.List.{append-nil}
 use Rattle.std.proofs.lemmas.Option.{same_Some}
 use Rattle.std.proofs.lemmas.Str.{chars-IsAscii}
-use Rattle.raw_nodes.proofs.MapLaws.{get_inserted, get_other, kept_insert}
-use Rattle.raw_nodes.specs.Records.{Records, blank, with_sum}
-use Rattle.segments.specs.Columns.{LineContent, line_count, plain_line}
-use Rattle.raw_nodes.specs.declared.names.NodePtr.{NodePtr}
-use Rattle.line_tree.specs.Trees.{IsBalanced, IsBalancedRoot, Tree, inner, least_below_root, lines, names, tops, total}
+use mathlib.Core.Bool.{Bool, true, false, false≢true}
+use Rattle.toggle_sums.specs.CountLaws.{plus-no_text}
 use Rattle.toggle_sums.specs.Counts.{plus}
-use Rattle.line_tree.specs.Shape.{Holds, IsTree, line_of, lines_in, sum_at, sum_of, tree_at}
+use Rattle.segments.specs.Columns.{LineContent, line_count, plain_line}
+use Rattle.raw_nodes.specs.Records.{Records, blank, with_sum}
 use Rattle.raw_nodes.specs.Rows.{row}
+use Rattle.raw_nodes.specs.declared.names.NodePtr.{NodePtr}
+use Rattle.raw_nodes.proofs.MapLaws.{get_inserted, get_other, kept_insert}
+use Rattle.raw_nodes.proofs.UpdateLaws.{insert-named}
 use Rattle.line_tree.specs.Changes.{Among, CanFill, Distinct, FitsSum, refilled, relinked, sum_all, sums}
 use Rattle.line_tree.specs.Growth.{CanInsert, HasNoParent, Inserts, IsWide, NewLine, NewRoot, Stands, StandsAlone, lines_of, names_of, trees, with_line}
+use Rattle.line_tree.specs.Shape.{Holds, IsTree, line_of, lines_in, sum_at, sum_of, tree_at}
+use Rattle.line_tree.specs.Trees.{IsBalanced, IsBalancedRoot, Tree, inner, least_below_root, lines, names, tops, total}
+use Rattle.line_tree.proofs.AmongLaws.{among-or}
 use Rattle.line_tree.proofs.BuildLaws.{built, sum-trees, tree-is}
+use Rattle.line_tree.proofs.CountLaws.{height-below, least-lines-root}
 use Rattle.line_tree.proofs.FillLaws.{at-update, relinked-row, relinked-sums, sum_all-same}
 use Rattle.line_tree.proofs.FrameLaws.{all-same, holds-same, names-all-held, names-held, tops-among}
 use Rattle.line_tree.proofs.GrowLaws.{of-one, to-one, unnamed}
-use Rattle.line_tree.proofs.AmongLaws.{among-or}
-use Rattle.raw_nodes.proofs.UpdateLaws.{insert-named}
-use Rattle.line_tree.proofs.UpdateLaws.{refilled-named}
 use Rattle.line_tree.proofs.StepLaws.{total-with_line}
-use Rattle.toggle_sums.specs.CountLaws.{plus-no_text}
 use Rattle.line_tree.proofs.TreeLaws.{named-tree, top-tree_at, total-lines}
-use Rattle.line_tree.proofs.CountLaws.{height-below, least-lines-root}
+use Rattle.line_tree.proofs.UpdateLaws.{refilled-named}
 
 -- ---- records that are the same for a tree
 pub tree-same : (m n : Records) (h : ℕ) (p : NodePtr) → IsTree m h p → ((q : NodePtr) → Among q (names h (tree_at m h p)) → finite.get n q ≡ finite.get m q) → tree_at n h p ≡ tree_at m h p

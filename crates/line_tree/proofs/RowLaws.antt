@@ -1,22 +1,22 @@
 -- The children of a record as a list.
 use Rattle.std.proofs.Common.{◌≡◌, ℕ, zero, suc, ◌+◌, ◌-◌, ◌<◌, ◌≤◌, List, [], ◌∷◌, ◌++◌, length, get_or, take, drop, map, replicate, refl, sym, ap, ◌∙◌, arith}
 use Rattle.std.specs.Prelude.{IfSome, IsSome, slice_get}
-use Rattle.std.specs.List.{filter_map, sum_by}
 use Rattle.std.specs.FinMap as finite
+use Rattle.std.specs.List.{filter_map, sum_by}
 use Rattle.std.specs.declared.option.Option.{Option}
 use Rattle.std.specs.declared.option.Option.TheVariants.{None, Some}
 use Rattle.std.proofs.lemmas.List.{take_more, take_all, at_drop_more, length-replicate}
 use Rattle.std.proofs.lemmas.List.Sums.{sum_by_push}
 use Rattle.std.proofs.lemmas.Option.{none-some, slice_get_within, get_or_from_slice_get}
+use Rattle.toggle_sums.specs.Counts.{Count, plus}
+use Rattle.raw_nodes.specs.Records.{Records}
+use Rattle.raw_nodes.specs.Rows.{kids, row}
+use Rattle.raw_nodes.specs.declared.names.NodePtr.{NodePtr}
 use Rattle.raw_nodes.proofs.MapLaws.{at_some, some_of}
 use Rattle.raw_nodes.proofs.RowLaws.{get_or-row, length-row}
-use Rattle.raw_nodes.specs.Records.{Records}
-use Rattle.raw_nodes.specs.declared.names.NodePtr.{NodePtr}
-use Rattle.toggle_sums.specs.Counts.{Count, plus}
-use Rattle.raw_nodes.specs.Rows.{kids, row}
-use Rattle.line_tree.specs.Shape.{sum_at, sum_of}
-use Rattle.line_tree.specs.Finds.{HasRow}
 use Rattle.line_tree.specs.Changes.{sum_or_none, sums}
+use Rattle.line_tree.specs.Finds.{HasRow}
+use Rattle.line_tree.specs.Shape.{sum_at, sum_of}
 
 -- ---- what a call answers of a row
 pub child_is : (m : Records) (p : NodePtr) → HasRow m p → (o : Option NodePtr) (i : ℕ) → IfSome (finite.get m p) (λ r. o ≡ get_or r.children i None) → o ≡ slice_get (kids m p) i

@@ -1,31 +1,31 @@
 -- Trees with one line less.
 use Rattle.std.proofs.Common.{◌≡◌, ℕ, zero, suc, ◌+◌, ◌<◌, inl, inr, List, [], ◌∷◌, ◌++◌, length, take, drop, refl, sym, ap, ◌∙◌, subst, arith, append_assoc}
 use Rattle.std.specs.Prelude.{◌≢◌, IsSome, slice_get}
-use Rattle.std.specs.Option.{option_map}
 use Rattle.std.specs.List.{AllByRecursion, remove}
+use Rattle.std.specs.Option.{option_map}
 use Rattle.std.specs.declared.option.Option.{Option}
 use Rattle.std.specs.declared.option.Option.TheVariants.{None, Some}
-use mathlib.Core.Bool.{false≢true}
 use Rattle.std.proofs.lemmas.List.{append-nil, drop-append-le, take-append-le}
 use Rattle.std.proofs.lemmas.List.Concat.{flat_map-append}
 use Rattle.std.proofs.lemmas.Option.{none-some, same_Some}
-use Rattle.raw_nodes.specs.Records.{Records}
+use mathlib.Core.Bool.{false≢true}
 use Rattle.segments.specs.Columns.{LineContent}
-use Rattle.raw_nodes.specs.declared.names.NodePtr.{NodePtr}
-use Rattle.line_tree.specs.Trees.{Named, Tree, lines, names, tops}
-use Rattle.line_tree.specs.Shape.{Holds}
+use Rattle.raw_nodes.specs.Records.{Records}
 use Rattle.raw_nodes.specs.Rows.{row}
-use Rattle.line_tree.specs.Places.{IsLineAt}
+use Rattle.raw_nodes.specs.declared.names.NodePtr.{NodePtr}
 use Rattle.line_tree.specs.Changes.{Among, CanFill, Distinct, refilled}
 use Rattle.line_tree.specs.Growth.{lines_of, names_of}
+use Rattle.line_tree.specs.Places.{IsLineAt}
+use Rattle.line_tree.specs.Shape.{Holds}
 use Rattle.line_tree.specs.Shrinking.{Shrinks, Turns}
+use Rattle.line_tree.specs.Trees.{Named, Tree, lines, names, tops}
 use Rattle.line_tree.proofs.AmongLaws.{among-left, among-right}
-use Rattle.line_tree.proofs.DistinctLaws.{distinct-apart, distinct-append, distinct-left, distinct-replace, distinct-right}
-use Rattle.line_tree.proofs.FrameLaws.{all-same, tops-among}
-use Rattle.line_tree.proofs.FillLaws.{refilled-other}
 use Rattle.line_tree.proofs.BuildLaws.{built}
-use Rattle.line_tree.proofs.TreeLaws.{get-left, get-right}
+use Rattle.line_tree.proofs.DistinctLaws.{distinct-apart, distinct-append, distinct-left, distinct-replace, distinct-right}
+use Rattle.line_tree.proofs.FillLaws.{refilled-other}
+use Rattle.line_tree.proofs.FrameLaws.{all-same, tops-among}
 use Rattle.line_tree.proofs.GrowLaws.{all-append, all-left, all-right, drop-lines, in-cases, in-left, in-right, names-append, of-one, take-lines, to-one}
+use Rattle.line_tree.proofs.TreeLaws.{get-left, get-right}
 
 -- ---- a line out of the middle
 pub remove-middle : {X : Type 0} (xs cs ys : List X) (r k : ℕ) → k ≡ length xs + r → r < length cs → remove (xs ++ (cs ++ ys)) k ≡ xs ++ (remove cs r ++ ys)

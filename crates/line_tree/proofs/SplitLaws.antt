@@ -1,30 +1,30 @@
 -- A node with one more child, with room and without.
 use Rattle.std.proofs.Common.{◌≡◌, ℕ, suc, ◌≤◌, ◌⊎◌, inl, inr, List, [], ◌∷◌, ◌++◌, length, take, drop, refl, sym, ap, ◌∙◌, subst, arith}
 use Rattle.std.specs.Prelude.{◌≢◌, IsSome}
-use Rattle.std.specs.List.{AllByRecursion, insert}
 use Rattle.std.specs.FinMap as finite
+use Rattle.std.specs.List.{AllByRecursion, insert}
 use Rattle.std.specs.declared.option.Option.{Option}
 use Rattle.std.specs.declared.option.Option.TheVariants.{None, Some}
 use Rattle.std.proofs.lemmas.List.{append-nil, take-append-drop, take-map, drop-map}
 use Rattle.std.proofs.lemmas.List.Concat.{flat_map-append}
-use Rattle.raw_nodes.proofs.MapLaws.{get_other, kept_insert}
 use Rattle.raw_nodes.specs.Records.{Records, blank, with_sum}
-use Rattle.raw_nodes.specs.declared.names.NodePtr.{NodePtr}
-use Rattle.line_tree.specs.Trees.{Tree, lines, tops}
-use Rattle.line_tree.specs.Shape.{Holds, Links}
 use Rattle.raw_nodes.specs.Rows.{kids, row}
-use Rattle.line_tree.specs.Finds.{HasRow}
-use Rattle.line_tree.specs.Changes.{Among, CanFill, CanPut, Distinct, Puts, refilled, resummed, sums}
-use Rattle.line_tree.specs.Growth.{Grows, lines_of, names_of, parted, trees, with_line}
-use Rattle.line_tree.proofs.AmongLaws.{among-cases, among-left, among-right}
-use Rattle.line_tree.proofs.DistinctLaws.{distinct-apart, distinct-append, distinct-left, distinct-right}
-use Rattle.line_tree.proofs.FrameLaws.{all-same, holds-same, links-same, names-all-held, tops-among}
-use Rattle.line_tree.proofs.FillLaws.{at-update, refilled-other, sums-row}
-use Rattle.line_tree.proofs.BuildLaws.{built, sum-trees, tree-is}
-use Rattle.line_tree.proofs.PutLaws.{fill-left, fill-right, fill-room}
+use Rattle.raw_nodes.specs.declared.names.NodePtr.{NodePtr}
+use Rattle.raw_nodes.proofs.MapLaws.{get_other, kept_insert}
 use Rattle.raw_nodes.proofs.UpdateLaws.{get-update-other, insert-named, named-update, update-named}
-use Rattle.line_tree.proofs.UpdateLaws.{named-refilled, refilled-named}
+use Rattle.line_tree.specs.Changes.{Among, CanFill, CanPut, Distinct, Puts, refilled, resummed, sums}
+use Rattle.line_tree.specs.Finds.{HasRow}
+use Rattle.line_tree.specs.Growth.{Grows, lines_of, names_of, parted, trees, with_line}
+use Rattle.line_tree.specs.Shape.{Holds, Links}
+use Rattle.line_tree.specs.Trees.{Tree, lines, tops}
+use Rattle.line_tree.proofs.AmongLaws.{among-cases, among-left, among-right}
+use Rattle.line_tree.proofs.BuildLaws.{built, sum-trees, tree-is}
+use Rattle.line_tree.proofs.DistinctLaws.{distinct-apart, distinct-append, distinct-left, distinct-right}
+use Rattle.line_tree.proofs.FillLaws.{at-update, refilled-other, sums-row}
+use Rattle.line_tree.proofs.FrameLaws.{all-same, holds-same, links-same, names-all-held, tops-among}
 use Rattle.line_tree.proofs.GrowLaws.{all-left, all-right, grows-up, in-cases, in-left, in-right, names-append, of-one, to-one, unnamed}
+use Rattle.line_tree.proofs.PutLaws.{fill-left, fill-right, fill-room}
+use Rattle.line_tree.proofs.UpdateLaws.{named-refilled, refilled-named}
 
 -- ---- with room
 pub grows-room : (m l n : Records) (h : ℕ) (p : NodePtr) (ts : List (Tree h)) (k : ℕ) (x : Tree 0) (us : List (Tree h)) → Grows m l h ts k x us → IsSome (finite.get m p) → (Among p (names_of h ts) → ⊥) → p ≢ x.0

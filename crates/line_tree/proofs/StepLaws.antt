@@ -1,32 +1,32 @@
 -- One level of an insertion.
 use Rattle.std.proofs.Common.{◌≡◌, ℕ, zero, suc, ◌+◌, ◌≤◌, inl, inr, List, [], ◌∷◌, ◌++◌, length, take, drop, map, refl, sym, ap, ◌∙◌, subst, arith, length-take, length-drop}
 use Rattle.std.specs.Prelude.{◌≢◌, IsSome, slice_get}
-use Rattle.std.specs.List.{AllByRecursion, insert}
 use Rattle.std.specs.FinMap as finite
+use Rattle.std.specs.List.{AllByRecursion, insert}
 use Rattle.std.specs.declared.option.Option.{Option}
 use Rattle.std.specs.declared.option.Option.TheVariants.{None, Some}
-use mathlib.Core.Bool.{false≢true}
 use Rattle.std.proofs.lemmas.List.{take-append-drop}
 use Rattle.std.proofs.lemmas.Option.{none-some, same_Some}
-use Rattle.raw_nodes.proofs.MapLaws.{get_other, some_of}
-use Rattle.raw_nodes.specs.Records.{Record, Records, blank, with_sum}
-use Rattle.raw_nodes.specs.declared.names.NodePtr.{NodePtr}
-use Rattle.toggle_sums.specs.Counts.{Count, plus}
-use Rattle.line_tree.specs.Trees.{IsBalanced, Named, Tree, lines, tops, total}
-use Rattle.line_tree.specs.Shape.{Links}
-use Rattle.raw_nodes.specs.Rows.{kids, row}
-use Rattle.line_tree.specs.Finds.{HasRow}
-use Rattle.line_tree.specs.Changes.{Among, CanFill, CanPut, FitsSum, Puts, refilled, relinked, sum_all, sums}
-use Rattle.line_tree.specs.Growth.{Grows, IsWide, KeepsLink, KeepsWide, lines_of, names_of, parted, with_line}
+use mathlib.Core.Bool.{false≢true}
 use Rattle.toggle_sums.specs.CountLaws.{plus-associative, plus-commutative}
+use Rattle.toggle_sums.specs.Counts.{Count, plus}
+use Rattle.raw_nodes.specs.Records.{Record, Records, blank, with_sum}
+use Rattle.raw_nodes.specs.Rows.{kids, row}
+use Rattle.raw_nodes.specs.declared.names.NodePtr.{NodePtr}
+use Rattle.raw_nodes.proofs.MapLaws.{get_other, some_of}
+use Rattle.line_tree.specs.Changes.{Among, CanFill, CanPut, FitsSum, Puts, refilled, relinked, sum_all, sums}
+use Rattle.line_tree.specs.Finds.{HasRow}
+use Rattle.line_tree.specs.Growth.{Grows, IsWide, KeepsLink, KeepsWide, lines_of, names_of, parted, with_line}
+use Rattle.line_tree.specs.Shape.{Links}
+use Rattle.line_tree.specs.Trees.{IsBalanced, Named, Tree, lines, tops, total}
+use Rattle.line_tree.proofs.AmongLaws.{among-right}
+use Rattle.line_tree.proofs.BuildLaws.{sum-trees}
+use Rattle.line_tree.proofs.FillLaws.{at-update, refilled-other, relinked-row}
+use Rattle.line_tree.proofs.FrameLaws.{tops-among}
+use Rattle.line_tree.proofs.GrowLaws.{all-left, all-right, unnamed}
+use Rattle.line_tree.proofs.PutLaws.{fill-left, fill-room}
 use Rattle.line_tree.proofs.SumLaws.{total-append}
 use Rattle.line_tree.proofs.TreeLaws.{named-row}
-use Rattle.line_tree.proofs.AmongLaws.{among-right}
-use Rattle.line_tree.proofs.FrameLaws.{tops-among}
-use Rattle.line_tree.proofs.FillLaws.{at-update, refilled-other, relinked-row}
-use Rattle.line_tree.proofs.BuildLaws.{sum-trees}
-use Rattle.line_tree.proofs.PutLaws.{fill-left, fill-room}
-use Rattle.line_tree.proofs.GrowLaws.{all-left, all-right, unnamed}
 
 -- ---- a list at one of its places
 pub at-place : {X Y : Type 0} (f : X → Y) (xs : List X) (i : ℕ) (x : X) → slice_get xs i ≡ Some x → map f xs ≡ map f (take i xs) ++ (f x ∷ map f (drop (suc i) xs))

@@ -3,11 +3,11 @@
 --     fits-left, fits-right   each of two parts fits where the sum does
 --     fits-both               two parts can be added where the sum fits
 use Rattle.std.proofs.Common.{◌≡◌, List, [], ◌∷◌, ◌++◌, sym, ap, ◌∙◌, arith}
-use Rattle.segments.specs.Columns.{line_count}
-use Rattle.toggle_sums.specs.Counts.{Count, CountsFit, plus}
 use Rattle.toggle_sums.specs.CountLaws.{no_text-plus, plus-associative}
-use Rattle.line_tree.specs.Trees.{Named, total}
+use Rattle.toggle_sums.specs.Counts.{Count, CountsFit, plus}
+use Rattle.segments.specs.Columns.{line_count}
 use Rattle.line_tree.specs.Changes.{FitsSum}
+use Rattle.line_tree.specs.Trees.{Named, total}
 
 pub total-append : (xs ys : List Named) → total (xs ++ ys) ≡ plus (total xs) (total ys)
 total-append [] ys = sym (no_text-plus (total ys))

@@ -1,8 +1,8 @@
 -- What new children of a node leave of the names, and of what is no line.
 use Rattle.std.proofs.Common.{◌≡◌, ℕ, suc, inl, inr, List, [], ◌∷◌, refl, sym, ap, ◌∙◌, subst}
 use Rattle.std.specs.Prelude.{IfSome, IsSome}
-use Rattle.std.specs.Option.{option_map}
 use Rattle.std.specs.FinMap as finite
+use Rattle.std.specs.Option.{option_map}
 use Rattle.std.specs.declared.option.Option.{Option}
 use Rattle.std.specs.declared.option.Option.TheVariants.{None, Some}
 use Rattle.segments.specs.Columns.{LineContent}
@@ -12,8 +12,8 @@ use Rattle.raw_nodes.specs.declared.names.NodePtr.{NodePtr}
 use Rattle.raw_nodes.proofs.MapLaws.{at_some, some_of}
 use Rattle.raw_nodes.proofs.PlaceLaws.{same_or_other}
 use Rattle.raw_nodes.proofs.UpdateLaws.{get-update, get-update-other, named-update, update-named}
-use Rattle.line_tree.specs.Finds.{HasRow}
 use Rattle.line_tree.specs.Changes.{CanFill, link_one, refilled, relinked, sums}
+use Rattle.line_tree.specs.Finds.{HasRow}
 
 -- ---- each name stays
 pub named-link_one : (m : Records) (p : NodePtr) (i : ℕ) (o : Option NodePtr) (q : NodePtr) → IsSome (finite.get m q) → IsSome (finite.get (link_one m p i o) q)

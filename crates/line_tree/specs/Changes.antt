@@ -1,16 +1,16 @@
 -- Changes of records.
 use Rattle.std.specs.Prelude.{◌≡◌, ◌≢◌, ◌++◌, Bool, ℕ, suc, ◌+◌, ◌^◌, ◌<◌, ◌≤◌, ◌⊎◌, List, [], ◌∷◌, slice_get, length, take, drop, IsSome, is_some, IfSome, MatchOption, ⊤}
 use Rattle.std.specs.Bool.{MatchBool}
-use Rattle.std.specs.List.{insert}
 use Rattle.std.specs.FinMap as finite
+use Rattle.std.specs.List.{insert}
 use Rattle.std.specs.declared.option.Option.{Option}
 use Rattle.std.specs.declared.option.Option.TheVariants.{None, Some}
-use Rattle.raw_nodes.specs.Records.{Record, Records, blank, update, with_child, with_parent, with_sum}
-use Rattle.raw_nodes.specs.declared.names.NodePtr.{NodePtr}
 use Rattle.toggle_sums.specs.Counts.{Count, no_text, plus}
+use Rattle.raw_nodes.specs.Records.{Record, Records, blank, update, with_child, with_parent, with_sum}
 use Rattle.raw_nodes.specs.Rows.{kids, row}
-use Rattle.line_tree.specs.Shape.{sum_at}
+use Rattle.raw_nodes.specs.declared.names.NodePtr.{NodePtr}
 use Rattle.line_tree.specs.Finds.{HasRow}
+use Rattle.line_tree.specs.Shape.{sum_at}
 
 -- the child in slot i of p becomes o, and knows it
 abbrev pub link_one : Records → NodePtr → ℕ → Option NodePtr → Records
@@ -79,7 +79,7 @@ pub record CanPut (m : Records) (p : NodePtr) (at : ℕ) (x : NodePtr) : Type 0 
   pub apart : Among p (insert (kids m p) at x) → ⊥
   pub fits : FitsSum (sum_all m (insert (kids m p) at x))
 
--- all are the children of p now;  s is new, and has all but the first six
+-- all are the children of p now; s is new, and has all but the first six
 pub record Fills (m n : Records) (p : NodePtr) (all : List NodePtr) : Type 0 where
   pub few : length all ≤ 12
   pub same : n ≡ refilled m p (row all)
@@ -114,12 +114,13 @@ pub record Shares (m n : Records) (a b : NodePtr) : Type 0 where
   pub high : half ≤ 12
   pub rest_low : half + 6 ≤ length (kids m a ++ kids m b)
   pub rest_high : length (kids m a ++ kids m b) ≤ half + 12
-  pub same : n ≡ refilled (refilled m a (row (take half (kids m a ++ kids m b)))) b (row (drop half (kids m a ++ kids m b)))
+  pub same :
+      n ≡ refilled (refilled m a (row (take half (kids m a ++ kids m b)))) b (row (drop half (kids m a ++ kids m b)))
 
 abbrev pub Evens : Records → Records → NodePtr → NodePtr → Bool → Type 0
 Evens m n a b merged = MatchBool merged (Merges m n a b) (Shares m n a b)
 
--- two neighbours below p, one of them in this slot, share their children;  o is the slot of the one that has none now
+-- two neighbours below p, one of them in this slot, share their children; o is the slot of the one that has none now
 pub record Mends (m n : Records) (p : NodePtr) (slot : ℕ) (o : Option ℕ) : Type 0 where
   pub at : ℕ
   pub left : NodePtr

@@ -1,13 +1,13 @@
 -- A child found by counting lines.
 use Rattle.std.specs.Prelude.{◌≡◌, ℕ, ◌+◌, ◌<◌, ◌≤◌, length, take, slice_get, IsSome}
-use Rattle.std.specs.List.{sum_by}
 use Rattle.std.specs.FinMap as finite
+use Rattle.std.specs.List.{sum_by}
 use Rattle.std.specs.declared.option.Option.TheVariants.{None, Some}
 use Rattle.raw_nodes.specs.Records.{Record, Records}
-use Rattle.raw_nodes.specs.declared.names.NodePtr.{NodePtr}
-use Rattle.line_tree.specs.declared.find.Found.{Found}
 use Rattle.raw_nodes.specs.Rows.{kids, row}
+use Rattle.raw_nodes.specs.declared.names.NodePtr.{NodePtr}
 use Rattle.line_tree.specs.Shape.{lines_at}
+use Rattle.line_tree.specs.declared.find.Found.{Found}
 
 -- an inner record with a row of children, each of which has a record
 pub record HasRow (m : Records) (p : NodePtr) : Type 0 where

@@ -1,19 +1,19 @@
 -- What one more line leaves of trees.
 use Rattle.std.specs.Prelude.{◌≡◌, ◌≢◌, ℕ, zero, suc, ◌≤◌, ◌⊎◌, ⊤, List, [], ◌∷◌, ◌++◌, length, map, take, drop, IsSome, option_to_list}
-use Rattle.std.specs.List.{AllByRecursion, flat_map}
 use Rattle.std.specs.FinMap as finite
+use Rattle.std.specs.List.{AllByRecursion, flat_map}
 use Rattle.std.specs.declared.option.Option.{Option}
 use Rattle.std.specs.declared.option.Option.TheVariants.{None, Some}
-use Rattle.raw_nodes.specs.Records.{Record, Records, blank}
-use Rattle.segments.specs.Columns.{LineContent}
-use Rattle.raw_nodes.specs.declared.names.NodePtr.{NodePtr}
-use Rattle.line_tree.specs.Trees.{IsBalanced, IsBalancedRoot, Named, Tree, lines, names, total}
 use Rattle.toggle_sums.specs.Counts.{plus}
-use Rattle.line_tree.specs.Shape.{Holds, IsTree, lines_in, sum_at, tree_at}
+use Rattle.segments.specs.Columns.{LineContent}
+use Rattle.raw_nodes.specs.Records.{Record, Records, blank}
 use Rattle.raw_nodes.specs.Rows.{row}
+use Rattle.raw_nodes.specs.declared.names.NodePtr.{NodePtr}
 use Rattle.line_tree.specs.Changes.{Among, Distinct, FitsSum, refilled}
+use Rattle.line_tree.specs.Shape.{Holds, IsTree, lines_in, sum_at, tree_at}
+use Rattle.line_tree.specs.Trees.{IsBalanced, IsBalancedRoot, Named, Tree, lines, names, total}
 
--- every name of several trees;  every line
+-- every name of several trees; every line
 abbrev pub names_of : (h : ℕ) → List (Tree h) → List NodePtr
 names_of h ts = flat_map (names h) ts
 
@@ -30,7 +30,8 @@ pub record Grows (m n : Records) (h : ℕ) (ts : List (Tree h)) (k : ℕ) (x : T
   pub line : lines_of h us ≡ with_line (lines_of h ts) k x
   pub distinct : Distinct (names_of h us)
   pub within : (q : NodePtr) → Among q (names_of h us) → Among q (names_of h ts) ⊎ ((q ≡ x.0) ⊎ (finite.get m q ≡ None))
-  pub other : (q : NodePtr) → IsSome (finite.get m q) → (Among q (names_of h ts) → ⊥) → q ≢ x.0 → finite.get n q ≡ finite.get m q
+  pub other : (q : NodePtr) → IsSome (finite.get m q) → (Among q (names_of h ts) → ⊥) → q ≢ x.0
+      → finite.get n q ≡ finite.get m q
   pub kept : (q : NodePtr) → IsSome (finite.get m q) → IsSome (finite.get n q)
   pub inside : (q : NodePtr) → Among q (names_of h ts) → Among q (names_of h us)
   pub added : Among x.0 (names_of h us)

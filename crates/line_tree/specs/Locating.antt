@@ -3,11 +3,11 @@ use Rattle.std.specs.Prelude.{◌≡◌, ℕ, ◌+◌, ◌<◌, List, ◌++◌, 
 use Rattle.std.specs.List.{sum_by}
 use Rattle.std.specs.declared.option.Option.TheVariants.{Some}
 use Rattle.raw_nodes.specs.Records.{Records}
-use Rattle.raw_nodes.specs.declared.names.NodePtr.{NodePtr}
-use Rattle.line_tree.specs.declared.locate.Spot.{Spot}
-use Rattle.line_tree.specs.Trees.{Named, total}
 use Rattle.raw_nodes.specs.Rows.{kids}
+use Rattle.raw_nodes.specs.declared.names.NodePtr.{NodePtr}
 use Rattle.line_tree.specs.Shape.{lines_at, sum_at}
+use Rattle.line_tree.specs.Trees.{Named, total}
+use Rattle.line_tree.specs.declared.locate.Spot.{Spot}
 
 abbrev pub characters_at : Records → NodePtr → ℕ
 characters_at m p = (sum_at m p).characters

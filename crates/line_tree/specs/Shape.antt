@@ -1,14 +1,14 @@
 -- How a tree stands in the records of a store.
 use Rattle.std.specs.Prelude.{◌≡◌, ℕ, zero, suc, ◌≤◌, ⊤, List, [], ◌∷◌, map, length, IsSome}
-use Rattle.std.specs.List.{AllByRecursion}
 use Rattle.std.specs.FinMap as finite
+use Rattle.std.specs.List.{AllByRecursion}
 use Rattle.std.specs.declared.option.Option.{Option}
 use Rattle.std.specs.declared.option.Option.TheVariants.{None, Some}
+use Rattle.toggle_sums.specs.Counts.{Count, no_text}
+use Rattle.segments.specs.Columns.{LineContent}
 use Rattle.raw_nodes.specs.Records.{Record, Records}
 use Rattle.raw_nodes.specs.Rows.{kids, row}
-use Rattle.segments.specs.Columns.{LineContent}
 use Rattle.raw_nodes.specs.declared.names.NodePtr.{NodePtr}
-use Rattle.toggle_sums.specs.Counts.{Count, no_text}
 use Rattle.line_tree.specs.Trees.{Named, Tree, lines, tops, total}
 
 -- ---- reading a record
@@ -53,10 +53,13 @@ abbrev pub Links : Records → NodePtr → ℕ → List NodePtr → Type 0
 Links m p i [] = ⊤
 Links m p i (q ∷ qs) = IsLinked m p i q × Links m p (suc i) qs
 
--- the records are those of the tree;  of its top they say all but the parent and the slot
+-- the records are those of the tree; of its top they say all but the parent and the slot
 abbrev pub Holds : Records → (h : ℕ) → Tree h → Type 0
 Holds m zero t = IsLineNode m t.0 t.1 (total (lines zero t))
-Holds m (suc h) t = IsNode m t.0 (tops h t.1) (total (lines (suc h) t)) × Links m t.0 0 (tops h t.1) × AllByRecursion (Holds m h) t.1
+Holds m (suc h) t =
+    IsNode m t.0 (tops h t.1) (total (lines (suc h) t))
+    × Links m t.0 0 (tops h t.1)
+    × AllByRecursion (Holds m h) t.1
 
 -- ---- the tree in the records
 abbrev pub tree_at : Records → (h : ℕ) → NodePtr → Tree h

@@ -1,20 +1,21 @@
 -- What one line less leaves of trees.
 use Rattle.std.specs.Prelude.{◌≡◌, ◌≢◌, ◌⊎◌, ℕ, suc, ◌<◌, ◌≤◌, List, [], ◌∷◌, length, slice_get, IsSome}
+use Rattle.std.specs.FinMap as finite
+use Rattle.std.specs.List.{AllByRecursion, remove}
 use Rattle.std.specs.declared.option.Option.{Option}
 use Rattle.std.specs.declared.option.Option.TheVariants.{None, Some}
-use Rattle.std.specs.List.{AllByRecursion, remove}
-use Rattle.std.specs.FinMap as finite
 use Rattle.raw_nodes.specs.Records.{Records}
-use Rattle.raw_nodes.specs.declared.names.NodePtr.{NodePtr}
-use Rattle.line_tree.specs.Trees.{Tree, names, total}
-use Rattle.line_tree.specs.Shape.{Holds, IsTree, lines_in, tree_at}
 use Rattle.raw_nodes.specs.Rows.{kids}
-use Rattle.line_tree.specs.Places.{IsLineAt}
+use Rattle.raw_nodes.specs.declared.names.NodePtr.{NodePtr}
 use Rattle.line_tree.specs.Changes.{Among, CanEven, Distinct, FitsSum, Mends}
 use Rattle.line_tree.specs.Growth.{HasNoParent, IsWide, KeepsLink, Stands, lines_of, names_of}
+use Rattle.line_tree.specs.Places.{IsLineAt}
+use Rattle.line_tree.specs.Shape.{Holds, IsTree, lines_in, tree_at}
+use Rattle.line_tree.specs.Trees.{Tree, names, total}
 
 -- in place of the trees ts of m there are the trees us in n, without line k, whose name is x
-pub record Shrinks (m n : Records) (h : ℕ) (ts : List (Tree h)) (k : ℕ) (x : NodePtr) (us : List (Tree h)) : Type 0 where
+pub record Shrinks
+    (m n : Records) (h : ℕ) (ts : List (Tree h)) (k : ℕ) (x : NodePtr) (us : List (Tree h)) : Type 0 where
   pub holds : AllByRecursion (Holds n h) us
   pub line : lines_of h us ≡ remove (lines_of h ts) k
   pub gone : IsLineAt (lines_of h ts) k x
@@ -53,7 +54,8 @@ pub record Settles (m n : Records) (p : NodePtr) (slot : ℕ) (c : NodePtr) (o :
 
 -- the pairs of neighbours below p that can share
 abbrev pub CanMend : Records → NodePtr → Type 0
-CanMend m p = (i : ℕ) (a b : NodePtr) → slice_get (kids m p) i ≡ Some a → slice_get (kids m p) (suc i) ≡ Some b → CanEven m a b
+CanMend m p =
+    (i : ℕ) (a b : NodePtr) → slice_get (kids m p) i ≡ Some a → slice_get (kids m p) (suc i) ≡ Some b → CanEven m a b
 
 -- a tree that can lose its root, if that has one child
 pub record CanLower (m : Records) (h : ℕ) (r : NodePtr) : Type 0 where
@@ -69,8 +71,11 @@ pub record Lowers (m n : Records) (h : ℕ) (r : NodePtr) (i : ℕ) (s : NodePtr
   pub lines : lines_in n i s ≡ lines_in m h r
   pub within : (q : NodePtr) → Among q (names i (tree_at n i s)) → Among q (names h (tree_at m h r))
   pub other : (q : NodePtr) → (Among q (names h (tree_at m h r)) → ⊥) → finite.get n q ≡ finite.get m q
-  pub clean : (q : NodePtr) → IsSome (finite.get n q) → (Among q (names i (tree_at n i s)) → ⊥) → IsSome (finite.get m q) × (Among q (names h (tree_at m h r)) → ⊥)
+  pub clean : (q : NodePtr) → IsSome (finite.get n q) → (Among q (names i (tree_at n i s)) → ⊥)
+      → IsSome (finite.get m q) × (Among q (names h (tree_at m h r)) → ⊥)
 
 -- what was below p and is so no more has no record, but for x
 abbrev pub Cleans : Records → Records → ℕ → NodePtr → NodePtr → Type 0
-Cleans m n h p x = (q : NodePtr) → Among q (names h (tree_at m h p)) → (Among q (names h (tree_at n h p)) → ⊥) → q ≢ x → finite.get n q ≡ None
+Cleans m n h p x =
+    (q : NodePtr) → Among q (names h (tree_at m h p)) → (Among q (names h (tree_at n h p)) → ⊥) → q ≢ x
+    → finite.get n q ≡ None

@@ -2,8 +2,8 @@
 -- are, and how many records and spares together.
 use Rattle.std.specs.Prelude.{ℕ, List, refl}
 use Rattle.std.specs.Coded.{Coded, code_by, coded×, coded_ℕ, coded_list}
-use Rattle.raw_nodes.specs.contracts.names.NodePtr as name_row
 use Rattle.segments.specs.contracts.line.Line as line_row
+use Rattle.raw_nodes.specs.contracts.names.NodePtr as name_row
 use Rattle.line_tree.specs.Trees.{Named}
 
 pub record TreeState : Type 0 where

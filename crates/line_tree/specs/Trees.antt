@@ -2,9 +2,9 @@
 use Rattle.std.specs.Prelude.{ℕ, zero, suc, ◌≤◌, ⊤, List, [], ◌∷◌, map, length, option_to_list}
 use Rattle.std.specs.List.{flat_map, AllByRecursion}
 use Rattle.std.specs.declared.option.Option.{Option}
+use Rattle.toggle_sums.specs.Counts.{Count, no_text, plus}
 use Rattle.segments.specs.Columns.{LineContent, line_count}
 use Rattle.raw_nodes.specs.declared.names.NodePtr.{NodePtr}
-use Rattle.toggle_sums.specs.Counts.{Count, no_text, plus}
 
 -- a line with its name
 abbrev pub Named : Type 0

@@ -1,9 +1,10 @@
-ghost use Rattle.std.specs.Prelude.{◌≡◌, ◌+◌, ◌≤◌, ◌<◌, ◌++◌, length, slice_get, take, drop, ℕ, suc, Some};
+ghost use Rattle.std.specs.Prelude.{◌≡◌, ◌+◌, ◌≤◌, ◌<◌, ◌++◌, length, slice_get, take, drop};
 ghost use Rattle.std.specs.List.{remove};
 ghost use Rattle.raw_nodes.specs.Names.{records, rooms, spares};
 ghost use Rattle.raw_nodes.specs.Rows.{kids, row};
 ghost use Rattle.line_tree.specs.Finds.{HasRow};
 ghost use Rattle.line_tree.specs.Changes.{CanEven, CanFill, Evens, Mends, refilled};
+ghost use Rattle.line_tree.specs.Shrinking.{CanMend};
 
 use crate::fill::refill;
 use raw_nodes::{NodePtr, NodeStore, Ticks};
@@ -143,7 +144,7 @@ pub fn mend<C: Ticks>(
     requires row { HasRow (records store.old) node }
     requires two { 2 ≤ length (kids (records store.old) node) }
     requires slot { slot < length (kids (records store.old) node) }
-    requires pairs { (i : ℕ) (a b : _) → slice_get (kids (records store.old) node) i ≡ Some a → slice_get (kids (records store.old) node) (suc i) ≡ Some b → CanEven (records store.old) a b }
+    requires pairs { CanMend (records store.old) node }
     ensures mends { Mends (records store.old) (records store.new) node slot result }
     ensures spares { spares store.new ≡ spares store.old }
     ensures rooms { rooms store.new ≡ rooms store.old }

@@ -74,6 +74,7 @@ impl<C: Ticks> LineTree<C> {
         ensures rooms { OnOk result (count ≤ self.new.rooms) }
         ensures lines { self.new.lines ≡ self.old.lines }
         ensures height { self.new.height ≡ self.old.height }
+        ensures more { (self.old.spares ≤ self.new.spares) × (self.old.rooms ≤ self.new.rooms) }
         ensures nodes { self.new.nodes + self.old.spares ≡ self.old.nodes + self.new.spares }
     {
         self.store.reserve(count)

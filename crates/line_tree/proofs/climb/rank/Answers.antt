@@ -2,15 +2,15 @@ use Rattle.std.proofs.Common.{◌≡◌, ℕ, ◌+◌, ◌-◌, suc, subst, arit
 use Rattle.std.proofs.lemmas.Option.{slice_get_within}
 use Rattle.raw_nodes.specs.Names.{records}
 use Rattle.raw_nodes.specs.Records.{Records}
-use Rattle.raw_nodes.specs.declared.names.NodePtr.{NodePtr}
 use Rattle.raw_nodes.specs.Rows.{kids}
-use Rattle.line_tree.specs.Shape.{lines_in}
+use Rattle.raw_nodes.specs.declared.names.NodePtr.{NodePtr}
 use Rattle.line_tree.specs.Places.{IsLineAt, Sits}
-use Rattle.line_tree.proofs.TreeLaws.{row-tree}
+use Rattle.line_tree.specs.Shape.{lines_in}
 use Rattle.line_tree.proofs.PlaceLaws.{Up, level, line-within, named-below, parent-below, sits, up_from}
+use Rattle.line_tree.proofs.TreeLaws.{row-tree}
+use Rattle.line_tree.proofs.climb.rank.Given.{Over}
 use Rattle.line_tree.proofs.climb.rank.Goals as goal
 use Rattle.line_tree.proofs.climb.rank.Goals.{After-before-arg-1}
-use Rattle.line_tree.proofs.climb.rank.Given.{Over}
 
 start : (m : Records) (h : ℕ) (r p : NodePtr) (o : ℕ) → Sits m h 0 r p o → Sits m (h - 0) 0 r p o
 start m h r p o s = let e : h ≡ h - 0 = omega arith in subst (λ x. Sits m x 0 r p o) e s

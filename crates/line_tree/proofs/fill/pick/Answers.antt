@@ -1,8 +1,8 @@
 use Rattle.std.proofs.Common.{◌<◌, ◌-◌, sym, ◌∙◌, arith}
 use Rattle.raw_nodes.specs.Names.{records}
 use Rattle.raw_nodes.specs.Rows.{kids}
-use Rattle.line_tree.proofs.RowLaws.{child_is}
 use Rattle.line_tree.proofs.FillLaws.{insert-above}
+use Rattle.line_tree.proofs.RowLaws.{child_is}
 use Rattle.line_tree.proofs.fill.pick.Goals as goal
 
 pub returns-else-i-at-2 : goal.returns-else-i-at-2

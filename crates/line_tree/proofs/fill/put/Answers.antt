@@ -1,12 +1,12 @@
 use Rattle.std.proofs.Common.{◌≡◌, ◌≤◌, List, length, take, drop, ap, sym, ◌∙◌, subst, arith, length-drop, None}
-use Rattle.std.specs.List.{insert}
 use Rattle.std.specs.FinMap as finite
+use Rattle.std.specs.List.{insert}
 use Rattle.std.proofs.lemmas.List.{take_all}
 use Rattle.std.proofs.lemmas.List.Edits.{length-insert}
-use Rattle.raw_nodes.specs.Records.{blank}
 use Rattle.raw_nodes.specs.Names.{records}
-use Rattle.raw_nodes.specs.declared.names.NodePtr.{NodePtr}
+use Rattle.raw_nodes.specs.Records.{blank}
 use Rattle.raw_nodes.specs.Rows.{kids, row}
+use Rattle.raw_nodes.specs.declared.names.NodePtr.{NodePtr}
 use Rattle.line_tree.specs.Changes.{CanFill, refilled}
 use Rattle.line_tree.proofs.PutLaws.{count-row, fill-left, fill-right, fill-room}
 use Rattle.line_tree.proofs.fill.put.Goals as goal

@@ -2,8 +2,8 @@ use Rattle.std.proofs.Common.{ap, sym, ◌∙◌, subst}
 use Rattle.std.specs.Prelude.{slice_get}
 use Rattle.raw_nodes.specs.Names.{records}
 use Rattle.raw_nodes.specs.Rows.{kids, row}
-use Rattle.line_tree.specs.Finds.{HasRow}
 use Rattle.line_tree.specs.Changes.{FitsSum, refilled, relinked, resummed, sums}
+use Rattle.line_tree.specs.Finds.{HasRow}
 use Rattle.line_tree.proofs.AmongLaws.{get-among}
 use Rattle.line_tree.proofs.FillLaws.{relinked-has_row, relinked-sums, row-some}
 use Rattle.line_tree.proofs.UpdateLaws.{inner-fill}

@@ -1,18 +1,18 @@
 use Rattle.std.proofs.Common.{◌≡◌, ◌+◌, ◌≤◌, ◌<◌, ℕ, drop, length, sym, ap, ◌∙◌, subst, Some, None, arith}
-use Rattle.std.specs.FinMap as finite
 use Rattle.std.specs.Prelude.{slice_get, IfSome}
+use Rattle.std.specs.FinMap as finite
 use Rattle.std.specs.declared.option.Option.{Option}
 use Rattle.std.proofs.lemmas.List.{drop_all}
+use Rattle.toggle_sums.specs.CountLaws.{no_text-plus, plus-associative, plus-no_text}
+use Rattle.toggle_sums.specs.Counts.{Count, plus}
 use Rattle.raw_nodes.specs.Names.{records}
 use Rattle.raw_nodes.specs.Records.{Records}
-use Rattle.raw_nodes.specs.declared.names.NodePtr.{NodePtr}
-use Rattle.toggle_sums.specs.Counts.{Count, plus}
 use Rattle.raw_nodes.specs.Rows.{kids, row}
-use Rattle.line_tree.specs.Finds.{HasRow}
-use Rattle.line_tree.specs.Changes.{FitsSum, sum_or_none, sums}
-use Rattle.line_tree.proofs.RowLaws.{child_is, none_of, sum_is, sums-step}
+use Rattle.raw_nodes.specs.declared.names.NodePtr.{NodePtr}
 use Rattle.raw_nodes.proofs.RowLaws.{length-row}
-use Rattle.toggle_sums.specs.CountLaws.{no_text-plus, plus-associative, plus-no_text}
+use Rattle.line_tree.specs.Changes.{FitsSum, sum_or_none, sums}
+use Rattle.line_tree.specs.Finds.{HasRow}
+use Rattle.line_tree.proofs.RowLaws.{child_is, none_of, sum_is, sums-step}
 use Rattle.line_tree.proofs.SumLaws.{fits-both, fits-left}
 use Rattle.line_tree.proofs.fill.sum_below.Goals as goal
 use Rattle.line_tree.proofs.fill.sum_below.Goals.{in-Some, in_default}

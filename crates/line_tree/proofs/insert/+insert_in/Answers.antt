@@ -1,21 +1,20 @@
-use Rattle.std.proofs.Common.{◌≡◌, ℕ, ◌-◌, ◌<◌, ◌≤◌, suc, length, sym, subst, arith, None}
+use Rattle.std.proofs.Common.{◌≡◌, ℕ, ◌-◌, ◌<◌, ◌≤◌, suc, length, sym, subst, arith, None, ◌+◌, ap, ◌∙◌}
+use Rattle.std.specs.FinMap as finite
+use Rattle.std.specs.List.{insert}
 use Rattle.std.specs.declared.option.Option.{Option}
 use Rattle.std.proofs.lemmas.List.{length-map}
 use Rattle.std.proofs.lemmas.Option.{slice_get_within}
 use Rattle.raw_nodes.specs.Names.{records}
 use Rattle.raw_nodes.specs.Records.{Records}
+use Rattle.raw_nodes.specs.Rows.{kids, row}
 use Rattle.raw_nodes.specs.declared.names.NodePtr.{NodePtr}
-use Rattle.line_tree.specs.declared.find.Found.{Found}
 use Rattle.line_tree.specs.Finds.{Leads, lines_below}
 use Rattle.line_tree.specs.Growth.{CanInsert, Inserts}
-use Rattle.line_tree.proofs.TreeLaws.{below-tree}
-use Rattle.line_tree.proofs.InsertLaws.{can-child, has-node, has-now, low-can_put, low-inserts, one-fits, one-inserts, two-can_put, two-inserts}
-use Rattle.raw_nodes.specs.Rows.{kids, row}
 use Rattle.line_tree.specs.Shape.{tree_at}
-use Rattle.std.specs.List.{insert}
-use Rattle.std.proofs.Common.{◌+◌, ap, ◌∙◌}
-use Rattle.std.specs.FinMap as finite
+use Rattle.line_tree.specs.declared.find.Found.{Found}
+use Rattle.line_tree.proofs.InsertLaws.{can-child, has-node, has-now, low-can_put, low-inserts, one-fits, one-inserts, two-can_put, two-inserts}
 use Rattle.line_tree.proofs.RoomLaws.{len-puts, len-resummed}
+use Rattle.line_tree.proofs.TreeLaws.{below-tree}
 use Rattle.line_tree.proofs.insert.+insert_in.Goals as goal
 
 -- the height as one more than another

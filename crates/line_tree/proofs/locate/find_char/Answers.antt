@@ -2,8 +2,8 @@ use Rattle.std.proofs.Common.{◌+◌, sym, ap, ◌∙◌, arith}
 use Rattle.std.proofs.lemmas.List.Sums.{sum_by-take-le}
 use Rattle.raw_nodes.specs.Names.{records}
 use Rattle.raw_nodes.specs.Rows.{kids}
-use Rattle.line_tree.specs.Shape.{lines_at}
 use Rattle.line_tree.specs.Locating.{characters_at}
+use Rattle.line_tree.specs.Shape.{lines_at}
 use Rattle.line_tree.proofs.RowLaws.{child_is, none_of, step_no, step_yes, sum_is}
 use Rattle.line_tree.proofs.locate.find_char.Goals as goal
 use Rattle.line_tree.proofs.locate.find_char.Goals.{in-Some+else-rest-characters, in_default}

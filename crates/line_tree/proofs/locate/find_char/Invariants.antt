@@ -2,8 +2,8 @@ use Rattle.std.proofs.Common.{◌≡◌, ◌+◌, ◌*◌, ◌≤◌, take}
 use Rattle.std.specs.List.{sum_by}
 use Rattle.raw_nodes.specs.Names.{records}
 use Rattle.raw_nodes.specs.Rows.{kids}
-use Rattle.line_tree.specs.Shape.{lines_at}
 use Rattle.line_tree.specs.Locating.{characters_at}
+use Rattle.line_tree.specs.Shape.{lines_at}
 use Rattle.line_tree.proofs.locate.find_char.Given as goal
 
 abbrev pub invariant-loop-slot : goal.invariant-loop-slot

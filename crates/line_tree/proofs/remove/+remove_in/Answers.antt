@@ -1,18 +1,17 @@
-use Rattle.std.proofs.Common.{◌≡◌, ℕ, ◌-◌, ◌<◌, suc, refl, sym, subst, arith, Some, None}
+use Rattle.std.proofs.Common.{◌≡◌, ℕ, ◌-◌, ◌<◌, suc, refl, sym, subst, arith, Some, None, ap, ◌∙◌}
 use Rattle.std.specs.Prelude.{IsSome}
-use Rattle.std.specs.List.{remove}
 use Rattle.std.specs.FinMap as finite
+use Rattle.std.specs.List.{remove}
 use Rattle.raw_nodes.specs.Names.{records}
 use Rattle.raw_nodes.specs.Records.{Records}
-use Rattle.raw_nodes.specs.declared.names.NodePtr.{NodePtr}
 use Rattle.raw_nodes.specs.Rows.{kids, row}
+use Rattle.raw_nodes.specs.declared.names.NodePtr.{NodePtr}
 use Rattle.line_tree.specs.Shrinking.{CanRemove, Cleans, Removes, Settles}
+use Rattle.line_tree.proofs.RemovePairs.{below-now, can-mend, cleans-gone, cleans-ready, fill-ready, has-ready, inner-ready, removes-gone, removes-ready, slot-ready}
+use Rattle.line_tree.proofs.RemoveSteps.{can-below, child-now, cleans-low, has-now, low-fill, low-removes, low-slot, two-kids}
+use Rattle.line_tree.proofs.RoomLaws.{len-gone, len-refilled, len-settles}
 use Rattle.line_tree.proofs.TreeLaws.{below-tree, row-tree}
 use Rattle.line_tree.proofs.UpdateLaws.{InnerIn, inner-refilled, named-refilled, room-given}
-use Rattle.line_tree.proofs.RemoveSteps.{can-below, child-now, cleans-low, has-now, low-fill, low-removes, low-slot, two-kids}
-use Rattle.line_tree.proofs.RemovePairs.{below-now, can-mend, cleans-gone, cleans-ready, fill-ready, has-ready, inner-ready, removes-gone, removes-ready, slot-ready}
-use Rattle.std.proofs.Common.{ap, ◌∙◌}
-use Rattle.line_tree.proofs.RoomLaws.{len-gone, len-refilled, len-settles}
 use Rattle.line_tree.proofs.remove.+remove_in.Goals as goal
 
 above : (m : Records) (h : ℕ) (p : NodePtr) (k : ℕ) → 0 < h → (h ≡ 1 → ⊥) → CanRemove m h p k → CanRemove m (suc (suc (h - 2))) p k

@@ -5,18 +5,18 @@ use Rattle.std.proofs.lemmas.List.{length-map}
 use Rattle.std.proofs.lemmas.Option.{slice_get-get_or}
 use Rattle.raw_nodes.specs.Names.{records}
 use Rattle.raw_nodes.specs.Records.{Records, update, with_parent}
-use Rattle.raw_nodes.specs.declared.names.NodePtr.{NodePtr}
-use Rattle.line_tree.specs.Trees.{IsBalancedRoot}
 use Rattle.raw_nodes.specs.Rows.{kids}
-use Rattle.line_tree.specs.Shape.{tree_at}
-use Rattle.line_tree.specs.Finds.{HasRow}
-use Rattle.line_tree.specs.Shrinking.{CanLower, Lowers}
-use Rattle.line_tree.proofs.TreeLaws.{named-row, row-tree}
-use Rattle.line_tree.proofs.PutLaws.{count-row}
+use Rattle.raw_nodes.specs.declared.names.NodePtr.{NodePtr}
 use Rattle.raw_nodes.proofs.UpdateLaws.{len-update, named-update}
-use Rattle.line_tree.proofs.UpdateLaws.{InnerIn, inner-row, inner-update, room-given}
+use Rattle.line_tree.specs.Finds.{HasRow}
+use Rattle.line_tree.specs.Shape.{tree_at}
+use Rattle.line_tree.specs.Shrinking.{CanLower, Lowers}
+use Rattle.line_tree.specs.Trees.{IsBalancedRoot}
 use Rattle.line_tree.proofs.LowerLaws.{lowers-child, lowers-same, only-child}
+use Rattle.line_tree.proofs.PutLaws.{count-row}
 use Rattle.line_tree.proofs.RoomLaws.{len-gone}
+use Rattle.line_tree.proofs.TreeLaws.{named-row, row-tree}
+use Rattle.line_tree.proofs.UpdateLaws.{InnerIn, inner-row, inner-update, room-given}
 use Rattle.line_tree.proofs.remove.lower.Goals as goal
 
 above : (m : Records) (h : ℕ) (r : NodePtr) → 0 < h → (h ≡ 1 → ⊥) → CanLower m h r → CanLower m (suc (suc (h - 2))) r

@@ -1,11 +1,11 @@
 use Rattle.std.proofs.Common.{◌≡◌, ◌+◌, ◌-◌, ◌/◌, ◌≤◌, ◌++◌, ℕ, List, length, take, drop, sym, ap, subst, ◌∙◌, arith, length-append, length-drop}
 use Rattle.std.proofs.lemmas.List.{take_all}
 use Rattle.raw_nodes.specs.Names.{records}
-use Rattle.raw_nodes.specs.declared.names.NodePtr.{NodePtr}
 use Rattle.raw_nodes.specs.Rows.{kids, row}
+use Rattle.raw_nodes.specs.declared.names.NodePtr.{NodePtr}
 use Rattle.line_tree.specs.Changes.{CanFill, refilled}
-use Rattle.line_tree.proofs.PutLaws.{count-row}
 use Rattle.line_tree.proofs.EvenLaws.{fill-back, fill-front, fill-whole}
+use Rattle.line_tree.proofs.PutLaws.{count-row}
 use Rattle.line_tree.proofs.shrink.even.Goals as goal
 
 whole : (all : List NodePtr) → length all ≤ 12 → row (take 12 (drop 0 all)) ≡ row all

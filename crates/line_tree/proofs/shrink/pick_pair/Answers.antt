@@ -1,10 +1,10 @@
 use Rattle.std.proofs.Common.{◌-◌, sym, ◌∙◌, arith}
 use Rattle.raw_nodes.specs.Names.{records}
 use Rattle.raw_nodes.specs.Rows.{kids}
+use Rattle.line_tree.proofs.EvenLaws.{pair-past}
+use Rattle.line_tree.proofs.PutLaws.{count-row}
 use Rattle.line_tree.proofs.RowLaws.{child_is}
 use Rattle.line_tree.proofs.TreeLaws.{get-left, get-right}
-use Rattle.line_tree.proofs.PutLaws.{count-row}
-use Rattle.line_tree.proofs.EvenLaws.{pair-past}
 use Rattle.line_tree.proofs.shrink.pick_pair.Goals as goal
 
 pub returns-then-i-count : goal.returns-then-i-count

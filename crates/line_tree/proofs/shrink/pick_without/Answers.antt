@@ -1,8 +1,8 @@
 use Rattle.std.proofs.Common.{◌+◌, sym, ◌∙◌, arith}
 use Rattle.raw_nodes.specs.Names.{records}
 use Rattle.raw_nodes.specs.Rows.{kids}
-use Rattle.line_tree.proofs.RowLaws.{child_is}
 use Rattle.line_tree.proofs.EvenLaws.{remove-above, remove-past}
+use Rattle.line_tree.proofs.RowLaws.{child_is}
 use Rattle.line_tree.proofs.shrink.pick_without.Goals as goal
 
 pub returns-then-i-lt11 : goal.returns-then-i-lt11

@@ -1,17 +1,16 @@
-use Rattle.std.proofs.Common.{◌≡◌, ◌≤◌, ◌+◌, suc, length, ap, sym, ◌∙◌, subst, arith, Some}
+use Rattle.std.proofs.Common.{◌≡◌, ◌≤◌, ◌+◌, suc, length, ap, sym, ◌∙◌, subst, arith, Some, [], ◌∷◌}
 use Rattle.std.specs.List.{insert}
-use Rattle.raw_nodes.specs.Names.{records}
 use Rattle.toggle_sums.specs.Counts.{plus}
-use Rattle.line_tree.specs.Trees.{total}
 use Rattle.segments.specs.Columns.{line_count}
-use Rattle.line_tree.specs.Shape.{lines_in}
+use Rattle.raw_nodes.specs.Names.{records}
 use Rattle.line_tree.specs.Changes.{FitsSum}
 use Rattle.line_tree.specs.Growth.{Inserts, StandsAlone}
-use Rattle.std.proofs.Common.{[], ◌∷◌}
+use Rattle.line_tree.specs.Shape.{lines_in}
+use Rattle.line_tree.specs.Trees.{total}
 use Rattle.line_tree.proofs.RoomLaws.{len-line, len-root}
+use Rattle.line_tree.proofs.RootLaws.{can-insert, can-root, fits-now, new-root, new-root-alone, same-root, same-root-alone}
 use Rattle.line_tree.proofs.RowLaws.{none_of}
 use Rattle.line_tree.proofs.TreeLaws.{named-tree}
-use Rattle.line_tree.proofs.RootLaws.{can-insert, can-root, fits-now, new-root, new-root-alone, same-root, same-root-alone}
 use Rattle.line_tree.proofs.tree.LineTree.insert.Goals as goal
 
 pub insert_in-requires-clause-insert : goal.insert_in-requires-clause-insert

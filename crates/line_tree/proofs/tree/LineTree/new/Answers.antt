@@ -1,13 +1,13 @@
 use Rattle.std.proofs.Common.{◌≡◌, ap, sym, ◌∙◌, [], ◌∷◌, subst}
 use Rattle.std.specs.FinMap as finite
 use Rattle.std.specs.FinMap.{get-empty}
+use Rattle.segments.specs.Columns.{line_count, plain_line}
 use Rattle.raw_nodes.specs.Cells.{name_cmp}
 use Rattle.raw_nodes.specs.Names.{records}
-use Rattle.segments.specs.Columns.{line_count, plain_line}
 use Rattle.line_tree.specs.Changes.{FitsSum}
 use Rattle.line_tree.proofs.GrowLaws.{unnamed}
-use Rattle.line_tree.proofs.TreeLaws.{named-tree}
 use Rattle.line_tree.proofs.RootLaws.{first-root, first-root-alone, lone-fits, lone-line, new-line, new-sum}
+use Rattle.line_tree.proofs.TreeLaws.{named-tree}
 use Rattle.line_tree.proofs.tree.LineTree.new.Goals as goal
 
 pub top-root-requires-clause-child : goal.top-root-requires-clause-child
