@@ -19,7 +19,7 @@ use Rattle.raw_nodes.proofs.PlaceLaws.{same_or_other}
 use Rattle.line_tree.specs.Changes.{Among, CanPut, Distinct, FitsSum, Puts, resummed, sums}
 use Rattle.line_tree.specs.Finds.{HasRow, Leads}
 use Rattle.line_tree.specs.Growth.{CanInsert, Grows, Inserts, KeepsLink, KeepsWide, lines_of, names_of, trees}
-use Rattle.line_tree.specs.Shape.{Holds, IsTree, Links, lines_in, sum_at, tree_at}
+use Rattle.line_tree.specs.Shape.{Holds, IsTree, Links, lines_in, sum_at, tree_at, sum_of}
 use Rattle.line_tree.specs.Trees.{IsBalanced, Tree, inner, lines, names, tops, total}
 use Rattle.line_tree.specs.declared.find.Found.{Found}
 use Rattle.line_tree.proofs.AmongLaws.{among-get, among-left, among-right}
@@ -227,6 +227,12 @@ module _ (m : Records) (h : ℕ) (p : NodePtr) (k : ℕ) (x : NodePtr) (can : Ca
     pub one-fits : FitsSum (sums l (row (kids l p)))
     one-fits = let us = now l None ins in let g = now-grows l None ins in
         subst FitsSum (sym (ap (λ cs. sums l (row cs)) one-tops ∙ sums-row l (tops h us) ∙ sum-trees l h us g.holds ∙ ap total g.line ∙ total-with_line (lines_of h (ts m h p k x can)) k (tree_at m 0 x))) (line-fits m h p k x can)
+
+    pub one-sum : plus (sum_at l p) (sum_at m x) ≡ sums l (row (kids l p))
+    one-sum = let us = now l None ins in let g = now-grows l None ins in
+        let node = ap sum_of (node-same l None ins) ∙ sum-held m (suc h) (tree_at m (suc h) p) can.tree in let line = sum-held m 0 (tree_at m 0 x) can.line in
+        (λ i. plus (node i) (line i))
+        ∙ sym (ap (λ cs. sums l (row cs)) one-tops ∙ sums-row l (tops h us) ∙ sum-trees l h us g.holds ∙ ap total g.line ∙ total-with_line (lines_of h (ts m h p k x can)) k (tree_at m 0 x))
 
     one-keeps : (q : NodePtr) → Among q (kids m p) → KeepsLink m l q
     one-keeps q a =

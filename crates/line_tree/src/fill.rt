@@ -2,6 +2,7 @@ ghost use Rattle.std.specs.Prelude.{◌≡◌, ℕ, ◌+◌, ◌*◌, ◌^◌, �
 ghost use Rattle.std.specs.List.{insert};
 ghost use Rattle.raw_nodes.specs.Names.{IsInner, IsName, records, rooms, spares};
 ghost use Rattle.raw_nodes.specs.Rows.{kids, row};
+ghost use Rattle.toggle_sums.specs.Counts.{plus};
 ghost use Rattle.line_tree.specs.Finds.{HasRow};
 ghost use Rattle.line_tree.specs.Shape.{sum_at};
 ghost use Rattle.line_tree.specs.Growth.{NewRoot};
@@ -65,6 +66,19 @@ pub fn resum<C: Ticks>(store: &mut NodeStore<C>, node: NodePtr, ticks: &mut C)
 {
     let sum = sum_below(store, node, ticks);
     store.set_sum(node, sum);
+}
+
+/// Makes a node's sum that of its children, below which stands so much more than before.
+pub fn add<C: Ticks>(store: &mut NodeStore<C>, node: NodePtr, more: &Sums<WORDS>, ticks: &mut C)
+    requires row { HasRow (records store.old) node }
+    requires sum { plus (sum_at (records store.old) node) more.now ≡ sums (records store.old) (row (kids (records store.old) node)) }
+    requires fits { FitsSum (sums (records store.old) (row (kids (records store.old) node))) }
+    ensures records { records store.new ≡ resummed (records store.old) node (row (kids (records store.old) node)) }
+    ensures spares { spares store.new ≡ spares store.old }
+    ensures rooms { rooms store.new ≡ rooms store.old }
+{
+    let sum = store.sum(node, ticks);
+    store.set_sum(node, sum.plus(more));
 }
 
 /// Makes these the children of a node, and its sum theirs.

@@ -5,7 +5,7 @@ ghost use Rattle.raw_nodes.specs.Rows.{kids};
 ghost use Rattle.line_tree.specs.Finds.{HasRow, Leads, lines_below};
 ghost use Rattle.line_tree.specs.Growth.{CanInsert, Inserts, NewLine};
 
-use crate::fill::{put, resum};
+use crate::fill::{add, put};
 use crate::find::{Found, find};
 use raw_nodes::{NodePtr, NodeStore, Ticks};
 use segments::Line;
@@ -64,11 +64,12 @@ pub fn insert_in<C: Ticks>(
     if height == 1 {
         return put(store, node, k, line, ticks);
     }
+    let more = store.sum(line, ticks);
     let found = lead(store, node, k, ticks);
     match insert_in(store, found.child, height - 1, found.rest, line, ticks) {
         Some(sibling) => put(store, node, found.slot + 1, sibling, ticks),
         None => {
-            resum(store, node, ticks);
+            add(store, node, &more, ticks);
             None
         }
     }

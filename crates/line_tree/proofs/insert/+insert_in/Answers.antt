@@ -10,11 +10,13 @@ use Rattle.raw_nodes.specs.Rows.{kids, row}
 use Rattle.raw_nodes.specs.declared.names.NodePtr.{NodePtr}
 use Rattle.line_tree.specs.Finds.{Leads, lines_below}
 use Rattle.line_tree.specs.Growth.{CanInsert, Inserts}
-use Rattle.line_tree.specs.Shape.{tree_at}
+use Rattle.line_tree.specs.Shape.{sum_at, tree_at}
 use Rattle.line_tree.specs.declared.find.Found.{Found}
-use Rattle.line_tree.proofs.InsertLaws.{can-child, has-node, has-now, low-can_put, low-inserts, one-fits, one-inserts, two-can_put, two-inserts}
+use Rattle.line_tree.proofs.InsertLaws.{can-child, has-node, has-now, low-can_put, low-inserts, one-fits, one-inserts, one-sum, two-can_put, two-inserts}
 use Rattle.line_tree.proofs.RoomLaws.{len-puts, len-resummed}
-use Rattle.line_tree.proofs.TreeLaws.{below-tree}
+use Rattle.toggle_sums.specs.Counts.{plus}
+use Rattle.line_tree.proofs.RowLaws.{sum_is}
+use Rattle.line_tree.proofs.TreeLaws.{below-tree, named-tree}
 use Rattle.line_tree.proofs.insert.+insert_in.Goals as goal
 
 -- the height as one more than another
@@ -67,13 +69,23 @@ put-requires-in-Some-clause-put g t c = let m = records c.args.store.now in let 
     two-can_put m (c.args.height - 1) c.args.node c.args.k c.args.line (above m c.args.height c.args.node c.args.k c.args.line c.requires.insert c.requires.node) c.lead-found.result c.lead-found.ensures l c.in-Some.sibling
     (subst (λ o. Inserts m l (c.args.height - 1) c.lead-found.result.child c.lead-found.result.rest c.args.line o) c.in-Some.is c.insert_in.ensures.inserts)
 
-pub resum-requires-clause-row : goal.resum-requires-clause-row
-resum-requires-clause-row g t c = let m = records c.args.store.now in let l = records c.insert_in.new.store in
+pub add-requires-clause-row : goal.add-requires-clause-row
+add-requires-clause-row g t c = let m = records c.args.store.now in let l = records c.insert_in.new.store in
     has-now m (c.args.height - 1) c.args.node c.args.k c.args.line (above m c.args.height c.args.node c.args.k c.args.line c.requires.insert c.requires.node) c.lead-found.result c.lead-found.ensures l c.insert_in.result c.insert_in.ensures.inserts
 
-pub resum-requires-clause-fits : goal.resum-requires-clause-fits
-resum-requires-clause-fits g t c = let m = records c.args.store.now in let l = records c.insert_in.new.store in
+pub add-requires-clause-fits : goal.add-requires-clause-fits
+add-requires-clause-fits g t c = let m = records c.args.store.now in let l = records c.insert_in.new.store in
     one-fits m (c.args.height - 1) c.args.node c.args.k c.args.line (above m c.args.height c.args.node c.args.k c.args.line c.requires.insert c.requires.node) c.lead-found.result c.lead-found.ensures l
+    (subst (λ o. Inserts m l (c.args.height - 1) c.lead-found.result.child c.lead-found.result.rest c.args.line o) c.in-None.is c.insert_in.ensures.inserts)
+
+pub sum-more-requires : goal.sum-more-requires
+sum-more-requires g t c = let m = records c.args.store.now in
+    named-tree m 0 c.args.line c.requires.insert.line
+
+pub add-requires-clause-sum : goal.add-requires-clause-sum
+add-requires-clause-sum g t c = let m = records c.args.store.now in let l = records c.insert_in.new.store in
+    ap (λ s. plus (sum_at l c.args.node) s) (sum_is m c.args.line c.sum-more.result (named-tree m 0 c.args.line c.requires.insert.line) c.sum-more.ensures.value)
+    ∙ one-sum m (c.args.height - 1) c.args.node c.args.k c.args.line (above m c.args.height c.args.node c.args.k c.args.line c.requires.insert c.requires.node) c.lead-found.result c.lead-found.ensures l
     (subst (λ o. Inserts m l (c.args.height - 1) c.lead-found.result.child c.lead-found.result.rest c.args.line o) c.in-None.is c.insert_in.ensures.inserts)
 
 pub returns-in-Some-clause-inserts : goal.returns-in-Some-clause-inserts
@@ -84,9 +96,9 @@ returns-in-Some-clause-inserts g t c = let m = records c.args.store.now in let l
 
 pub returns-in-None-clause-inserts : goal.returns-in-None-clause-inserts
 returns-in-None-clause-inserts g t c = let m = records c.args.store.now in let l = records c.insert_in.new.store in
-    back m (records c.resum.new.store) c.args.height c.args.node c.args.k c.args.line None c.requires.node
+    back m (records c.add.new.store) c.args.height c.args.node c.args.k c.args.line None c.requires.node
     (one-inserts m (c.args.height - 1) c.args.node c.args.k c.args.line (above m c.args.height c.args.node c.args.k c.args.line c.requires.insert c.requires.node) c.lead-found.result c.lead-found.ensures l
-    (subst (λ o. Inserts m l (c.args.height - 1) c.lead-found.result.child c.lead-found.result.rest c.args.line o) c.in-None.is c.insert_in.ensures.inserts) (records c.resum.new.store) c.resum.ensures.records)
+    (subst (λ o. Inserts m l (c.args.height - 1) c.lead-found.result.child c.lead-found.result.rest c.args.line o) c.in-None.is c.insert_in.ensures.inserts) (records c.add.new.store) c.add.ensures.records)
 
 pub returns-then-height-eq1-clause-count : goal.returns-then-height-eq1-clause-count
 returns-then-height-eq1-clause-count g t c = let m = records c.args.store.now in
@@ -99,8 +111,8 @@ returns-in-Some-clause-count g t c = let l = records c.insert_in.new.store in
 
 pub returns-in-None-clause-count : goal.returns-in-None-clause-count
 returns-in-None-clause-count g t c = let l = records c.insert_in.new.store in
-    let n = ap finite.len c.resum.ensures.records ∙ len-resummed l c.args.node (row (kids l c.args.node)) in
-    let s = c.resum.ensures.spares in let before = c.insert_in.ensures.count in omega arith
+    let n = ap finite.len c.add.ensures.records ∙ len-resummed l c.args.node (row (kids l c.args.node)) in
+    let s = c.add.ensures.spares in let before = c.insert_in.ensures.count in omega arith
 
 pub returns-then-height-eq1-clause-rooms : goal.returns-then-height-eq1-clause-rooms
 returns-then-height-eq1-clause-rooms g t c = let s = c.put.ensures.spares in let r = c.put.ensures.rooms in omega arith
@@ -109,4 +121,4 @@ pub returns-in-Some-clause-rooms : goal.returns-in-Some-clause-rooms
 returns-in-Some-clause-rooms g t c = let before = c.insert_in.ensures.rooms in let s = c.put-in-Some.ensures.spares in let r = c.put-in-Some.ensures.rooms in omega arith
 
 pub returns-in-None-clause-rooms : goal.returns-in-None-clause-rooms
-returns-in-None-clause-rooms g t c = let before = c.insert_in.ensures.rooms in let s = c.resum.ensures.spares in let r = c.resum.ensures.rooms in omega arith
+returns-in-None-clause-rooms g t c = let before = c.insert_in.ensures.rooms in let s = c.add.ensures.spares in let r = c.add.ensures.rooms in omega arith
