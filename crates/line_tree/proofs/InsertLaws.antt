@@ -100,7 +100,7 @@ module _ (m : Records) (p : NodePtr) (k : ℕ) (x : NodePtr) (can : CanInsert m 
 
   pub low-can_put : CanPut m p k x
   low-can_put = let n = length-map (kids m p) (tree_at m 0) in let place = low-place in
-      can-put m m 0 p leaves k (tree_at m 0 x) more k x low-grows (named-node m 0 p k x can) can.distinct.0 (not-line m 0 p k x can) (has-node m 0 p k x can) (omega arith) (named-tree m 0 x can.line) low-tops (line-fits m 0 p k x can)
+      can-put m m 0 p leaves k (tree_at m 0 x) more k x low-grows (named-node m 0 p k x can) can.distinct.0 (not-line m 0 p k x can) (has-node m 0 p k x can) (subst (Links m p 0) (tops-tree_at m 0 (kids m p)) can.tree.1) (omega arith) (named-tree m 0 x can.line) low-tops (line-fits m 0 p k x can)
 
   pub low-inserts : (n : Records) (o : Option NodePtr) → Puts m n p (insert (kids m p) k x) o → Inserts m n 1 p k x o
   low-inserts n o puts =
@@ -182,6 +182,21 @@ module _ (m : Records) (h : ℕ) (p : NodePtr) (k : ℕ) (x : NodePtr) (can : Ca
     pub has-now : HasRow l p
     has-now = has-kept m l p (has-node m h p k x can) node-same ins.grows.kept
 
+    keeps-now : (q : NodePtr) → Among q (kids m p) → KeepsLink m l q
+    keeps-now q a =
+        let top = subst (Among q) (sym (tops-tree_at m h (kids m p))) a in let among = tops-among h (ts m h p k x can) q top in
+        let i = among-get q (kids m p) a in let named = (has-node m h p k x can).each i.0 q i.1 in
+        elim (same_or_other q f.child) [
+          | inl e ↦ subst (λ z. KeepsLink m l z) (sym e) ins.link
+          | inr n ↦ keeps-same m l q named (ins.grows.other q named (λ b. elim (of-one q (names h (tree_at m h f.child)) b) [
+            | inl e ↦ n (e ∙ top-tree_at m h f.child)
+            | inr c ↦ all-get (λ t. (z : NodePtr) → Among z (inner h t) → Among z (tops h (ts m h p k x can)) → ⊥) (tree_at m h) (kids m p) f.slot f.child (inner-no-top h (ts m h p k x can) can.distinct.1) leads.child q c top
+          ]) (λ e. can.new (inr (subst (λ z. Among z (names_of h (ts m h p k x can))) e among))))
+        ]
+
+    links-now : Links l p 0 (kids l p)
+    links-now = subst (Links l p 0) (sym kids-same) (links-kept m l p 0 (kids m p) (subst (Links m p 0) (tops-tree_at m h (kids m p)) can.tree.1) keeps-now)
+
     tops-now : tops h now ≡ take f.slot (kids m p) ++ ((f.child ∷ option_to_list o) ++ drop (suc f.slot) (kids m p))
     tops-now =
         map-append (λ (t : Tree h). t.0) before (trees l h f.child o ++ after) ∙ ap (λ zs. tops h before ++ zs) (map-append (λ (t : Tree h). t.0) (trees l h f.child o) after)
@@ -202,7 +217,7 @@ module _ (m : Records) (h : ℕ) (p : NodePtr) (k : ℕ) (x : NodePtr) (can : Ca
     pub two-can_put : CanPut l p (f.slot + 1) s
     two-can_put = let n = ap length (kids-same l (Some s) ins) in let w = slice_get_within (kids m p) f.slot f.child leads.child in
         can-put m l h p (ts m h p k x can) k (tree_at m 0 x) (now l (Some s) ins) (f.slot + 1) s (now-grows l (Some s) ins) (named-node m h p k x can) can.distinct.0 (not-line m h p k x can)
-        (has-now l (Some s) ins) (omega arith) (named-tree l h s ins.grows.holds.1.0) two-tops (line-fits m h p k x can)
+        (has-now l (Some s) ins) (links-now l (Some s) ins) (omega arith) (named-tree l h s ins.grows.holds.1.0) two-tops (line-fits m h p k x can)
 
     pub two-inserts : (n : Records) (o : Option NodePtr) → Puts l n p (insert (kids l p) (f.slot + 1) s) o → Inserts m n (suc h) p k x o
     two-inserts n o puts =
@@ -234,20 +249,8 @@ module _ (m : Records) (h : ℕ) (p : NodePtr) (k : ℕ) (x : NodePtr) (can : Ca
         (λ i. plus (node i) (line i))
         ∙ sym (ap (λ cs. sums l (row cs)) one-tops ∙ sums-row l (tops h us) ∙ sum-trees l h us g.holds ∙ ap total g.line ∙ total-with_line (lines_of h (ts m h p k x can)) k (tree_at m 0 x))
 
-    one-keeps : (q : NodePtr) → Among q (kids m p) → KeepsLink m l q
-    one-keeps q a =
-        let top = subst (Among q) (sym (tops-tree_at m h (kids m p))) a in let among = tops-among h (ts m h p k x can) q top in
-        let i = among-get q (kids m p) a in let named = (has-node m h p k x can).each i.0 q i.1 in
-        elim (same_or_other q f.child) [
-          | inl e ↦ subst (λ z. KeepsLink m l z) (sym e) ins.link
-          | inr n ↦ keeps-same m l q named (ins.grows.other q named (λ b. elim (of-one q (names h (tree_at m h f.child)) b) [
-            | inl e ↦ n (e ∙ top-tree_at m h f.child)
-            | inr c ↦ all-get (λ t. (z : NodePtr) → Among z (inner h t) → Among z (tops h (ts m h p k x can)) → ⊥) (tree_at m h) (kids m p) f.slot f.child (inner-no-top h (ts m h p k x can) can.distinct.1) leads.child q c top
-          ]) (λ e. can.new (inr (subst (λ z. Among z (names_of h (ts m h p k x can))) e among))))
-        ]
-
     one-links : Links l p 0 (tops h (now l None ins))
-    one-links = subst (Links l p 0) (sym (kids-same l None ins) ∙ one-tops) (links-kept m l p 0 (kids m p) (subst (Links m p 0) (tops-tree_at m h (kids m p)) can.tree.1) one-keeps)
+    one-links = subst (Links l p 0) one-tops (links-now l None ins)
 
     pub one-inserts : (n : Records) → n ≡ resummed l p (row (kids l p)) → Inserts m n (suc h) p k x None
     one-inserts n is =

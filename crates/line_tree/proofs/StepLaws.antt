@@ -140,9 +140,10 @@ total-with_line ls k x =
 
 -- ---- the new child can be put in
 pub can-put : (m l : Records) (h : ℕ) (p : NodePtr) (ts : List (Tree h)) (k : ℕ) (x : Tree 0) (us : List (Tree h)) (at : ℕ) (y : NodePtr) → Grows m l h ts k x us → IsSome (finite.get m p) → (Among p (names_of h ts) → ⊥) → p ≢ x.0
-    → HasRow l p → at ≤ length (kids l p) → IsSome (finite.get l y) → insert (kids l p) at y ≡ tops h us → FitsSum (plus (total (lines_of h ts)) (total (lines zero x))) → CanPut l p at y
-can-put m l h p ts k x us at y g named out other_name has place y_named same fits = record {
+    → HasRow l p → Links l p 0 (kids l p) → at ≤ length (kids l p) → IsSome (finite.get l y) → insert (kids l p) at y ≡ tops h us → FitsSum (plus (total (lines_of h ts)) (total (lines zero x))) → CanPut l p at y
+can-put m l h p ts k x us at y g named out other_name has links place y_named same fits = record {
   row = has;
+  links = links;
   place = place;
   named = y_named;
   apart = λ a. elim (g.within p (tops_in us p (subst (Among p) same a))) [ inl b ↦ out b | inr b ↦ elim b [ inl e ↦ other_name e | inr e ↦ unnamed m p named e ] ];

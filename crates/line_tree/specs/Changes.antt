@@ -10,7 +10,7 @@ use Rattle.raw_nodes.specs.Records.{Record, Records, blank, update, with_child, 
 use Rattle.raw_nodes.specs.Rows.{kids, row}
 use Rattle.raw_nodes.specs.declared.names.NodePtr.{NodePtr}
 use Rattle.line_tree.specs.Finds.{HasRow}
-use Rattle.line_tree.specs.Shape.{sum_at}
+use Rattle.line_tree.specs.Shape.{Links, sum_at}
 
 -- the child in slot i of p becomes o, and knows it
 abbrev pub link_one : Records → NodePtr → ℕ → Option NodePtr → Records
@@ -74,6 +74,7 @@ pub record CanFill (m : Records) (p : NodePtr) (cs : List NodePtr) : Type 0 wher
 -- p can be given one more child
 pub record CanPut (m : Records) (p : NodePtr) (at : ℕ) (x : NodePtr) : Type 0 where
   pub row : HasRow m p
+  pub links : Links m p 0 (kids m p)
   pub place : at ≤ length (kids m p)
   pub named : IsSome (finite.get m x)
   pub apart : Among p (insert (kids m p) at x) → ⊥

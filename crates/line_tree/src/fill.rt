@@ -27,15 +27,21 @@ fn link<C: Ticks>(store: &mut NodeStore<C>, node: NodePtr, slot: usize, child: O
     }
 }
 
-/// Gives a node these children.
-fn relink<C: Ticks>(store: &mut NodeStore<C>, node: NodePtr, children: &[Option<NodePtr>; 12])
+/// Gives a node these children, of which the first stay where they are.
+fn relink<C: Ticks>(
+    store: &mut NodeStore<C>,
+    node: NodePtr,
+    from: usize,
+    children: &[Option<NodePtr>; 12],
+)
     requires node { IsInner store.old node }
+    requires from { from ≤ 12 }
     requires children { (i : ℕ) (c : _) → slice_get children.now i ≡ Some (Some c) → IsName store.old c }
-    ensures records { records store.new ≡ relinked (records store.old) node 0 children.now }
+    ensures records { records store.new ≡ relinked (records store.old) node from (drop from children.now) }
     ensures spares { spares store.new ≡ spares store.old }
     ensures rooms { rooms store.new ≡ rooms store.old }
 {
-    for slot in 0..12 {
+    for slot in from..12 {
         link(store, node, slot, children[slot]);
     }
 }
@@ -81,19 +87,22 @@ pub fn add<C: Ticks>(store: &mut NodeStore<C>, node: NodePtr, more: &Sums<WORDS>
     store.set_sum(node, sum.plus(more));
 }
 
-/// Makes these the children of a node, and its sum theirs.
+/// Makes these the children of a node, and its sum theirs. The first stay where they are.
 pub fn refill<C: Ticks>(
     store: &mut NodeStore<C>,
     node: NodePtr,
+    from: usize,
     children: &[Option<NodePtr>; 12],
     ticks: &mut C,
 )
     requires fill { (cs : _) × (children.now ≡ row cs) × CanFill (records store.old) node cs }
+    requires from { from ≤ 12 }
+    requires kept { relinked (records store.old) node 0 children.now ≡ relinked (records store.old) node from (drop from children.now) }
     ensures records { records store.new ≡ refilled (records store.old) node children.now }
     ensures spares { spares store.new ≡ spares store.old }
     ensures rooms { rooms store.new ≡ rooms store.old }
 {
-    relink(store, node, children);
+    relink(store, node, from, children);
     resum(store, node, ticks);
 }
 
@@ -117,7 +126,7 @@ pub fn join<C: Ticks>(
     let mut children = [None; 12];
     children[0] = Some(left);
     children[1] = Some(right);
-    refill(store, root, &children, ticks);
+    refill(store, root, 0, &children, ticks);
     root
 }
 
@@ -134,7 +143,7 @@ pub fn top<C: Ticks>(store: &mut NodeStore<C>, child: NodePtr, sum: Sums<WORDS>)
     let root = store.make(None);
     let mut children = [None; 12];
     children[0] = Some(child);
-    relink(store, root, &children);
+    relink(store, root, 0, &children);
     store.set_sum(root, sum);
     root
 }
@@ -206,14 +215,14 @@ pub fn put<C: Ticks>(
 {
     if store.children(node) < 12 {
         let all = part(store, node, at, extra, 0, 12, ticks);
-        refill(store, node, &all, ticks);
+        refill(store, node, at, &all, ticks);
         None
     } else {
         let left = part(store, node, at, extra, 0, 6, ticks);
         let right = part(store, node, at, extra, 6, 7, ticks);
         let sibling = store.make(None);
-        refill(store, node, &left, ticks);
-        refill(store, sibling, &right, ticks);
+        refill(store, node, 0, &left, ticks);
+        refill(store, sibling, 0, &right, ticks);
         Some(sibling)
     }
 }

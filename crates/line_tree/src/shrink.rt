@@ -121,14 +121,14 @@ fn even<C: Ticks>(store: &mut NodeStore<C>, left: NodePtr, right: NodePtr, ticks
     let count = store.children(left) + store.children(right);
     if count <= 12 {
         let all = part_pair(store, left, right, 0, 12, ticks);
-        refill(store, left, &all, ticks);
+        refill(store, left, 0, &all, ticks);
         true
     } else {
         let half = count / 2;
         let front = part_pair(store, left, right, 0, half, ticks);
         let back = part_pair(store, left, right, half, count - half, ticks);
-        refill(store, left, &front, ticks);
-        refill(store, right, &back, ticks);
+        refill(store, left, 0, &front, ticks);
+        refill(store, right, 0, &back, ticks);
         false
     }
 }
@@ -173,7 +173,7 @@ pub fn drop_child<C: Ticks>(
 {
     let gone = kid(store, node, slot, ticks).unwrap();
     let others = part_without(store, node, slot, ticks);
-    refill(store, node, &others, ticks);
+    refill(store, node, 0, &others, ticks);
     gone
 }
 
@@ -198,5 +198,5 @@ pub fn refresh<C: Ticks>(store: &mut NodeStore<C>, node: NodePtr, ticks: &mut C)
     ensures rooms { rooms store.new ≡ rooms store.old }
 {
     let children = row_of(store, node, ticks);
-    refill(store, node, &children, ticks);
+    refill(store, node, 0, &children, ticks);
 }

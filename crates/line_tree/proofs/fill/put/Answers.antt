@@ -1,4 +1,4 @@
-use Rattle.std.proofs.Common.{◌≡◌, ◌≤◌, List, length, take, drop, ap, sym, ◌∙◌, subst, arith, length-drop, None}
+use Rattle.std.proofs.Common.{◌≡◌, ◌≤◌, List, length, take, drop, ap, refl, sym, ◌∙◌, subst, arith, length-drop, None}
 use Rattle.std.specs.FinMap as finite
 use Rattle.std.specs.List.{insert}
 use Rattle.std.proofs.lemmas.List.{take_all}
@@ -7,8 +7,8 @@ use Rattle.raw_nodes.specs.Names.{records}
 use Rattle.raw_nodes.specs.Records.{blank}
 use Rattle.raw_nodes.specs.Rows.{kids, row}
 use Rattle.raw_nodes.specs.declared.names.NodePtr.{NodePtr}
-use Rattle.line_tree.specs.Changes.{CanFill, refilled}
-use Rattle.line_tree.proofs.PutLaws.{count-row, fill-left, fill-right, fill-room}
+use Rattle.line_tree.specs.Changes.{CanFill, refilled, relinked}
+use Rattle.line_tree.proofs.PutLaws.{count-row, fill-left, fill-right, fill-room, kept-put}
 use Rattle.line_tree.proofs.fill.put.Goals as goal
 
 short : (all : List NodePtr) → length all ≤ 12 → row (take 12 (drop 0 all)) ≡ row all
@@ -23,18 +23,23 @@ refill-requires g c = let m = records c.args.store.now in let p = c.args.node in
     let n = count-row m p c.children.result c.requires.put.row c.children.ensures in
     let more = length-insert (kids m p) c.args.at c.args.extra c.requires.put.place in
     let few : length all ≤ 12 = omega (arith, c.if-children-lt12.true) in
-    record { fill = (all, c.part-all.ensures ∙ short all few, fill-room m p c.args.at c.args.extra c.requires.put few) }
+    let is = c.part-all.ensures ∙ short all few in
+    record {
+      fill = (all, is, fill-room m p c.args.at c.args.extra c.requires.put few);
+      from = omega (arith, c.requires.put.place, c.requires.put.row.few);
+      kept = ap (relinked m p 0) is ∙ kept-put m p c.args.at c.args.extra c.requires.put ∙ sym (ap (λ os. relinked m p c.args.at (drop c.args.at os)) is);
+    }
 
 pub refill-requires-else-children-lt12 : goal.refill-requires-else-children-lt12
 refill-requires-else-children-lt12 g c = let m = records c.args.store.now in let p = c.args.node in let all = insert (kids m p) c.args.at c.args.extra in
-    record { fill = (take 6 all, c.part-left.ensures, subst (λ n. CanFill n p (take 6 all)) (sym c.make-sibling.ensures.records) (fill-left m p c.args.at c.args.extra c.requires.put c.make-sibling.result c.make-sibling.ensures.fresh)) }
+    record { fill = (take 6 all, c.part-left.ensures, subst (λ n. CanFill n p (take 6 all)) (sym c.make-sibling.ensures.records) (fill-left m p c.args.at c.args.extra c.requires.put c.make-sibling.result c.make-sibling.ensures.fresh)); from = omega arith; kept = refl }
 
 pub refill-requires-else-children-lt12-2 : goal.refill-requires-else-children-lt12-2
 refill-requires-else-children-lt12-2 g c = let m = records c.args.store.now in let p = c.args.node in let all = insert (kids m p) c.args.at c.args.extra in let s = c.make-sibling.result in
     let more = length-insert (kids m p) c.args.at c.args.extra c.requires.put.place in
     let few : length all ≤ 13 = omega (arith, c.requires.put.row.few) in
     let now = c.refill-else-children-lt12.ensures.records ∙ ap (λ n. refilled n p c.part-left.result) c.make-sibling.ensures.records ∙ ap (refilled (finite.insert m s (blank None)) p) c.part-left.ensures in
-    record { fill = (drop 6 all, c.part-right.ensures ∙ last all few, subst (λ n. CanFill n s (drop 6 all)) (sym now) (fill-right m p c.args.at c.args.extra c.requires.put s c.make-sibling.ensures.fresh few)) }
+    record { fill = (drop 6 all, c.part-right.ensures ∙ last all few, subst (λ n. CanFill n s (drop 6 all)) (sym now) (fill-right m p c.args.at c.args.extra c.requires.put s c.make-sibling.ensures.fresh few)); from = omega arith; kept = refl }
 
 pub returns-then-children-lt12-clause-puts : goal.returns-then-children-lt12-clause-puts
 returns-then-children-lt12-clause-puts g c = let m = records c.args.store.now in let p = c.args.node in let all = insert (kids m p) c.args.at c.args.extra in

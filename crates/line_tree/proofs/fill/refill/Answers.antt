@@ -18,17 +18,17 @@ relink-requires-clause-children g c i d is = let cs = c.requires.fill.0 in
 
 pub resum-requires-clause-row : goal.resum-requires-clause-row
 resum-requires-clause-row g c = let m = records c.args.store.now in let p = c.args.node in let cs = c.requires.fill.0 in
-    let now = c.relink.ensures.records ∙ ap (relinked m p 0) c.requires.fill.1 in
+    let now = c.relink.ensures.records ∙ sym c.requires.kept ∙ ap (relinked m p 0) c.requires.fill.1 in
     subst (λ n. HasRow n p) (sym now) (relinked-has_row m p cs c.requires.fill.2).0
 
 pub resum-requires-clause-fits : goal.resum-requires-clause-fits
 resum-requires-clause-fits g c = let m = records c.args.store.now in let p = c.args.node in let cs = c.requires.fill.0 in
-    let now = c.relink.ensures.records ∙ ap (relinked m p 0) c.requires.fill.1 in
+    let now = c.relink.ensures.records ∙ sym c.requires.kept ∙ ap (relinked m p 0) c.requires.fill.1 in
     subst (λ n. FitsSum (sums n (row (kids n p)))) (sym now)
     (subst FitsSum (sym (ap (λ ds. sums (relinked m p 0 (row cs)) (row ds)) (relinked-has_row m p cs c.requires.fill.2).1 ∙ relinked-sums m p cs)) c.requires.fill.2.fits)
 
 pub returns-clause-records : goal.returns-clause-records
 returns-clause-records g c = let m = records c.args.store.now in let p = c.args.node in let cs = c.requires.fill.0 in
-    let now = c.relink.ensures.records ∙ ap (relinked m p 0) c.requires.fill.1 in
+    let now = c.relink.ensures.records ∙ sym c.requires.kept ∙ ap (relinked m p 0) c.requires.fill.1 in
     c.resum.ensures.records ∙ ap (λ n. resummed n p (row (kids n p))) now
     ∙ ap (λ ds. resummed (relinked m p 0 (row cs)) p (row ds)) (relinked-has_row m p cs c.requires.fill.2).1 ∙ ap (refilled m p) (sym c.requires.fill.1)

@@ -1,4 +1,4 @@
-use Rattle.std.proofs.Common.{◌≡◌, ◌+◌, ◌-◌, ◌/◌, ◌≤◌, ◌++◌, ℕ, List, length, take, drop, sym, ap, subst, ◌∙◌, arith, length-append, length-drop}
+use Rattle.std.proofs.Common.{◌≡◌, ◌+◌, ◌-◌, ◌/◌, ◌≤◌, ◌++◌, ℕ, List, length, take, drop, refl, sym, ap, subst, ◌∙◌, arith, length-append, length-drop}
 use Rattle.std.proofs.lemmas.List.{take_all}
 use Rattle.raw_nodes.specs.Names.{records}
 use Rattle.raw_nodes.specs.Rows.{kids, row}
@@ -18,13 +18,13 @@ pub refill-requires : goal.refill-requires
 refill-requires g c = let m = records c.args.store.now in let a = c.args.left in let b = c.args.right in let all = kids m a ++ kids m b in let n = length-append (kids m a) (kids m b) in
     let na = count-row m a c.children.result c.requires.left c.children.ensures in let nb = count-row m b c.children-2.result c.requires.right c.children-2.ensures in
     let few : length all ≤ 12 = omega (arith, c.if-count-le12.true) in
-    record { fill = (all, c.part_pair-all.ensures ∙ whole all few, fill-whole m a b c.requires few) }
+    record { fill = (all, c.part_pair-all.ensures ∙ whole all few, fill-whole m a b c.requires few); from = omega arith; kept = refl }
 
 pub refill-requires-else-count-le12 : goal.refill-requires-else-count-le12
 refill-requires-else-count-le12 g c = let m = records c.args.store.now in let a = c.args.left in let b = c.args.right in let all = kids m a ++ kids m b in let n = length-append (kids m a) (kids m b) in
     let na = count-row m a c.children.result c.requires.left c.children.ensures in let nb = count-row m b c.children-2.result c.requires.right c.children-2.ensures in
     let half = (c.children.result + c.children-2.result) / 2 in let small : half ≤ 12 = omega (arith, c.requires.left.few, c.requires.right.few) in
-    record { fill = (take half all, c.part_pair-front.ensures, fill-front m a b c.requires half small) }
+    record { fill = (take half all, c.part_pair-front.ensures, fill-front m a b c.requires half small); from = omega arith; kept = refl }
 
 pub refill-requires-else-count-le12-2 : goal.refill-requires-else-count-le12-2
 refill-requires-else-count-le12-2 g c = let m = records c.args.store.now in let a = c.args.left in let b = c.args.right in let all = kids m a ++ kids m b in let n = length-append (kids m a) (kids m b) in
@@ -32,7 +32,7 @@ refill-requires-else-count-le12-2 g c = let m = records c.args.store.now in let 
     let half = (c.children.result + c.children-2.result) / 2 in let count = (c.children.result + c.children-2.result) - half in
     let few : length all ≤ half + 12 = omega (arith, c.requires.left.few, c.requires.right.few) in let end : length all ≤ half + count = omega arith in
     let now = c.refill-else-count-le12.ensures.records ∙ ap (refilled m a) c.part_pair-front.ensures in
-    record { fill = (drop half all, c.part_pair-back.ensures ∙ rest all half count end, subst (λ x. CanFill x b (drop half all)) (sym now) (fill-back m a b c.requires half few)) }
+    record { fill = (drop half all, c.part_pair-back.ensures ∙ rest all half count end, subst (λ x. CanFill x b (drop half all)) (sym now) (fill-back m a b c.requires half few)); from = omega arith; kept = refl }
 
 pub returns-then-count-le12-clause-evens : goal.returns-then-count-le12-clause-evens
 returns-then-count-le12-clause-evens g c = let m = records c.args.store.now in let a = c.args.left in let b = c.args.right in let all = kids m a ++ kids m b in let n = length-append (kids m a) (kids m b) in
