@@ -18,24 +18,25 @@ use Rattle.raw_nodes.proofs.MapLaws.{get_removed, get_unmoved}
 use Rattle.raw_nodes.proofs.PlaceLaws.{same_or_other}
 use Rattle.line_tree.specs.Changes.{Among, CanEven, CanFill, Distinct, FitsSum, Mends, Merges, Shares, refilled, sum_all}
 use Rattle.line_tree.specs.Finds.{Finds, HasRow}
-use Rattle.line_tree.specs.Growth.{IsWide, lines_of, names_of}
-use Rattle.line_tree.specs.Shape.{Holds, tree_at}
+use Rattle.line_tree.specs.Growth.{IsWide, KeepsLink, lines_of, names_of}
+use Rattle.line_tree.specs.Shape.{Holds, Links, tree_at}
 use Rattle.line_tree.specs.Shrinking.{CanMend, CanRemove, Cleans, Removes, Settles, Shrinks, Turns}
 use Rattle.line_tree.specs.Trees.{IsBalanced, Named, Tree, inner, lines, names, tops, total}
 use Rattle.line_tree.specs.declared.find.Found.{Found}
-use Rattle.line_tree.proofs.AmongLaws.{among-or, get-among}
+use Rattle.line_tree.proofs.AmongLaws.{among-drop, among-get, among-or, among-take, get-among}
 use Rattle.line_tree.proofs.BuildLaws.{built, sum-trees, tree-is}
 use Rattle.line_tree.proofs.DistinctLaws.{distinct-apart, distinct-left, distinct-right}
 use Rattle.line_tree.proofs.FillLaws.{refilled-other}
-use Rattle.line_tree.proofs.FrameLaws.{tops-among}
+use Rattle.line_tree.proofs.EvenLaws.{fill-back, fill-front, fill-whole}
+use Rattle.line_tree.proofs.FrameLaws.{inner-no-top, tops-among}
 use Rattle.line_tree.proofs.GrowLaws.{all-append, in-cases, in-left, in-right, names-append, of-one}
-use Rattle.line_tree.proofs.InsertLaws.{has-kept}
+use Rattle.line_tree.proofs.InsertLaws.{all-get, has-kept}
 use Rattle.line_tree.proofs.PairLaws.{Pair, kids-both, merge-inside, pair-of, share-inside, turns-merge, turns-share, two-lines, two-right}
 use Rattle.line_tree.proofs.RemoveLaws.{can-fill, drop-tree, finish, fits-part, removes-drop}
-use Rattle.line_tree.proofs.RemoveSteps.{all-from, balanced-but, balanced-child, fits-now, has-now, in-drop, in-take, kids-same, node-same, now-lost, pair-place, pair-remove, pair-same, shrinks-now}
+use Rattle.line_tree.proofs.RemoveSteps.{all-from, balanced-but, balanced-child, fits-now, has-now, in-drop, in-take, kids-same, links-now, node-same, now-lost, pair-place, pair-remove, pair-same, shrinks-now}
 use Rattle.line_tree.proofs.ShrinkLaws.{shrinks-turns, turns-wide}
-use Rattle.line_tree.proofs.StepLaws.{all-drop, all-take}
-use Rattle.line_tree.proofs.TreeLaws.{child-tree, row-tree, tops-tree_at}
+use Rattle.line_tree.proofs.StepLaws.{all-drop, all-take, keeps-after, keeps-refilled, keeps-same, keeps-then, links-kept}
+use Rattle.line_tree.proofs.TreeLaws.{child-tree, named-tree, row-tree, tops-tree_at}
 use Rattle.line_tree.proofs.UpdateLaws.{InnerIn, inner-refilled, inner-row, named-refilled}
 
 -- the children that are left
@@ -71,6 +72,7 @@ module _ (m : Records) (g : ℕ) (p : NodePtr) (k : ℕ) (can : CanRemove m (suc
     pub same : finite.get n p ≡ finite.get m p
     pub named : (q : NodePtr) → IsSome (finite.get l q) → IsSome (finite.get n q)
     pub still_inner : (q : NodePtr) → InnerIn l q → InnerIn n q
+    pub links : Links n p 0 cs
     pub slot : (s : ℕ) → o ≡ Some s → s < length cs
     pub gone : (s : ℕ) (q : NodePtr) → o ≡ Some s → slice_get cs s ≡ Some q → Among q (names_of (suc g) trees) → ⊥
     pub lost : Cleans m l (suc g) f.child x → (q : NodePtr) → Among q (names_of (suc g) ts) → (Among q (names_of (suc g) trees) → ⊥) → q ≢ x → (finite.get n q ≡ None) ⊎ IsGone o q
@@ -194,6 +196,46 @@ module _ (m : Records) (g : ℕ) (p : NodePtr) (k : ℕ) (can : CanRemove m (suc
         next-not : (j : ℕ) → j ≡ suc j → ⊥
         next-not j e = omega arith
 
+      -- the other children stand in neither
+      off-pair : (q : NodePtr) → Among q cs → q ≢ a → q ≢ b → Among q (names_of (suc g) two) → ⊥
+      off-pair q among q_a q_b s =
+          let top = subst (Among q) (sym (tops-tree_at l (suc g) cs)) among in let none = inner-no-top (suc g) now shrinks.distinct in
+          elim (in-cases (suc g) (tree_at l (suc g) a ∷ []) (tree_at l (suc g) b ∷ []) q s) [
+            | inl c ↦ elim (of-one q (names (suc g) (tree_at l (suc g) a)) c) [
+              | inl e ↦ q_a e
+              | inr d ↦ all-get (λ t. (z : NodePtr) → Among z (inner (suc g) t) → Among z (tops (suc g) now) → ⊥) (tree_at l (suc g)) cs j a none at_a q d top
+            ]
+            | inr c ↦ elim (of-one q (names (suc g) (tree_at l (suc g) b)) c) [
+              | inl e ↦ q_b e
+              | inr d ↦ all-get (λ t. (z : NodePtr) → Among z (inner (suc g) t) → Among z (tops (suc g) now) → ⊥) (tree_at l (suc g)) cs (suc j) b none at_b q d top
+            ]
+          ]
+
+      -- where both keep their places, all children do
+      links-pair : (n : Records) → KeepsLink l n a → KeepsLink l n b → ((q : NodePtr) → (Among q (names_of (suc g) two) → ⊥) → finite.get n q ≡ finite.get l q) → Links n p 0 cs
+      links-pair n keep_a keep_b other = links-kept l n p 0 cs (links-now m (suc g) p k can f finds l x rem) (λ q among. elim (same_or_other q a) [
+        | inl e ↦ subst (λ z. KeepsLink l n z) (sym e) keep_a
+        | inr q_a ↦ elim (same_or_other q b) [
+          | inl e ↦ subst (λ z. KeepsLink l n z) (sym e) keep_b
+          | inr q_b ↦ let i = among-get q cs among in keeps-same l n q (named-tree l (suc g) q (child-tree l (suc g) cs i.0 q shrinks.holds i.1)) (other q (off-pair q among q_a q_b))
+        ]
+      ])
+
+      share-links : (n : Records) → Shares l n a b → Links n p 0 cs
+      share-links n shares =
+          let all = kids l a ++ kids l b in let half = shares.half in let front = take half all in let back = drop half all in let first = refilled l a (row front) in
+          let fill_b = fill-back l a b can-even half shares.rest_high in
+          let keep_a = keeps-then l first (refilled first b (row back)) a (keeps-refilled l a front (fill-front l a b can-even half shares.high)) (refilled-other first b back a can-even.two (λ s. can-even.off_left (among-drop a half all s))) in
+          let keep_b = keeps-after l first (refilled first b (row back)) b (refilled-other l a front b (λ e. can-even.two (sym e)) (λ s. can-even.off_right (among-take b half all s))) (keeps-refilled first b back fill_b) in
+          links-pair n (subst (λ z. KeepsLink l z a) (sym shares.same) keep_a) (subst (λ z. KeepsLink l z b) (sym shares.same) keep_b) (turns-share l g a b xs ys hold_a hold_b two-apart can-even n shares).other
+
+      merge-links : (n : Records) → Merges l n a b → Links n p 0 cs
+      merge-links n merges =
+          let all = kids l a ++ kids l b in
+          let keep_a = keeps-refilled l a all (fill-whole l a b can-even merges.few) in
+          let keep_b = keeps-same l (refilled l a (row all)) b (named-tree l (suc g) b hold_b) (refilled-other l a all b (λ e. can-even.two (sym e)) can-even.off_right) in
+          links-pair n (subst (λ z. KeepsLink l z a) (sym merges.same) keep_a) (subst (λ z. KeepsLink l z b) (sym merges.same) keep_b) (turns-merge l g a b xs ys hold_a hold_b two-apart can-even n merges).other
+
       -- ---- after the sharing
       pub share : (n : Records) → Shares l n a b → Ready n None
       share n shares =
@@ -212,6 +254,7 @@ module _ (m : Records) (g : ℕ) (p : NodePtr) (k : ℕ) (can : CanRemove m (suc
             same = turn-same n new turn ∙ node-same m (suc g) p k can f finds l x rem;
             named = λ q s. subst (λ z. IsSome (finite.get z q)) (sym shares.same) (named-refilled (refilled l a (row (take half (kids l a ++ kids l b)))) b (row (drop half (kids l a ++ kids l b))) q (named-refilled l a (row (take half (kids l a ++ kids l b))) q s));
             still_inner = λ q s. subst (λ z. InnerIn z q) (sym shares.same) (inner-refilled (refilled l a (row (take half (kids l a ++ kids l b)))) b (row (drop half (kids l a ++ kids l b))) q (inner-refilled l a (row (take half (kids l a ++ kids l b))) q s));
+            links = share-links n shares;
             slot = λ s e. absurd (none-some s e);
             gone = λ s q e at. absurd (none-some s e);
             lost = λ clean q s out n2. inl (off-two n new turn clean q s out (λ i. out (in-right (suc g) left (new ++ right) q (in-left (suc g) new right q (share-inside l g a b xs ys hold_a hold_b two-apart half q i)))) n2);
@@ -246,6 +289,7 @@ module _ (m : Records) (g : ℕ) (p : NodePtr) (k : ℕ) (can : CanRemove m (suc
             same = turn-same n new turn ∙ node-same m (suc g) p k can f finds l x rem;
             named = λ q s. subst (λ z. IsSome (finite.get z q)) (sym merges.same) (named-refilled l a (row (kids l a ++ kids l b)) q s);
             still_inner = λ q s. subst (λ z. InnerIn z q) (sym merges.same) (inner-refilled l a (row (kids l a ++ kids l b)) q s);
+            links = merge-links n merges;
             slot = λ s e. let w = slice_get_within cs (suc j) b at_b in let i = same_Some (suc j) s e in omega arith;
             gone = λ s q e at r. merged-out (subst (λ z. Among z (names_of (suc g) (left ++ (new ++ right)))) (same_Some q b (sym at ∙ ap (slice_get cs) (sym (same_Some (suc j) s e)) ∙ at_b)) r);
             lost = λ clean q s out n2. elim (among-or q (names_of (suc g) two)) [
@@ -273,6 +317,7 @@ module _ (m : Records) (g : ℕ) (p : NodePtr) (k : ℕ) (can : CanRemove m (suc
     same = node-same m (suc g) p k can f finds l x rem;
     named = λ q s. s;
     still_inner = λ q s. s;
+    links = links-now m (suc g) p k can f finds l x rem;
     slot = λ s e. absurd (none-some s e);
     gone = λ s q e at. absurd (none-some s e);
     lost = λ clean q s out n2. inl (now-lost m (suc g) p k can f finds l x rem clean q s out n2);
@@ -306,6 +351,9 @@ module _ (m : Records) (g : ℕ) (p : NodePtr) (k : ℕ) (can : CanRemove m (suc
 
     pub has-ready : HasRow n p
     has-ready = has-kept l n p (has-now m (suc g) p k can f finds l x rem) (is-ready.same ∙ sym (node-same m (suc g) p k can f finds l x rem)) is-ready.named
+
+    pub links-ready : Links n p 0 (kids n p)
+    links-ready = subst (Links n p 0) (sym kids-ready) is-ready.links
 
     few-without : (o : Option ℕ) → ((s : ℕ) → o ≡ Some s → s < length cs) → (length (without cs o) ≤ 12) × (length cs ≤ length (without cs o) + 1)
     few-without None within = let few = (row-tree m (suc g) p can.tree).few in (omega arith, omega arith)

@@ -12,21 +12,23 @@ use Rattle.std.proofs.lemmas.Option.{none-some, same_Some, slice_get-map, slice_
 use Rattle.raw_nodes.specs.Records.{Records}
 use Rattle.raw_nodes.specs.Rows.{kids, kids_of, row}
 use Rattle.raw_nodes.specs.declared.names.NodePtr.{NodePtr}
+use Rattle.raw_nodes.proofs.PlaceLaws.{same_or_other}
 use Rattle.line_tree.specs.Changes.{Among, CanFill, Distinct, FitsSum, refilled}
 use Rattle.line_tree.specs.Finds.{Finds, HasRow}
-use Rattle.line_tree.specs.Growth.{IsWide, lines_of, names_of}
-use Rattle.line_tree.specs.Shape.{Holds, IsTree, lines_in, tree_at}
+use Rattle.line_tree.specs.Growth.{IsWide, KeepsLink, lines_of, names_of}
+use Rattle.line_tree.specs.Shape.{Holds, IsTree, Links, lines_in, tree_at}
 use Rattle.line_tree.specs.Shrinking.{CanRemove, Cleans, Removes, Shrinks}
-use Rattle.line_tree.specs.Trees.{IsBalanced, Tree, lines, names, tops, total}
+use Rattle.line_tree.specs.Trees.{IsBalanced, Tree, inner, lines, names, tops, total}
 use Rattle.line_tree.specs.declared.find.Found.{Found}
-use Rattle.line_tree.proofs.AmongLaws.{among-cases, among-left, among-right}
+use Rattle.line_tree.proofs.AmongLaws.{among-cases, among-get, among-left, among-right}
 use Rattle.line_tree.proofs.BuildLaws.{tree-is, trees-is}
 use Rattle.line_tree.proofs.DistinctLaws.{distinct-left, distinct-right}
+use Rattle.line_tree.proofs.FrameLaws.{inner-no-top}
 use Rattle.line_tree.proofs.GrowLaws.{all-left, all-right, in-cases, in-left, in-right, names-append, of-one}
 use Rattle.line_tree.proofs.InsertLaws.{all-get, length-lines, lines-balanced}
 use Rattle.line_tree.proofs.RemoveLaws.{can-fill, finish, fits-part, fits-remove}
 use Rattle.line_tree.proofs.ShrinkLaws.{shrinks-line, shrinks-up, shrinks-wide}
-use Rattle.line_tree.proofs.StepLaws.{at-place}
+use Rattle.line_tree.proofs.StepLaws.{at-place, keeps-same, links-kept}
 use Rattle.line_tree.proofs.TreeLaws.{child-tree, count-tree, counted, named-tree, row-tree, top-tree_at, tops-tree_at}
 
 -- ---- lists by index
@@ -225,6 +227,22 @@ module _ (m : Records) (h : ℕ) (p : NodePtr) (k : ℕ) (can : CanRemove m (suc
 
     pub fits-now : FitsSum (total (lines_of h now))
     fits-now = subst (λ ls. FitsSum (total ls)) (sym shrinks-now.line) (fits-remove (lines_of h ts) k can.place can.fits)
+
+    -- each child keeps its place
+    keeps-now : (q : NodePtr) → Among q (kids m p) → KeepsLink m l q
+    keeps-now q a =
+        let top = subst (Among q) (sym (tops-tree_at m h (kids m p))) a in
+        let i = among-get q (kids m p) a in let named = (row-tree m h p can.tree).each i.0 q i.1 in
+        elim (same_or_other q f.child) [
+          | inl e ↦ subst (λ z. KeepsLink m l z) (sym e) rem.link
+          | inr n ↦ keeps-same m l q named (rem.shrinks.other q (λ b. elim (of-one q (names h (tree_at m h f.child)) b) [
+            | inl e ↦ n (e ∙ top-tree_at m h f.child)
+            | inr c ↦ all-get (λ t. (z : NodePtr) → Among z (inner h t) → Among z (tops h ts) → ⊥) (tree_at m h) (kids m p) f.slot f.child (inner-no-top h ts can.distinct.1) finds.child q c top
+          ]))
+        ]
+
+    pub links-now : Links l p 0 (kids m p)
+    links-now = links-kept m l p 0 (kids m p) (subst (Links m p 0) (tops-tree_at m h (kids m p)) can.tree.1) keeps-now
 
     -- what is in the tree no more
     pub now-lost : Cleans m l h f.child x → (q : NodePtr) → Among q (names_of h ts) → (Among q (names_of h now) → ⊥) → q ≢ x → finite.get l q ≡ None
