@@ -1,10 +1,10 @@
 -- The children of a node without one of them, and those of two nodes.
-use Rattle.std.proofs.Common.{◌≡◌, ℕ, zero, suc, ◌+◌, ◌<◌, ◌≤◌, inl, inr, List, [], ◌∷◌, ◌++◌, length, take, drop, sym, ap, ◌∙◌, subst, arith, length-append, length-take, length-drop}
+use Rattle.std.proofs.Common.{◌≡◌, ℕ, zero, suc, ◌+◌, ◌<◌, ◌≤◌, inl, inr, List, [], ◌∷◌, ◌++◌, length, take, drop, refl, sym, ap, ◌∙◌, subst, arith, length-append, length-take, length-drop}
 use Rattle.std.specs.Prelude.{IsSome, slice_get}
 use Rattle.std.specs.FinMap as finite
 use Rattle.std.specs.List.{remove}
 use Rattle.std.specs.declared.option.Option.TheVariants.{None}
-use Rattle.std.proofs.lemmas.List.{take-append-drop}
+use Rattle.std.proofs.lemmas.List.{append-nil, take-append-drop}
 use Rattle.std.proofs.lemmas.List.Edits.{length-remove}
 use Rattle.std.proofs.lemmas.Option.{slice_get_past}
 use Rattle.toggle_sums.specs.Counts.{plus}
@@ -12,9 +12,12 @@ use Rattle.raw_nodes.specs.Records.{Records}
 use Rattle.raw_nodes.specs.Rows.{kids, row}
 use Rattle.raw_nodes.specs.declared.names.NodePtr.{NodePtr}
 use Rattle.raw_nodes.proofs.RowLaws.{length-row}
-use Rattle.line_tree.specs.Changes.{Among, CanEven, CanFill, FitsSum, refilled, sum_all}
+use Rattle.line_tree.specs.Changes.{Among, CanEven, CanFill, FitsSum, refilled, relinked, sum_all}
+use Rattle.line_tree.specs.Finds.{HasRow}
+use Rattle.line_tree.specs.Shape.{Links}
 use Rattle.line_tree.proofs.AmongLaws.{among-cases, among-drop, among-get, among-take}
 use Rattle.line_tree.proofs.FillLaws.{refilled-other, refilled-sum, sum_all-append, sum_all-same}
+use Rattle.line_tree.proofs.KeptLaws.{kept-row}
 use Rattle.line_tree.proofs.SumLaws.{fits-left, fits-right}
 use Rattle.line_tree.proofs.UpdateLaws.{named-refilled}
 
@@ -29,6 +32,16 @@ remove-past xs at i h past = let n = length-remove xs at h in slice_get_past (re
 
 pub pair-past : {X : Type 0} (xs ys : List X) (i : ℕ) → length xs + length ys ≤ i → slice_get (xs ++ ys) i ≡ None
 pair-past xs ys i past = let n = length-append xs ys in slice_get_past (xs ++ ys) i (omega arith)
+
+-- ---- children that stay
+pub kept-remove : (m : Records) (p : NodePtr) (at : ℕ) → HasRow m p → Links m p 0 (kids m p) → at < length (kids m p)
+    → relinked m p 0 (row (remove (kids m p) at)) ≡ relinked m p at (drop at (row (remove (kids m p) at)))
+kept-remove m p at has links less = let ks = kids m p in let long : length (take at ks) ≡ at = omega (arith, length-take at ks, less) in
+    kept-row m p has links (take at ks) (drop at ks) (drop (suc at) ks) (remove ks at) (sym (take-append-drop at ks)) refl ∙ ap (λ n. relinked m p n (drop n (row (remove ks at)))) long
+
+pub kept-all : (m : Records) (p : NodePtr) (n : ℕ) → HasRow m p → Links m p 0 (kids m p) → n ≡ length (kids m p) → relinked m p 0 (row (kids m p)) ≡ relinked m p n (drop n (row (kids m p)))
+kept-all m p n has links e = let ks = kids m p in
+    kept-row m p has links ks [] [] ks (sym (append-nil ks)) (sym (append-nil ks)) ∙ ap (λ i. relinked m p i (drop i (row ks))) (sym e)
 
 module _ (m : Records) (a b : NodePtr) (can : CanEven m a b) where
   abbrev both : List NodePtr

@@ -3,6 +3,7 @@ ghost use Rattle.std.specs.List.{remove};
 ghost use Rattle.raw_nodes.specs.Names.{records, rooms, spares};
 ghost use Rattle.raw_nodes.specs.Rows.{kids, row};
 ghost use Rattle.line_tree.specs.Finds.{HasRow};
+ghost use Rattle.line_tree.specs.Shape.{Links};
 ghost use Rattle.line_tree.specs.Changes.{CanEven, CanFill, Evens, Mends, refilled};
 ghost use Rattle.line_tree.specs.Shrinking.{CanMend};
 
@@ -156,7 +157,7 @@ pub fn mend<C: Ticks>(
     if merged { Some(at + 1) } else { None }
 }
 
-/// Takes a child out of a node.
+/// Takes a child out of a node. Those before it stay where they are.
 pub fn drop_child<C: Ticks>(
     store: &mut NodeStore<C>,
     node: NodePtr,
@@ -164,6 +165,7 @@ pub fn drop_child<C: Ticks>(
     ticks: &mut C,
 ) -> NodePtr
     requires row { HasRow (records store.old) node }
+    requires links { Links (records store.old) node 0 (kids (records store.old) node) }
     requires slot { slot < length (kids (records store.old) node) }
     requires fill { CanFill (records store.old) node (remove (kids (records store.old) node) slot) }
     ensures child { slice_get (kids (records store.old) node) slot ≡ Some result }
@@ -173,7 +175,7 @@ pub fn drop_child<C: Ticks>(
 {
     let gone = kid(store, node, slot, ticks).unwrap();
     let others = part_without(store, node, slot, ticks);
-    refill(store, node, 0, &others, ticks);
+    refill(store, node, slot, &others, ticks);
     gone
 }
 
@@ -189,14 +191,16 @@ fn row_of<C: Ticks>(store: &NodeStore<C>, node: NodePtr, ticks: &mut C) -> [Opti
     part
 }
 
-/// Tells a node's children where they are, and sums them up.
+/// Sums a node's children up, which stay where they are.
 pub fn refresh<C: Ticks>(store: &mut NodeStore<C>, node: NodePtr, ticks: &mut C)
     requires row { HasRow (records store.old) node }
+    requires links { Links (records store.old) node 0 (kids (records store.old) node) }
     requires fill { CanFill (records store.old) node (kids (records store.old) node) }
     ensures records { records store.new ≡ refilled (records store.old) node (row (kids (records store.old) node)) }
     ensures spares { spares store.new ≡ spares store.old }
     ensures rooms { rooms store.new ≡ rooms store.old }
 {
     let children = row_of(store, node, ticks);
-    refill(store, node, 0, &children, ticks);
+    let count = store.children(node);
+    refill(store, node, count, &children, ticks);
 }

@@ -6,11 +6,12 @@ use Rattle.raw_nodes.specs.Names.{records}
 use Rattle.raw_nodes.specs.Records.{Records}
 use Rattle.raw_nodes.specs.Rows.{kids, row}
 use Rattle.raw_nodes.specs.declared.names.NodePtr.{NodePtr}
+use Rattle.line_tree.specs.Shape.{Links}
 use Rattle.line_tree.specs.Shrinking.{CanRemove, Cleans, Removes, Settles}
-use Rattle.line_tree.proofs.RemovePairs.{below-now, can-mend, cleans-gone, cleans-ready, fill-ready, has-ready, inner-ready, removes-gone, removes-ready, slot-ready}
+use Rattle.line_tree.proofs.RemovePairs.{below-now, can-mend, cleans-gone, cleans-ready, fill-ready, has-ready, inner-ready, links-ready, removes-gone, removes-ready, slot-ready}
 use Rattle.line_tree.proofs.RemoveSteps.{can-below, child-now, cleans-low, has-now, low-fill, low-removes, low-slot, two-kids}
 use Rattle.line_tree.proofs.RoomLaws.{len-gone, len-refilled, len-settles}
-use Rattle.line_tree.proofs.TreeLaws.{below-tree, row-tree}
+use Rattle.line_tree.proofs.TreeLaws.{below-tree, row-tree, tops-tree_at}
 use Rattle.line_tree.proofs.UpdateLaws.{InnerIn, inner-refilled, named-refilled, room-given}
 use Rattle.line_tree.proofs.remove.+remove_in.Goals as goal
 
@@ -37,6 +38,10 @@ low m h p k e can = subst (λ j. CanRemove m j p k) e can
 
 pub drop_child-requires-clause-row : goal.drop_child-requires-clause-row
 drop_child-requires-clause-row g t c = let m = records c.args.store.now in row-tree m 0 c.args.node (low m c.args.height c.args.node c.args.k c.if-height-eq1.true c.requires.remove).tree
+
+pub drop_child-requires-clause-links : goal.drop_child-requires-clause-links
+drop_child-requires-clause-links g t c = let m = records c.args.store.now in let p = c.args.node in
+    subst (Links m p 0) (tops-tree_at m 0 (kids m p)) (low m c.args.height p c.args.k c.if-height-eq1.true c.requires.remove).tree.1
 
 pub drop_child-requires-clause-slot : goal.drop_child-requires-clause-slot
 drop_child-requires-clause-slot g t c = let m = records c.args.store.now in low-slot m c.args.node c.args.k (low m c.args.height c.args.node c.args.k c.if-height-eq1.true c.requires.remove)
@@ -84,6 +89,10 @@ pub drop_child-gone-requires-clause-row : goal.drop_child-gone-requires-clause-r
 drop_child-gone-requires-clause-row g t c = let m = records c.args.store.now in let p = c.args.node in let k = c.args.k in let g2 = c.args.height - 2 in let can = above m c.args.height p k c.requires.node c.if-height-eq1.false c.requires.remove in let f = c.find-found.result in let finds = c.find-found.ensures.found in let l = records c.remove_in-line.new.store in let x = c.remove_in-line.result in let rem = child m l c.args.height f.child f.rest x c.requires.node c.if-height-eq1.false c.remove_in-line.ensures.removes in let n = records c.settle.new.store in let settles = subst (λ o. Settles l n p f.slot f.child o) c.in-Some.is c.settle.ensures.settles in
     has-ready m g2 p k can f finds l x rem n (Some c.in-Some.slot) settles
 
+pub drop_child-gone-requires-clause-links : goal.drop_child-gone-requires-clause-links
+drop_child-gone-requires-clause-links g t c = let m = records c.args.store.now in let p = c.args.node in let k = c.args.k in let g2 = c.args.height - 2 in let can = above m c.args.height p k c.requires.node c.if-height-eq1.false c.requires.remove in let f = c.find-found.result in let finds = c.find-found.ensures.found in let l = records c.remove_in-line.new.store in let x = c.remove_in-line.result in let rem = child m l c.args.height f.child f.rest x c.requires.node c.if-height-eq1.false c.remove_in-line.ensures.removes in let n = records c.settle.new.store in let settles = subst (λ o. Settles l n p f.slot f.child o) c.in-Some.is c.settle.ensures.settles in
+    links-ready m g2 p k can f finds l x rem n (Some c.in-Some.slot) settles
+
 pub drop_child-gone-requires-clause-slot : goal.drop_child-gone-requires-clause-slot
 drop_child-gone-requires-clause-slot g t c = let m = records c.args.store.now in let p = c.args.node in let k = c.args.k in let g2 = c.args.height - 2 in let can = above m c.args.height p k c.requires.node c.if-height-eq1.false c.requires.remove in let f = c.find-found.result in let finds = c.find-found.ensures.found in let l = records c.remove_in-line.new.store in let x = c.remove_in-line.result in let rem = child m l c.args.height f.child f.rest x c.requires.node c.if-height-eq1.false c.remove_in-line.ensures.removes in let n = records c.settle.new.store in let settles = subst (λ o. Settles l n p f.slot f.child o) c.in-Some.is c.settle.ensures.settles in
     slot-ready m g2 p k can f finds l x rem n (Some c.in-Some.slot) settles c.in-Some.slot refl
@@ -101,6 +110,10 @@ give_back-requires g t c = let m = records c.args.store.now in let p = c.args.no
 pub refresh-requires-clause-row : goal.refresh-requires-clause-row
 refresh-requires-clause-row g t c = let m = records c.args.store.now in let p = c.args.node in let k = c.args.k in let g2 = c.args.height - 2 in let can = above m c.args.height p k c.requires.node c.if-height-eq1.false c.requires.remove in let f = c.find-found.result in let finds = c.find-found.ensures.found in let l = records c.remove_in-line.new.store in let x = c.remove_in-line.result in let rem = child m l c.args.height f.child f.rest x c.requires.node c.if-height-eq1.false c.remove_in-line.ensures.removes in let n = records c.settle.new.store in let settles = subst (λ o. Settles l n p f.slot f.child o) c.in-None.is c.settle.ensures.settles in
     has-ready m g2 p k can f finds l x rem n None settles
+
+pub refresh-requires-clause-links : goal.refresh-requires-clause-links
+refresh-requires-clause-links g t c = let m = records c.args.store.now in let p = c.args.node in let k = c.args.k in let g2 = c.args.height - 2 in let can = above m c.args.height p k c.requires.node c.if-height-eq1.false c.requires.remove in let f = c.find-found.result in let finds = c.find-found.ensures.found in let l = records c.remove_in-line.new.store in let x = c.remove_in-line.result in let rem = child m l c.args.height f.child f.rest x c.requires.node c.if-height-eq1.false c.remove_in-line.ensures.removes in let n = records c.settle.new.store in let settles = subst (λ o. Settles l n p f.slot f.child o) c.in-None.is c.settle.ensures.settles in
+    links-ready m g2 p k can f finds l x rem n None settles
 
 pub refresh-requires-clause-fill : goal.refresh-requires-clause-fill
 refresh-requires-clause-fill g t c = let m = records c.args.store.now in let p = c.args.node in let k = c.args.k in let g2 = c.args.height - 2 in let can = above m c.args.height p k c.requires.node c.if-height-eq1.false c.requires.remove in let f = c.find-found.result in let finds = c.find-found.ensures.found in let l = records c.remove_in-line.new.store in let x = c.remove_in-line.result in let rem = child m l c.args.height f.child f.rest x c.requires.node c.if-height-eq1.false c.remove_in-line.ensures.removes in let n = records c.settle.new.store in let settles = subst (λ o. Settles l n p f.slot f.child o) c.in-None.is c.settle.ensures.settles in
