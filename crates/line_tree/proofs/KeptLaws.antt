@@ -76,7 +76,7 @@ kept-row m p has links front behind rest all was now =
     let empty = replicate {A = Option NodePtr} (12 - length all) None in let os = map (λ c. Some c) rest ++ empty in
     let parts : row all ≡ map (λ c. Some c) front ++ os = ap (λ cs. map (λ c. Some c) cs ++ empty) now ∙ ap (λ ds. ds ++ empty) (map-append (λ c. Some c) front rest) ∙ append_assoc (map (λ c. Some c) front) (map (λ c. Some c) rest) empty in
     let at : (j : ℕ) (c : NodePtr) → slice_get front j ≡ Some c → slice_get has.found.children (0 + j) ≡ Some (Some c) = λ j c is. let e : 0 + j ≡ j = omega arith in
-        ap (slice_get has.found.children) e ∙ ap (λ ds. slice_get ds j) has.children ∙ row-get (kids m p) (replicate (12 - length (kids m p)) None) j c (ap (λ cs. slice_get cs j) was ∙ front-get front behind j c is) in
+    ap (slice_get has.found.children) e ∙ ap (λ ds. slice_get ds j) has.children ∙ row-get (kids m p) (replicate (12 - length (kids m p)) None) j c (ap (λ cs. slice_get cs j) was ∙ front-get front behind j c is) in
     let z : 0 + length front ≡ length front = omega arith in
     ap (relinked m p 0) parts ∙ front-same m p has.found has.is 0 front os at (links-front m p 0 front behind (subst (Links m p 0) was links)) ∙ ap (λ k. relinked m p k os) z
     ∙ ap (relinked m p (length front)) (sym (ap (drop (length front)) parts ∙ drop-front front os))

@@ -57,11 +57,14 @@ mapped-inner None f same none = none
 mapped-inner (Some r) f same none = same r ∙ none
 
 pub inner-update : (m : Records) (p : NodePtr) (f : Record → Record) (q : NodePtr) → ((r : Record) → (f r).line ≡ r.line) → InnerIn m q → InnerIn (update m p f) q
-inner-update m p f q same inner = (named-update m p f q inner.0, elim (same_or_other q p) [
-  | inl e ↦ subst (λ z. IfSome (finite.get (update m p f) z) (λ r. r.line ≡ None)) (sym e)
-      (subst (λ o. IfSome o (λ r. r.line ≡ None)) (sym (get-update m p f)) (mapped-inner (finite.get m p) f same (subst (λ z. IfSome (finite.get m z) (λ r. r.line ≡ None)) e inner.1)))
-  | inr n ↦ subst (λ o. IfSome o (λ r. r.line ≡ None)) (sym (get-update-other m p f q n)) inner.1
-])
+inner-update m p f q same inner = (
+  named-update m p f q inner.0,
+  elim (same_or_other q p) [
+    | inl e ↦ subst (λ z. IfSome (finite.get (update m p f) z) (λ r. r.line ≡ None)) (sym e)
+        (subst (λ o. IfSome o (λ r. r.line ≡ None)) (sym (get-update m p f)) (mapped-inner (finite.get m p) f same (subst (λ z. IfSome (finite.get m z) (λ r. r.line ≡ None)) e inner.1)))
+    | inr n ↦ subst (λ o. IfSome o (λ r. r.line ≡ None)) (sym (get-update-other m p f q n)) inner.1
+  ],
+)
 
 pub inner-link_one : (m : Records) (p : NodePtr) (i : ℕ) (o : Option NodePtr) (q : NodePtr) → InnerIn m q → InnerIn (link_one m p i o) q
 inner-link_one m p i None q inner = inner-update m p (λ r. with_child r i None) q (λ r. refl) inner
