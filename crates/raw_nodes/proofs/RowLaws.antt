@@ -1,7 +1,7 @@
 -- The children of a record as a list.
 --     get_or-nones    no name stands in an empty slot
 --     get_or-row      what stands in a slot is the child of that number
---     somes-row       the names in a row are the children that it was made of
+--     somes-row       the names in a row are the children that it was made of; somes, of any number of empty slots
 --     length-row      a row has 12 slots
 use Rattle.std.proofs.Common.{◌≡◌, ℕ, zero, suc, ◌+◌, ◌-◌, ◌≤◌, List, [], ◌∷◌, ◌++◌, length, get_or, map, replicate, refl, ap, ◌∙◌, arith}
 use Rattle.std.specs.Prelude.{Option, None, Some, slice_get}
@@ -23,7 +23,7 @@ rowed (c ∷ cs) n (suc i) = rowed cs n i
 pub get_or-row : (cs : List NodePtr) (i : ℕ) → get_or (row cs) i None ≡ slice_get cs i
 get_or-row cs i = rowed cs (12 - length cs) i
 
-somes : (cs : List NodePtr) (n : ℕ) → filter_map (λ c. c) (map (λ c. Some c) cs ++ replicate n None) ≡ cs
+pub somes : (cs : List NodePtr) (n : ℕ) → filter_map (λ c. c) (map (λ c. Some c) cs ++ replicate n None) ≡ cs
 somes [] zero = refl
 somes [] (suc n) = somes [] n
 somes (c ∷ cs) n = ap (λ ds. c ∷ ds) (somes cs n)

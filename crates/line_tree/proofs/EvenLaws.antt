@@ -1,0 +1,96 @@
+-- The children of a node without one of them, and those of two nodes.
+use Rattle.std.proofs.Common.{◌≡◌, ℕ, zero, suc, ◌+◌, ◌<◌, ◌≤◌, inl, inr, List, [], ◌∷◌, ◌++◌, length, take, drop, refl, sym, ap, ◌∙◌, subst, arith, length-append, length-take, length-drop}
+use Rattle.std.specs.Prelude.{IsSome, slice_get}
+use Rattle.std.specs.FinMap as finite
+use Rattle.std.specs.List.{remove}
+use Rattle.std.specs.declared.option.Option.TheVariants.{None}
+use Rattle.std.proofs.lemmas.List.{append-nil, take-append-drop}
+use Rattle.std.proofs.lemmas.List.Edits.{length-remove}
+use Rattle.std.proofs.lemmas.Option.{slice_get_past}
+use Rattle.toggle_sums.specs.Counts.{plus}
+use Rattle.raw_nodes.specs.Records.{Records}
+use Rattle.raw_nodes.specs.Rows.{kids, row}
+use Rattle.raw_nodes.specs.declared.names.NodePtr.{NodePtr}
+use Rattle.raw_nodes.proofs.RowLaws.{length-row}
+use Rattle.line_tree.specs.Changes.{Among, CanEven, CanFill, FitsSum, refilled, relinked, sum_all}
+use Rattle.line_tree.specs.Finds.{HasRow}
+use Rattle.line_tree.specs.Shape.{Links}
+use Rattle.line_tree.proofs.AmongLaws.{among-cases, among-drop, among-get, among-take}
+use Rattle.line_tree.proofs.FillLaws.{refilled-other, refilled-sum, sum_all-append, sum_all-same}
+use Rattle.line_tree.proofs.KeptLaws.{kept-row}
+use Rattle.line_tree.proofs.SumLaws.{fits-left, fits-right}
+use Rattle.line_tree.proofs.UpdateLaws.{named-refilled}
+
+pub remove-above : {X : Type 0} (xs : List X) (at i : ℕ) → at < length xs → at ≤ i → slice_get (remove xs at) i ≡ slice_get xs (i + 1)
+remove-above [] at i h above = absurd (omega arith)
+remove-above (x ∷ xs) zero i h above = let e : suc i ≡ i + 1 = omega arith in ap (slice_get (x ∷ xs)) e
+remove-above (x ∷ xs) (suc at) zero h above = absurd (omega arith)
+remove-above (x ∷ xs) (suc at) (suc i) h above = let e : suc (i + 1) ≡ suc i + 1 = omega arith in remove-above xs at i (omega arith) (omega arith) ∙ ap (slice_get (x ∷ xs)) e
+
+pub remove-past : {X : Type 0} (xs : List X) (at i : ℕ) → at < length xs → length xs ≤ i + 1 → slice_get (remove xs at) i ≡ None
+remove-past xs at i h past = let n = length-remove xs at h in slice_get_past (remove xs at) i (omega arith)
+
+pub pair-past : {X : Type 0} (xs ys : List X) (i : ℕ) → length xs + length ys ≤ i → slice_get (xs ++ ys) i ≡ None
+pair-past xs ys i past = let n = length-append xs ys in slice_get_past (xs ++ ys) i (omega arith)
+
+-- ---- children that stay
+pub kept-remove : (m : Records) (p : NodePtr) (at : ℕ) → HasRow m p → Links m p 0 (kids m p) → at < length (kids m p)
+    → relinked m p 0 (row (remove (kids m p) at)) ≡ relinked m p at (drop at (row (remove (kids m p) at)))
+kept-remove m p at has links less = let ks = kids m p in let long : length (take at ks) ≡ at = omega (arith, length-take at ks, less) in
+    kept-row m p has links (take at ks) (drop at ks) (drop (suc at) ks) (remove ks at) (sym (take-append-drop at ks)) refl ∙ ap (λ n. relinked m p n (drop n (row (remove ks at)))) long
+
+pub kept-all : (m : Records) (p : NodePtr) (n : ℕ) → HasRow m p → Links m p 0 (kids m p) → n ≡ length (kids m p) → relinked m p 0 (row (kids m p)) ≡ relinked m p n (drop n (row (kids m p)))
+kept-all m p n has links e = let ks = kids m p in
+    kept-row m p has links ks [] [] ks (sym (append-nil ks)) (sym (append-nil ks)) ∙ ap (λ i. relinked m p i (drop i (row ks))) (sym e)
+
+module _ (m : Records) (a b : NodePtr) (can : CanEven m a b) where
+  abbrev both : List NodePtr
+  both = kids m a ++ kids m b
+
+  pub named-both : (c : NodePtr) → Among c (kids m a ++ kids m b) → IsSome (finite.get m c)
+  named-both c s = elim (among-cases c (kids m a) (kids m b) s) [
+    | inl l ↦ let i = among-get c (kids m a) l in can.left.each i.0 c i.1
+    | inr r ↦ let i = among-get c (kids m b) r in can.right.each i.0 c i.1
+  ]
+
+  pub fill-whole : length (kids m a ++ kids m b) ≤ 12 → CanFill m a (kids m a ++ kids m b)
+  fill-whole few = record {
+    found = can.left.found;
+    is = can.left.is;
+    inner = can.left.inner;
+    long = ap length can.left.children ∙ length-row (kids m a) can.left.few;
+    few = few;
+    each = named-both;
+    apart = can.off_left;
+    fits = can.fits;
+  }
+
+  halves : (n : ℕ) → FitsSum (plus (sum_all m (take n both)) (sum_all m (drop n both)))
+  halves n = subst FitsSum (ap (sum_all m) (sym (take-append-drop n both)) ∙ sum_all-append m (take n both) (drop n both)) can.fits
+
+  pub fill-front : (n : ℕ) → n ≤ 12 → CanFill m a (take n (kids m a ++ kids m b))
+  fill-front n few = let l = length-take n both in record {
+    found = can.left.found;
+    is = can.left.is;
+    inner = can.left.inner;
+    long = ap length can.left.children ∙ length-row (kids m a) can.left.few;
+    few = omega arith;
+    each = λ c s. named-both c (among-take c n both s);
+    apart = λ s. can.off_left (among-take a n both s);
+    fits = fits-left (sum_all m (take n both)) (sum_all m (drop n both)) (halves n);
+  }
+
+  pub fill-back : (n : ℕ) → length (kids m a ++ kids m b) ≤ n + 12 → CanFill (refilled m a (row (take n (kids m a ++ kids m b)))) b (drop n (kids m a ++ kids m b))
+  fill-back n few =
+      let left = refilled m a (row (take n both)) in let l = length-drop n both in
+      let same = sum_all-same m left (drop n both) (λ c s. refilled-sum m a (row (take n both)) c (λ e. can.off_left (among-drop a n both (subst (λ q. Among q (drop n both)) e s)))) in
+      record {
+        found = can.right.found;
+        is = refilled-other m a (take n both) b (λ e. can.two (sym e)) (λ s. can.off_right (among-take b n both s)) ∙ can.right.is;
+        inner = can.right.inner;
+        long = ap length can.right.children ∙ length-row (kids m b) can.right.few;
+        few = omega arith;
+        each = λ c s. named-refilled m a (row (take n both)) c (named-both c (among-drop c n both s));
+        apart = λ s. can.off_right (among-drop b n both s);
+        fits = subst FitsSum (sym same) (fits-right (sum_all m (take n both)) (sum_all m (drop n both)) (halves n));
+      }

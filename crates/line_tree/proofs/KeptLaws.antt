@@ -1,0 +1,82 @@
+-- Children that stay in their slots need not be written.
+--     kept-row      the first children of a row are as they were
+use Rattle.std.proofs.Common.{◌≡◌, ℕ, zero, suc, ◌+◌, ◌-◌, inl, inr, List, [], ◌∷◌, ◌++◌, append_assoc, drop, length, map, refl, replicate, set, sym, ap, ◌∙◌, subst, arith}
+use Rattle.std.specs.Prelude.{Option, None, Some, slice_get}
+use Rattle.std.specs.FinMap as finite
+use Rattle.std.specs.FinMap.{same_map}
+use Rattle.std.proofs.lemmas.List.{map-append}
+use Rattle.std.proofs.lemmas.Option.{none-some, same_Some}
+use Rattle.raw_nodes.specs.Records.{Record, Records, update, updated, with_child, with_parent}
+use Rattle.raw_nodes.specs.Rows.{kids, row}
+use Rattle.raw_nodes.specs.declared.names.NodePtr.{NodePtr}
+use Rattle.raw_nodes.proofs.MapLaws.{get_inserted, get_other}
+use Rattle.raw_nodes.proofs.PlaceLaws.{name_antisym, name_total, same_or_other}
+use Rattle.line_tree.specs.Changes.{link_one, relinked}
+use Rattle.line_tree.specs.Finds.{HasRow}
+use Rattle.line_tree.specs.Shape.{IsLinked, Links}
+
+-- ---- one record
+insert-same : (m : Records) (p : NodePtr) (r : Record) → finite.get m p ≡ Some r → finite.insert m p r ≡ m
+insert-same m p r is = let n = finite.insert m p r in
+    same_map name_total name_antisym n m (λ q. elim (same_or_other q p) [
+      | inl e ↦ subst (λ z. finite.get n z ≡ finite.get m z) (sym e) (get_inserted m p r ∙ sym is)
+      | inr other ↦ get_other m p r q other
+    ])
+
+update-same : (m : Records) (p : NodePtr) (f : Record → Record) (r : Record) → finite.get m p ≡ Some r → f r ≡ r → update m p f ≡ m
+unfolding update
+update-same m p f r is same = ap (updated m p f) is ∙ ap (finite.insert m p) same ∙ insert-same m p r is
+
+-- ---- one child
+set-same : {X : Type 0} (xs : List X) (i : ℕ) (y : X) → slice_get xs i ≡ Some y → set xs i y ≡ xs
+set-same [] i y is = absurd (none-some y is)
+set-same (x ∷ xs) zero y is = ap (λ z. z ∷ xs) (sym (same_Some x y is))
+set-same (x ∷ xs) (suc i) y is = ap (λ zs. x ∷ zs) (set-same xs i y is)
+
+link-same : (m : Records) (p : NodePtr) (i : ℕ) (c : NodePtr) (r : Record) → finite.get m p ≡ Some r → slice_get r.children i ≡ Some (Some c) → IsLinked m p i c → link_one m p i (Some c) ≡ m
+link-same m p i c r is at l =
+    let same = set-same r.children i (Some c) at in
+    let f : Record → Record = λ x. with_child x i (Some c) in let g : Record → Record = λ x. with_parent x (Some p) i in
+    let child : f r ≡ r = λ j. record r { children = same j } in
+    let up = sym l.parent in let slot = sym l.slot in
+    let parent : g l.found ≡ l.found = λ j. record l.found { parent = up j; slot = slot j } in
+    ap (λ n. update n c g) (update-same m p f r is child) ∙ update-same m c g l.found l.is parent
+
+-- ---- several
+front-same : (m : Records) (p : NodePtr) (r : Record) → finite.get m p ≡ Some r → (i : ℕ) (cs : List NodePtr) (os : List (Option NodePtr)) → ((j : ℕ) (c : NodePtr) → slice_get cs j ≡ Some c → slice_get r.children (i + j) ≡ Some (Some c)) → Links m p i cs
+    → relinked m p i (map (λ c. Some c) cs ++ os) ≡ relinked m p (i + length cs) os
+front-same m p r is i [] os at links = let e : i ≡ i + 0 = omega arith in ap (λ k. relinked m p k os) e
+front-same m p r is i (c ∷ cs) os at links =
+    let zero_is : i + 0 ≡ i = omega arith in let here = ap (slice_get r.children) (sym zero_is) ∙ at 0 c refl in let e : suc i + length cs ≡ i + length (c ∷ cs) = omega arith in
+    ap (λ n. relinked n p (suc i) (map (λ x. Some x) cs ++ os)) (link-same m p i c r is here links.0)
+    ∙ front-same m p r is (suc i) cs os (λ j d there. let f : suc i + j ≡ i + suc j = omega arith in ap (slice_get r.children) f ∙ at (suc j) d there) links.1
+    ∙ ap (λ k. relinked m p k os) e
+
+row-get : (cs : List NodePtr) (os : List (Option NodePtr)) (j : ℕ) (c : NodePtr) → slice_get cs j ≡ Some c → slice_get (map (λ x. Some x) cs ++ os) j ≡ Some (Some c)
+row-get [] os j c is = absurd (none-some c is)
+row-get (d ∷ cs) os zero c is = ap (λ x. Some (Some x)) (same_Some d c is)
+row-get (d ∷ cs) os (suc j) c is = row-get cs os j c is
+
+front-get : (xs ys : List NodePtr) (j : ℕ) (c : NodePtr) → slice_get xs j ≡ Some c → slice_get (xs ++ ys) j ≡ Some c
+front-get [] ys j c is = absurd (none-some c is)
+front-get (x ∷ xs) ys zero c is = is
+front-get (x ∷ xs) ys (suc j) c is = front-get xs ys j c is
+
+links-front : (m : Records) (p : NodePtr) (i : ℕ) (xs ys : List NodePtr) → Links m p i (xs ++ ys) → Links m p i xs
+links-front m p i [] ys links = tt
+links-front m p i (x ∷ xs) ys links = (links.0, links-front m p (suc i) xs ys links.1)
+
+drop-front : (xs : List NodePtr) (os : List (Option NodePtr)) → drop (length xs) (map (λ x. Some x) xs ++ os) ≡ os
+drop-front [] os = refl
+drop-front (x ∷ xs) os = drop-front xs os
+
+pub kept-row : (m : Records) (p : NodePtr) → HasRow m p → Links m p 0 (kids m p) → (front behind rest all : List NodePtr) → kids m p ≡ front ++ behind → all ≡ front ++ rest
+    → relinked m p 0 (row all) ≡ relinked m p (length front) (drop (length front) (row all))
+kept-row m p has links front behind rest all was now =
+    let empty = replicate {A = Option NodePtr} (12 - length all) None in let os = map (λ c. Some c) rest ++ empty in
+    let parts : row all ≡ map (λ c. Some c) front ++ os = ap (λ cs. map (λ c. Some c) cs ++ empty) now ∙ ap (λ ds. ds ++ empty) (map-append (λ c. Some c) front rest) ∙ append_assoc (map (λ c. Some c) front) (map (λ c. Some c) rest) empty in
+    let at : (j : ℕ) (c : NodePtr) → slice_get front j ≡ Some c → slice_get has.found.children (0 + j) ≡ Some (Some c) = λ j c is. let e : 0 + j ≡ j = omega arith in
+    ap (slice_get has.found.children) e ∙ ap (λ ds. slice_get ds j) has.children ∙ row-get (kids m p) (replicate (12 - length (kids m p)) None) j c (ap (λ cs. slice_get cs j) was ∙ front-get front behind j c is) in
+    let z : 0 + length front ≡ length front = omega arith in
+    ap (relinked m p 0) parts ∙ front-same m p has.found has.is 0 front os at (links-front m p 0 front behind (subst (Links m p 0) was links)) ∙ ap (λ k. relinked m p k os) z
+    ∙ ap (relinked m p (length front)) (sym (ap (drop (length front)) parts ∙ drop-front front os))

@@ -1,0 +1,108 @@
+-- One more child for a node, with room and without.
+use Rattle.std.proofs.Common.{◌≡◌, ℕ, zero, suc, ◌-◌, ◌≤◌, inl, inr, List, [], ◌∷◌, ◌++◌, length, take, drop, map, replicate, cond, refl, sym, ap, ◌∙◌, subst, arith, length-drop, length-take}
+use Rattle.std.specs.Prelude.{◌≢◌, IfSome, IsSome, is_some}
+use Rattle.std.specs.FinMap as finite
+use Rattle.std.specs.List.{count_by, insert}
+use Rattle.std.specs.declared.option.Option.{Option}
+use Rattle.std.specs.declared.option.Option.TheVariants.{None, Some}
+use Rattle.std.proofs.lemmas.List.{take-append-drop}
+use Rattle.std.proofs.lemmas.List.Sums.{sum_by-cons}
+use Rattle.std.proofs.lemmas.Option.{none-some}
+use Rattle.toggle_sums.specs.Counts.{plus}
+use Rattle.raw_nodes.specs.Records.{Records, blank}
+use Rattle.raw_nodes.specs.Rows.{kids, row}
+use Rattle.raw_nodes.specs.declared.names.NodePtr.{NodePtr}
+use Rattle.raw_nodes.proofs.MapLaws.{at_some, get_inserted, get_other, kept_insert, some_of}
+use Rattle.raw_nodes.proofs.RowLaws.{length-row}
+use Rattle.line_tree.specs.Changes.{Among, CanFill, CanPut, FitsSum, refilled, relinked, sum_all}
+use Rattle.line_tree.specs.Finds.{HasRow}
+use Rattle.line_tree.specs.Shape.{sum_at, sum_of}
+use Rattle.line_tree.proofs.AmongLaws.{among-drop, among-get, among-insert, among-take}
+use Rattle.line_tree.proofs.FillLaws.{refilled-other, refilled-sum, sum_all-append, sum_all-same}
+use Rattle.line_tree.proofs.KeptLaws.{kept-row}
+use Rattle.line_tree.proofs.SumLaws.{fits-left, fits-right}
+use Rattle.line_tree.proofs.UpdateLaws.{named-refilled}
+
+-- ---- how many
+count-none : (n : ℕ) → count_by is_some (replicate {A = Option NodePtr} n None) ≡ 0
+count-none zero = refl
+count-none (suc n) = let s = sum_by-cons (λ (o : Option NodePtr). cond (is_some o) 1 0) None (replicate {A = Option NodePtr} n None) in let r = count-none n in omega arith
+
+count-somes : (cs : List NodePtr) (n : ℕ) → count_by is_some (map (λ c. Some c) cs ++ replicate {A = Option NodePtr} n None) ≡ length cs
+count-somes [] n = count-none n
+count-somes (c ∷ cs) n =
+    let s = sum_by-cons (λ (o : Option NodePtr). cond (is_some o) 1 0) (Some c) (map (λ c. Some c) cs ++ replicate {A = Option NodePtr} n None) in let r = count-somes cs n in omega arith
+
+pub count-row : (m : Records) (p : NodePtr) (n : ℕ) → HasRow m p → IfSome (finite.get m p) (λ r. n ≡ count_by is_some r.children) → n ≡ length (kids m p)
+count-row m p n has says =
+    at_some (finite.get m p) (λ r. n ≡ count_by is_some r.children) has.found says has.is ∙ ap (count_by is_some) has.children ∙ count-somes (kids m p) (12 - length (kids m p))
+
+-- ---- the parts fit
+module _ (m : Records) (p : NodePtr) (at : ℕ) (x : NodePtr) (can : CanPut m p at x) where
+  long : length can.row.found.children ≡ 12
+  long = ap length can.row.children ∙ length-row (kids m p) can.row.few
+
+  pub named-all : (c : NodePtr) → Among c (insert (kids m p) at x) → IsSome (finite.get m c)
+  named-all c a = elim (among-insert c (kids m p) at x a) [
+    | inl old ↦ let i = among-get c (kids m p) old in can.row.each i.0 c i.1
+    | inr new ↦ subst (λ q. IsSome (finite.get m q)) (sym new) can.named
+  ]
+
+  pub fill-room : length (insert (kids m p) at x) ≤ 12 → CanFill m p (insert (kids m p) at x)
+  fill-room few = record { found = can.row.found; is = can.row.is; inner = can.row.inner; long = long; few = few; each = named-all; apart = can.apart; fits = can.fits }
+
+  -- the children before the new one stay
+  pub kept-put : relinked m p 0 (row (insert (kids m p) at x)) ≡ relinked m p at (drop at (row (insert (kids m p) at x)))
+  kept-put = let ks = kids m p in let long : length (take at ks) ≡ at = omega (arith, length-take at ks, can.place) in
+      kept-row m p can.row can.links (take at ks) (drop at ks) (x ∷ drop at ks) (insert ks at x) (sym (take-append-drop at ks)) refl ∙ ap (λ n. relinked m p n (drop n (row (insert ks at x)))) long
+
+  module _ (s : NodePtr) (fresh : finite.get m s ≡ None) where
+    not-new : (c : NodePtr) → IsSome (finite.get m c) → c ≢ s
+    not-new c named e = let r = some_of (finite.get m c) named in none-some r.0 (sym fresh ∙ ap (finite.get m) (sym e) ∙ r.1)
+
+    pub not-old : Among s (insert (kids m p) at x) → ⊥
+    not-old a = not-new s (named-all s a) refl
+
+    p-not-new : p ≢ s
+    p-not-new e = none-some can.row.found (sym fresh ∙ ap (finite.get m) (sym e) ∙ can.row.is)
+
+    made : Records
+    made = finite.insert m s (blank None)
+
+    both : FitsSum (plus (sum_all m (take 6 (insert (kids m p) at x))) (sum_all m (drop 6 (insert (kids m p) at x))))
+    both = subst FitsSum (ap (sum_all m) (sym (take-append-drop 6 (insert (kids m p) at x))) ∙ sum_all-append m (take 6 (insert (kids m p) at x)) (drop 6 (insert (kids m p) at x))) can.fits
+
+    sum-made : (c : NodePtr) → IsSome (finite.get m c) → sum_at made c ≡ sum_at m c
+    unfolding made
+    sum-made c named = ap sum_of (get_other m s (blank None) c (not-new c named))
+
+    pub fill-left : CanFill (finite.insert m s (blank None)) p (take 6 (insert (kids m p) at x))
+    unfolding made
+    fill-left = let all = insert (kids m p) at x in let n = length-take 6 all in
+        let same = sum_all-same m (finite.insert m s (blank None)) (take 6 all) (λ c a. sum-made c (named-all c (among-take c 6 all a))) in
+        record {
+          found = can.row.found;
+          is = get_other m s (blank None) p p-not-new ∙ can.row.is;
+          inner = can.row.inner;
+          long = long;
+          few = omega arith;
+          each = λ c a. kept_insert m s (blank None) c (named-all c (among-take c 6 all a));
+          apart = λ a. can.apart (among-take p 6 all a);
+          fits = subst FitsSum (sym same) (fits-left (sum_all m (take 6 all)) (sum_all m (drop 6 all)) both);
+        }
+
+    pub fill-right : length (insert (kids m p) at x) ≤ 13 → CanFill (refilled (finite.insert m s (blank None)) p (row (take 6 (insert (kids m p) at x)))) s (drop 6 (insert (kids m p) at x))
+    unfolding made
+    fill-right few = let all = insert (kids m p) at x in let n = length-drop 6 all in let left = finite.insert m s (blank None) in
+        let same = sum_all-same m (refilled left p (row (take 6 all))) (drop 6 all) (λ c a.
+        refilled-sum left p (row (take 6 all)) c (λ e. can.apart (among-drop p 6 all (subst (λ q. Among q (drop 6 all)) e a))) ∙ sum-made c (named-all c (among-drop c 6 all a))) in
+        record {
+          found = blank None;
+          inner = refl;
+          is = refilled-other left p (take 6 all) s (λ e. p-not-new (sym e)) (λ a. not-old (among-take s 6 all a)) ∙ get_inserted m s (blank None);
+          long = refl;
+          few = omega arith;
+          each = λ c a. named-refilled left p (row (take 6 all)) c (kept_insert m s (blank None) c (named-all c (among-drop c 6 all a)));
+          apart = λ a. not-old (among-drop s 6 all a);
+          fits = subst FitsSum (sym same) (fits-right (sum_all m (take 6 all)) (sum_all m (drop 6 all)) both);
+        }

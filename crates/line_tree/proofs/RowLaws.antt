@@ -1,0 +1,51 @@
+-- The children of a record as a list.
+use Rattle.std.proofs.Common.{◌≡◌, ℕ, zero, suc, ◌+◌, ◌<◌, ◌≤◌, List, [], ◌∷◌, length, get_or, take, drop, refl, sym, ap, ◌∙◌, arith}
+use Rattle.std.specs.Prelude.{IfSome, IsSome, slice_get}
+use Rattle.std.specs.FinMap as finite
+use Rattle.std.specs.List.{sum_by}
+use Rattle.std.specs.declared.option.Option.{Option}
+use Rattle.std.specs.declared.option.Option.TheVariants.{None, Some}
+use Rattle.std.proofs.lemmas.List.{take_more, take_all, at_drop_more}
+use Rattle.std.proofs.lemmas.List.Sums.{sum_by_push}
+use Rattle.std.proofs.lemmas.Option.{none-some, slice_get_within, get_or_from_slice_get}
+use Rattle.toggle_sums.specs.Counts.{Count, plus}
+use Rattle.raw_nodes.specs.Records.{Records}
+use Rattle.raw_nodes.specs.Rows.{kids, row}
+use Rattle.raw_nodes.specs.declared.names.NodePtr.{NodePtr}
+use Rattle.raw_nodes.proofs.MapLaws.{at_some, some_of}
+use Rattle.raw_nodes.proofs.RowLaws.{get_or-row, length-row}
+use Rattle.line_tree.specs.Changes.{sum_or_none, sums}
+use Rattle.line_tree.specs.Finds.{HasRow}
+use Rattle.line_tree.specs.Shape.{sum_at, sum_of}
+
+-- ---- what a call answers of a row
+pub child_is : (m : Records) (p : NodePtr) → HasRow m p → (o : Option NodePtr) (i : ℕ) → IfSome (finite.get m p) (λ r. o ≡ get_or r.children i None) → o ≡ slice_get (kids m p) i
+child_is m p has o i says =
+    at_some (finite.get m p) (λ r. o ≡ get_or r.children i None) has.found says has.is ∙ ap (λ xs. get_or xs i None) has.children ∙ get_or-row (kids m p) i
+
+pub sum_is : (m : Records) (q : NodePtr) (s : Count) → IsSome (finite.get m q) → IfSome (finite.get m q) (λ r. s ≡ r.sum) → s ≡ sum_at m q
+sum_is m q s named says = let r = some_of (finite.get m q) named in
+    at_some (finite.get m q) (λ x. s ≡ x.sum) r.0 says r.1 ∙ ap sum_of (sym r.1)
+
+-- ---- a step over the children
+pub step_yes : (f : NodePtr → ℕ) (cs : List NodePtr) (i : ℕ) (c : NodePtr) → slice_get cs i ≡ Some c → sum_by f (take (i + 1) cs) ≡ sum_by f (take i cs) + f c
+step_yes f cs i c is =
+    ap (sum_by f) (take_more cs i c (slice_get_within cs i c is)) ∙ sum_by_push f (take i cs) (get_or cs i c) ∙ ap (λ x. sum_by f (take i cs) + f x) (get_or_from_slice_get cs i c c is)
+
+past : (cs : List NodePtr) (i : ℕ) → slice_get cs i ≡ None → length cs ≤ i
+past [] i is = omega arith
+past (c ∷ cs) zero is = absurd (none-some c (sym is))
+past (c ∷ cs) (suc i) is = let r = past cs i is in omega arith
+
+pub step_no : (f : NodePtr → ℕ) (cs : List NodePtr) (i : ℕ) → slice_get cs i ≡ None → sum_by f (take (i + 1) cs) ≡ sum_by f (take i cs)
+step_no f cs i is = let p = past cs i is in let q : length cs ≤ i + 1 = omega arith in
+    ap (sum_by f) (take_all (i + 1) cs q ∙ sym (take_all i cs p))
+
+pub none_of : {X : Type 0} (o : Option X) → ((x : X) → o ≡ Some x → ⊥) → o ≡ None
+none_of None not = refl
+none_of (Some x) not = absurd (not x refl)
+
+-- ---- sums of a row
+pub sums-step : (m : Records) (cs : List NodePtr) (i : ℕ) → length cs ≤ 12 → i < 12 → sums m (drop i (row cs)) ≡ plus (sum_or_none m (slice_get cs i)) (sums m (drop (i + 1) (row cs)))
+sums-step m cs i few less = let l = length-row cs few in let within : i < length (row cs) = omega arith in
+    at_drop_more (sums m) (row cs) i None within ∙ ap (λ o. plus (sum_or_none m o) (sums m (drop (i + 1) (row cs)))) (get_or-row cs i)

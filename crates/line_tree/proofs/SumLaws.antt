@@ -1,0 +1,25 @@
+-- Sums.
+--     total-append            the sum of two lists of lines
+--     fits-left, fits-right   each of two parts fits where the sum does
+--     fits-both               two parts can be added where the sum fits
+use Rattle.std.proofs.Common.{◌≡◌, List, [], ◌∷◌, ◌++◌, sym, ap, ◌∙◌, arith}
+use Rattle.toggle_sums.specs.CountLaws.{no_text-plus, plus-associative}
+use Rattle.toggle_sums.specs.Counts.{Count, CountsFit, plus}
+use Rattle.segments.specs.Columns.{line_count}
+use Rattle.line_tree.specs.Changes.{FitsSum}
+use Rattle.line_tree.specs.Trees.{Named, total}
+
+pub total-append : (xs ys : List Named) → total (xs ++ ys) ≡ plus (total xs) (total ys)
+total-append [] ys = sym (no_text-plus (total ys))
+total-append (x ∷ xs) ys = ap (plus (line_count x.1)) (total-append xs ys) ∙ sym (plus-associative (line_count x.1) (total xs) (total ys))
+
+pub fits-left : (a b : Count) → FitsSum (plus a b) → FitsSum a
+fits-left a b fits = let l = fits.lines in let c = fits.characters in let m = fits.marks in
+    record { lines = omega (arith, l); characters = omega (arith, c); marks = omega (arith, m) }
+
+pub fits-right : (a b : Count) → FitsSum (plus a b) → FitsSum b
+fits-right a b fits = let l = fits.lines in let c = fits.characters in let m = fits.marks in
+    record { lines = omega (arith, l); characters = omega (arith, c); marks = omega (arith, m) }
+
+pub fits-both : (a b : Count) → FitsSum (plus a b) → CountsFit a b
+fits-both a b fits = record { lines = fits.lines; characters = fits.characters; marks = fits.marks }

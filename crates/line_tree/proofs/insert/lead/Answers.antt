@@ -1,0 +1,11 @@
+use Rattle.std.proofs.Common.{refl, sym, ◌∙◌, subst}
+use Rattle.std.specs.Prelude.{IsSome}
+use Rattle.std.proofs.lemmas.Option.{slice_get-get_or}
+use Rattle.raw_nodes.specs.Names.{records}
+use Rattle.raw_nodes.specs.Rows.{kids}
+use Rattle.line_tree.proofs.RowLaws.{child_is}
+use Rattle.line_tree.proofs.insert.lead.Goals as goal
+
+pub unwrap-child-requires : goal.unwrap-child-requires
+unwrap-child-requires g c = let m = records c.args.store.now in let cs = kids m c.args.node in
+    subst (λ o. IsSome o) (sym (child_is m c.args.node c.requires.row c.child.result 0 c.child.ensures.value ∙ slice_get-get_or cs 0 c.args.node c.requires.some)) refl

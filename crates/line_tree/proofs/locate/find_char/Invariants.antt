@@ -1,0 +1,14 @@
+use Rattle.std.proofs.Common.{◌≡◌, ◌+◌, ◌*◌, ◌≤◌, take}
+use Rattle.std.specs.List.{sum_by}
+use Rattle.raw_nodes.specs.Names.{records}
+use Rattle.raw_nodes.specs.Rows.{kids}
+use Rattle.line_tree.specs.Locating.{characters_at}
+use Rattle.line_tree.specs.Shape.{lines_at}
+use Rattle.line_tree.proofs.locate.find_char.Given as goal
+
+abbrev pub invariant-loop-slot : goal.invariant-loop-slot
+invariant-loop-slot g l = record {
+  place : sum_by (characters_at (records l.store)) (take l.slot (kids (records l.store) l.node)) + l.rest ≡ l.offset;
+  lines : l.lines ≡ sum_by (lines_at (records l.store)) (take l.slot (kids (records l.store) l.node));
+  ticks : g.C.Ticks.count l.ticks ≤ g.C.Ticks.count l.fn.ticks + 2 * l.slot;
+}

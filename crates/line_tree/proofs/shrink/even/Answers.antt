@@ -1,0 +1,57 @@
+use Rattle.std.proofs.Common.{◌≡◌, ◌+◌, ◌-◌, ◌/◌, ◌≤◌, ◌++◌, ℕ, List, length, take, drop, refl, sym, ap, subst, ◌∙◌, arith, length-append, length-drop}
+use Rattle.std.proofs.lemmas.List.{take_all}
+use Rattle.raw_nodes.specs.Names.{records}
+use Rattle.raw_nodes.specs.Rows.{kids, row}
+use Rattle.raw_nodes.specs.declared.names.NodePtr.{NodePtr}
+use Rattle.line_tree.specs.Changes.{CanFill, refilled}
+use Rattle.line_tree.proofs.EvenLaws.{fill-back, fill-front, fill-whole}
+use Rattle.line_tree.proofs.PutLaws.{count-row}
+use Rattle.line_tree.proofs.shrink.even.Goals as goal
+
+whole : (all : List NodePtr) → length all ≤ 12 → row (take 12 (drop 0 all)) ≡ row all
+whole all few = ap row (take_all 12 all few)
+
+rest : (all : List NodePtr) (half count : ℕ) → length all ≤ half + count → row (take count (drop half all)) ≡ row (drop half all)
+rest all half count few = let n = length-drop half all in let h : length (drop half all) ≤ count = omega arith in ap row (take_all count (drop half all) h)
+
+pub refill-requires : goal.refill-requires
+refill-requires g c = let m = records c.args.store.now in let a = c.args.left in let b = c.args.right in let all = kids m a ++ kids m b in let n = length-append (kids m a) (kids m b) in
+    let na = count-row m a c.children.result c.requires.left c.children.ensures in let nb = count-row m b c.children-2.result c.requires.right c.children-2.ensures in
+    let few : length all ≤ 12 = omega (arith, c.if-count-le12.true) in
+    record { fill = (all, c.part_pair-all.ensures ∙ whole all few, fill-whole m a b c.requires few); from = omega arith; kept = refl }
+
+pub refill-requires-else-count-le12 : goal.refill-requires-else-count-le12
+refill-requires-else-count-le12 g c = let m = records c.args.store.now in let a = c.args.left in let b = c.args.right in let all = kids m a ++ kids m b in let n = length-append (kids m a) (kids m b) in
+    let na = count-row m a c.children.result c.requires.left c.children.ensures in let nb = count-row m b c.children-2.result c.requires.right c.children-2.ensures in
+    let half = (c.children.result + c.children-2.result) / 2 in let small : half ≤ 12 = omega (arith, c.requires.left.few, c.requires.right.few) in
+    record { fill = (take half all, c.part_pair-front.ensures, fill-front m a b c.requires half small); from = omega arith; kept = refl }
+
+pub refill-requires-else-count-le12-2 : goal.refill-requires-else-count-le12-2
+refill-requires-else-count-le12-2 g c = let m = records c.args.store.now in let a = c.args.left in let b = c.args.right in let all = kids m a ++ kids m b in let n = length-append (kids m a) (kids m b) in
+    let na = count-row m a c.children.result c.requires.left c.children.ensures in let nb = count-row m b c.children-2.result c.requires.right c.children-2.ensures in
+    let half = (c.children.result + c.children-2.result) / 2 in let count = (c.children.result + c.children-2.result) - half in
+    let few : length all ≤ half + 12 = omega (arith, c.requires.left.few, c.requires.right.few) in let end : length all ≤ half + count = omega arith in
+    let now = c.refill-else-count-le12.ensures.records ∙ ap (refilled m a) c.part_pair-front.ensures in
+    record { fill = (drop half all, c.part_pair-back.ensures ∙ rest all half count end, subst (λ x. CanFill x b (drop half all)) (sym now) (fill-back m a b c.requires half few)); from = omega arith; kept = refl }
+
+pub returns-then-count-le12-clause-evens : goal.returns-then-count-le12-clause-evens
+returns-then-count-le12-clause-evens g c = let m = records c.args.store.now in let a = c.args.left in let b = c.args.right in let all = kids m a ++ kids m b in let n = length-append (kids m a) (kids m b) in
+    let na = count-row m a c.children.result c.requires.left c.children.ensures in let nb = count-row m b c.children-2.result c.requires.right c.children-2.ensures in
+    let few : length all ≤ 12 = omega (arith, c.if-count-le12.true) in
+    record { few = few; same = c.refill.ensures.records ∙ ap (refilled m a) (c.part_pair-all.ensures ∙ whole all few) }
+
+pub returns-else-count-le12-clause-evens : goal.returns-else-count-le12-clause-evens
+returns-else-count-le12-clause-evens g c = let m = records c.args.store.now in let a = c.args.left in let b = c.args.right in let all = kids m a ++ kids m b in let n = length-append (kids m a) (kids m b) in
+    let na = count-row m a c.children.result c.requires.left c.children.ensures in let nb = count-row m b c.children-2.result c.requires.right c.children-2.ensures in
+    let half = (c.children.result + c.children-2.result) / 2 in let count = (c.children.result + c.children-2.result) - half in
+    let end : length all ≤ half + count = omega arith in
+    record {
+      half = half;
+      many = omega (arith, c.if-count-le12.false);
+      low = omega (arith, c.if-count-le12.false);
+      high = omega (arith, c.requires.left.few, c.requires.right.few);
+      rest_low = omega (arith, c.if-count-le12.false);
+      rest_high = omega (arith, c.requires.left.few, c.requires.right.few);
+      same = c.refill-else-count-le12-2.ensures.records ∙ ap (λ x. refilled x b c.part_pair-back.result) (c.refill-else-count-le12.ensures.records ∙ ap (refilled m a) c.part_pair-front.ensures)
+          ∙ ap (refilled (refilled m a (row (take half all))) b) (c.part_pair-back.ensures ∙ rest all half count end);
+    }

@@ -1,0 +1,11 @@
+use Rattle.std.proofs.Common.{◌≤◌, ◌++◌, length, take, drop, arith, length-take}
+use Rattle.raw_nodes.specs.Names.{records}
+use Rattle.raw_nodes.specs.Rows.{kids}
+use Rattle.line_tree.proofs.FillLaws.{same_row}
+use Rattle.line_tree.proofs.shrink.part_pair.Goals as goal
+
+pub returns : goal.returns
+returns g c = let m = records c.args.store.now in
+    let all = drop c.args.from (kids m c.args.left ++ kids m c.args.right) in
+    let few : length (take c.args.count all) ≤ 12 = omega (arith, length-take c.args.count all, c.requires.count) in
+    same_row c.loop-i.part (take c.args.count all) few c.loop-i.invariant.long (λ k less. c.loop-i.invariant.items k (omega (arith, c.loop-i-test.false)))

@@ -1,0 +1,82 @@
+use Rattle.std.proofs.Common.{◌≡◌, ◌≤◌, ◌+◌, suc, length, ap, sym, ◌∙◌, subst, arith, Some, [], ◌∷◌}
+use Rattle.std.specs.List.{insert}
+use Rattle.toggle_sums.specs.Counts.{plus}
+use Rattle.segments.specs.Columns.{line_count}
+use Rattle.raw_nodes.specs.Names.{records}
+use Rattle.line_tree.specs.Changes.{FitsSum}
+use Rattle.line_tree.specs.Growth.{Inserts, StandsAlone}
+use Rattle.line_tree.specs.Shape.{lines_in}
+use Rattle.line_tree.specs.Trees.{total}
+use Rattle.line_tree.proofs.RoomLaws.{len-line, len-root}
+use Rattle.line_tree.proofs.RootLaws.{can-insert, can-root, fits-now, new-root, new-root-alone, same-root, same-root-alone}
+use Rattle.line_tree.proofs.RowLaws.{none_of}
+use Rattle.line_tree.proofs.TreeLaws.{named-tree}
+use Rattle.line_tree.proofs.tree.LineTree.insert.Goals as goal
+
+pub insert_in-requires-clause-insert : goal.insert_in-requires-clause-insert
+insert_in-requires-clause-insert g c = let m = records c.self.inside.store in let h = c.self.inside.height in let r = c.self.inside.root in
+    let same = sym (ap (λ v. v.lines) c.self.view_is) in
+    can-insert m (records c.new_line-name.new.store) c.new_line-name.result c.args.line c.new_line-name.ensures.line h r c.args.k c.self.invariant.stands
+    (subst (λ ls. c.args.k ≤ length ls) same c.requires.place) (subst (λ ls. FitsSum (plus (total ls) (line_count c.args.line))) same c.requires.fits)
+
+pub join-self-inside-requires-clause-right : goal.join-self-inside-requires-clause-right
+join-self-inside-requires-clause-right g c = let l = records c.insert_in.new.store in let h = c.self.inside.height in
+    let ins = subst (λ o. Inserts (records c.new_line-name.new.store) l h c.self.inside.root c.args.k c.new_line-name.result o) c.in-Some.is c.insert_in.ensures.inserts in
+    named-tree l h c.in-Some.sibling ins.grows.holds.1.0
+
+pub join-self-inside-requires-clause-fits : goal.join-self-inside-requires-clause-fits
+join-self-inside-requires-clause-fits g c = let m = records c.self.inside.store in let n = records c.new_line-name.new.store in let l = records c.insert_in.new.store in let h = c.self.inside.height in let r = c.self.inside.root in
+    let ins = subst (λ o. Inserts n l h r c.args.k c.new_line-name.result o) c.in-Some.is c.insert_in.ensures.inserts in
+    can-root l h r c.in-Some.sibling ins.grows.holds
+    (fits-now m n l c.new_line-name.result c.args.line c.new_line-name.ensures.line h r c.args.k c.self.invariant.stands (Some c.in-Some.sibling) ins
+    (subst (λ ls. FitsSum (plus (total ls) (line_count c.args.line))) (sym (ap (λ v. v.lines) c.self.view_is)) c.requires.fits))
+
+pub invariant_of-self : goal.invariant_of-self
+invariant_of-self g c = let m = records c.self.inside.store in let n = records c.new_line-name.new.store in let l = records c.insert_in.new.store in let h = c.self.inside.height in let r = c.self.inside.root in
+    let ins = subst (λ o. Inserts n l h r c.args.k c.new_line-name.result o) c.in-Some.is c.insert_in.ensures.inserts in
+    let e : suc h ≡ h + 1 = omega arith in
+    subst (λ j. StandsAlone (records c.join-self-inside.new.store) j c.join-self-inside.result) e
+    (new-root-alone m n l (records c.join-self-inside.new.store) c.new_line-name.result c.args.line c.new_line-name.ensures.line h r c.args.k c.self.invariant c.in-Some.sibling ins
+    (subst (λ ls. FitsSum (plus (total ls) (line_count c.args.line))) (sym (ap (λ v. v.lines) c.self.view_is)) c.requires.fits) c.join-self-inside.result c.join-self-inside.ensures.root)
+
+pub invariant_of-self-in_default : goal.invariant_of-self-in_default
+invariant_of-self-in_default g c = let m = records c.self.inside.store in let n = records c.new_line-name.new.store in let l = records c.insert_in.new.store in let h = c.self.inside.height in let r = c.self.inside.root in
+    let ins = subst (λ o. Inserts n l h r c.args.k c.new_line-name.result o) (none_of c.insert_in.result c.in_default.not-Some) c.insert_in.ensures.inserts in
+    same-root-alone m n l c.new_line-name.result c.args.line c.new_line-name.ensures.line h r c.args.k c.self.invariant ins
+    (subst (λ ls. FitsSum (plus (total ls) (line_count c.args.line))) (sym (ap (λ v. v.lines) c.self.view_is)) c.requires.fits)
+
+pub returns-in-Some-clause-lines : goal.returns-in-Some-clause-lines
+returns-in-Some-clause-lines g c = let m = records c.self.inside.store in let n = records c.new_line-name.new.store in let l = records c.insert_in.new.store in let h = c.self.inside.height in let r = c.self.inside.root in
+    let ins = subst (λ o. Inserts n l h r c.args.k c.new_line-name.result o) c.in-Some.is c.insert_in.ensures.inserts in
+    let e : suc h ≡ h + 1 = omega arith in
+    ap (λ j. lines_in (records c.join-self-inside.new.store) j c.join-self-inside.result) (sym e)
+    ∙ (new-root m n l (records c.join-self-inside.new.store) c.new_line-name.result c.args.line c.new_line-name.ensures.line h r c.args.k c.self.invariant.stands c.in-Some.sibling ins
+    (subst (λ ls. FitsSum (plus (total ls) (line_count c.args.line))) (sym (ap (λ v. v.lines) c.self.view_is)) c.requires.fits) c.join-self-inside.result c.join-self-inside.ensures.root).1
+    ∙ ap (λ ls. insert ls c.args.k (c.new_line-name.result, c.args.line)) (ap (λ v. v.lines) c.self.view_is)
+
+pub returns-in_default-clause-lines : goal.returns-in_default-clause-lines
+returns-in_default-clause-lines g c = let m = records c.self.inside.store in let n = records c.new_line-name.new.store in let l = records c.insert_in.new.store in let h = c.self.inside.height in let r = c.self.inside.root in
+    let ins = subst (λ o. Inserts n l h r c.args.k c.new_line-name.result o) (none_of c.insert_in.result c.in_default.not-Some) c.insert_in.ensures.inserts in
+    (same-root m n l c.new_line-name.result c.args.line c.new_line-name.ensures.line h r c.args.k c.self.invariant.stands ins
+    (subst (λ ls. FitsSum (plus (total ls) (line_count c.args.line))) (sym (ap (λ v. v.lines) c.self.view_is)) c.requires.fits)).1
+    ∙ ap (λ ls. insert ls c.args.k (c.new_line-name.result, c.args.line)) (ap (λ v. v.lines) c.self.view_is)
+
+pub returns-in-Some-clause-nodes : goal.returns-in-Some-clause-nodes
+returns-in-Some-clause-nodes g c = let m = records c.self.inside.store in let n = records c.new_line-name.new.store in let l = records c.insert_in.new.store in
+    let a = len-line m n c.new_line-name.result c.args.line c.new_line-name.ensures.line in let b = len-root l (records c.join-self-inside.new.store) c.join-self-inside.result (c.self.inside.root ∷ c.in-Some.sibling ∷ []) c.join-self-inside.ensures.root in
+    let s1 = c.new_line-name.ensures.spares in let s2 = c.insert_in.ensures.count in let s3 = c.join-self-inside.ensures.spares in let v = ap (λ z. z.nodes) c.self.view_is in omega arith
+
+pub returns-in_default-clause-nodes : goal.returns-in_default-clause-nodes
+returns-in_default-clause-nodes g c = let m = records c.self.inside.store in let n = records c.new_line-name.new.store in
+    let a = len-line m n c.new_line-name.result c.args.line c.new_line-name.ensures.line in
+    let s1 = c.new_line-name.ensures.spares in let s2 = c.insert_in.ensures.count in let v = ap (λ z. z.nodes) c.self.view_is in omega arith
+
+pub returns-in-Some-clause-rooms : goal.returns-in-Some-clause-rooms
+returns-in-Some-clause-rooms g c =
+    let s1 = c.new_line-name.ensures.spares in let s3 = c.join-self-inside.ensures.spares in let v = ap (λ z. z.spares) c.self.view_is in
+    let r1 = c.new_line-name.ensures.rooms in let r2 = c.insert_in.ensures.rooms in let r3 = c.join-self-inside.ensures.rooms in let w = ap (λ z. z.rooms) c.self.view_is in omega arith
+
+pub returns-in_default-clause-rooms : goal.returns-in_default-clause-rooms
+returns-in_default-clause-rooms g c =
+    let s1 = c.new_line-name.ensures.spares in let v = ap (λ z. z.spares) c.self.view_is in
+    let r1 = c.new_line-name.ensures.rooms in let r2 = c.insert_in.ensures.rooms in let w = ap (λ z. z.rooms) c.self.view_is in omega arith

@@ -1,0 +1,52 @@
+ghost use Rattle.std.specs.Prelude.{◌≡◌, ℕ, ◌+◌, ◌*◌, ◌^◌, ◌≤◌, ◌<◌, length};
+ghost use Rattle.raw_nodes.specs.Names.{records};
+ghost use Rattle.line_tree.specs.Shape.{IsTree, lines_in};
+ghost use Rattle.raw_nodes.specs.Rows.{kids};
+ghost use Rattle.line_tree.specs.Finds.{HasRow};
+ghost use Rattle.line_tree.specs.Places.{IsLineAt, lines_before};
+
+use raw_nodes::{NodePtr, NodeStore, Ticks};
+
+/// How many lines the first `slot` children have.
+pub fn before<C: Ticks>(store: &NodeStore<C>, node: NodePtr, slot: usize, ticks: &mut C) -> usize
+    requires row { HasRow (records store.now) node }
+    requires within { slot ≤ length (kids (records store.now) node) }
+    requires fits { lines_before (records store.now) node slot < 2 ^ 64 }
+    ensures value { result ≡ lines_before (records store.now) node slot }
+    ensures ticks { C.count ticks.new ≤ C.count ticks.old + 2 * slot }
+{
+    let mut lines = 0;
+    for i in 0..slot {
+        if let Some(child) = store.child(node, i, ticks) {
+            lines += store.sum(child, ticks).lines();
+        }
+    }
+    lines
+}
+
+/// The number of the line with a name.
+pub fn rank<C: Ticks>(
+    store: &NodeStore<C>,
+    root: NodePtr,
+    height: usize,
+    name: NodePtr,
+    ticks: &mut C,
+) -> usize
+    requires tree { IsTree (records store.now) height root }
+    requires fits { length (lines_in (records store.now) height root) < 2 ^ 64 }
+    requires named { (k : ℕ) × IsLineAt (lines_in (records store.now) height root) k name }
+    ensures value { (k : ℕ) → IsLineAt (lines_in (records store.now) height root) k name → result ≡ k }
+    ensures ticks { C.count ticks.new ≤ C.count ticks.old + 23 * height }
+{
+    let mut at = name;
+    let mut rank = 0;
+    for _ in 0..height {
+        let Some(up) = store.parent(at, ticks) else {
+            return rank;
+        };
+        let slot = store.slot(at);
+        rank += before(store, up, slot, ticks);
+        at = up;
+    }
+    rank
+}

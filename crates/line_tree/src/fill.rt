@@ -1,0 +1,228 @@
+ghost use Rattle.std.specs.Prelude.{◌≡◌, ℕ, ◌+◌, ◌*◌, ◌^◌, ◌≤◌, ◌<◌, length, slice_get, take, drop, option_to_list, [], ◌∷◌};
+ghost use Rattle.std.specs.List.{insert};
+ghost use Rattle.raw_nodes.specs.Names.{IsInner, IsName, records, rooms, spares};
+ghost use Rattle.raw_nodes.specs.Rows.{kids, row};
+ghost use Rattle.toggle_sums.specs.Counts.{plus};
+ghost use Rattle.line_tree.specs.Finds.{HasRow};
+ghost use Rattle.line_tree.specs.Shape.{sum_at};
+ghost use Rattle.line_tree.specs.Growth.{NewRoot};
+ghost use Rattle.line_tree.specs.Changes.{CanFill, CanPut, FitsSum, Puts, link_one, refilled, relinked, resummed, sum_all, sums};
+
+use raw_nodes::{NodePtr, NodeStore, Ticks};
+use text_model::WORDS;
+use toggle_sums::{Summary, Sums};
+
+/// Puts a child into a slot, or takes out the one that is there.
+fn link<C: Ticks>(store: &mut NodeStore<C>, node: NodePtr, slot: usize, child: Option<NodePtr>)
+    requires node { IsInner store.old node }
+    requires slot { slot < 12 }
+    requires child { (c : _) → child ≡ Some c → IsName store.old c }
+    ensures records { records store.new ≡ link_one (records store.old) node slot child }
+    ensures spares { spares store.new ≡ spares store.old }
+    ensures rooms { rooms store.new ≡ rooms store.old }
+{
+    store.set_child(node, slot, child);
+    if let Some(child) = child {
+        store.set_parent(child, Some(node), slot);
+    }
+}
+
+/// Gives a node these children, of which the first stay where they are.
+fn relink<C: Ticks>(
+    store: &mut NodeStore<C>,
+    node: NodePtr,
+    from: usize,
+    children: &[Option<NodePtr>; 12],
+)
+    requires node { IsInner store.old node }
+    requires from { from ≤ 12 }
+    requires children { (i : ℕ) (c : _) → slice_get children.now i ≡ Some (Some c) → IsName store.old c }
+    ensures records { records store.new ≡ relinked (records store.old) node from (drop from children.now) }
+    ensures spares { spares store.new ≡ spares store.old }
+    ensures rooms { rooms store.new ≡ rooms store.old }
+{
+    for slot in from..12 {
+        link(store, node, slot, children[slot]);
+    }
+}
+
+/// The sum of a node's children.
+fn sum_below<C: Ticks>(store: &NodeStore<C>, node: NodePtr, ticks: &mut C) -> Sums<WORDS>
+    requires row { HasRow (records store.now) node }
+    requires fits { FitsSum (sums (records store.now) (row (kids (records store.now) node))) }
+    ensures { result ≡ sums (records store.now) (row (kids (records store.now) node)) }
+{
+    let mut sum = Sums::zero();
+    for slot in 0..12 {
+        if let Some(child) = store.child(node, slot, ticks) {
+            let more = store.sum(child, ticks);
+            sum = sum.plus(&more);
+        }
+    }
+    sum
+}
+
+/// Makes a node's sum that of its children.
+fn resum<C: Ticks>(store: &mut NodeStore<C>, node: NodePtr, ticks: &mut C)
+    requires row { HasRow (records store.old) node }
+    requires fits { FitsSum (sums (records store.old) (row (kids (records store.old) node))) }
+    ensures records { records store.new ≡ resummed (records store.old) node (row (kids (records store.old) node)) }
+    ensures spares { spares store.new ≡ spares store.old }
+    ensures rooms { rooms store.new ≡ rooms store.old }
+{
+    let sum = sum_below(store, node, ticks);
+    store.set_sum(node, sum);
+}
+
+/// Makes a node's sum that of its children, below which stands so much more than before.
+pub fn add<C: Ticks>(store: &mut NodeStore<C>, node: NodePtr, more: &Sums<WORDS>, ticks: &mut C)
+    requires row { HasRow (records store.old) node }
+    requires sum { plus (sum_at (records store.old) node) more.now ≡ sums (records store.old) (row (kids (records store.old) node)) }
+    requires fits { FitsSum (sums (records store.old) (row (kids (records store.old) node))) }
+    ensures records { records store.new ≡ resummed (records store.old) node (row (kids (records store.old) node)) }
+    ensures spares { spares store.new ≡ spares store.old }
+    ensures rooms { rooms store.new ≡ rooms store.old }
+{
+    let sum = store.sum(node, ticks);
+    store.set_sum(node, sum.plus(more));
+}
+
+/// Makes these the children of a node, and its sum theirs. The first stay where they are.
+pub fn refill<C: Ticks>(
+    store: &mut NodeStore<C>,
+    node: NodePtr,
+    from: usize,
+    children: &[Option<NodePtr>; 12],
+    ticks: &mut C,
+)
+    requires fill { (cs : _) × (children.now ≡ row cs) × CanFill (records store.old) node cs }
+    requires from { from ≤ 12 }
+    requires kept { relinked (records store.old) node 0 children.now ≡ relinked (records store.old) node from (drop from children.now) }
+    ensures records { records store.new ≡ refilled (records store.old) node children.now }
+    ensures spares { spares store.new ≡ spares store.old }
+    ensures rooms { rooms store.new ≡ rooms store.old }
+{
+    relink(store, node, from, children);
+    resum(store, node, ticks);
+}
+
+/// A new node above two.
+pub fn join<C: Ticks>(
+    store: &mut NodeStore<C>,
+    left: NodePtr,
+    right: NodePtr,
+    ticks: &mut C,
+) -> NodePtr
+    requires left { IsName store.old left }
+    requires right { IsName store.old right }
+    requires fits { FitsSum (sum_all (records store.old) (left ∷ right ∷ [])) }
+    requires spare { 0 < spares store.old }
+    requires room { 0 < rooms store.old }
+    ensures root { NewRoot (records store.old) (records store.new) result (left ∷ right ∷ []) }
+    ensures spares { spares store.new + 1 ≡ spares store.old }
+    ensures rooms { rooms store.new + 1 ≡ rooms store.old }
+{
+    let root = store.make(None);
+    let mut children = [None; 12];
+    children[0] = Some(left);
+    children[1] = Some(right);
+    refill(store, root, 0, &children, ticks);
+    root
+}
+
+/// A new node above one, whose sum is given.
+pub fn top<C: Ticks>(store: &mut NodeStore<C>, child: NodePtr, sum: Sums<WORDS>) -> NodePtr
+    requires child { IsName store.old child }
+    requires sum { sum ≡ sum_at (records store.old) child }
+    requires spare { 0 < spares store.old }
+    requires room { 0 < rooms store.old }
+    ensures root { NewRoot (records store.old) (records store.new) result (child ∷ []) }
+    ensures spares { spares store.new + 1 ≡ spares store.old }
+    ensures rooms { rooms store.new + 1 ≡ rooms store.old }
+{
+    let root = store.make(None);
+    let mut children = [None; 12];
+    children[0] = Some(child);
+    relink(store, root, 0, &children);
+    store.set_sum(root, sum);
+    root
+}
+
+/// Number `i` of a node's children with one more among them.
+fn pick<C: Ticks>(
+    store: &NodeStore<C>,
+    node: NodePtr,
+    at: usize,
+    extra: NodePtr,
+    i: usize,
+    ticks: &mut C,
+) -> Option<NodePtr>
+    requires row { HasRow (records store.now) node }
+    requires place { at ≤ length (kids (records store.now) node) }
+    requires index { i ≤ 12 }
+    ensures { result ≡ slice_get (insert (kids (records store.now) node) at extra) i }
+{
+    if i < at {
+        store.child(node, i, ticks)
+    } else if i == at {
+        Some(extra)
+    } else {
+        store.child(node, i - 1, ticks)
+    }
+}
+
+/// Of a node's children with one more among them, `count` from `from` on.
+fn part<C: Ticks>(
+    store: &NodeStore<C>,
+    node: NodePtr,
+    at: usize,
+    extra: NodePtr,
+    from: usize,
+    count: usize,
+    ticks: &mut C,
+) -> [Option<NodePtr>; 12]
+    requires row { HasRow (records store.now) node }
+    requires place { at ≤ length (kids (records store.now) node) }
+    requires count { count ≤ 12 }
+    requires end { from + count ≤ 13 }
+    ensures { result ≡ row (take count (drop from (insert (kids (records store.now) node) at extra))) }
+{
+    let mut part = [None; 12];
+    for i in 0..12 {
+        part[i] = if i < count {
+            pick(store, node, at, extra, from + i, ticks)
+        } else {
+            None
+        };
+    }
+    part
+}
+
+/// Puts one more child among those of a node. Where there are 13 then, the last seven get a node of their own.
+pub fn put<C: Ticks>(
+    store: &mut NodeStore<C>,
+    node: NodePtr,
+    at: usize,
+    extra: NodePtr,
+    ticks: &mut C,
+) -> Option<NodePtr>
+    requires put { CanPut (records store.old) node at extra }
+    requires spare { 0 < spares store.old }
+    requires room { 0 < rooms store.old }
+    ensures puts { Puts (records store.old) (records store.new) node (insert (kids (records store.old) node) at extra) result }
+    ensures spares { spares store.new + length (option_to_list result) ≡ spares store.old }
+    ensures rooms { rooms store.new + length (option_to_list result) ≡ rooms store.old }
+{
+    if store.children(node) < 12 {
+        let all = part(store, node, at, extra, 0, 12, ticks);
+        refill(store, node, at, &all, ticks);
+        None
+    } else {
+        let left = part(store, node, at, extra, 0, 6, ticks);
+        let right = part(store, node, at, extra, 6, 7, ticks);
+        let sibling = store.make(None);
+        refill(store, node, 0, &left, ticks);
+        refill(store, sibling, 0, &right, ticks);
+        Some(sibling)
+    }
+}

@@ -1,0 +1,76 @@
+ghost use Rattle.std.specs.Prelude.{◌≡◌, ◌+◌, ◌≤◌, ◌<◌, length};
+ghost use Rattle.std.specs.FinMap as finite;
+ghost use Rattle.raw_nodes.specs.Names.{records, rooms, spares};
+ghost use Rattle.raw_nodes.specs.Rows.{kids};
+ghost use Rattle.line_tree.specs.Finds.{HasRow, Leads, lines_below};
+ghost use Rattle.line_tree.specs.Growth.{CanInsert, Inserts, NewLine};
+
+use crate::fill::{add, put};
+use crate::find::{Found, find};
+use raw_nodes::{NodePtr, NodeStore, Ticks};
+use segments::Line;
+
+/// The child below which line `k` is put in.
+fn lead<C: Ticks>(store: &NodeStore<C>, node: NodePtr, k: usize, ticks: &mut C) -> Found
+    requires row { HasRow (records store.now) node }
+    requires some { 0 < length (kids (records store.now) node) }
+    requires within { k ≤ lines_below (records store.now) node }
+    ensures { Leads (records store.now) node k result }
+{
+    if k == 0 {
+        let child = store.child(node, 0, ticks).unwrap();
+        return Found {
+            child,
+            slot: 0,
+            rest: 0,
+        };
+    }
+    let found = find(store, node, k - 1, ticks);
+    Found {
+        child: found.child,
+        slot: found.slot,
+        rest: found.rest + 1,
+    }
+}
+
+/// A new line, in no tree yet.
+pub fn new_line<C: Ticks>(store: &mut NodeStore<C>, line: Line) -> NodePtr
+    requires { 0 < spares store.old }
+    ensures line { NewLine (records store.old) (records store.new) result line }
+    ensures spares { spares store.new + 1 ≡ spares store.old }
+    ensures rooms { rooms store.new ≡ rooms store.old }
+{
+    store.make(Some(line))
+}
+
+/// Puts in a line below a node of this height. A node with 13 children gives the last seven to a new one.
+pub fn insert_in<C: Ticks>(
+    store: &mut NodeStore<C>,
+    node: NodePtr,
+    height: usize,
+    k: usize,
+    line: NodePtr,
+    ticks: &mut C,
+) -> Option<NodePtr>
+    requires node { 0 < height }
+    requires insert { CanInsert (records store.old) height node k line }
+    requires spares { height ≤ spares store.old }
+    requires rooms { height ≤ rooms store.old }
+    ensures inserts { Inserts (records store.old) (records store.new) height node k line result }
+    ensures spares { spares store.old ≤ spares store.new + height }
+    ensures rooms { rooms store.new + spares store.old ≡ rooms store.old + spares store.new }
+    ensures count { spares store.new + finite.len (records store.new) ≡ spares store.old + finite.len (records store.old) }
+{
+    if height == 1 {
+        return put(store, node, k, line, ticks);
+    }
+    let more = store.sum(line, ticks);
+    let found = lead(store, node, k, ticks);
+    match insert_in(store, found.child, height - 1, found.rest, line, ticks) {
+        Some(sibling) => put(store, node, found.slot + 1, sibling, ticks),
+        None => {
+            add(store, node, &more, ticks);
+            None
+        }
+    }
+}

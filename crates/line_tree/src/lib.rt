@@ -1,0 +1,13 @@
+//! A list of lines as a balanced tree: lines by number and by offset, their numbers, one line in, one line out.
+#![tactic(auto)]
+
+mod climb;
+mod fill;
+mod find;
+mod insert;
+mod locate;
+mod remove;
+mod shrink;
+mod tree;
+
+pub use tree::LineTree;

@@ -1,0 +1,99 @@
+ghost use Rattle.std.specs.Prelude.{◌≡◌, ◌+◌, ◌≤◌, ◌<◌, length, slice_get, Some};
+ghost use Rattle.std.specs.FinMap as finite;
+ghost use Rattle.raw_nodes.specs.Names.{records, rooms, spares};
+ghost use Rattle.raw_nodes.specs.Rows.{kids};
+ghost use Rattle.line_tree.specs.Finds.{HasRow};
+ghost use Rattle.line_tree.specs.Shrinking.{CanLower, CanMend, CanRemove, Cleans, Lowers, Removes, Settles};
+
+use crate::find::find;
+use crate::shrink::{drop_child, kid, mend, refresh};
+use raw_nodes::{NodePtr, NodeStore, Ticks};
+
+/// Where the child in a slot has less than six children, it shares with a neighbour.
+fn settle<C: Ticks>(
+    store: &mut NodeStore<C>,
+    node: NodePtr,
+    slot: usize,
+    child: NodePtr,
+    ticks: &mut C,
+) -> Option<usize>
+    requires row { HasRow (records store.old) node }
+    requires two { 2 ≤ length (kids (records store.old) node) }
+    requires child { slice_get (kids (records store.old) node) slot ≡ Some child }
+    requires below { HasRow (records store.old) child }
+    requires pairs { CanMend (records store.old) node }
+    ensures settles { Settles (records store.old) (records store.new) node slot child result }
+    ensures spares { spares store.new ≡ spares store.old }
+    ensures rooms { rooms store.new ≡ rooms store.old }
+{
+    if store.children(child) < 6 {
+        mend(store, node, slot, ticks)
+    } else {
+        None
+    }
+}
+
+/// Takes out a line below a node of this height.
+pub fn remove_in<C: Ticks>(
+    store: &mut NodeStore<C>,
+    node: NodePtr,
+    height: usize,
+    k: usize,
+    ticks: &mut C,
+) -> NodePtr
+    requires node { 0 < height }
+    requires remove { CanRemove (records store.old) height node k }
+    ensures removes { Removes (records store.old) (records store.new) height node k result }
+    ensures clean { Cleans (records store.old) (records store.new) height node result }
+    ensures spares { spares store.old ≤ spares store.new }
+    ensures rooms { rooms store.new + spares store.old ≡ rooms store.old + spares store.new }
+    ensures count { spares store.new + finite.len (records store.new) ≡ spares store.old + finite.len (records store.old) }
+{
+    if height == 1 {
+        return drop_child(store, node, k, ticks);
+    }
+    let found = find(store, node, k, ticks);
+    let line = remove_in(store, found.child, height - 1, found.rest, ticks);
+    match settle(store, node, found.slot, found.child, ticks) {
+        Some(slot) => {
+            let gone = drop_child(store, node, slot, ticks);
+            let _ = store.give_back(gone);
+            line
+        }
+        None => {
+            refresh(store, node, ticks);
+            line
+        }
+    }
+}
+
+/// A root and its height.
+#[derive(Clone, Copy)]
+pub struct Top {
+    pub root: NodePtr,
+    pub height: usize,
+}
+
+/// Gives up a root that has one node below it.
+pub fn lower<C: Ticks>(store: &mut NodeStore<C>, root: NodePtr, height: usize, ticks: &mut C) -> Top
+    requires positive { 0 < height }
+    requires lower { CanLower (records store.old) height root }
+    ensures lowers { Lowers (records store.old) (records store.new) height root result.height result.root }
+    ensures spares { spares store.old ≤ spares store.new }
+    ensures rooms { rooms store.new + spares store.old ≡ rooms store.old + spares store.new }
+    ensures count { spares store.new + finite.len (records store.new) ≡ spares store.old + finite.len (records store.old) }
+{
+    if height == 1 {
+        return Top { root, height };
+    }
+    if store.children(root) > 1 {
+        return Top { root, height };
+    }
+    let child = kid(store, root, 0, ticks).unwrap();
+    store.set_parent(child, None, 0);
+    let _ = store.give_back(root);
+    Top {
+        root: child,
+        height: height - 1,
+    }
+}

@@ -1,0 +1,155 @@
+use crate::climb::rank;
+use crate::fill::{join, top};
+use crate::find::select;
+use crate::insert::{insert_in, new_line};
+use crate::locate::locate;
+use crate::remove::{lower, remove_in};
+use raw_nodes::{NodePtr, NodeStore, Ticks};
+use segments::Line;
+use std::alloc::{AllocError, Global};
+use std::marker::Model;
+
+/// A list of lines with names, as a balanced tree.
+#[derive(Drop)]
+pub struct LineTree<C: Ticks> {
+    store: NodeStore<C>,
+    root: NodePtr,
+    height: usize,
+}
+
+impl<C: Ticks> Model for LineTree<C> {
+    ghost use Rattle.std.specs.Prelude.{◌+◌};
+    ghost use Rattle.std.specs.FinMap as finite;
+    ghost use Rattle.raw_nodes.specs.Names.{records, rooms, spares};
+    ghost use Rattle.line_tree.specs.Shape.{lines_in};
+    ghost use Rattle.line_tree.specs.Growth.{StandsAlone};
+    ghost use Rattle.line_tree.specs.TreeState.{TreeState, state_code};
+
+    ghost Value = { TreeState };
+
+    ghost coded = { state_code };
+
+    ghost view = { λ t. record {
+      lines = lines_in (records t.store) t.height t.root;
+      height = t.height;
+      spares = spares t.store;
+      rooms = rooms t.store;
+      nodes = spares t.store + finite.len (records t.store);
+    } };
+
+    ghost invariant = { λ t. StandsAlone (records t.store) t.height t.root };
+}
+
+impl<C: Ticks> LineTree<C> {
+    ghost use Rattle.std.specs.Prelude.{◌≡◌, ℕ, ◌+◌, ◌-◌, ◌*◌, ◌^◌, ◌≤◌, ◌<◌, length, OnOk, IfOk, [], ◌∷◌, slice_get};
+    ghost use Rattle.std.specs.List.{insert, remove};
+    ghost use Rattle.toggle_sums.specs.Counts.{plus};
+    ghost use Rattle.line_tree.specs.Trees.{total};
+    ghost use Rattle.segments.specs.Columns.{line_count, plain_line};
+    ghost use Rattle.line_tree.specs.Changes.{Distinct, FitsSum};
+    ghost use Rattle.line_tree.specs.Places.{IsLineAt, line_names};
+    ghost use Rattle.line_tree.specs.Locating.{IsPlaceAt};
+
+    /// A tree of one line, the lone newline. Fails for want of memory.
+    pub fn new(alloc: Global) -> Result<LineTree<C>, AllocError>
+        ensures { IfOk result (λ t. (p : _) × (t.lines ≡ (p, plain_line (10 ∷ [])) ∷ [])) }
+    {
+        let line = Line::new(alloc, "\n")?;
+        let sum = line.sum();
+        let mut store = NodeStore::new(alloc);
+        store.reserve(1)?;
+        store.reserve_lines(2)?;
+        let name = new_line(&mut store, line);
+        let root = top(&mut store, name, sum);
+        Ok(LineTree {
+            store,
+            root,
+            height: 1,
+        })
+    }
+
+    /// Brings the spares, and the rooms beside them, to `count` at least. Fails for want of memory.
+    pub fn reserve(&mut self, count: usize) -> Result<(), AllocError>
+        ensures spares { OnOk result (count ≤ self.new.spares) }
+        ensures rooms { OnOk result (count ≤ self.new.rooms) }
+        ensures lines { self.new.lines ≡ self.old.lines }
+        ensures height { self.new.height ≡ self.old.height }
+        ensures more { (self.old.spares ≤ self.new.spares) × (self.old.rooms ≤ self.new.rooms) }
+        ensures nodes { self.new.nodes + self.old.spares ≡ self.old.nodes + self.new.spares }
+    {
+        self.store.reserve(count)
+    }
+
+    /// How many levels of nodes there are.
+    pub fn height(&self) -> usize
+        ensures value { result ≡ self.now.height }
+        ensures lines { 2 ≤ result → 2 * 6 ^ (result - 1) ≤ length self.now.lines }
+        ensures names { Distinct (line_names self.now.lines) }
+        ensures few { 5 * self.now.nodes ≤ 6 * length self.now.lines + 5 * self.now.spares + 4 }
+    {
+        self.height
+    }
+
+    /// The name of line `k`.
+    pub fn select(&self, k: usize, ticks: &mut C) -> NodePtr
+        requires { k < length self.now.lines }
+        ensures name { IsLineAt self.now.lines k result }
+        ensures ticks { C.count ticks.new ≤ C.count ticks.old + 24 * self.now.height }
+    {
+        select(&self.store, self.root, self.height, k, ticks)
+    }
+
+    /// The line and the column of a character.
+    pub fn locate(&self, offset: usize, ticks: &mut C) -> (usize, usize)
+        requires { offset < (total self.now.lines).characters }
+        ensures place { IsPlaceAt self.now.lines offset result.0 result.1 }
+        ensures ticks { C.count ticks.new ≤ C.count ticks.old + 24 * self.now.height }
+    {
+        locate(&self.store, self.root, self.height, offset, ticks)
+    }
+
+    /// The number of the line with a name.
+    pub fn rank(&self, name: NodePtr, ticks: &mut C) -> usize
+        requires { (k : ℕ) × IsLineAt self.now.lines k name }
+        ensures value { (k : ℕ) → IsLineAt self.now.lines k name → result ≡ k }
+        ensures ticks { C.count ticks.new ≤ C.count ticks.old + 23 * self.now.height }
+    {
+        rank(&self.store, self.root, self.height, name, ticks)
+    }
+
+    /// Puts in a line as number `k`, and gives its name.
+    pub fn insert(&mut self, k: usize, line: Line, ticks: &mut C) -> NodePtr
+        requires place { k ≤ length self.old.lines }
+        requires fits { FitsSum (plus (total self.old.lines) (line_count line)) }
+        requires spares { self.old.height + 2 ≤ self.old.spares }
+        requires rooms { self.old.height + 1 ≤ self.old.rooms }
+        ensures lines { self.new.lines ≡ insert self.old.lines k (result, line) }
+        ensures spares { self.old.spares ≤ self.new.spares + self.old.height + 2 }
+        ensures rooms { self.new.rooms + self.old.spares ≡ self.old.rooms + self.new.spares + 1 }
+        ensures nodes { self.new.nodes ≡ self.old.nodes }
+    {
+        let name = new_line(&mut self.store, line);
+        if let Some(sibling) = insert_in(&mut self.store, self.root, self.height, k, name, ticks) {
+            self.root = join(&mut self.store, self.root, sibling, ticks);
+            self.height += 1;
+        }
+        name
+    }
+
+    /// Takes out line `k`.
+    pub fn remove(&mut self, k: usize, ticks: &mut C) -> Line
+        requires place { k < length self.old.lines }
+        requires two { 2 ≤ length self.old.lines }
+        ensures lines { self.new.lines ≡ remove self.old.lines k }
+        ensures line { (p : _) × (slice_get self.old.lines k ≡ Some (p, result)) }
+        ensures spares { self.old.spares ≤ self.new.spares }
+        ensures rooms { self.new.rooms + self.old.spares + 1 ≡ self.old.rooms + self.new.spares }
+        ensures nodes { self.new.nodes ≡ self.old.nodes }
+    {
+        let name = remove_in(&mut self.store, self.root, self.height, k, ticks);
+        let top = lower(&mut self.store, self.root, self.height, ticks);
+        self.root = top.root;
+        self.height = top.height;
+        self.store.give_back(name).unwrap()
+    }
+}
