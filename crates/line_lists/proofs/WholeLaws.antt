@@ -148,7 +148,7 @@ with_cleared-between slot from to front line back ordered within =
     λ i. record { columns = columns i; marks = marks i }
 
 -- ---- marks
-tied_same : (a b : ℕ) → eq_by_cmp nat_cmp a b ≡ true → a ≡ b
+pub tied_same : (a b : ℕ) → eq_by_cmp nat_cmp a b ≡ true → a ≡ b
 tied_same a b is = let test : (a == b) ≡ true = sym (unsigned_tied a b) ∙ is in grind (arith, nat_tests)
 
 put_row : (test : Bool) (one two : ℕ) (place : Place) (x y z : Option Place) → (test ≡ true → z ≡ None)
