@@ -3,8 +3,8 @@ ghost use Rattle.std.specs.FinMap as finite;
 ghost use Rattle.text_model.specs.Lines.{lines};
 ghost use Rattle.segments.specs.Columns.{LineContent, after_text};
 ghost use Rattle.line_lists.specs.Texts.{whole};
-ghost use Rattle.line_lists.specs.Drafts.{BeginsBehind, BeginsBy, CanFollow, IsDraft, IsFound, IsReached, IsTaken, IsText, NextBegins, StandsAt, copies_of, drafted_at, line_start, lines_before, made_lines, taken_lines, text_at};
-ghost use Rattle.line_lists.specs.Edits.{with_mark, with_toggled};
+ghost use Rattle.line_lists.specs.Drafts.{BeginsBehind, BeginsBy, CanFollow, IsDraft, IsFound, IsReached, IsTaken, IsText, NextBegins, StandsAt, StandsBy, copies_of, drafted_at, line_start, lines_before, made_lines, taken_lines, text_at};
+ghost use Rattle.line_lists.specs.Edits.{with_mark, with_toggled, without_mark};
 
 use crate::lists::LineList;
 use segments::Line;
@@ -403,6 +403,25 @@ impl<'a, L: LineList> Draft<'a, L> {
             gravity: place.gravity,
         };
         stop.copy.line.put_mark(number, there)?;
+        self.put(stop);
+        Ok(())
+    }
+
+    /// Takes the mark of a number away, which stands before the character at an offset, or behind that one if it's the
+    /// last, or nowhere.
+    pub fn take_mark_at(&mut self, offset: usize, number: MarkNo) -> Result<(), AllocError>
+        requires is { IsText (L.lines self.old.list.now) self.old.front.items self.old.back.items }
+        requires within { offset
+            < length (text_at (L.lines self.old.list.now) self.old.front.items self.old.back.items).columns }
+        requires stands { StandsBy number.0 offset
+            (text_at (L.lines self.old.list.now) self.old.front.items self.old.back.items) }
+        ensures list { self.new.list.now ≡ self.old.list.now }
+        ensures is { OnOk result (IsText (L.lines self.new.list.now) self.new.front.items self.new.back.items) }
+        ensures new { OnOk result (text_at (L.lines self.new.list.now) self.new.front.items self.new.back.items
+            ≡ without_mark number.0 (text_at (L.lines self.old.list.now) self.old.front.items self.old.back.items)) }
+    {
+        let Found { mut stop, .. } = self.take(offset)?;
+        stop.copy.line.take_mark(number);
         self.put(stop);
         Ok(())
     }
