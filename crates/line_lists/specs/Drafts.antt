@@ -1,5 +1,7 @@
 -- The lines that a text will have, on the way: copies of some lines of a list, each in the place of some of them.
-use Rattle.std.specs.Prelude.{◌≡◌, ℕ, ◌+◌, ◌<◌, ◌≤◌, ◌^◌, List, [], ◌∷◌, ◌++◌, ⊤, length, map, take, drop, reverse, IfSome, slice_get}
+use Rattle.std.specs.Prelude.{◌≡◌, ℕ, ◌+◌, ◌-◌, min, ◌<◌, ◌≤◌, ◌^◌, List, [], ◌∷◌, ◌++◌, ⊤, length, map, take, drop, reverse, IfSome, slice_get}
+use Rattle.std.specs.FinMap as finite
+use Rattle.text_model.specs.declared.places.Place.{Place}
 use Rattle.segments.specs.Columns.{LineContent}
 use Rattle.line_lists.specs.declared.drafts.Copied.{Copied}
 use Rattle.line_lists.specs.declared.drafts.Reached.{Reached}
@@ -124,3 +126,9 @@ pub record IsText (lines : List LineContent) (front : List Stop) (back : List Co
 -- its lines in a row
 abbrev pub text_at : List LineContent → List Stop → List Copied → LineContent
 text_at lines front back = whole (drafted_at lines front back)
+
+-- the mark of a number stands before the character at an offset, or behind that one if it's the last, or nowhere
+abbrev pub StandsBy : ℕ → ℕ → LineContent → Type 0
+StandsBy number offset text =
+    IfSome (finite.get text.marks number)
+    (λ (place : Place). offset ≡ min place.offset (length text.columns - 1))

@@ -1,14 +1,15 @@
-ghost use Rattle.std.specs.Prelude.{◌≡◌, ℕ, ◌+◌, ◌-◌, ◌<◌, ◌≤◌, ◌^◌, List, ◌∷◌, [], ◌++◌, IfOk, OnOk, length, take, vec_len, vec_capacity, true, false, chars};
+ghost use Rattle.std.specs.Prelude.{◌≡◌, ℕ, ◌+◌, ◌-◌, ◌<◌, ◌≤◌, ◌^◌, List, ◌∷◌, [], ◌++◌, IfOk, OnOk, length, take, vec_len, vec_capacity, true, false, chars, None};
+ghost use Rattle.std.specs.FinMap as finite;
 ghost use Rattle.text_model.specs.Lines.{lines};
 ghost use Rattle.segments.specs.Columns.{LineContent, after_text};
 ghost use Rattle.line_lists.specs.Texts.{whole};
-ghost use Rattle.line_lists.specs.Drafts.{BeginsBehind, BeginsBy, CanFollow, IsDraft, IsFound, IsReached, IsTaken, IsText, NextBegins, StandsAt, copies_of, drafted_at, line_start, lines_before, made_lines, taken_lines, text_at};
-ghost use Rattle.line_lists.specs.Edits.{with_toggled};
+ghost use Rattle.line_lists.specs.Drafts.{BeginsBehind, BeginsBy, CanFollow, IsDraft, IsFound, IsReached, IsTaken, IsText, NextBegins, StandsAt, StandsBy, copies_of, drafted_at, line_start, lines_before, made_lines, taken_lines, text_at};
+ghost use Rattle.line_lists.specs.Edits.{with_mark, with_toggled, without_mark};
 
 use crate::lists::LineList;
 use segments::Line;
 use std::alloc::{AllocError, Global};
-use text_model::TagSet;
+use text_model::{MarkNo, Place, TagSet};
 
 /// A line that the text will have: so many lines of the list are kept before it, and it comes in the place of so many.
 #[derive(Drop)]
@@ -379,6 +380,48 @@ impl<'a, L: LineList> Draft<'a, L> {
     {
         let Found { mut stop, column } = self.take(offset)?;
         stop.copy.line.insert_text(column, text)?;
+        self.put(stop);
+        Ok(())
+    }
+
+    /// Puts the mark of a number, which marks nothing, at a place before a character.
+    pub fn put_mark(&mut self, number: MarkNo, place: Place) -> Result<(), AllocError>
+        requires is { IsText (L.lines self.old.list.now) self.old.front.items self.old.back.items }
+        requires within { place.offset
+            < length (text_at (L.lines self.old.list.now) self.old.front.items self.old.back.items).columns }
+        requires free { finite.get
+            (text_at (L.lines self.old.list.now) self.old.front.items self.old.back.items).marks number.0 ≡ None }
+        ensures list { self.new.list.now ≡ self.old.list.now }
+        ensures is { OnOk result (IsText (L.lines self.new.list.now) self.new.front.items self.new.back.items) }
+        ensures new { OnOk result (text_at (L.lines self.new.list.now) self.new.front.items self.new.back.items
+            ≡ with_mark number.0 place
+            (text_at (L.lines self.old.list.now) self.old.front.items self.old.back.items)) }
+    {
+        let Found { mut stop, column } = self.take(place.offset)?;
+        let there = Place {
+            offset: column,
+            gravity: place.gravity,
+        };
+        stop.copy.line.put_mark(number, there)?;
+        self.put(stop);
+        Ok(())
+    }
+
+    /// Takes the mark of a number away, which stands before the character at an offset, or behind that one if it's the
+    /// last, or nowhere.
+    pub fn take_mark_at(&mut self, offset: usize, number: MarkNo) -> Result<(), AllocError>
+        requires is { IsText (L.lines self.old.list.now) self.old.front.items self.old.back.items }
+        requires within { offset
+            < length (text_at (L.lines self.old.list.now) self.old.front.items self.old.back.items).columns }
+        requires stands { StandsBy number.0 offset
+            (text_at (L.lines self.old.list.now) self.old.front.items self.old.back.items) }
+        ensures list { self.new.list.now ≡ self.old.list.now }
+        ensures is { OnOk result (IsText (L.lines self.new.list.now) self.new.front.items self.new.back.items) }
+        ensures new { OnOk result (text_at (L.lines self.new.list.now) self.new.front.items self.new.back.items
+            ≡ without_mark number.0 (text_at (L.lines self.old.list.now) self.old.front.items self.old.back.items)) }
+    {
+        let Found { mut stop, .. } = self.take(offset)?;
+        stop.copy.line.take_mark(number);
         self.put(stop);
         Ok(())
     }
