@@ -12,7 +12,7 @@ use Rattle.raw_nodes.specs.Records.{Records}
 use Rattle.raw_nodes.specs.Rows.{kids, row}
 use Rattle.raw_nodes.specs.declared.names.NodePtr.{NodePtr}
 use Rattle.raw_nodes.proofs.RowLaws.{length-row}
-use Rattle.line_tree.specs.Changes.{Among, CanEven, CanFill, FitsSum, refilled, relinked, sum_all}
+use Rattle.line_tree.specs.Changes.{Among, CanEven, CanFill, FitsSum, Stay, refilled, relinked, sum_all}
 use Rattle.line_tree.specs.Finds.{HasRow}
 use Rattle.line_tree.specs.Shape.{Links}
 use Rattle.line_tree.proofs.AmongLaws.{among-cases, among-drop, among-get, among-take}
@@ -35,11 +35,11 @@ pair-past xs ys i past = let n = length-append xs ys in slice_get_past (xs ++ ys
 
 -- ---- children that stay
 pub kept-remove : (m : Records) (p : NodePtr) (at : ℕ) → HasRow m p → Links m p 0 (kids m p) → at < length (kids m p)
-    → relinked m p 0 (row (remove (kids m p) at)) ≡ relinked m p at (drop at (row (remove (kids m p) at)))
+    → Stay m p at (row (remove (kids m p) at))
 kept-remove m p at has links less = let ks = kids m p in let long : length (take at ks) ≡ at = omega (arith, length-take at ks, less) in
     kept-row m p has links (take at ks) (drop at ks) (drop (suc at) ks) (remove ks at) (sym (take-append-drop at ks)) refl ∙ ap (λ n. relinked m p n (drop n (row (remove ks at)))) long
 
-pub kept-all : (m : Records) (p : NodePtr) (n : ℕ) → HasRow m p → Links m p 0 (kids m p) → n ≡ length (kids m p) → relinked m p 0 (row (kids m p)) ≡ relinked m p n (drop n (row (kids m p)))
+pub kept-all : (m : Records) (p : NodePtr) (n : ℕ) → HasRow m p → Links m p 0 (kids m p) → n ≡ length (kids m p) → Stay m p n (row (kids m p))
 kept-all m p n has links e = let ks = kids m p in
     kept-row m p has links ks [] [] ks (sym (append-nil ks)) (sym (append-nil ks)) ∙ ap (λ i. relinked m p i (drop i (row ks))) (sym e)
 

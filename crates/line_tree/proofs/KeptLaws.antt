@@ -11,7 +11,7 @@ use Rattle.raw_nodes.specs.Rows.{kids, row}
 use Rattle.raw_nodes.specs.declared.names.NodePtr.{NodePtr}
 use Rattle.raw_nodes.proofs.MapLaws.{get_inserted, get_other}
 use Rattle.raw_nodes.proofs.PlaceLaws.{name_antisym, name_total, same_or_other}
-use Rattle.line_tree.specs.Changes.{link_one, relinked}
+use Rattle.line_tree.specs.Changes.{Stay, link_one, relinked}
 use Rattle.line_tree.specs.Finds.{HasRow}
 use Rattle.line_tree.specs.Shape.{IsLinked, Links}
 
@@ -71,7 +71,7 @@ drop-front [] os = refl
 drop-front (x ∷ xs) os = drop-front xs os
 
 pub kept-row : (m : Records) (p : NodePtr) → HasRow m p → Links m p 0 (kids m p) → (front behind rest all : List NodePtr) → kids m p ≡ front ++ behind → all ≡ front ++ rest
-    → relinked m p 0 (row all) ≡ relinked m p (length front) (drop (length front) (row all))
+    → Stay m p (length front) (row all)
 kept-row m p has links front behind rest all was now =
     let empty = replicate {A = Option NodePtr} (12 - length all) None in let os = map (λ c. Some c) rest ++ empty in
     let parts : row all ≡ map (λ c. Some c) front ++ os = ap (λ cs. map (λ c. Some c) cs ++ empty) now ∙ ap (λ ds. ds ++ empty) (map-append (λ c. Some c) front rest) ∙ append_assoc (map (λ c. Some c) front) (map (λ c. Some c) rest) empty in

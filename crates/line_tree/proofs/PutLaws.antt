@@ -14,7 +14,7 @@ use Rattle.raw_nodes.specs.Rows.{kids, row}
 use Rattle.raw_nodes.specs.declared.names.NodePtr.{NodePtr}
 use Rattle.raw_nodes.proofs.MapLaws.{at_some, get_inserted, get_other, kept_insert, some_of}
 use Rattle.raw_nodes.proofs.RowLaws.{length-row}
-use Rattle.line_tree.specs.Changes.{Among, CanFill, CanPut, FitsSum, refilled, relinked, sum_all}
+use Rattle.line_tree.specs.Changes.{Among, CanFill, CanPut, FitsSum, Stay, refilled, relinked, sum_all}
 use Rattle.line_tree.specs.Finds.{HasRow}
 use Rattle.line_tree.specs.Shape.{sum_at, sum_of}
 use Rattle.line_tree.proofs.AmongLaws.{among-drop, among-get, among-insert, among-take}
@@ -52,7 +52,7 @@ module _ (m : Records) (p : NodePtr) (at : ℕ) (x : NodePtr) (can : CanPut m p 
   fill-room few = record { found = can.row.found; is = can.row.is; inner = can.row.inner; long = long; few = few; each = named-all; apart = can.apart; fits = can.fits }
 
   -- the children before the new one stay
-  pub kept-put : relinked m p 0 (row (insert (kids m p) at x)) ≡ relinked m p at (drop at (row (insert (kids m p) at x)))
+  pub kept-put : Stay m p at (row (insert (kids m p) at x))
   kept-put = let ks = kids m p in let long : length (take at ks) ≡ at = omega (arith, length-take at ks, can.place) in
       kept-row m p can.row can.links (take at ks) (drop at ks) (x ∷ drop at ks) (insert ks at x) (sym (take-append-drop at ks)) refl ∙ ap (λ n. relinked m p n (drop n (row (insert ks at x)))) long
 

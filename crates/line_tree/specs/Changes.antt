@@ -22,6 +22,10 @@ abbrev pub relinked : Records → NodePtr → ℕ → List (Option NodePtr) → 
 relinked m p i [] = m
 relinked m p i (o ∷ os) = relinked (link_one m p i o) p (suc i) os
 
+-- the children before a slot are as they are to be
+abbrev pub Stay : Records → NodePtr → ℕ → List (Option NodePtr) → Type 0
+Stay m p from os = relinked m p 0 os ≡ relinked m p from (drop from os)
+
 abbrev pub sum_or_none : Records → Option NodePtr → Count
 sum_or_none m None = no_text
 sum_or_none m (Some c) = sum_at m c

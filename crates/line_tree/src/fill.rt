@@ -6,7 +6,7 @@ ghost use Rattle.toggle_sums.specs.Counts.{plus};
 ghost use Rattle.line_tree.specs.Finds.{HasRow};
 ghost use Rattle.line_tree.specs.Shape.{sum_at};
 ghost use Rattle.line_tree.specs.Growth.{NewRoot};
-ghost use Rattle.line_tree.specs.Changes.{CanFill, CanPut, FitsSum, Puts, link_one, refilled, relinked, resummed, sum_all, sums};
+ghost use Rattle.line_tree.specs.Changes.{CanFill, CanPut, FitsSum, Puts, Stay, link_one, refilled, relinked, resummed, sum_all, sums};
 
 use raw_nodes::{NodePtr, NodeStore, Ticks};
 use text_model::WORDS;
@@ -97,7 +97,7 @@ pub fn refill<C: Ticks>(
 )
     requires fill { (cs : _) × (children.now ≡ row cs) × CanFill (records store.old) node cs }
     requires from { from ≤ 12 }
-    requires kept { relinked (records store.old) node 0 children.now ≡ relinked (records store.old) node from (drop from children.now) }
+    requires kept { Stay (records store.old) node from children.now }
     ensures records { records store.new ≡ refilled (records store.old) node children.now }
     ensures spares { spares store.new ≡ spares store.old }
     ensures rooms { rooms store.new ≡ rooms store.old }
