@@ -1,5 +1,5 @@
--- What a list of lines says: the lines in a row are one long line, and that is a text, in which a tag is on a cell where
--- its slot was toggled an odd number of times before it.
+-- What a list of lines says: the lines in a row are one long line, and that is a text, in which a tag is on a cell
+-- where its slot was toggled an odd number of times before it.
 use Rattle.std.specs.Prelude.{List, [], ◌∷◌}
 use Rattle.std.specs.FinSet as set
 use Rattle.text_model.specs.declared.cells.Cell.{Cell}

@@ -77,7 +77,8 @@ pub struct Stop {
     pub copy: Copied,
 }
 
-/// The lines that the text of a list will have: copies of some of its lines, in order, with a place between two of them.
+/// The lines that the text of a list will have: copies of some of its lines, in order, with a place between two of
+/// them.
 /// It reads the list, and changes its copies alone.
 #[derive(Drop)]
 pub struct Draft<'a, L: LineList> {
@@ -137,8 +138,10 @@ impl<'a, L: LineList> Draft<'a, L> {
         ensures same { drafted_at (L.lines self.new.list.now) self.new.front.items self.new.back.items
             ≡ drafted_at (L.lines self.old.list.now) self.old.front.items self.old.back.items }
         ensures moved { OnOk result (vec_len self.new.back ≡ vec_len self.old.back - 1) }
-        ensures begun { (offset : ℕ) → NextBegins (L.lines self.old.list.now) offset self.old.front.items self.old.back.items →
-            BeginsBy (L.lines self.old.list.now) offset self.old.front.items → BeginsBy (L.lines self.new.list.now) offset self.new.front.items }
+        ensures begun { (offset : ℕ) →
+            NextBegins (L.lines self.old.list.now) offset self.old.front.items self.old.back.items →
+            BeginsBy (L.lines self.old.list.now) offset self.old.front.items →
+            BeginsBy (L.lines self.new.list.now) offset self.new.front.items }
     {
         self.front.reserve(1)?;
         let reached = self.reached();
@@ -339,7 +342,8 @@ impl<'a, L: LineList> Draft<'a, L> {
         requires room { vec_len self.old.front < vec_capacity self.old.front }
         requires taken { IsTaken (L.lines self.old.list.now) self.old.front.items self.old.back.items stop }
         requires counted { length (whole
-            (taken_lines (L.lines self.old.list.now) self.old.front.items self.old.back.items stop.copy)).columns < 2 ^ 64 }
+            (taken_lines (L.lines self.old.list.now) self.old.front.items self.old.back.items stop.copy)).columns
+            < 2 ^ 64 }
         ensures list { self.new.list.now ≡ self.old.list.now }
         ensures is { IsDraft (L.lines self.new.list.now) self.new.front.items self.new.back.items }
         ensures lines { drafted_at (L.lines self.new.list.now) self.new.front.items self.new.back.items
@@ -356,7 +360,8 @@ impl<'a, L: LineList> Draft<'a, L> {
         ensures list { self.new.list.now ≡ self.old.list.now }
         ensures is { OnOk result (IsText (L.lines self.new.list.now) self.new.front.items self.new.back.items) }
         ensures new { OnOk result (text_at (L.lines self.new.list.now) self.new.front.items self.new.back.items
-            ≡ with_toggled offset slots.now (text_at (L.lines self.old.list.now) self.old.front.items self.old.back.items)) }
+            ≡ with_toggled offset slots.now
+            (text_at (L.lines self.old.list.now) self.old.front.items self.old.back.items)) }
     {
         let Found { mut stop, column } = self.take(offset)?;
         stop.copy.line.toggle(column, slots)?;

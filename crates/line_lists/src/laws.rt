@@ -22,7 +22,8 @@ pub fn steps_on_columns()
     ensures bare { (at : ℕ) (columns : List Column) → at < length columns →
         cells_of_columns (columns_bare at columns) ≡ changed without_slots at (at + 1) (cells_of_columns columns) }
     ensures cleared { (slot : ℕ) (columns : List Column) →
-        cells_of_columns (map (with_toggle slot false) columns) ≡ map (with_slot slot false) (cells_of_columns columns) }
+        cells_of_columns (map (with_toggle slot false) columns)
+        ≡ map (with_slot slot false) (cells_of_columns columns) }
 {}
 
 /// Rows.

@@ -77,7 +77,8 @@ fn resum<C: Ticks>(store: &mut NodeStore<C>, node: NodePtr, ticks: &mut C)
 /// Makes a node's sum that of its children, below which stands so much more than before.
 pub fn add<C: Ticks>(store: &mut NodeStore<C>, node: NodePtr, more: &Sums<WORDS>, ticks: &mut C)
     requires row { HasRow (records store.old) node }
-    requires sum { plus (sum_at (records store.old) node) more.now ≡ sums (records store.old) (row (kids (records store.old) node)) }
+    requires sum { plus (sum_at (records store.old) node) more.now
+        ≡ sums (records store.old) (row (kids (records store.old) node)) }
     requires fits { FitsSum (sums (records store.old) (row (kids (records store.old) node))) }
     ensures records { records store.new ≡ resummed (records store.old) node (row (kids (records store.old) node)) }
     ensures spares { spares store.new ≡ spares store.old }

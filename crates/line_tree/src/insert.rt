@@ -59,7 +59,8 @@ pub fn insert_in<C: Ticks>(
     ensures inserts { Inserts (records store.old) (records store.new) height node k line result }
     ensures spares { spares store.old ≤ spares store.new + height }
     ensures rooms { rooms store.new + spares store.old ≡ rooms store.old + spares store.new }
-    ensures count { spares store.new + finite.len (records store.new) ≡ spares store.old + finite.len (records store.old) }
+    ensures count { spares store.new + finite.len (records store.new)
+        ≡ spares store.old + finite.len (records store.old) }
 {
     if height == 1 {
         return put(store, node, k, line, ticks);

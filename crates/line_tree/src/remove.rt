@@ -47,7 +47,8 @@ pub fn remove_in<C: Ticks>(
     ensures clean { Cleans (records store.old) (records store.new) height node result }
     ensures spares { spares store.old ≤ spares store.new }
     ensures rooms { rooms store.new + spares store.old ≡ rooms store.old + spares store.new }
-    ensures count { spares store.new + finite.len (records store.new) ≡ spares store.old + finite.len (records store.old) }
+    ensures count { spares store.new + finite.len (records store.new)
+        ≡ spares store.old + finite.len (records store.old) }
 {
     if height == 1 {
         return drop_child(store, node, k, ticks);
@@ -81,7 +82,8 @@ pub fn lower<C: Ticks>(store: &mut NodeStore<C>, root: NodePtr, height: usize, t
     ensures lowers { Lowers (records store.old) (records store.new) height root result.height result.root }
     ensures spares { spares store.old ≤ spares store.new }
     ensures rooms { rooms store.new + spares store.old ≡ rooms store.old + spares store.new }
-    ensures count { spares store.new + finite.len (records store.new) ≡ spares store.old + finite.len (records store.old) }
+    ensures count { spares store.new + finite.len (records store.new)
+        ≡ spares store.old + finite.len (records store.old) }
 {
     if height == 1 {
         return Top { root, height };

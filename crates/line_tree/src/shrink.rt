@@ -169,7 +169,8 @@ pub fn drop_child<C: Ticks>(
     requires slot { slot < length (kids (records store.old) node) }
     requires fill { CanFill (records store.old) node (remove (kids (records store.old) node) slot) }
     ensures child { slice_get (kids (records store.old) node) slot ≡ Some result }
-    ensures records { records store.new ≡ refilled (records store.old) node (row (remove (kids (records store.old) node) slot)) }
+    ensures records { records store.new
+        ≡ refilled (records store.old) node (row (remove (kids (records store.old) node) slot)) }
     ensures spares { spares store.new ≡ spares store.old }
     ensures rooms { rooms store.new ≡ rooms store.old }
 {

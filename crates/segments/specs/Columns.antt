@@ -43,7 +43,8 @@ abbrev pub toggled_first : Slots → List Column → List Column
 toggled_first slots [] = []
 toggled_first slots (column ∷ columns) = toggled_more slots column ∷ columns
 
--- the columns without those from one to another: what was toggled an odd number of times in these is toggled behind them
+-- the columns without those from one to another: what was toggled an odd number of times in these is toggled behind
+-- them
 abbrev pub without_columns : ℕ → ℕ → List Column → List Column
 without_columns from to columns =
     take from columns ++ toggled_first (parity (toggles (slice_range columns from to))) (drop to columns)

@@ -20,8 +20,8 @@ use std::marker::Model;
 use text_model::{MarkNo, Place, TagSet, TagSlot, WORDS};
 use toggle_sums::Sums;
 
-/// A line of text: its characters, the slots that are toggled before each of them, and the marks in it, whose places are
-/// columns. A place behind the last character is a mark's alone.
+/// A line of text: its characters, the slots that are toggled before each of them, and the marks in it, whose places
+/// are columns. A place behind the last character is a mark's alone.
 #[derive(Drop)]
 pub struct Line {
     alloc: Global,
@@ -115,7 +115,8 @@ impl Line {
 
     /// Of the marks, in the order of their numbers, the one at an index.
     pub fn mark(&self, index: usize) -> Option<(MarkNo, Place)>
-        ensures value { option_map (λ (mark : MarkNo × Place). (mark.0.0, mark.1)) result ≡ slice_get (finite.entries self.now.marks) index }
+        ensures value { option_map (λ (mark : MarkNo × Place). (mark.0.0, mark.1)) result
+            ≡ slice_get (finite.entries self.now.marks) index }
         ensures bound { IfSome result (λ mark. mark.1.offset ≤ length self.now.columns) }
     {
         match self.marks.get(index) {
@@ -284,7 +285,8 @@ impl Line {
     ) -> Result<(), AllocError>
         requires slot { slot.0 < slot_count }
         requires within { column < length self.old.columns }
-        ensures columns { OnOk result (self.new.columns ≡ changed (with_toggle slot.0 is_toggled) column (column + 1) self.old.columns) }
+        ensures columns { OnOk result (self.new.columns
+            ≡ changed (with_toggle slot.0 is_toggled) column (column + 1) self.old.columns) }
         ensures marks { self.new.marks ≡ self.old.marks }
         ensures refused { OnErr result (self.new ≡ self.old) }
     {
@@ -298,7 +300,8 @@ impl Line {
     /// Toggles each slot of a set before the character at a column.
     pub fn toggle(&mut self, column: usize, slots: &TagSet) -> Result<(), AllocError>
         requires { column < length self.old.columns }
-        ensures columns { OnOk result (self.new.columns ≡ changed (toggled_more slots.now) column (column + 1) self.old.columns) }
+        ensures columns { OnOk result (self.new.columns
+            ≡ changed (toggled_more slots.now) column (column + 1) self.old.columns) }
         ensures marks { self.new.marks ≡ self.old.marks }
         ensures refused { OnErr result (self.new ≡ self.old) }
     {

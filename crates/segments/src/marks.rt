@@ -97,7 +97,8 @@ pub fn draw_marks(marks: &mut [Mark], from: usize, to: usize)
 
 /// The marks from a column on, in columns from there.
 pub fn marks_behind(alloc: Global, marks: &[Mark], column: usize) -> Result<Vec<Mark>, AllocError>
-    ensures { IfOk result (λ behind. behind.items ≡ map (with_place (earlier column)) (filter (λ (mark : Mark). nat_le column mark.place.offset) marks.now)) }
+    ensures { IfOk result (λ behind. behind.items
+        ≡ map (with_place (earlier column)) (filter (λ (mark : Mark). nat_le column mark.place.offset) marks.now)) }
 {
     let mut behind = Vec::new(alloc);
     for mark in marks {
@@ -132,8 +133,10 @@ pub fn joined_marks(
     requires second { Rise second.now }
     requires room { All (HaveRoom len) second.now }
     ensures rise { IfOk result (λ marks. Rise marks.items) }
-    ensures stand { IfOk result (λ marks. (more : ℕ) → StandIn len first.now → StandIn more second.now → StandIn (len + more) marks.items) }
-    ensures marks { IfOk result (λ marks. marks_of marks.items ≡ joined_marks len (marks_of first.now) (marks_of second.now)) }
+    ensures stand { IfOk result (λ marks. (more : ℕ) → StandIn len first.now → StandIn more second.now →
+        StandIn (len + more) marks.items) }
+    ensures marks { IfOk result (λ marks. marks_of marks.items
+        ≡ joined_marks len (marks_of first.now) (marks_of second.now)) }
 {
     let mut marks = Vec::from_slice(alloc, first)?;
     for mark in second {

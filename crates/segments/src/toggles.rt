@@ -20,7 +20,8 @@ pub struct Toggled {
 pub fn count_before(toggles: &[Toggled], column: usize) -> usize
     ensures bound { result ≤ length toggles.now }
     ensures before { (from to : ℕ) → LieIn from to toggles.now → LieIn from column (take result toggles.now) }
-    ensures behind { (from to : ℕ) → LieIn from to toggles.now → from ≤ column → LieIn column to (drop result toggles.now) }
+    ensures behind { (from to : ℕ) → LieIn from to toggles.now → from ≤ column →
+        LieIn column to (drop result toggles.now) }
 {
     for (count, entry) in toggles.iter().enumerate() {
         if column <= entry.column {
@@ -107,7 +108,8 @@ fn drop_range(toggles: &mut Vec<Toggled>, from: usize, to: usize)
 
 /// Toggles a set of slots at a column.
 pub fn flip(toggles: &mut Vec<Toggled>, column: usize, slots: &TagSet) -> Result<(), AllocError>
-    ensures lie { (from to : ℕ) → LieIn from to toggles.old.items → from ≤ column → column < to → LieIn from to toggles.new.items }
+    ensures lie { (from to : ℕ) → LieIn from to toggles.old.items → from ≤ column → column < to →
+        LieIn from to toggles.new.items }
     ensures slots { OnOk result ((from to at : ℕ) → LieIn from to toggles.old.items →
         toggled_at toggles.new.items at ≡ flipped column slots.now at (toggled_at toggles.old.items at)) }
     ensures refused { OnErr result (toggles.new.items ≡ toggles.old.items) }
@@ -185,7 +187,8 @@ pub fn remove_columns(toggles: &mut Vec<Toggled>, from: usize, to: usize, len: u
 
 /// The slots that are toggled at the index of a column, if that entry is the column's.
 pub fn slots_at(toggles: &[Toggled], index: usize, column: usize) -> TagSet
-    ensures { (from to : ℕ) → LieIn from to toggles.now → LieIn column to (drop index toggles.now) → LieIn from column (take index toggles.now) →
+    ensures { (from to : ℕ) → LieIn from to toggles.now → LieIn column to (drop index toggles.now) →
+        LieIn from column (take index toggles.now) →
         result ≡ toggled_at toggles.now column }
 {
     if index < toggles.len() && toggles[index].column == column {

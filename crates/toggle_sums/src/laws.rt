@@ -15,7 +15,8 @@ pub fn tags_by_parity()
         set.contains (parity toggles) slot ≡ (toggle_count slot toggles % 2 == 1) }
 {}
 
-/// The parity of joined lists is that of their parities, and what is toggled in one of them is toggled in both together.
+/// The parity of joined lists is that of their parities, and what is toggled in one of them is toggled in both
+/// together.
 pub fn joined_lists()
     ensures parity { (first second : List Slots) → parity (first ++ second) ≡ differing (parity first) (parity second) }
     ensures presence { (first second : List Slots) →
