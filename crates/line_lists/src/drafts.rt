@@ -41,7 +41,7 @@ impl Reached {
     }
 
     /// Where the line of a copy that follows begins in the text.
-    fn start<L: LineList>(&self, list: &L, copy: &Copied) -> usize
+    pub fn start<L: LineList>(&self, list: &L, copy: &Copied) -> usize
         requires { CanFollow self.now copy.now (L.lines list.now) }
         ensures { result ≡ line_start self.now copy.now (L.lines list.now) }
     {
@@ -51,7 +51,7 @@ impl Reached {
     }
 
     /// What is covered with one copy more.
-    fn with<L: LineList>(&self, list: &L, copy: &Copied) -> Reached
+    pub fn with<L: LineList>(&self, list: &L, copy: &Copied) -> Reached
         requires { CanFollow self.now copy.now (L.lines list.now) }
         ensures { (copies : List Copied) → IsReached self.now copies (L.lines list.now) →
             IsReached result (copies ++ copy.now ∷ []) (L.lines list.now) }
@@ -82,11 +82,11 @@ pub struct Stop {
 /// It reads the list, and changes its copies alone.
 #[derive(Drop)]
 pub struct Draft<'a, L: LineList> {
-    list: &'a L,
+    pub list: &'a L,
     /// The copies before the place.
-    front: Vec<Stop>,
+    pub front: Vec<Stop>,
     /// The copies behind the place, the nearest last.
-    back: Vec<Copied>,
+    pub back: Vec<Copied>,
 }
 
 impl<'a, L: LineList> Draft<'a, L> {
@@ -104,7 +104,7 @@ impl<'a, L: LineList> Draft<'a, L> {
     }
 
     /// What the copies before the place cover.
-    fn reached(&self) -> Reached
+    pub fn reached(&self) -> Reached
         requires { IsDraft (L.lines self.now.list.now) self.now.front.items self.now.back.items }
         ensures { IsReached result (copies_of self.now.front.items) (L.lines self.now.list.now) }
     {
@@ -115,7 +115,7 @@ impl<'a, L: LineList> Draft<'a, L> {
     }
 
     /// Goes back by one copy.
-    fn step_back(&mut self) -> Result<(), AllocError>
+    pub fn step_back(&mut self) -> Result<(), AllocError>
         requires { IsDraft (L.lines self.old.list.now) self.old.front.items self.old.back.items }
         ensures list { self.new.list.now ≡ self.old.list.now }
         ensures is { IsDraft (L.lines self.new.list.now) self.new.front.items self.new.back.items }
@@ -131,7 +131,7 @@ impl<'a, L: LineList> Draft<'a, L> {
     }
 
     /// Goes on by one copy.
-    fn step_forth(&mut self) -> Result<(), AllocError>
+    pub fn step_forth(&mut self) -> Result<(), AllocError>
         requires { IsDraft (L.lines self.old.list.now) self.old.front.items self.old.back.items }
         ensures list { self.new.list.now ≡ self.old.list.now }
         ensures is { IsDraft (L.lines self.new.list.now) self.new.front.items self.new.back.items }
@@ -180,7 +180,7 @@ impl<'a, L: LineList> Draft<'a, L> {
     }
 
     /// Goes back until the line of the last copy before the place begins at an offset or before it.
-    fn back_to(&mut self, offset: usize) -> Result<(), AllocError>
+    pub fn back_to(&mut self, offset: usize) -> Result<(), AllocError>
         requires { IsDraft (L.lines self.old.list.now) self.old.front.items self.old.back.items }
         ensures list { self.new.list.now ≡ self.old.list.now }
         ensures is { IsDraft (L.lines self.new.list.now) self.new.front.items self.new.back.items }
@@ -195,7 +195,7 @@ impl<'a, L: LineList> Draft<'a, L> {
     }
 
     /// Goes on until the line of the first copy behind the place begins behind an offset.
-    fn forth_to(&mut self, offset: usize) -> Result<(), AllocError>
+    pub fn forth_to(&mut self, offset: usize) -> Result<(), AllocError>
         requires is { IsDraft (L.lines self.old.list.now) self.old.front.items self.old.back.items }
         requires begun { BeginsBy (L.lines self.old.list.now) offset self.old.front.items }
         ensures list { self.new.list.now ≡ self.old.list.now }
@@ -213,7 +213,7 @@ impl<'a, L: LineList> Draft<'a, L> {
     }
 
     /// The line of the list that is kept at an offset of the text, behind what is covered, and the column there.
-    fn find_line(&self, reached: &Reached, offset: usize) -> (usize, usize)
+    pub fn find_line(&self, reached: &Reached, offset: usize) -> (usize, usize)
         requires used { reached.now.used ≤ length (L.lines self.now.list.now) }
         requires behind { reached.now.characters ≤ offset }
         requires within { offset + length (whole (take reached.now.used (L.lines self.now.list.now))).columns
@@ -310,7 +310,7 @@ impl<'a, L: LineList> Draft<'a, L> {
     }
 
     /// Takes the copy of the line that holds an offset out, with the column there; where there is none it is made.
-    fn take(&mut self, offset: usize) -> Result<Found, AllocError>
+    pub fn take(&mut self, offset: usize) -> Result<Found, AllocError>
         requires is { IsDraft (L.lines self.old.list.now) self.old.front.items self.old.back.items }
         requires within { offset
             < length (whole (drafted_at (L.lines self.old.list.now) self.old.front.items self.old.back.items)).columns }
@@ -338,7 +338,7 @@ impl<'a, L: LineList> Draft<'a, L> {
     }
 
     /// Puts a copy that was taken out back to its place, with its line as it is now.
-    fn put(&mut self, stop: Stop)
+    pub fn put(&mut self, stop: Stop)
         requires room { vec_len self.old.front < vec_capacity self.old.front }
         requires taken { IsTaken (L.lines self.old.list.now) self.old.front.items self.old.back.items stop }
         requires counted { length (whole

@@ -1,11 +1,16 @@
 //! One text store over any list of lines.
 #![tactic(auto)]
 
+mod clearing;
 mod drafts;
+mod insertions;
 pub mod laws;
 mod line_vec;
 mod lists;
+mod marks;
+mod pieces;
 mod queries;
+mod removals;
 
 pub use line_vec::LineVec;
 pub use lists::LineList;

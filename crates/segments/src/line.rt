@@ -218,14 +218,14 @@ impl Line {
         ensures refused { OnErr result (self.new ≡ self.old) }
         ensures back { IfErr result (λ refused. refused.value ≡ other) }
     {
-        if self.try_join(&other).is_err() {
+        if self.join_copy(&other).is_err() {
             return Err(AllocFailed { value: other });
         }
         Ok(())
     }
 
-    /// Adds what another line holds behind this one.
-    fn try_join(&mut self, other: &Line) -> Result<(), AllocError>
+    /// Adds a copy of another line behind this one.
+    pub fn join_copy(&mut self, other: &Line) -> Result<(), AllocError>
         ensures new { OnOk result (self.new ≡ joined self.old other.now) }
         ensures refused { OnErr result (self.new ≡ self.old) }
     {

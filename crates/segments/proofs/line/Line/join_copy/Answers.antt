@@ -7,7 +7,7 @@ use Rattle.segments.specs.Marks.{StandIn, marks_of}
 use Rattle.segments.proofs.ColumnLaws.{length-columns}
 use Rattle.segments.proofs.MovedLaws.{can_move_on}
 use Rattle.segments.proofs.PartLaws.{columns_joined, joined_lie, not_refused, rest_added, rest_moved}
-use Rattle.segments.proofs.line.Line.try_join.Goals as goal
+use Rattle.segments.proofs.line.Line.join_copy.Goals as goal
 
 pub move_rest_on-requires-clause-room : goal.move_rest_on-requires-clause-room
 move_rest_on-requires-clause-room c =
