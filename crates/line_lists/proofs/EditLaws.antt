@@ -239,7 +239,7 @@ goes-apart line [] [] some goes = absurd (omega (arith, some))
 goes-apart line [] (next ∷ rest) some goes = goes.1
 goes-apart line (next ∷ before) rest some goes = goes.1
 
-rows-apart : (before rest : List LineContent) (number : ℕ) → 0 < length rest → AreRows (before ++ rest) → finite.get (whole before).marks number ≢ None → finite.get (whole rest).marks number ≡ None
+pub rows-apart : (before rest : List LineContent) (number : ℕ) → 0 < length rest → AreRows (before ++ rest) → finite.get (whole before).marks number ≢ None → finite.get (whole rest).marks number ≡ None
 rows-apart [] rest number some rows there = absurd (there (finite.get-empty nat_cmp number))
 rows-apart (x ∷ before) rest number some rows there =
     elim (finite.get x.marks number) as (λ found. finite.get x.marks number ≡ found → finite.get (whole rest).marks number ≡ None) [

@@ -2,6 +2,8 @@ pub mod CountRows
 pub mod DraftLaws
 pub mod EditLaws
 pub mod FindLaws
+pub mod FreedLaws
+pub mod GatherLaws
 pub mod LineStarts
 pub mod ListLaws
 pub mod MadeLaws
@@ -11,6 +13,7 @@ pub mod MarksAtRows
 pub mod NearChanges
 pub mod NearMarks
 pub mod NewlineRows
+pub mod PieceLaws
 pub mod PlaceRows
 pub mod RowLaws
 pub mod SearchRows

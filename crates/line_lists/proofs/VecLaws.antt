@@ -113,16 +113,16 @@ fewer : (test : Bool) (n m : ℕ) → n ≡ cond test (m - 1) m → n ≤ m
 fewer true n m is = omega (arith, is)
 fewer false n m is = omega (arith, is)
 
-marks-without : (number : ℕ) (lines : List LineContent) → (count_of (map (without_mark number) lines)).marks ≤ (count_of lines).marks
+pub marks-without : (number : ℕ) (lines : List LineContent) → (count_of (map (without_mark number) lines)).marks ≤ (count_of lines).marks
 marks-without number [] = omega arith
 marks-without number (line ∷ lines) =
     omega (arith, marks-without number lines, fewer (finite.contains_key line.marks number) (finite.len (finite.remove line.marks number)) (finite.len line.marks) (finite.len-remove nat_cmp_total line.marks number))
 
-characters-without : (number : ℕ) (lines : List LineContent) → (count_of (map (without_mark number) lines)).characters ≡ (count_of lines).characters
+pub characters-without : (number : ℕ) (lines : List LineContent) → (count_of (map (without_mark number) lines)).characters ≡ (count_of lines).characters
 characters-without number [] = refl
 characters-without number (line ∷ lines) = ap (λ n. length line.columns + n) (characters-without number lines)
 
-lines-without : (number : ℕ) (lines : List LineContent) → (count_of (map (without_mark number) lines)).lines ≡ (count_of lines).lines
+pub lines-without : (number : ℕ) (lines : List LineContent) → (count_of (map (without_mark number) lines)).lines ≡ (count_of lines).lines
 lines-without number [] = refl
 lines-without number (line ∷ lines) = ap (λ n. 1 + n) (lines-without number lines)
 

@@ -1,6 +1,7 @@
 pub mod Drafts
 pub mod Edits
 pub mod Lists
+pub mod Pieces
 pub mod Places
 pub mod RowLaws
 pub mod Texts

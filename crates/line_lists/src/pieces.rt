@@ -1,0 +1,177 @@
+ghost use Rattle.std.specs.Prelude.{◌≡◌, ◌+◌, ◌<◌, ◌≤◌, ◌^◌, ◌++◌, ◌∷◌, [], IfOk, OnOk, length};
+ghost use Rattle.std.specs.List.{All};
+ghost use Rattle.toggle_sums.specs.Counts.{plus};
+ghost use Rattle.segments.specs.Columns.{LineContent};
+ghost use Rattle.line_lists.specs.Drafts.{IsDraft, IsText, copies_of, drafted_at};
+ghost use Rattle.line_lists.specs.Lists.{IsCounted, NumbersBelow, count_of};
+ghost use Rattle.line_lists.specs.Pieces.{CanPlace, copied_lines, freed, named, numbers_in, numbers_of, piece_lines, placed};
+
+use crate::drafts::{Copied, Draft};
+use crate::lists::LineList;
+use segments::Line;
+use std::alloc::{AllocError, Global};
+use text_model::{MarkNo, WORDS};
+use toggle_sums::{Summary, Sums};
+
+/// Lines that come in the place of so many from one on.
+#[derive(Drop)]
+pub struct Piece {
+    pub from: usize,
+    pub count: usize,
+    pub lines: Vec<Line>,
+}
+
+/// Adds the numbers of the marks of a line.
+fn push_numbers(numbers: &mut Vec<MarkNo>, line: &Line) -> Result<(), AllocError>
+    ensures { OnOk result (named numbers.new.items ≡ named numbers.old.items ++ numbers_of line.now) }
+{
+    let mut index = 0;
+    while let Some((number, _)) = line.mark(index) {
+        numbers.push(number)?;
+        index += 1;
+    }
+    Ok(())
+}
+
+/// A number above each of some.
+pub fn bound_of(numbers: &[MarkNo]) -> usize
+    ensures { All (λ number. number < result) (named numbers.now) }
+{
+    let mut bound = 0;
+    for number in numbers {
+        let number = number.0 as usize;
+        if bound <= number {
+            bound = number + 1;
+        }
+    }
+    bound
+}
+
+/// The sum of two counts. More than a number can count has no room in memory.
+fn sum_of(first: &Sums<WORDS>, second: &Sums<WORDS>) -> Result<Sums<WORDS>, AllocError>
+    ensures sum { IfOk result (λ sum. sum ≡ plus first.now second.now) }
+    ensures counted { IfOk result (λ sum. IsCounted sum) }
+{
+    first.lines().checked_add(second.lines()).ok_or(AllocError)?;
+    first.characters().checked_add(second.characters()).ok_or(AllocError)?;
+    first.marks().checked_add(second.marks()).ok_or(AllocError)?;
+    Ok(first.plus(second))
+}
+
+/// A piece with the line of a copy behind its last.
+fn with_line(mut piece: Piece, copy: Copied) -> Result<Piece, AllocError>
+    requires { piece.count + copy.gone < 2 ^ 64 }
+    ensures from { IfOk result (λ new. new.from ≡ piece.from) }
+    ensures count { IfOk result (λ new. new.count ≡ piece.count + copy.gone) }
+    ensures lines { IfOk result (λ new. new.lines.items ≡ piece.lines.items ++ copy.line ∷ []) }
+{
+    piece.count += copy.gone;
+    piece.lines.push(copy.line)?;
+    Ok(piece)
+}
+
+/// A copy as a piece from a line on.
+fn piece_of(alloc: Global, from: usize, copy: Copied) -> Result<Piece, AllocError>
+    ensures from { IfOk result (λ piece. piece.from ≡ from) }
+    ensures count { IfOk result (λ piece. piece.count ≡ copy.gone) }
+    ensures lines { IfOk result (λ piece. piece.lines.items ≡ copy.line ∷ []) }
+{
+    let mut lines = Vec::with_capacity(alloc, 1)?;
+    lines.push(copy.line)?;
+    Ok(Piece {
+        from,
+        count: copy.gone,
+        lines,
+    })
+}
+
+/// Takes the marks of some numbers off the lines of a list.
+pub fn take_marks<L: LineList>(list: &mut L, numbers: &[MarkNo])
+    ensures lines { L.lines list.new ≡ freed (named numbers.now) (L.lines list.old) }
+    ensures room { L.line_room list.old ≤ L.line_room list.new }
+    ensures numbers { L.mark_room list.old ≤ L.mark_room list.new }
+{
+    for number in numbers {
+        list.take_mark(*number);
+    }
+}
+
+/// Puts pieces in their places, from the last to the first.
+pub fn place<L: LineList>(list: &mut L, pieces: Vec<Piece>)
+    requires can { CanPlace pieces.items (L.lines list.old) }
+    requires room { length (piece_lines pieces.items) ≤ L.line_room list.old }
+    requires numbers { All (λ (line : LineContent). NumbersBelow (L.mark_room list.old) line.marks)
+        (piece_lines pieces.items) }
+    ensures { L.lines list.new ≡ placed pieces.items (L.lines list.old) }
+{
+    let mut pieces = pieces;
+    while let Some(piece) = pieces.pop() {
+        list.splice(piece.from, piece.count, piece.lines);
+    }
+}
+
+impl<'a, L: LineList> Draft<'a, L> {
+    /// Goes on behind the last copy.
+    pub fn forth_to_end(&mut self) -> Result<(), AllocError>
+        requires { IsDraft (L.lines self.old.list.now) self.old.front.items self.old.back.items }
+        ensures list { self.new.list.now ≡ self.old.list.now }
+        ensures is { IsDraft (L.lines self.new.list.now) self.new.front.items self.new.back.items }
+        ensures same { drafted_at (L.lines self.new.list.now) self.new.front.items self.new.back.items
+            ≡ drafted_at (L.lines self.old.list.now) self.old.front.items self.old.back.items }
+        ensures end { OnOk result (self.new.back.items ≡ []) }
+    {
+        while !self.back.is_empty() {
+            self.step_forth()?;
+        }
+        Ok(())
+    }
+
+    /// The numbers of the marks of the copies before the place.
+    pub fn numbers(&self, alloc: Global) -> Result<Vec<MarkNo>, AllocError>
+        ensures { IfOk result (λ numbers. named numbers.items
+            ≡ numbers_in (copied_lines (copies_of self.now.front.items))) }
+    {
+        let mut numbers = Vec::new(alloc);
+        for stop in &self.front {
+            push_numbers(&mut numbers, &stop.copy.line)?;
+        }
+        Ok(numbers)
+    }
+
+    /// Makes sure that the list and the copies before the place can be counted together.
+    pub fn count(&self) -> Result<(), AllocError>
+        ensures { OnOk result (IsCounted (plus (count_of (L.lines self.now.list.now))
+            (count_of (copied_lines (copies_of self.now.front.items))))) }
+    {
+        let mut sum = self.list.prefix(self.list.len());
+        for stop in &self.front {
+            sum = sum_of(&sum, &stop.copy.line.sum())?;
+        }
+        Ok(())
+    }
+
+    /// The copies as pieces of the list, to be put in where the marks of the copies are taken off.
+    pub fn into_pieces(self, alloc: Global) -> Result<Vec<Piece>, AllocError>
+        requires is { IsText (L.lines self.list.now) self.front.items [] }
+        requires counted { IsCounted (plus (count_of (L.lines self.list.now))
+            (count_of (copied_lines (copies_of self.front.items)))) }
+        ensures can { IfOk result (λ pieces. CanPlace pieces.items
+            (freed (numbers_in (copied_lines (copies_of self.entry.front.items))) (L.lines self.entry.list.now))) }
+        ensures new { IfOk result (λ pieces. placed pieces.items
+            (freed (numbers_in (copied_lines (copies_of self.entry.front.items))) (L.lines self.entry.list.now))
+            ≡ drafted_at (L.lines self.entry.list.now) self.entry.front.items []) }
+        ensures lines { IfOk result (λ pieces. piece_lines pieces.items ≡ copied_lines (copies_of self.entry.front.items)) }
+    {
+        let mut pieces = Vec::new(alloc);
+        for stop in self.front {
+            let from = stop.reached.used + stop.copy.kept;
+            let last = if stop.copy.kept == 0 { pieces.pop() } else { None };
+            let piece = match last {
+                Some(last) => with_line(last, stop.copy)?,
+                None => piece_of(alloc, from, stop.copy)?,
+            };
+            pieces.push(piece)?;
+        }
+        Ok(pieces)
+    }
+}

@@ -1,0 +1,218 @@
+-- Copies that become pieces, one by one.
+use Rattle.std.proofs.Common.{◌≡◌, ℕ, ◌+◌, ◌<◌, ◌≤◌, ◌^◌, List, [], ◌∷◌, ◌++◌, None, Some, length, get_or, map, take, drop, refl, sym, ap, ap₂, subst, subst₂, ◌∙◌, arith, append_assoc, length-append}
+use Rattle.std.specs.FinMap as finite
+use Rattle.std.specs.List.{All}
+use Rattle.std.proofs.lemmas.List.{append-nil, map-append, take_more}
+use Rattle.std.proofs.lemmas.List.Elements.{All-drop, All-push, All-take, All-weaker}
+use Rattle.std.proofs.Math.Seq.{drop-append_seam, take-append_seam}
+use Rattle.text_model.specs.declared.places.MarkNo.{MarkNo}
+use Rattle.text_model.specs.declared.places.Place.{Place}
+use Rattle.toggle_sums.specs.CountLaws.{plus-associative, plus-no_text}
+use Rattle.toggle_sums.specs.Counts.{Count, plus}
+use Rattle.segments.specs.Columns.{LineContent, line_count}
+use Rattle.line_lists.specs.declared.drafts.Copied.{Copied}
+use Rattle.line_lists.specs.declared.drafts.Stop.{Stop}
+use Rattle.line_lists.specs.declared.pieces.Piece.{Piece}
+use Rattle.line_lists.specs.Drafts.{AreStops, copies_of, drafted, made_lines, used}
+use Rattle.line_lists.specs.Edits.{without_mark}
+use Rattle.line_lists.specs.Lists.{AreApart, AreLines, AreRows, IsCounted, count_of}
+use Rattle.line_lists.specs.Pieces.{CanPlace, Covers, copied_lines, freed, named, numbers_in, numbers_of, piece_lines, placed}
+use Rattle.line_lists.specs.Texts.{whole}
+use Rattle.line_lists.proofs.CountRows.{count-append}
+use Rattle.line_lists.proofs.DraftLaws.{copies-snoc, made-snoc, stops-last, used-append}
+use Rattle.line_lists.proofs.FreedLaws.{freed-apart, freed-append, freed-count_characters, freed-count_lines, freed-count_marks, freed-drafted, freed-length, freed-lines, in_names}
+use Rattle.line_lists.proofs.PieceLaws.{covers-all, covers-more, covers-new, covers-none}
+
+-- ---- numbers
+named-more : (numbers : List MarkNo) (i : ℕ) (number : MarkNo) → i < length numbers → named (take (i + 1) numbers) ≡ named (take i numbers) ++ (get_or numbers i number).0 ∷ []
+named-more numbers i number within = ap named (take_more numbers i number within) ∙ map-append (λ (n : MarkNo). n.0) (take i numbers) (get_or numbers i number ∷ [])
+
+pub freed-more : (numbers : List MarkNo) (i : ℕ) (number : MarkNo) (lines : List LineContent) → i < length numbers
+    → map (without_mark (get_or numbers i number).0) (freed (named (take i numbers)) lines) ≡ freed (named (take (i + 1) numbers)) lines
+freed-more numbers i number lines within =
+    sym (ap (λ ns. freed ns lines) (named-more numbers i number within) ∙ freed-append (named (take i numbers)) ((get_or numbers i number).0 ∷ []) lines)
+
+pub bound-more : (numbers : List MarkNo) (i bound new : ℕ) (number : MarkNo) → i < length numbers → bound ≤ new → (get_or numbers i number).0 < new
+    → All (λ n. n < bound) (named (take i numbers)) → All (λ n. n < new) (named (take (i + 1) numbers))
+bound-more numbers i bound new number within more below all =
+    subst (All (λ n. n < new)) (sym (named-more numbers i number within))
+    (All-push (λ n. n < new) (named (take i numbers)) (get_or numbers i number).0 (All-weaker (λ n. n < bound) (λ n. n < new) (λ n less. omega (arith, less, more)) (named (take i numbers)) all) below)
+
+-- ---- the lines of copies
+pub copied-snoc : (stops : List Stop) (stop : Stop) → copied_lines (copies_of (stops ++ stop ∷ [])) ≡ copied_lines (copies_of stops) ++ stop.copy.line ∷ []
+copied-snoc stops stop = ap copied_lines (copies-snoc stops stop) ∙ map-append (λ (copy : Copied). copy.line) (copies_of stops) (stop.copy ∷ [])
+
+numbers_in-append : (xs ys : List LineContent) → numbers_in (xs ++ ys) ≡ numbers_in xs ++ numbers_in ys
+numbers_in-append [] ys = refl
+numbers_in-append (x ∷ xs) ys = ap (λ rest. numbers_of x ++ rest) (numbers_in-append xs ys) ∙ sym (append_assoc (numbers_of x) (numbers_in xs) (numbers_in ys))
+
+copied-more : (stops : List Stop) (i : ℕ) (stop : Stop) → i < length stops → stop ≡ get_or stops i stop
+    → copied_lines (copies_of (take (i + 1) stops)) ≡ copied_lines (copies_of (take i stops)) ++ stop.copy.line ∷ []
+copied-more stops i stop within is =
+    ap (λ xs. copied_lines (copies_of xs)) (take_more stops i stop within ∙ ap (λ x. take i stops ++ x ∷ []) (sym is)) ∙ copied-snoc (take i stops) stop
+
+pub numbers-stop : (stops : List Stop) (i : ℕ) (stop : Stop) → i < length stops → stop ≡ get_or stops i stop
+    → numbers_in (copied_lines (copies_of (take i stops))) ++ numbers_of stop.copy.line ≡ numbers_in (copied_lines (copies_of (take (i + 1) stops)))
+numbers-stop stops i stop within is =
+    sym (ap numbers_in (copied-more stops i stop within is) ∙ numbers_in-append (copied_lines (copies_of (take i stops))) (stop.copy.line ∷ [])
+    ∙ ap (λ ns. numbers_in (copied_lines (copies_of (take i stops))) ++ ns) (append-nil (numbers_of stop.copy.line)))
+
+count-snoc : (xs : List LineContent) (line : LineContent) → count_of (xs ++ line ∷ []) ≡ plus (count_of xs) (line_count line)
+count-snoc xs line = count-append xs (line ∷ []) ∙ ap (plus (count_of xs)) (plus-no_text (line_count line))
+
+pub count-stop : (stops : List Stop) (i : ℕ) (stop : Stop) (lines : Count) → i < length stops → stop ≡ get_or stops i stop
+    → plus (plus lines (count_of (copied_lines (copies_of (take i stops))))) (line_count stop.copy.line) ≡ plus lines (count_of (copied_lines (copies_of (take (i + 1) stops))))
+count-stop stops i stop lines within is =
+    plus-associative lines (count_of (copied_lines (copies_of (take i stops)))) (line_count stop.copy.line)
+    ∙ ap (plus lines) (sym (ap count_of (copied-more stops i stop within is) ∙ count-snoc (copied_lines (copies_of (take i stops))) stop.copy.line))
+
+-- ---- the lines of pieces
+pub piece_lines-snoc : (pieces : List Piece) (piece : Piece) → piece_lines (pieces ++ piece ∷ []) ≡ piece_lines pieces ++ piece.lines.items
+piece_lines-snoc [] piece = append-nil piece.lines.items
+piece_lines-snoc (first ∷ pieces) piece =
+    ap (λ rest. first.lines.items ++ rest) (piece_lines-snoc pieces piece) ∙ sym (append_assoc first.lines.items (piece_lines pieces) piece.lines.items)
+
+-- what holds of each line that pieces bring
+pub all-pieces : (P : LineContent → Type 0) (pieces : List Piece) (piece : Piece) → All P (piece_lines (pieces ++ piece ∷ [])) → All P (piece_lines pieces) × All P piece.lines.items
+all-pieces P pieces piece all =
+    let parts = subst (All P) (piece_lines-snoc pieces piece) all in (
+      subst (All P) (take-append_seam (piece_lines pieces) piece.lines.items) (All-take P (length (piece_lines pieces)) (piece_lines pieces ++ piece.lines.items) parts),
+      subst (All P) (drop-append_seam (piece_lines pieces) piece.lines.items) (All-drop P (length (piece_lines pieces)) (piece_lines pieces ++ piece.lines.items) parts),
+    )
+
+-- ---- copies become pieces
+abbrev pub base_of : List Stop → List LineContent → List LineContent
+base_of front lines = freed (numbers_in (copied_lines (copies_of front))) lines
+
+pub record Gathers (front stops : List Stop) (lines : List LineContent) (pieces : List Piece) : Type 0 where
+  pub covers : Covers pieces (used (copies_of stops)) (made_lines (copies_of stops) (base_of front lines)) (base_of front lines) (count_of (copied_lines (copies_of stops)))
+  pub ends : (before : List Piece) (last : Piece) → pieces ≡ before ++ last ∷ [] → last.from + last.count ≡ used (copies_of stops)
+  pub none : pieces ≡ [] → stops ≡ []
+  pub brings : piece_lines pieces ≡ copied_lines (copies_of stops)
+
+-- what holds of the copies, and the next of them
+pub record Goes (front before : List Stop) (lines : List LineContent) (stop : Stop) (rest : List Stop) : Type 0 where
+  pub all : front ≡ before ++ stop ∷ rest
+  pub are : AreLines lines
+  pub stops : AreStops lines [] front
+  pub there : used (copies_of front) ≤ length lines
+
+next-used : (front stops : List Stop) (lines : List LineContent) (stop : Stop) (rest : List Stop) → Goes front stops lines stop rest → used (copies_of stops) + (stop.copy.kept + stop.copy.gone) ≤ length lines
+next-used front stops lines stop rest goes =
+    let all = ap (λ xs. used (copies_of xs)) goes.all ∙ ap used (map-append (λ (x : Stop). x.copy) stops (stop ∷ rest)) ∙ used-append (copies_of stops) (copies_of (stop ∷ rest)) in
+    omega (arith, goes.there, all)
+
+stops-here : (lines : List LineContent) (before : List Copied) (stops : List Stop) (stop : Stop) (rest : List Stop) → AreStops lines before (stops ++ stop ∷ rest) → stop.reached.used ≡ used before + used (copies_of stops)
+stops-here lines before [] stop rest are = omega (arith, are.0.used)
+stops-here lines before (first ∷ stops) stop rest are =
+    omega (arith, stops-here lines (before ++ first.copy ∷ []) stops stop rest are.1, used-append before (first.copy ∷ []))
+
+pub reached-here : (front stops : List Stop) (lines : List LineContent) (stop : Stop) (rest : List Stop) → Goes front stops lines stop rest → stop.reached.used ≡ used (copies_of stops)
+reached-here front stops lines stop rest goes = omega (arith, stops-here lines [] stops stop rest (subst (AreStops lines []) goes.all goes.stops))
+
+pub next-fits : (front stops : List Stop) (lines : List LineContent) (stop : Stop) (rest : List Stop) → Goes front stops lines stop rest → stop.reached.used + (stop.copy.kept + stop.copy.gone) ≤ length lines
+next-fits front stops lines stop rest goes = omega (arith, reached-here front stops lines stop rest goes, next-used front stops lines stop rest goes)
+
+used-snoc : (stops : List Stop) (stop : Stop) → used (copies_of stops) + (stop.copy.kept + stop.copy.gone) ≡ used (copies_of (stops ++ stop ∷ []))
+used-snoc stops stop = omega (arith, ap used (copies-snoc stops stop), used-append (copies_of stops) (stop.copy ∷ []))
+
+covers-snoc : (front stops : List Stop) (lines : List LineContent) (stop : Stop) (pieces : List Piece)
+    → Covers pieces (used (copies_of stops) + (stop.copy.kept + stop.copy.gone))
+    (made_lines (copies_of stops) (base_of front lines) ++ (take stop.copy.kept (drop (used (copies_of stops)) (base_of front lines)) ++ stop.copy.line ∷ []))
+    (base_of front lines) (plus (count_of (copied_lines (copies_of stops))) (line_count stop.copy.line))
+    → Covers pieces (used (copies_of (stops ++ stop ∷ []))) (made_lines (copies_of (stops ++ stop ∷ [])) (base_of front lines)) (base_of front lines) (count_of (copied_lines (copies_of (stops ++ stop ∷ []))))
+covers-snoc front stops lines stop pieces covers =
+    let base = base_of front lines in
+    let made = sym (ap (λ xs. made_lines xs base) (copies-snoc stops stop) ∙ made-snoc (copies_of stops) stop.copy base) in
+    let sum = sym (ap count_of (copied-snoc stops stop) ∙ count-snoc (copied_lines (copies_of stops)) stop.copy.line) in
+    subst (λ n. Covers pieces n (made_lines (copies_of (stops ++ stop ∷ [])) base) base (count_of (copied_lines (copies_of (stops ++ stop ∷ []))))) (used-snoc stops stop)
+    (subst₂ (λ xs count. Covers pieces (used (copies_of stops) + (stop.copy.kept + stop.copy.gone)) xs base count) made sum covers)
+
+alone : (front stops : List Stop) (lines : List LineContent) (stop : Stop) (rest : List Stop) → Goes front stops lines stop rest
+    → (number : ℕ) (place : Place) → finite.get stop.copy.line.marks number ≡ Some place → finite.get (whole (base_of front lines)).marks number ≡ None
+alone front stops lines stop rest goes =
+    let all : copied_lines (copies_of stops) ++ stop.copy.line ∷ copied_lines (copies_of rest) ≡ copied_lines (copies_of front) =
+    sym (ap (λ xs. copied_lines (copies_of xs)) goes.all ∙ ap copied_lines (map-append (λ (x : Stop). x.copy) stops (stop ∷ rest)) ∙ map-append (λ (copy : Copied). copy.line) (copies_of stops) (copies_of (stop ∷ rest))) in
+    subst (λ xs. AreApart stop.copy.line.marks (whole (freed (numbers_in xs) lines)).marks) all
+    (freed-apart (copied_lines (copies_of stops)) (copied_lines (copies_of rest)) stop.copy.line lines)
+
+made-none : (stops : List Stop) (base : List LineContent) → stops ≡ [] → made_lines (copies_of stops) base ≡ take (used (copies_of stops)) base
+made-none stops base none = ap (λ xs. made_lines (copies_of xs) base) none ∙ sym (ap (λ xs. take (used (copies_of xs)) base) none)
+
+-- the last of a list
+abbrev final : {A : Type 0} → A → List A → A
+final d [] = d
+final d (x ∷ xs) = final x xs
+
+final_snoc : {A : Type 0} (d : A) (xs : List A) (x : A) → final d (xs ++ x ∷ []) ≡ x
+final_snoc d [] x = refl
+final_snoc d (y ∷ xs) x = final_snoc y xs x
+
+snoc_same : {A : Type 0} (xs ys : List A) (x y : A) → xs ++ x ∷ [] ≡ ys ++ y ∷ [] → x ≡ y
+snoc_same xs ys x y is = sym (final_snoc x xs x) ∙ ap (final x) is ∙ final_snoc x ys y
+
+pub gather-none : (front : List Stop) (lines : List LineContent) → Gathers front [] lines []
+gather-none front lines = record {
+  covers = covers-none (base_of front lines) (count_of []);
+  ends = λ before last is. let long : 0 ≡ length before + 1 = ap length is ∙ length-append before (last ∷ []) in absurd (omega (arith, long));
+  none = λ _. refl;
+  brings = refl;
+}
+
+pub gather-new : (front stops rest : List Stop) (lines : List LineContent) (stop : Stop) (pieces : List Piece) (piece : Piece) → Gathers front stops lines pieces → Goes front stops lines stop rest
+    → piece.from ≡ stop.reached.used + stop.copy.kept → piece.count ≡ stop.copy.gone → piece.lines.items ≡ stop.copy.line ∷ [] → (stop.copy.kept ≡ 0 → pieces ≡ [])
+    → Gathers front (stops ++ stop ∷ []) lines (pieces ++ piece ∷ [])
+gather-new front stops rest lines stop pieces piece gathers goes from count brought first =
+    let base = base_of front lines in
+    let numbers = numbers_in (copied_lines (copies_of front)) in
+    let here = reached-here front stops lines stop rest goes in
+    record {
+      covers = covers-snoc front stops lines stop (pieces ++ piece ∷ [])
+          (covers-new pieces piece (used (copies_of stops)) stop.copy.kept stop.copy.gone (made_lines (copies_of stops) base) base stop.copy.line (count_of (copied_lines (copies_of stops)))
+          gathers.covers (omega (arith, next-used front stops lines stop rest goes, freed-length numbers lines)) (freed-lines numbers lines goes.are).rows (from ∙ ap (λ n. n + stop.copy.kept) here) count brought
+          (λ zero. made-none stops base (gathers.none (first zero))) (alone front stops lines stop rest goes));
+      ends = λ before last is.
+      let same = snoc_same pieces before piece last is in
+      omega (arith, ap (λ (p : Piece). p.from) same, ap (λ (p : Piece). p.count) same, from, count, here, used-snoc stops stop);
+      none = λ is. let long : length pieces + 1 ≡ 0 = sym (length-append pieces (piece ∷ [])) ∙ ap length is in absurd (omega (arith, long));
+      brings = piece_lines-snoc pieces piece ∙ ap₂ (λ xs ys. xs ++ ys) gathers.brings brought ∙ sym (copied-snoc stops stop);
+    }
+
+pub gather-more : (front stops rest : List Stop) (lines : List LineContent) (stop : Stop) (pieces before : List Piece) (last more : Piece) → Gathers front stops lines pieces → Goes front stops lines stop rest
+    → pieces ≡ before ++ last ∷ [] → stop.copy.kept ≡ 0 → more.from ≡ last.from → more.count ≡ last.count + stop.copy.gone → more.lines.items ≡ last.lines.items ++ stop.copy.line ∷ []
+    → Gathers front (stops ++ stop ∷ []) lines (before ++ more ∷ [])
+gather-more front stops rest lines stop pieces before last more gathers goes pieces_are zero from count brought =
+    let base = base_of front lines in
+    let numbers = numbers_in (copied_lines (copies_of front)) in
+    let ends = gathers.ends before last pieces_are in
+    let covers = covers-more before last more (used (copies_of stops)) stop.copy.gone (made_lines (copies_of stops) base) base stop.copy.line (count_of (copied_lines (copies_of stops)))
+    (subst (λ ps. Covers ps (used (copies_of stops)) (made_lines (copies_of stops) base) base (count_of (copied_lines (copies_of stops)))) pieces_are gathers.covers)
+    (omega (arith, next-used front stops lines stop rest goes, zero, freed-length numbers lines)) (freed-lines numbers lines goes.are).rows ends from count brought (alone front stops lines stop rest goes) in
+    record {
+      covers = covers-snoc front stops lines stop (before ++ more ∷ [])
+          (subst (λ k. Covers (before ++ more ∷ []) (used (copies_of stops) + (k + stop.copy.gone)) (made_lines (copies_of stops) base ++ (take k (drop (used (copies_of stops)) base) ++ stop.copy.line ∷ []))
+          base (plus (count_of (copied_lines (copies_of stops))) (line_count stop.copy.line))) (sym zero) covers);
+      ends = λ others end is.
+      let same = snoc_same before others more end is in
+      omega (arith, ap (λ (p : Piece). p.from) same, ap (λ (p : Piece). p.count) same, from, count, zero, ends, used-snoc stops stop);
+      none = λ is. let long : length before + 1 ≡ 0 = sym (length-append before (more ∷ [])) ∙ ap length is in absurd (omega (arith, long));
+      brings =
+          piece_lines-snoc before more ∙ ap (λ xs. piece_lines before ++ xs) brought ∙ sym (append_assoc (piece_lines before) last.lines.items (stop.copy.line ∷ []))
+          ∙ ap (λ xs. xs ++ stop.copy.line ∷ []) (sym (piece_lines-snoc before last) ∙ ap piece_lines (sym pieces_are) ∙ gathers.brings) ∙ sym (copied-snoc stops stop);
+    }
+
+pub gathered : (front : List Stop) (lines : List LineContent) (pieces : List Piece) → Gathers front front lines pieces → AreLines lines → used (copies_of front) ≤ length lines
+    → AreRows (drafted (copies_of front) lines) → IsCounted (plus (count_of lines) (count_of (copied_lines (copies_of front))))
+    → CanPlace pieces (base_of front lines) × (placed pieces (base_of front lines) ≡ drafted (copies_of front) lines)
+gathered front lines pieces gathers are there rows counted =
+    let numbers = numbers_in (copied_lines (copies_of front)) in
+    let base = base_of front lines in
+    let copies = copies_of front in
+    let same = freed-drafted numbers copies lines rows (λ n names. in_names n (copied_lines copies) names) in
+    let found = covers-all pieces (used copies) (made_lines copies base) base (count_of (copied_lines copies)) gathers.covers (freed-lines numbers lines are).rows
+    (omega (arith, there, freed-length numbers lines)) (subst AreRows (sym same) rows) (record {
+      lines = omega (arith, counted.lines, freed-count_lines numbers lines);
+      characters = omega (arith, counted.characters, freed-count_characters numbers lines);
+      marks = omega (arith, counted.marks, freed-count_marks numbers lines);
+    }) in
+    (found.0, found.1 ∙ same)

@@ -1,0 +1,16 @@
+use Rattle.std.proofs.Common.{◌≡◌, ◌≤◌, length}
+use Rattle.std.specs.List.{All}
+use Rattle.segments.specs.Columns.{LineContent}
+use Rattle.line_lists.specs.Lists.{NumbersBelow}
+use Rattle.line_lists.specs.Pieces.{CanPlace, piece_lines, placed}
+use Rattle.line_lists.proofs.pieces.place.Given as goal
+
+abbrev pub invariant-loop-piece : goal.invariant-loop-piece
+invariant-loop-piece g l =
+    CanPlace l.pieces.items (g.L.LineList.lines l.list)
+    × (placed l.pieces.items (g.L.LineList.lines l.list) ≡ placed l.initial.pieces.items (g.L.LineList.lines l.initial.list))
+    × (length (piece_lines l.pieces.items) ≤ g.L.LineList.line_room l.list)
+    × All (λ (line : LineContent). NumbersBelow (g.L.LineList.mark_room l.list) line.marks) (piece_lines l.pieces.items)
+
+abbrev pub decreases-loop-piece : goal.decreases-loop-piece
+decreases-loop-piece g l = goal.left-loop-piece g l

@@ -1,0 +1,61 @@
+-- Pieces of a list of lines, in whose place others come.
+use Rattle.std.specs.Prelude.{◌≡◌, ℕ, ◌+◌, ◌≤◌, ◌++◌, List, [], ◌∷◌, ⊤, length, map, take}
+use Rattle.std.specs.FinMap as finite
+use Rattle.text_model.specs.declared.places.MarkNo.{MarkNo}
+use Rattle.text_model.specs.declared.places.Place.{Place}
+use Rattle.toggle_sums.specs.Counts.{Count, plus}
+use Rattle.segments.specs.Columns.{LineContent}
+use Rattle.line_lists.specs.declared.drafts.Copied.{Copied}
+use Rattle.line_lists.specs.declared.pieces.Piece.{Piece}
+use Rattle.line_lists.specs.Edits.{without_mark}
+use Rattle.line_lists.specs.Lists.{AreApart, AreLines, AreRows, IsCounted, count_of, spliced}
+use Rattle.line_lists.specs.Texts.{whole}
+
+-- the lines with each piece in its place, from the last to the first
+abbrev pub placed : List Piece → List LineContent → List LineContent
+placed [] lines = lines
+placed (piece ∷ pieces) lines = spliced piece.from piece.count piece.lines.items (placed pieces lines)
+
+-- each piece finds the lines in whose place it comes, and the lines with it are those of a text
+abbrev pub CanPlace : List Piece → List LineContent → Type 0
+CanPlace [] lines = ⊤
+CanPlace (piece ∷ pieces) lines =
+    CanPlace pieces lines
+    × (piece.from + piece.count ≤ length (placed pieces lines))
+    × AreLines (placed (piece ∷ pieces) lines)
+
+-- the lines that pieces bring
+abbrev pub piece_lines : List Piece → List LineContent
+piece_lines [] = []
+piece_lines (piece ∷ pieces) = piece.lines.items ++ piece_lines pieces
+
+-- the numbers of the marks of a line, and of lines
+abbrev pub numbers_of : LineContent → List ℕ
+numbers_of line = map (λ (entry : ℕ × Place). entry.0) (finite.entries line.marks)
+
+abbrev pub numbers_in : List LineContent → List ℕ
+numbers_in [] = []
+numbers_in (line ∷ lines) = numbers_of line ++ numbers_in lines
+
+abbrev pub named : List MarkNo → List ℕ
+named numbers = map (λ (number : MarkNo). number.0) numbers
+
+-- lines without the marks of some numbers
+abbrev pub freed : List ℕ → List LineContent → List LineContent
+freed [] lines = lines
+freed (number ∷ numbers) lines = freed numbers (map (without_mark number) lines)
+
+-- the lines that copies bring
+abbrev pub copied_lines : List Copied → List LineContent
+copied_lines copies = map (λ (copy : Copied). copy.line) copies
+
+-- lines that follow so many of a list, in whose place pieces made others
+pub record Follows (used : ℕ) (made base : List LineContent) (sum : Count) (rest : List LineContent) : Type 0 where
+  pub rows : AreRows (made ++ rest)
+  pub apart : AreApart (whole (take used base)).marks (whole rest).marks
+  pub counted : IsCounted (plus (count_of (take used base ++ rest)) sum)
+
+-- what pieces make of so many lines of a list, whatever follows; of the lines that they bring so much is counted
+pub record Covers (pieces : List Piece) (used : ℕ) (made base : List LineContent) (sum : Count) : Type 0 where
+  pub places : (rest : List LineContent) → placed pieces (take used base ++ rest) ≡ made ++ rest
+  pub can : (rest : List LineContent) → Follows used made base sum rest → CanPlace pieces (take used base ++ rest)
