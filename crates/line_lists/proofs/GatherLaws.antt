@@ -1,5 +1,5 @@
 -- Copies that become pieces, one by one.
-use Rattle.std.proofs.Common.{◌≡◌, ℕ, ◌+◌, ◌<◌, ◌≤◌, ◌^◌, List, [], ◌∷◌, ◌++◌, None, Some, length, get_or, map, take, drop, refl, sym, ap, ap₂, subst, subst₂, ◌∙◌, arith, append_assoc, length-append}
+use Rattle.std.proofs.Common.{◌≡◌, ℕ, ◌+◌, ◌-◌, ◌<◌, ◌≤◌, ◌^◌, List, [], ◌∷◌, ◌++◌, Option, None, Some, length, get_or, map, take, drop, refl, sym, ap, ap₂, subst, subst₂, ◌∙◌, arith, append_assoc, length-append}
 use Rattle.std.specs.FinMap as finite
 use Rattle.std.specs.List.{All}
 use Rattle.std.proofs.lemmas.List.{append-nil, map-append, take_more}
@@ -22,6 +22,14 @@ use Rattle.line_lists.proofs.CountRows.{count-append}
 use Rattle.line_lists.proofs.DraftLaws.{copies-snoc, made-snoc, stops-last, used-append}
 use Rattle.line_lists.proofs.FreedLaws.{freed-apart, freed-append, freed-count_characters, freed-count_lines, freed-count_marks, freed-drafted, freed-length, freed-lines, in_names}
 use Rattle.line_lists.proofs.PieceLaws.{covers-all, covers-more, covers-new, covers-none}
+
+pub no_items : {A : Type 0} (xs : List A) → length xs ≡ 0 → xs ≡ []
+no_items [] none = refl
+no_items (x ∷ xs) none = absurd (omega (arith, none))
+
+pub none_popped : {A : Type 0} (xs : List A) (n : ℕ) (popped : Option A) → n ≡ length xs → popped ≡ None → ((d : A) → 0 < n → popped ≡ Some (get_or xs (n - 1) d)) → xs ≡ []
+none_popped [] n popped long none is = refl
+none_popped {A = A} (x ∷ xs) n popped long none is = let no : ◌≡◌ {A = Option A} None (Some (get_or (x ∷ xs) (n - 1) x)) = sym none ∙ is x (omega (arith, long)) in absurd (cc)
 
 -- ---- numbers
 named-more : (numbers : List MarkNo) (i : ℕ) (number : MarkNo) → i < length numbers → named (take (i + 1) numbers) ≡ named (take i numbers) ++ (get_or numbers i number).0 ∷ []
@@ -112,6 +120,10 @@ reached-here front stops lines stop rest goes = omega (arith, stops-here lines [
 
 pub next-fits : (front stops : List Stop) (lines : List LineContent) (stop : Stop) (rest : List Stop) → Goes front stops lines stop rest → stop.reached.used + (stop.copy.kept + stop.copy.gone) ≤ length lines
 next-fits front stops lines stop rest goes = omega (arith, reached-here front stops lines stop rest goes, next-used front stops lines stop rest goes)
+
+pub last-fits : (front stops : List Stop) (lines : List LineContent) (stop : Stop) (rest : List Stop) (pieces before : List Piece) (last : Piece) → Gathers front stops lines pieces → Goes front stops lines stop rest
+    → pieces ≡ before ++ last ∷ [] → last.count + stop.copy.gone ≤ length lines
+last-fits front stops lines stop rest pieces before last gathers goes is = omega (arith, gathers.ends before last is, next-used front stops lines stop rest goes)
 
 used-snoc : (stops : List Stop) (stop : Stop) → used (copies_of stops) + (stop.copy.kept + stop.copy.gone) ≡ used (copies_of (stops ++ stop ∷ []))
 used-snoc stops stop = omega (arith, ap used (copies-snoc stops stop), used-append (copies_of stops) (stop.copy ∷ []))
