@@ -12,6 +12,7 @@ pub mod NearChanges
 pub mod NearMarks
 pub mod NewlineRows
 pub mod PlaceRows
+pub mod RemovalLaws
 pub mod RowLaws
 pub mod SearchRows
 pub mod SlotLaws
