@@ -2,6 +2,8 @@ pub mod CountRows
 pub mod DraftLaws
 pub mod EditLaws
 pub mod FindLaws
+pub mod HeldLaws
+pub mod JoinLaws
 pub mod LineStarts
 pub mod ListLaws
 pub mod MadeLaws

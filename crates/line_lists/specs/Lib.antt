@@ -2,6 +2,7 @@ pub mod Drafts
 pub mod Edits
 pub mod Lists
 pub mod Places
+pub mod Removals
 pub mod RowLaws
 pub mod Texts
 pub mod Toggling
