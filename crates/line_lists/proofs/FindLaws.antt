@@ -57,7 +57,7 @@ found reached lines offset place line column behind place_is holds =
     }
 
 -- ---- a copy at its place
-pub slice_get-drop : {A : Type 0} (u b : ℕ) (xs : List A) → slice_get (drop u xs) b ≡ slice_get xs (u + b)
+slice_get-drop : {A : Type 0} (u b : ℕ) (xs : List A) → slice_get (drop u xs) b ≡ slice_get xs (u + b)
 slice_get-drop zero b xs = ap (slice_get xs) (let same : b ≡ 0 + b = omega arith in same)
 slice_get-drop (suc u) b [] = refl
 slice_get-drop (suc u) b (x ∷ xs) = slice_get-drop u b xs ∙ sym (ap (slice_get (x ∷ xs)) (let same : suc u + b ≡ suc (u + b) = omega arith in same))

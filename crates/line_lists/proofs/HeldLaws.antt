@@ -3,7 +3,7 @@ use Rattle.std.proofs.Common.{◌≡◌, ℕ, ◌+◌, ◌-◌, ◌<◌, ◌≤�
 use Rattle.segments.specs.Columns.{LineContent, after_removal, joined}
 use Rattle.line_lists.specs.declared.drafts.Copied.{Copied}
 use Rattle.line_lists.specs.declared.drafts.Stop.{Stop}
-use Rattle.line_lists.specs.Drafts.{IsTaken, copies_of, covered, lines_before, lines_behind, made_lines, taken_lines, used}
+use Rattle.line_lists.specs.Drafts.{IsTaken, copies_of, lines_before, lines_behind, made_lines, taken_lines, used}
 use Rattle.line_lists.specs.Lists.{AreRows}
 use Rattle.line_lists.specs.Removals.{HoldsMore, IsHeld, JoinsNext, held_at, held_text}
 use Rattle.line_lists.specs.Texts.{whole}
@@ -51,9 +51,9 @@ leaves-within lines front back stop line column count held few line_is =
     }
 
 -- there is a line behind that of the copy
-some_lines : (lines : List LineContent) → 0 < length (whole lines).columns → 0 < length lines
-some_lines [] some = absurd (omega (arith, some))
-some_lines (line ∷ lines) some = omega arith
+lines-there : (lines : List LineContent) → 0 < length (whole lines).columns → 0 < length lines
+lines-there [] some = absurd (omega (arith, some))
+lines-there (line ∷ lines) some = omega arith
 
 pub next-there : (lines : List LineContent) (front : List Stop) (back : List Copied) (stop : Stop) (column left : ℕ) → HoldsMore lines front back stop.copy column left
     → length stop.copy.line.columns - column ≤ left → 0 < length (lines_behind (copies_of front) stop.copy back lines)
@@ -61,7 +61,7 @@ next-there lines front back stop column left more large =
     let before = lines_before (copies_of front) stop.copy lines in
     let behind = lines_behind (copies_of front) stop.copy back lines in
     let long = length-whole before (stop.copy.line ∷ behind) in
-    some_lines behind (omega (arith, more, large, long, length-append stop.copy.line.columns (whole behind).columns))
+    lines-there behind (omega (arith, more, large, long, length-append stop.copy.line.columns (whole behind).columns))
 
 -- it joins the copy's line, of which the rest goes
 leaves_joined : (lines : List LineContent) (front : List Stop) (before back : List Copied) (stop joint : Stop) (line : LineContent) (column left : ℕ) → IsHeld lines front before stop column

@@ -9,7 +9,7 @@ use Rattle.line_lists.specs.declared.drafts.Stop.{Stop}
 use Rattle.line_lists.specs.Drafts.{IsReached, IsTaken, copies_of, covered, drafted, lines_behind, made_lines, used}
 use Rattle.line_lists.specs.Removals.{JoinsNext}
 use Rattle.line_lists.specs.Texts.{whole}
-use Rattle.line_lists.proofs.FindLaws.{drop_after, opened_next, slice_get-drop}
+use Rattle.line_lists.proofs.FindLaws.{drop_after, opened_next}
 use Rattle.line_lists.proofs.WholeLaws.{whole-one}
 
 -- what two facts of a success say of it

@@ -1,5 +1,5 @@
 -- Characters that are taken out of a line of a text, with its newline or without, and once more.
-use Rattle.std.proofs.Common.{◌≡◌, ◌≢◌, ℕ, zero, suc, ◌+◌, ◌-◌, ◌<◌, ◌≤◌, List, [], ◌∷◌, ◌++◌, Option, None, Some, length, take, drop, refl, sym, ap, ap₂, subst, ◌∙◌, arith, length-append, take-append-drop}
+use Rattle.std.proofs.Common.{◌≡◌, ℕ, zero, suc, ◌+◌, ◌-◌, ◌<◌, ◌≤◌, List, [], ◌∷◌, ◌++◌, Option, None, Some, length, take, drop, refl, sym, ap, ap₂, subst, ◌∙◌, arith, length-append, take-append-drop}
 use Rattle.std.specs.FinMap as finite
 use Rattle.std.specs.FinSet as set
 use Rattle.std.specs.Prelude.{option_map, slice_range}
@@ -18,12 +18,12 @@ use Rattle.text_model.proofs.SpliceLaws.{map-removed}
 use Rattle.toggle_sums.specs.CountLaws.{differing-associative, differing-empty, empty-differing}
 use Rattle.segments.specs.Columns.{Column, LineContent, after_removal, characters, joined, later, toggled_first, without_columns}
 use Rattle.segments.proofs.MarkLaws.{get-joined_marks, or_else}
-use Rattle.line_lists.specs.Lists.{AreApart, AreRows, GoesBefore, IsLine, StandBefore, StandWithin}
+use Rattle.line_lists.specs.Lists.{AreRows, GoesBefore, IsLine, StandBefore}
 use Rattle.line_lists.specs.Texts.{whole}
 use Rattle.line_lists.specs.Toggling.{tags_behind}
 use Rattle.line_lists.proofs.EditLaws.{goes-changed, joined-stands, joined_one, rows-stand, some-columns, text-among}
 use Rattle.line_lists.proofs.NewlineRows.{none_before}
-use Rattle.line_lists.proofs.RowLaws.{AreAmong, Makes, among-first, characters-first, free-parts, rows-before, rows-behind, whole-around}
+use Rattle.line_lists.proofs.RowLaws.{Makes, among-first, characters-first, free-parts, rows-before, rows-behind, whole-around}
 use Rattle.line_lists.proofs.StepLaws.{take-slice}
 use Rattle.line_lists.proofs.TagLaws.{behind-append}
 use Rattle.line_lists.proofs.WholeLaws.{after_removal-between, joined-associative, length-without, whole-append, without-behind}
@@ -167,9 +167,9 @@ joined-goes line next [] goes other = λ number place is.
 joined-goes line next (last ∷ others) goes other = (
   joined-stands line next goes.0 other.0,
   (λ number place is.
-  joined_part (length line.columns) (finite.get next.marks number) (finite.get line.marks number) place (other.1 number)
-  (λ here there. (free-parts next (whole (last ∷ others)) number (goes.1 number here there)).0)
-  (sym (get-joined_marks (length line.columns) line.marks next.marks number) ∙ is)),
+      joined_part (length line.columns) (finite.get next.marks number) (finite.get line.marks number) place (other.1 number)
+      (λ here there. (free-parts next (whole (last ∷ others)) number (goes.1 number here there)).0)
+      (sym (get-joined_marks (length line.columns) line.marks next.marks number) ∙ is)),
 )
 
 -- ---- lines in a row

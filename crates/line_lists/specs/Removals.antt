@@ -20,7 +20,8 @@ HoldsMore lines front back copy column count =
     held_at lines front copy column + count < length (held_text lines front back copy).columns
 
 -- a copy that is held out of the draft of a text, and a column of its line
-pub record IsHeld (lines : List LineContent) (front : List Stop) (back : List Copied) (stop : Stop) (column : ℕ) : Type 0 where
+pub record IsHeld (lines : List LineContent) (front : List Stop) (back : List Copied) (stop : Stop) (column : ℕ)
+    : Type 0 where
   pub taken : IsTaken lines front back stop
   pub rows : AreRows (taken_lines lines front back stop.copy)
   pub inside : column < length stop.copy.line.columns

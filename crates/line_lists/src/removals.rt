@@ -50,9 +50,9 @@ impl<'a, L: LineList> Draft<'a, L> {
             (IsTaken (L.lines self.new.list.now) self.new.front.items self.new.back.items stop.new) }
         ensures joins { OnOk result (JoinsNext stop.old.copy.line stop.new.copy.line
             (lines_behind (copies_of self.old.front.items) stop.old.copy (self.old.back.items ++ next ∷ [])
-                (L.lines self.old.list.now))
+            (L.lines self.old.list.now))
             (lines_behind (copies_of self.new.front.items) stop.new.copy self.new.back.items
-                (L.lines self.new.list.now))) }
+            (L.lines self.new.list.now))) }
     {
         if next.kept == 0 {
             return stop.copy.join(&next);
@@ -75,9 +75,9 @@ impl<'a, L: LineList> Draft<'a, L> {
             (IsTaken (L.lines self.new.list.now) self.new.front.items self.new.back.items stop.new) }
         ensures joins { OnOk result (JoinsNext stop.old.copy.line stop.new.copy.line
             (lines_behind (copies_of self.old.front.items) stop.old.copy self.old.back.items
-                (L.lines self.old.list.now))
+            (L.lines self.old.list.now))
             (lines_behind (copies_of self.new.front.items) stop.new.copy self.new.back.items
-                (L.lines self.new.list.now))) }
+            (L.lines self.new.list.now))) }
     {
         match self.back.pop() {
             None => self.join_kept(stop),
@@ -107,8 +107,8 @@ impl<'a, L: LineList> Draft<'a, L> {
         ensures new { IfOk result (λ count.
             held_text (L.lines self.new.list.now) self.new.front.items self.new.back.items stop.new.copy
             ≡ after_removal (held_at (L.lines self.old.list.now) self.old.front.items stop.old.copy column)
-                (held_at (L.lines self.old.list.now) self.old.front.items stop.old.copy column + count)
-                (held_text (L.lines self.old.list.now) self.old.front.items self.old.back.items stop.old.copy)) }
+            (held_at (L.lines self.old.list.now) self.old.front.items stop.old.copy column + count)
+            (held_text (L.lines self.old.list.now) self.old.front.items self.old.back.items stop.old.copy)) }
     {
         let rest = stop.copy.line.len() - column;
         if left < rest {
@@ -137,8 +137,8 @@ impl<'a, L: LineList> Draft<'a, L> {
         ensures new { OnOk result
             (held_text (L.lines self.new.list.now) self.new.front.items self.new.back.items stop.new.copy
             ≡ after_removal (held_at (L.lines self.old.list.now) self.old.front.items stop.old.copy column)
-                (held_at (L.lines self.old.list.now) self.old.front.items stop.old.copy column + count)
-                (held_text (L.lines self.old.list.now) self.old.front.items self.old.back.items stop.old.copy)) }
+            (held_at (L.lines self.old.list.now) self.old.front.items stop.old.copy column + count)
+            (held_text (L.lines self.old.list.now) self.old.front.items self.old.back.items stop.old.copy)) }
     {
         let mut left = count;
         while left > 0 {

@@ -1,4 +1,4 @@
-use Rattle.std.proofs.Common.{◌≡◌, ◌+◌, ◌-◌, ◌<◌, ◌≤◌, length, ap, ◌∙◌, arith}
+use Rattle.std.proofs.Common.{◌-◌, length, ap, arith}
 use Rattle.segments.specs.Columns.{LineContent}
 use Rattle.line_lists.specs.Removals.{held_at, held_text}
 use Rattle.line_lists.specs.Texts.{whole}

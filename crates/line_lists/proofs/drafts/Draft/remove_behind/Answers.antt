@@ -1,4 +1,4 @@
-use Rattle.std.proofs.Common.{Vec, Global, ◌≡◌, ◌+◌, ◌-◌, ◌<◌, ◌≤◌, sym, ap, ◌∙◌, arith}
+use Rattle.std.proofs.Common.{Vec, Global, ◌≡◌, ap, ◌∙◌, arith}
 use Rattle.line_lists.specs.declared.drafts.Stop.{Stop}
 use Rattle.line_lists.specs.Removals.{held_at, held_text}
 use Rattle.line_lists.proofs.HeldLaws.{at-same, left-long, left-same, none-left}
@@ -19,8 +19,7 @@ loop-left-preserved g c =
     at-same lines others now.front.items new.front.items c.loop-left.stop.copy c.remove_some.new.stop.copy column (ap g.L.LineList.lines step.list) (ap (λ (front : Vec Stop Global). front.items) step.front) step.kept in
     let old = held_text lines now.front.items now.back.items c.loop-left.stop.copy in
     let text = held_text others new.front.items new.back.items c.remove_some.new.stop.copy in
-    let first = held_text (g.L.LineList.lines c.args.self.now.list.now) c.args.self.now.front.items c.args.self.now.back.items c.args.stop.now.copy in
-    (
+    let first = held_text (g.L.LineList.lines c.args.self.now.list.now) c.args.self.now.front.items c.args.self.now.back.items c.args.stop.now.copy in (
       step.list ∙ so_far.0,
       step.front ∙ so_far.1,
       step.kept ∙ so_far.2,
