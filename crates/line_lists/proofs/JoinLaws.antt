@@ -1,12 +1,11 @@
 -- The next line joins that of a copy which is taken out of a draft.
-use Rattle.std.proofs.Common.{◌≡◌, ℕ, ◌+◌, ◌-◌, ◌<◌, ◌≤◌, List, [], ◌∷◌, ◌++◌, Some, Result, Ok, Err, length, take, drop, refl, sym, ap, ap₂, subst, ◌∙◌, arith, length-drop}
+use Rattle.std.proofs.Common.{◌≡◌, ℕ, ◌+◌, ◌-◌, ◌<◌, List, [], ◌∷◌, ◌++◌, Some, Result, Ok, Err, length, take, drop, refl, sym, ap, ap₂, ◌∙◌, arith, length-drop}
 use Rattle.std.specs.Prelude.{OnOk, reverse, slice_get}
 use Rattle.std.proofs.lemmas.List.{drop-drop, reverse-append}
 use Rattle.segments.specs.Columns.{LineContent, joined}
 use Rattle.line_lists.specs.declared.drafts.Copied.{Copied}
-use Rattle.line_lists.specs.declared.drafts.Reached.{Reached}
 use Rattle.line_lists.specs.declared.drafts.Stop.{Stop}
-use Rattle.line_lists.specs.Drafts.{IsReached, IsTaken, copies_of, covered, drafted, lines_behind, made_lines, used}
+use Rattle.line_lists.specs.Drafts.{IsTaken, copies_of, covered, drafted, lines_behind, made_lines, used}
 use Rattle.line_lists.specs.Removals.{JoinsNext}
 use Rattle.line_lists.specs.Texts.{whole}
 use Rattle.line_lists.proofs.FindLaws.{drop_after, opened_next}
@@ -35,15 +34,6 @@ joins old new line behind rest is new_is = record {
   others = sym (ap (drop 1) is);
 }
 
--- the copy may cover other lines
-pub taken-again : (lines : List LineContent) (front : List Stop) (before back : List Copied) (stop new : Stop) → IsTaken lines front before stop → new.reached ≡ stop.reached
-    → used (copies_of front) + covered new.copy + used (reverse back) ≤ length lines → IsTaken lines front back new
-taken-again lines front before back stop new taken same there = record {
-  stops = taken.stops;
-  reached = subst (λ (reached : Reached). IsReached reached (copies_of front) lines) (sym same) taken.reached;
-  there = there;
-}
-
 -- ---- the next line is that of the next copy
 pub behind-copied : (lines : List LineContent) (copies back : List Copied) (copy new next : Copied) → next.kept ≡ 0 → new.kept ≡ copy.kept → new.gone ≡ copy.gone + next.gone
     → lines_behind copies copy (back ++ next ∷ []) lines ≡ next.line ∷ lines_behind copies new back lines
@@ -59,11 +49,6 @@ behind-copied lines copies back copy new next none kept gone =
     (drop-drop (covered next + used cs) n lines
     ∙ ap (λ k. drop k lines) (let same : n + (covered next + used cs) ≡ m + used cs = omega (arith, none, kept, gone) in same)
     ∙ sym (drop-drop (used cs) m lines))
-
-pub taken-copied : (lines : List LineContent) (front : List Stop) (back : List Copied) (stop new : Stop) (next : Copied) → IsTaken lines front (back ++ next ∷ []) stop → new.reached ≡ stop.reached
-    → next.kept ≡ 0 → new.copy.kept ≡ stop.copy.kept → new.copy.gone ≡ stop.copy.gone + next.gone → IsTaken lines front back new
-taken-copied lines front back stop new next taken same none kept gone =
-    taken-again lines front (back ++ next ∷ []) back stop new taken same (omega (arith, taken.there, none, kept, gone, ap used (reverse-append back (next ∷ []))))
 
 -- it is one that is kept before that copy
 pub kept-there : (lines : List LineContent) (front : List Stop) (back : List Copied) (stop : Stop) (next : Copied) → IsTaken lines front (back ++ next ∷ []) stop → 0 < next.kept
@@ -84,12 +69,6 @@ behind-kept lines copies back copy new next less some within fewer same text kep
     (drop-drop 1 n lines ∙ ap (λ k. drop k lines) (let here : n + 1 ≡ used copies + covered new = omega (arith, kept, gone) in here))
     ∙ ap (λ xs. line ∷ drafted xs (drop (used copies + covered new) lines)) (sym (reverse-append back (less ∷ [])))
 
-pub taken-before : (lines : List LineContent) (front : List Stop) (back : List Copied) (stop new : Stop) (next less : Copied) → IsTaken lines front (back ++ next ∷ []) stop → new.reached ≡ stop.reached
-    → 0 < next.kept → less.kept ≡ next.kept - 1 → less.gone ≡ next.gone → new.copy.kept ≡ stop.copy.kept → new.copy.gone ≡ stop.copy.gone + 1 → IsTaken lines front (back ++ less ∷ []) new
-taken-before lines front back stop new next less taken same some fewer alike kept gone =
-    taken-again lines front (back ++ next ∷ []) (back ++ less ∷ []) stop new taken same
-    (omega (arith, taken.there, some, fewer, alike, kept, gone, ap used (reverse-append back (next ∷ [])), ap used (reverse-append back (less ∷ []))))
-
 -- there is no other copy
 pub rest-there : (lines : List LineContent) (front : List Stop) (stop : Stop) → IsTaken lines front [] stop → 0 < length (lines_behind (copies_of front) stop.copy [] lines)
     → stop.reached.used + covered stop.copy < length lines
@@ -102,7 +81,3 @@ behind-rest lines copies copy new within kept gone =
     let rest = drop n lines in
     first-of rest (omega (arith, within, length-drop n lines))
     ∙ ap (λ xs. whole (take 1 rest) ∷ xs) (drop-drop 1 n lines ∙ ap (λ k. drop k lines) (let here : n + 1 ≡ used copies + covered new = omega (arith, kept, gone) in here))
-
-pub taken-rest : (lines : List LineContent) (front : List Stop) (stop new : Stop) → IsTaken lines front [] stop → new.reached ≡ stop.reached
-    → stop.reached.used + covered stop.copy < length lines → new.copy.kept ≡ stop.copy.kept → new.copy.gone ≡ stop.copy.gone + 1 → IsTaken lines front [] new
-taken-rest lines front stop new taken same within kept gone = taken-again lines front [] [] stop new taken same (omega (arith, within, taken.reached.used, kept, gone))
