@@ -26,13 +26,13 @@ use Rattle.line_lists.proofs.RowLaws.{AreAmong, Makes, StayFree, among-first, fr
 use Rattle.line_lists.proofs.WholeLaws.{after_text-between, whole-append, with_mark-between, without_mark-between}
 
 -- ---- the marks of lines before others stand before their end
-joined_one : (len end : ℕ) (found first : Option Place) (place : Place) → ((here : Place) → first ≡ Some here → here.offset < len)
+pub joined_one : (len end : ℕ) (found first : Option Place) (place : Place) → ((here : Place) → first ≡ Some here → here.offset < len)
     → ((here : Place) → found ≡ Some here → here.offset < end) → or_else (option_map (later len) found) first ≡ Some place → place.offset < len + end
 joined_one len end None first place one two is = omega (arith, one place is)
 joined_one len end (Some here) first place one two is =
     let same : here.offset + len ≡ place.offset = ap (λ (p : Place). p.offset) (let tie : later len here ≡ place = cc in tie) in omega (arith, same, two here refl)
 
-joined-stands : (a b : LineContent) → StandBefore (length a.columns) a.marks → StandBefore (length b.columns) b.marks → StandBefore (length (joined a b).columns) (joined a b).marks
+pub joined-stands : (a b : LineContent) → StandBefore (length a.columns) a.marks → StandBefore (length b.columns) b.marks → StandBefore (length (joined a b).columns) (joined a b).marks
 joined-stands a b one two number place is =
     let below = joined_one (length a.columns) (length b.columns) (finite.get b.marks number) (finite.get a.marks number) place (one number) (two number)
     (sym (get-joined_marks (length a.columns) a.marks b.marks number) ∙ is) in
@@ -55,7 +55,7 @@ apart-first a b c among apart number place is =
       | Some here ↦ λ there. apart number here there
     ] refl
 
-goes-changed : (line new : LineContent) (behind : List LineContent) → AreAmong new.marks line.marks
+pub goes-changed : (line new : LineContent) (behind : List LineContent) → AreAmong new.marks line.marks
     → (StandBefore (length line.columns) line.marks → StandBefore (length new.columns) new.marks)
     → (StandWithin (length line.columns) line.marks → StandWithin (length new.columns) new.marks) → GoesBefore line behind → GoesBefore new behind
 goes-changed line new [] among before within goes = within goes
@@ -81,7 +81,7 @@ text-line at text line within free is =
     let once : lines (characters (inserted at (plain_columns text) line.columns)) ≡ 1 = omega (arith, ap lines chars, lines-inserted at text (characters line.columns), free, is.once) in
     record { ends = ends; once = once }
 
-text-among : (f : Place → Place) (marks : Marks) → AreAmong (map_marks f marks) marks
+pub text-among : (f : Place → Place) (marks : Marks) → AreAmong (map_marks f marks) marks
 text-among f marks number free = get-map_marks f marks number ∙ ap (option_map f) free
 
 moved_one : (at count end : ℕ) (found : Option Place) (place : Place) → ((here : Place) → found ≡ Some here → here.offset < end)
@@ -248,7 +248,7 @@ rows-apart (x ∷ before) rest number some rows there =
           (free-parts (whole before) (whole rest) number (ap (λ (line : LineContent). finite.get line.marks number) (sym (whole-append before rest)) ∙ goes-apart x before rest some rows.1 number here is)).0
     ] refl
 
-some-columns : (columns : List Column) → ends_in_newline (characters columns) ≡ true → 0 < length columns
+pub some-columns : (columns : List Column) → ends_in_newline (characters columns) ≡ true → 0 < length columns
 some-columns [] ends = absurd (let no : false ≡ true = ends in cc)
 some-columns (column ∷ columns) ends = omega arith
 

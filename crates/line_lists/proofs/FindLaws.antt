@@ -62,7 +62,7 @@ slice_get-drop zero b xs = ap (slice_get xs) (let same : b ≡ 0 + b = omega ari
 slice_get-drop (suc u) b [] = refl
 slice_get-drop (suc u) b (x ∷ xs) = slice_get-drop u b xs ∙ sym (ap (slice_get (x ∷ xs)) (let same : suc u + b ≡ suc (u + b) = omega arith in same))
 
-drop_after : {A : Type 0} (xs : List A) (n : ℕ) (x : A) → slice_get xs n ≡ Some x → drop n xs ≡ x ∷ drop (suc n) xs
+pub drop_after : {A : Type 0} (xs : List A) (n : ℕ) (x : A) → slice_get xs n ≡ Some x → drop n xs ≡ x ∷ drop (suc n) xs
 drop_after {A = A} [] n x is = let no : ◌≡◌ {A = Option A} None (Some x) = is in absurd (cc)
 drop_after (y ∷ ys) zero x is = let same : y ≡ x = cc in ap (λ z. z ∷ ys) same
 drop_after (y ∷ ys) (suc n) x is = drop_after ys n x is
@@ -120,7 +120,7 @@ opened-rest lines front copy one is =
     ∙ sym (drafted-append copies [] lines)
 
 -- a kept line is copied before the next copy
-opened_next : (rest : List LineContent) (b : ℕ) (line : LineContent) (next less : Copied) (cs : List Copied) → slice_get rest b ≡ Some line → b < next.kept
+pub opened_next : (rest : List LineContent) (b : ℕ) (line : LineContent) (next less : Copied) (cs : List Copied) → slice_get rest b ≡ Some line → b < next.kept
     → less.kept ≡ next.kept - (b + 1) → less.gone ≡ next.gone → less.line ≡ next.line
     → drafted (next ∷ cs) rest ≡ take b rest ++ line ∷ drafted (less ∷ cs) (drop (b + 1) rest)
 opened_next rest b line next less cs is small kept gone same =

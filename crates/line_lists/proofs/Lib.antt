@@ -4,6 +4,8 @@ pub mod EditLaws
 pub mod FindLaws
 pub mod FreedLaws
 pub mod GatherLaws
+pub mod HeldLaws
+pub mod JoinLaws
 pub mod LineStarts
 pub mod ListLaws
 pub mod MadeLaws
@@ -15,6 +17,7 @@ pub mod NearMarks
 pub mod NewlineRows
 pub mod PieceLaws
 pub mod PlaceRows
+pub mod RemovalLaws
 pub mod RowLaws
 pub mod SearchRows
 pub mod SlotLaws

@@ -105,7 +105,7 @@ rows-changed before behind line new text same rows =
     (among-first line new behind (λ number free. ap (λ marks. finite.get marks number) same ∙ free))
 
 -- ---- toggles
-characters-first : (slots : Slots) (xs : List Column) → characters (toggled_first slots xs) ≡ characters xs
+pub characters-first : (slots : Slots) (xs : List Column) → characters (toggled_first slots xs) ≡ characters xs
 characters-first slots [] = refl
 characters-first slots (x ∷ xs) = refl
 

@@ -80,7 +80,7 @@ without-append from to xs ys ordered within =
     ∙ first-append (parity (toggles (slice_range xs from to))) (drop to xs) ys (omega (arith, length-drop to xs)))
     ∙ sym (append_assoc (take from xs) (toggled_first (parity (toggles (slice_range xs from to))) (drop to xs)) ys)
 
-without-behind : (from to : ℕ) (xs ys : List Column) → without_columns (length xs + from) (length xs + to) (xs ++ ys) ≡ xs ++ without_columns from to ys
+pub without-behind : (from to : ℕ) (xs ys : List Column) → without_columns (length xs + from) (length xs + to) (xs ++ ys) ≡ xs ++ without_columns from to ys
 without-behind from to xs ys =
     ap₂ (λ front part. front ++ part) (take-append-add xs ys from)
     (ap₂ (λ part rest. toggled_first (parity (toggles part)) rest)
@@ -92,7 +92,7 @@ length-first : (slots : Slots) (xs : List Column) → length (toggled_first slot
 length-first slots [] = refl
 length-first slots (x ∷ xs) = refl
 
-length-without : (from to : ℕ) (xs : List Column) → from ≤ to → to ≤ length xs → length (without_columns from to xs) ≡ from + (length xs - to)
+pub length-without : (from to : ℕ) (xs : List Column) → from ≤ to → to ≤ length xs → length (without_columns from to xs) ≡ from + (length xs - to)
 length-without from to xs ordered within =
     let slots = parity (toggles (slice_range xs from to)) in
     length-append (take from xs) (toggled_first slots (drop to xs))

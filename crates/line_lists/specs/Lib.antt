@@ -3,6 +3,7 @@ pub mod Edits
 pub mod Lists
 pub mod Pieces
 pub mod Places
+pub mod Removals
 pub mod RowLaws
 pub mod Texts
 pub mod Toggling
