@@ -1,7 +1,9 @@
 pub mod CountRows
+pub mod CutLaws
 pub mod DraftLaws
 pub mod EditLaws
 pub mod FindLaws
+pub mod InsertionLaws
 pub mod LineStarts
 pub mod ListLaws
 pub mod MadeLaws
@@ -11,12 +13,14 @@ pub mod MarksAtRows
 pub mod NearChanges
 pub mod NearMarks
 pub mod NewlineRows
+pub mod OpenLaws
 pub mod PlaceRows
 pub mod RowLaws
 pub mod SearchRows
 pub mod SlotLaws
 pub mod StepLaws
 pub mod TagLaws
+pub mod TextCuts
 pub mod TextRows
 pub mod ToggleColumns
 pub mod VecLaws

@@ -39,7 +39,7 @@ start_over (c ∷ d ∷ text) rest k ends once =
     ap (λ b. 1 + line_start (if b then k else suc k) ((d ∷ text) ++ rest)) on.plain in
     omega (arith, step, start_over (d ∷ text) rest k ends on.once)
 
-none_before : (text : List ℕ) (column : ℕ) → ends_in_newline text ≡ true → lines text ≡ 1 → column < length text → lines (take column text) ≡ 0
+pub none_before : (text : List ℕ) (column : ℕ) → ends_in_newline text ≡ true → lines text ≡ 1 → column < length text → lines (take column text) ≡ 0
 none_before [] column ends once within = absurd (omega arith)
 none_before (c ∷ text) zero ends once within = refl
 none_before (c ∷ []) (suc column) ends once within = absurd (omega arith)
