@@ -1,9 +1,9 @@
 -- A text is cut behind its first newline.
-use Rattle.std.proofs.Common.{◌≡◌, ℕ, ◌+◌, ◌<◌, ◌≤◌, Bool, true, false, cond, ◌==◌, List, [], ◌∷◌, ◌++◌, length, take, drop, chars, refl, sym, ap, ap₂, subst, ◌∙◌, arith, append_assoc, take-append-drop}
-use Rattle.std.specs.Str.{IsCharBoundary, IsUtf8, NoCharPasses, NonePass}
+use Rattle.std.proofs.Common.{◌≡◌, ℕ, zero, suc, ◌+◌, ◌<◌, ◌≤◌, Bool, true, false, cond, ◌==◌, List, [], ◌∷◌, ◌++◌, length, take, drop, chars, refl, sym, ap, ap₂, subst, ◌∙◌, arith, append_assoc, take-append-drop}
+use Rattle.std.specs.Str.{IsAscii, IsCharBoundary, IsUtf8, NoCharPasses, NonePass}
 use Rattle.std.specs.Str.Pattern.{HasCharAt}
 use Rattle.std.proofs.lemmas.List.{length-take-le}
-use Rattle.std.proofs.lemmas.Str.{IsUtf8-drop, IsUtf8-take, chars-append, chars_from_encodes, chars_past_char}
+use Rattle.std.proofs.lemmas.Str.{IsUtf8-drop, IsUtf8-take, IsUtf8-from_ascii, chars-append, chars-nil, chars_from_encodes, chars_past_char, encode_ascii}
 use Rattle.std.proofs.lemmas.Str.Pattern.{drop_at_char}
 use Rattle.std.proofs.Math.Seq.{take-append-add}
 use Rattle.text_model.specs.Documents.{ends_in_newline}
@@ -30,8 +30,11 @@ plain-ends front none =
     }
 
 newline : chars (10 ∷ []) ≡ 10 ∷ []
-unfolding chars
-newline = refl
+newline = chars_past_char (10 ∷ []) [] 10 (IsUtf8-from_ascii (10 ∷ []) one) (sym (ap (λ xs. xs ++ []) (encode_ascii 10 (omega arith)))) ∙ ap (λ xs. 10 ∷ xs) chars-nil
+  where
+  one : IsAscii (10 ∷ [])
+  one zero = omega arith
+  one (suc n) = omega arith
 
 -- what is found of a text whose first newline begins at a byte
 pub record IsCut (text first rest : List ℕ) : Type 0 where
@@ -49,8 +52,15 @@ first-cut text first rest at end utf8 boundary found none first_is rest_is =
     let cut : first ≡ front ++ 10 ∷ [] =
     first_is ∙ ap₂ (λ n xs. take (n + 1) xs) (sym (length-take-le at text boundary.0)) whole ∙ take-append-add front (10 ∷ rest) 1 in
     let ends : chars first ≡ chars front ++ 10 ∷ [] = ap chars cut ∙ chars-append front (10 ∷ []) front_utf8 ∙ ap (λ xs. chars front ++ xs) newline in
-    let goes_on : chars text ≡ chars front ++ 10 ∷ chars rest = ap chars whole ∙ chars-append front (10 ∷ rest) front_utf8 ∙ ap (λ xs. chars front ++ xs) (chars_past_char (10 ∷ rest) rest 10 rest_utf8 refl) in
+    let goes_on : chars text ≡ chars front ++ 10 ∷ chars rest = ap chars whole ∙ chars-append front (10 ∷ rest) front_utf8 ∙ ap (λ xs. chars front ++ xs) (chars_past_char (10 ∷ rest) rest 10 rest_utf8 (sym (ap (λ xs. xs ++ rest) (encode_ascii 10 (omega arith))))) in
     record {
       line = subst (λ xs. IsLine (plain_line xs)) (sym ends) (plain-ends (chars front) (no-lines front front_utf8 none));
       parts = goes_on ∙ sym (append_assoc (chars front) (10 ∷ []) (chars rest)) ∙ ap (λ xs. xs ++ chars rest) (sym ends);
     }
+
+nothing : (text : List ℕ) → length text ≡ 0 → text ≡ []
+nothing [] none = refl
+nothing (c ∷ text) none = absurd (omega (arith, none))
+
+pub no-characters : (text : List ℕ) → length text ≡ 0 → chars text ≡ []
+no-characters text none = ap chars (nothing text none) ∙ chars-nil

@@ -1,8 +1,11 @@
+use Rattle.std.proofs.Common.{◌≡◌, IfNone, chars, subst, sym}
+use Rattle.text_model.specs.Lines.{lines}
 use Rattle.line_lists.proofs.TextCuts.{first-cut, no-lines}
 use Rattle.line_lists.proofs.insertions.cut_line.Goals as goal
 
 pub returns-in_err-end-clause-none : goal.returns-in_err-end-clause-none
-returns-in_err-end-clause-none c = ?
+returns-in_err-end-clause-none c =
+    subst (λ found. IfNone found (lines (chars c.args.text.now) ≡ 0)) (sym c.from_residual.ensures) (no-lines c.args.text.now c.utf8.text c.in_err-end.ensures.cases)
 
 pub returns-clause-line : goal.returns-clause-line
 returns-clause-line c =
