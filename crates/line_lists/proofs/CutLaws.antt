@@ -21,7 +21,7 @@ use Rattle.text_model.proofs.LineLaws.{lines-append}
 use Rattle.text_model.proofs.PlaceLaws.{All-entries, get-map_marks, same_marks}
 use Rattle.segments.specs.Columns.{Column, LineContent, after_text, characters, earlier, joined, later, line_before, line_behind, marks_where, plain_columns, plain_line}
 use Rattle.segments.proofs.MarkLaws.{get-joined_marks, or_else, tied_same}
-use Rattle.line_lists.specs.Lists.{AreApart, AreRows, GoesBefore, IsLine, StandBefore, StandWithin}
+use Rattle.line_lists.specs.Lists.{AreApart, AreRows, GoesBefore, IsLine, StandBefore}
 use Rattle.line_lists.specs.Texts.{whole}
 use Rattle.line_lists.proofs.EditLaws.{characters-plain, length-text, some-columns, text-among, text-goes, text-whole}
 use Rattle.line_lists.proofs.NewlineRows.{none_before}
@@ -118,9 +118,9 @@ passed : (test : Bool) (place here : Place) → cond test (Some place) None ≡ 
 passed true place here is = (refl, let same : place ≡ here = cc in same)
 passed false place here is = absurd (let no : None ≡ Some here = is in cc)
 
-pub record Stays (at : ℕ) (place : Place) (found : Option Place) : Type 0 where
-  pub before : place.offset < at
-  pub same : found ≡ Some place
+record Stays (at : ℕ) (place : Place) (found : Option Place) : Type 0 where
+  before : place.offset < at
+  same : found ≡ Some place
 
 stays : (at : ℕ) (place : Place) (found : Option Place) → option_filter (λ (p : Place). nat_lt p.offset at) found ≡ Some place → Stays at place found
 stays at place None is = absurd (let no : None ≡ Some place = is in cc)
@@ -129,7 +129,7 @@ stays at place (Some here) is =
     let less : here.offset < at = let test = both.0 in grind (arith, nat_tests) in
     record { before = omega (arith, less, ap (λ (p : Place). p.offset) both.1); same = ap (λ p. Some p) both.1 }
 
-pub kept-before : (at : ℕ) (line : LineContent) (number : ℕ) (place : Place) → finite.get (line_before at line).marks number ≡ Some place → Stays at place (finite.get line.marks number)
+kept-before : (at : ℕ) (line : LineContent) (number : ℕ) (place : Place) → finite.get (line_before at line).marks number ≡ Some place → Stays at place (finite.get line.marks number)
 kept-before at line number place is = stays at place (finite.get line.marks number) (sym (get-marks_where (λ (p : Place). nat_lt p.offset at) line.marks number) ∙ is)
 
 record Goes (at : ℕ) (place : Place) (found : Option Place) : Type 0 where
@@ -142,14 +142,14 @@ goes : (at : ℕ) (place : Place) (found : Option Place) → option_map (earlier
 goes at place None is = absurd (let no : None ≡ Some place = is in cc)
 goes at place (Some here) is =
     which (nat_le at here.offset) refl is where
-  which : (b : Bool) → nat_le at here.offset ≡ b → option_map (earlier at) (cond b (Some here) None) ≡ Some place → Goes at place (Some here)
-  which true test there = record {
-    from = here;
-    behind = grind (arith, nat_tests);
-    offset = sym (ap (λ (p : Place). p.offset) (let same : earlier at here ≡ place = cc in same));
-    same = refl;
-  }
-  which false test there = absurd (let none : None ≡ Some place = there in cc)
+      which : (b : Bool) → nat_le at here.offset ≡ b → option_map (earlier at) (cond b (Some here) None) ≡ Some place → Goes at place (Some here)
+      which true test there = record {
+        from = here;
+        behind = grind (arith, nat_tests);
+        offset = sym (ap (λ (p : Place). p.offset) (let same : earlier at here ≡ place = cc in same));
+        same = refl;
+      }
+      which false test there = absurd (let none : None ≡ Some place = there in cc)
 
 goes-behind : (at : ℕ) (line : LineContent) (number : ℕ) (place : Place) → finite.get (line_behind at line).marks number ≡ Some place → Goes at place (finite.get line.marks number)
 goes-behind at line number place is =
@@ -169,7 +169,7 @@ goes-free : (line : LineContent) (behind : List LineContent) → GoesBefore line
 goes-free line [] goes_on = λ number place is. finite.get-empty nat_cmp number
 goes-free line (next ∷ others) goes_on = goes_on.1
 
-pub cut-first : (at : ℕ) (line : LineContent) (behind : List LineContent) → at ≤ length line.columns → GoesBefore line behind → GoesBefore (line_before at line) (line_behind at line ∷ behind)
+cut-first : (at : ℕ) (line : LineContent) (behind : List LineContent) → at ≤ length line.columns → GoesBefore line behind → GoesBefore (line_before at line) (line_behind at line ∷ behind)
 cut-first at line behind within goes_on =
     let stand : StandBefore (length (line_before at line).columns) (line_before at line).marks = λ number place is.
     omega (arith, (kept-before at line number place is).before, length-take-le at line.columns within) in
@@ -178,7 +178,7 @@ cut-first at line behind within goes_on =
     free-joined (line_behind at line) (whole behind) number (free-behind at line number place kept.before kept.same) (goes-free line behind goes_on number place kept.same) in
     (stand, apart)
 
-pub cut-second : (at : ℕ) (line : LineContent) (behind : List LineContent) → at < length line.columns → GoesBefore line behind → GoesBefore (line_behind at line) behind
+cut-second : (at : ℕ) (line : LineContent) (behind : List LineContent) → at < length line.columns → GoesBefore line behind → GoesBefore (line_behind at line) behind
 cut-second at line [] within goes_on = λ number place is.
     let from = goes-behind at line number place is in
     omega (arith, from.behind, from.offset, goes_on number from.from from.same, length-drop at line.columns)
@@ -245,9 +245,11 @@ split-rows column text before behind line within whole_line rows =
     let among : AreAmong (whole (line_before at new ∷ line_behind at new ∷ behind)).marks (whole (line ∷ behind)).marks = λ number free.
     ap (λ (all : LineContent). finite.get all.marks number) (cut-whole at [] behind new (omega (arith, long, within)))
     ∙ among-first line new behind (text-among (moved column (length text)) line.marks) number free in
-    rows-before before (line ∷ behind) (line_before at new ∷ line_behind at new ∷ behind) (omega arith) (omega arith) rows
-    (first-line column text line within whole_line rest.0, cut-first at new behind (omega (arith, long, within)) moved_on,
-    (second-line column text line within rest.0, cut-second at new behind (omega (arith, long, within)) moved_on, rest.2))
+    rows-before before (line ∷ behind) (line_before at new ∷ line_behind at new ∷ behind) (omega arith) (omega arith) rows (
+      first-line column text line within whole_line rest.0,
+      cut-first at new behind (omega (arith, long, within)) moved_on,
+      (second-line column text line within rest.0, cut-second at new behind (omega (arith, long, within)) moved_on, rest.2),
+    )
     among
 
 pub split-makes : (before behind old : List LineContent) (line new : LineContent) (offset column : ℕ) (text : List ℕ) → before ++ line ∷ behind ≡ old → offset ≡ length (whole before).columns + column

@@ -1,17 +1,16 @@
 -- A text with newlines goes into the text of a draft line by line.
-use Rattle.std.proofs.Common.{◌≡◌, ℕ, suc, ◌+◌, ◌-◌, ◌<◌, ◌≤◌, ◌^◌, Bool, true, false, ◌&&◌, ◌||◌, ◌==◌, cond, List, [], ◌∷◌, ◌++◌, Option, None, Some, length, take, drop, refl, sym, ap, ap₂, subst, ◌∙◌, arith, append_assoc, length-append, take-append-drop}
+use Rattle.std.proofs.Common.{◌≡◌, ℕ, ◌+◌, ◌<◌, ◌≤◌, Bool, true, false, ◌&&◌, ◌||◌, ◌==◌, List, [], ◌∷◌, ◌++◌, Option, None, Some, length, take, drop, refl, sym, ap, ap₂, subst, ◌∙◌, arith, append_assoc, length-append, take-append-drop}
 use Rattle.std.specs.FinMap as finite
 use Rattle.std.specs.Ordering.{nat_cmp}
-use Rattle.std.specs.Prelude.{if◌then◌else◌, nat_lt, option_map, reverse}
+use Rattle.std.specs.Prelude.{if◌then◌else◌, nat_lt, option_map}
 use Rattle.std.proofs.lemmas.Bool.Decides.{nat_tests}
-use Rattle.std.proofs.lemmas.List.{append-nil, length-map, length-take-le, map-append, reverse-append}
-use Rattle.std.proofs.Math.Seq.{drop-append_seam}
+use Rattle.std.proofs.lemmas.List.{append-nil, length-map, length-take-le, map-append}
 use Rattle.text_model.specs.declared.places.Place.{Place}
 use Rattle.text_model.specs.Content.{Marks, map_marks}
 use Rattle.text_model.specs.Splices.{goes_behind, inserted, is_right, moved}
 use Rattle.text_model.proofs.PlaceLaws.{get-map_marks, same_marks}
 use Rattle.text_model.proofs.SpliceLaws.{inserted-append_right}
-use Rattle.segments.specs.Columns.{Column, LineContent, after_text, joined, joined_marks, later, plain_columns, plain_line}
+use Rattle.segments.specs.Columns.{LineContent, after_text, joined, joined_marks, later, plain_columns, plain_line}
 use Rattle.segments.proofs.MarkLaws.{get-joined_marks, or_else}
 use Rattle.line_lists.specs.Insertions.{StandRight}
 use Rattle.line_lists.specs.Lists.{AreApart, AreRows, GoesBefore, IsLine, StandBefore}
@@ -38,24 +37,25 @@ moved-twice a n m place some =
     (let same : (place.offset + n == a + n) ≡ (place.offset == a) = grind (arith, nat_tests) in same) in alike) ∙ is)
     (λ is. not_yet a n place some is)
   where
-  first_no : (b c : Bool) → (b || c) ≡ false → b ≡ false
-  first_no true c is = is
-  first_no false c is = refl
-  not_yet : (a n : ℕ) (place : Place) → 0 < n → goes_behind a place ≡ false → goes_behind (a + n) place ≡ false
-  not_yet a n place some is =
-      let no : nat_lt a place.offset ≡ false = first_no (nat_lt a place.offset) ((place.offset == a) && is_right place.gravity) is in
-      ap₂ (λ less same. less || (same && is_right place.gravity))
-      (let less : nat_lt (a + n) place.offset ≡ false = grind (arith, nat_tests) in less)
-      (let same : (place.offset == a + n) ≡ false = grind (arith, nat_tests) in same)
+    first_no : (b c : Bool) → (b || c) ≡ false → b ≡ false
+    first_no true c is = is
+    first_no false c is = refl
+
+    not_yet : (a n : ℕ) (place : Place) → 0 < n → goes_behind a place ≡ false → goes_behind (a + n) place ≡ false
+    not_yet a n place some is =
+        let no : nat_lt a place.offset ≡ false = first_no (nat_lt a place.offset) ((place.offset == a) && is_right place.gravity) is in
+        ap₂ (λ less same. less || (same && is_right place.gravity))
+        (let less : nat_lt (a + n) place.offset ≡ false = grind (arith, nat_tests) in less)
+        (let same : (place.offset == a + n) ≡ false = grind (arith, nat_tests) in same)
 
 map_twice : (f g h : Place → Place) (marks : Marks) → ((place : Place) → g (f place) ≡ h place) → map_marks g (map_marks f marks) ≡ map_marks h marks
 map_twice f g h marks alike =
     same_marks _ _ (λ q.
     get-map_marks g (map_marks f marks) q ∙ ap (option_map g) (get-map_marks f marks q) ∙ one (finite.get marks q) ∙ sym (get-map_marks h marks q))
   where
-  one : (found : Option Place) → option_map g (option_map f found) ≡ option_map h found
-  one None = refl
-  one (Some place) = ap (λ p. Some p) (alike place)
+    one : (found : Option Place) → option_map g (option_map f found) ≡ option_map h found
+    one None = refl
+    one (Some place) = ap (λ p. Some p) (alike place)
 
 inserted-twice : {A : Type 0} (at : ℕ) (first second xs : List A) → at ≤ length xs → inserted (at + length first) second (inserted at first xs) ≡ inserted at (first ++ second) xs
 inserted-twice at first second xs within =
@@ -87,9 +87,9 @@ stays_put false place = refl
 map_none : (f : Place → Place) (marks : Marks) → ((place : Place) → f place ≡ place) → map_marks f marks ≡ marks
 map_none f marks alike = same_marks _ _ (λ q. get-map_marks f marks q ∙ one (finite.get marks q))
   where
-  one : (found : Option Place) → option_map f found ≡ found
-  one None = refl
-  one (Some place) = ap (λ p. Some p) (alike place)
+    one : (found : Option Place) → option_map f found ≡ found
+    one None = refl
+    one (Some place) = ap (λ p. Some p) (alike place)
 
 pub text-none : (at : ℕ) (line : LineContent) → after_text at [] line ≡ line
 text-none at line =
@@ -108,18 +108,19 @@ right_one at count from place false some test is stands =
     let far : at < from.offset = omega (arith, ap (λ (p : Place). p.offset) is, stands, some) in
     absurd (not_less at from.offset far less)
   where
-  goes_no : (b c : Bool) → (b || c) ≡ false → b ≡ false
-  goes_no true c is = is
-  goes_no false c is = refl
-  not_less : (a b : ℕ) → a < b → nat_lt a b ≡ false → ⊥
-  not_less a b less is = grind (arith, nat_tests)
+    goes_no : (b c : Bool) → (b || c) ≡ false → b ≡ false
+    goes_no true c is = is
+    goes_no false c is = refl
+
+    not_less : (a b : ℕ) → a < b → nat_lt a b ≡ false → ⊥
+    not_less a b less is = grind (arith, nat_tests)
 
 pub right-moved : (at count : ℕ) (marks : Marks) → 0 < count → StandRight (at + count) (map_marks (moved at count) marks)
 right-moved at count marks some number place is stands = one (finite.get marks number) (sym (get-map_marks (moved at count) marks number) ∙ is)
   where
-  one : (found : Option Place) → option_map (moved at count) found ≡ Some place → is_right place.gravity ≡ true
-  one None there = absurd (let none : None ≡ Some place = there in cc)
-  one (Some from) here = right_one at count from place (goes_behind at from) some refl (let same : moved at count from ≡ place = cc in same) stands
+    one : (found : Option Place) → option_map (moved at count) found ≡ Some place → is_right place.gravity ≡ true
+    one None there = absurd (let none : None ≡ Some place = there in cc)
+    one (Some from) here = right_one at count from place (goes_behind at from) some refl (let same : moved at count from ≡ place = cc in same) stands
 
 -- ---- a line goes in between two lines
 moved_right : (p count : ℕ) (place : Place) → (place.offset + p ≡ p → is_right place.gravity ≡ true) → moved p count (later p place) ≡ later p (later count place)
@@ -127,10 +128,10 @@ moved_right p count place right =
     ap (λ b. if b then record place { offset = (place.offset + p) + count } else later p place) (goes (nat_lt p (place.offset + p)) (place.offset + p == p) (λ no. grind (arith, nat_tests)) (λ same. right (grind (arith, nat_tests))))
     ∙ ap (λ offset. record place { offset = offset }) (let same : (place.offset + p) + count ≡ (place.offset + count) + p = omega arith in same)
   where
-  goes : (less same : Bool) → (less ≡ false → same ≡ true) → (same ≡ true → is_right place.gravity ≡ true) → (less || (same && is_right place.gravity)) ≡ true
-  goes true same other right_there = refl
-  goes false true other right_there = right_there refl
-  goes false false other right_there = other refl
+    goes : (less same : Bool) → (less ≡ false → same ≡ true) → (same ≡ true → is_right place.gravity ≡ true) → (less || (same && is_right place.gravity)) ≡ true
+    goes true same other right_there = refl
+    goes false true other right_there = right_there refl
+    goes false false other right_there = other refl
 
 row_one : (p count : ℕ) (second first : Option Place) → ((place : Place) → second ≡ Some place → place.offset + p ≡ p → is_right place.gravity ≡ true) → ((place : Place) → first ≡ Some place → place.offset < p)
     → option_map (moved p count) (or_else (option_map (later p) second) first) ≡ or_else (option_map (later p) (or_else (option_map (later count) second) None)) first

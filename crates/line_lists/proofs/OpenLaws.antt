@@ -1,14 +1,12 @@
 -- A draft whose text goes on being put in at its place.
-use Rattle.std.proofs.Common.{◌≡◌, ℕ, ◌+◌, ◌-◌, ◌<◌, ◌≤◌, ◌^◌, List, [], ◌∷◌, ◌++◌, length, take, drop, refl, sym, ap, ap₂, subst, ◌∙◌, arith, append_assoc, length-append}
+use Rattle.std.proofs.Common.{◌≡◌, ℕ, ◌+◌, ◌<◌, ◌^◌, List, [], ◌∷◌, ◌++◌, length, drop, refl, sym, ap, ap₂, subst, ◌∙◌, arith, length-append}
 use Rattle.std.specs.Prelude.{reverse}
 use Rattle.std.proofs.lemmas.List.{append-nil, length-map, length-take-le, reverse-append}
-use Rattle.text_model.specs.Content.{map_marks}
-use Rattle.text_model.specs.Splices.{moved}
-use Rattle.segments.specs.Columns.{LineContent, after_text, line_before, line_behind, plain_columns, plain_line}
+use Rattle.segments.specs.Columns.{LineContent, after_text, line_before, line_behind, plain_line}
 use Rattle.line_lists.specs.declared.drafts.Copied.{Copied}
 use Rattle.line_lists.specs.declared.drafts.Reached.{Reached}
 use Rattle.line_lists.specs.declared.drafts.Stop.{Stop}
-use Rattle.line_lists.specs.Drafts.{IsDraft, IsReached, IsTaken, IsText, StandsAt, copies_of, covered, drafted, drafted_at, in_order, lines_before, lines_behind, made_lines, taken_lines, text_at, used}
+use Rattle.line_lists.specs.Drafts.{IsDraft, IsReached, IsTaken, StandsAt, copies_of, covered, drafted, drafted_at, lines_before, lines_behind, made_lines, taken_lines, text_at, used}
 use Rattle.line_lists.specs.Insertions.{IsOpen, IsPartly, Opens, StandRight, place_at}
 use Rattle.line_lists.specs.Lists.{AreRows, IsLine}
 use Rattle.line_lists.specs.Texts.{whole}
@@ -52,25 +50,26 @@ taken-new lines front back stop line taken = record {
   there = omega (arith, taken.there, ap used (reverse-append back (new_copy line ∷ [])));
 }
 
-pub split-opens : (lines : List LineContent) (front : List Stop) (back : List Copied) (stop : Stop) (line first second : LineContent) (old : List LineContent) (offset column : ℕ) (text : List ℕ) → IsTaken lines front back stop
-    → taken_lines lines front back stop.copy ≡ old → StandsAt lines front stop.copy offset column → IsLine (plain_line text) → AreRows old → line ≡ after_text column text stop.copy.line
-    → first ≡ line_before (column + length text) line → second ≡ line_behind (column + length text) line → length (whole old).columns + length text < 2 ^ 64
+pub split-opens : (lines : List LineContent) (front : List Stop) (back : List Copied) (stop : Stop) (first second : LineContent) (old : List LineContent) (offset column : ℕ) (text : List ℕ) → IsTaken lines front back stop
+    → taken_lines lines front back stop.copy ≡ old → StandsAt lines front stop.copy offset column → IsLine (plain_line text) → AreRows old
+    → first ≡ line_before (column + length text) (after_text column text stop.copy.line) → second ≡ line_behind (column + length text) (after_text column text stop.copy.line) → length (whole old).columns + length text < 2 ^ 64
     → Opens lines (front ++ record stop { copy = record stop.copy { line = first } } ∷ []) (back ++ new_copy second ∷ []) offset text (whole old)
-split-opens lines front back stop line first second old offset column text taken old_is stands is rows line_is first_is second_is small =
+split-opens lines front back stop first second old offset column text taken old_is stands is rows first_is second_is small =
     let copies = copies_of front in
     let copy = stop.copy in
+    let line = after_text column text copy.line in
     let head : Stop = record stop { copy = record copy { line = first } } in
     let before = lines_before copies copy lines in
     let behind = lines_behind copies copy back lines in
     let at = column + length text in
-    let makes_parts = split-makes before behind old copy.line line offset column text old_is stands.place stands.inside is rows line_is in
+    let makes_parts = split-makes before behind old copy.line line offset column text old_is stands.place stands.inside is rows refl in
     let taken_is : taken_lines lines front (back ++ new_copy second ∷ []) head.copy ≡ before ++ line_before at line ∷ line_behind at line ∷ behind =
     ap (λ xs. before ++ first ∷ xs) (behind-new second back (drop (used copies + covered copy) lines))
     ∙ ap₂ (λ x y. before ++ x ∷ y ∷ behind) first_is second_is in
     let makes : Makes (after_text offset text) old (taken_lines lines front (back ++ new_copy second ∷ []) head.copy) = subst (Makes (after_text offset text) old) (sym taken_is) makes_parts in
     let where_is : offset < length (whole old).columns = omega (arith, stands.place, stands.inside, ap (λ xs. length (whole xs).columns) old_is, length-whole before (copy.line ∷ behind), length-append copy.line.columns (whole behind).columns) in
     let long = ap (λ (row : LineContent). length row.columns) makes.whole ∙ length-text offset text (whole old).columns (omega (arith, where_is)) in
-    let wide = ap (λ (row : LineContent). length row.columns) line_is ∙ length-text column text copy.line.columns (omega (arith, stands.inside)) in
+    let wide = length-text column text copy.line.columns (omega (arith, stands.inside)) in
     let end : length first.columns ≡ at = ap (λ (row : LineContent). length row.columns) first_is ∙ length-take-le at line.columns (omega (arith, wide, stands.inside)) in
     let kept : IsTaken lines front back head = record { stops = taken.stops; reached = taken.reached; there = taken.there } in
     let draft = put-back lines front (back ++ new_copy second ∷ []) head (taken-new lines front back head second kept) (omega (arith, long, small)) in
@@ -112,9 +111,9 @@ line-opens lines front back reached line text opened reached_is line_is is small
     opens lines (front ++ stop ∷ []) back offset text (drafted_at lines front back) draft opened.text.rows opened.within (some-text text is) place
     (subst (Makes (after_text offset text) (drafted_at lines front back)) (sym (taken-is lines front back stop)) makes)
   where
-  some_lines : (xs : List LineContent) → 0 < length (whole xs).columns → 0 < length xs
-  some_lines [] none = absurd (omega (arith, none))
-  some_lines (x ∷ xs) there = omega arith
+    some_lines : (xs : List LineContent) → 0 < length (whole xs).columns → 0 < length xs
+    some_lines [] none = absurd (omega (arith, none))
+    some_lines (x ∷ xs) there = omega arith
 
 -- ---- a text goes in by its lines
 longer : (xs line rest : List ℕ) → xs ≡ line ++ rest → length xs ≡ length line + length rest
@@ -141,7 +140,3 @@ partly-next lines next front front_next back back_next offset text rest line beh
       counted = first.counted;
       new = first.new ∙ so_far.new;
     }
-
--- a line of a text can be counted where the text can
-pub line-counted : (old : ℕ) (xs line rest : List ℕ) → xs ≡ line ++ rest → old + length xs < 2 ^ 64 → old + length line < 2 ^ 64
-line-counted old xs line rest parts small = omega (arith, longer xs line rest parts, small)

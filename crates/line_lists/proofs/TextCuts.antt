@@ -1,5 +1,5 @@
 -- A text is cut behind its first newline.
-use Rattle.std.proofs.Common.{◌≡◌, ℕ, zero, suc, ◌+◌, ◌<◌, ◌≤◌, Bool, true, false, cond, ◌==◌, List, [], ◌∷◌, ◌++◌, length, take, drop, chars, refl, sym, ap, ap₂, subst, ◌∙◌, arith, append_assoc, take-append-drop}
+use Rattle.std.proofs.Common.{◌≡◌, ℕ, zero, suc, ◌+◌, cond, ◌==◌, List, [], ◌∷◌, ◌++◌, length, take, drop, chars, refl, sym, ap, ap₂, subst, ◌∙◌, arith, append_assoc, take-append-drop}
 use Rattle.std.specs.Str.{IsAscii, IsCharBoundary, IsUtf8, NoCharPasses, NonePass}
 use Rattle.std.specs.Str.Pattern.{HasCharAt}
 use Rattle.std.proofs.lemmas.List.{length-take-le}
@@ -7,7 +7,7 @@ use Rattle.std.proofs.lemmas.Str.{IsUtf8-drop, IsUtf8-take, IsUtf8-from_ascii, c
 use Rattle.std.proofs.lemmas.Str.Pattern.{drop_at_char}
 use Rattle.std.proofs.Math.Seq.{take-append-add}
 use Rattle.text_model.specs.Documents.{ends_in_newline}
-use Rattle.text_model.specs.Lines.{is_newline, lines}
+use Rattle.text_model.specs.Lines.{lines}
 use Rattle.text_model.proofs.DocumentLaws.{ends_with_rest}
 use Rattle.text_model.proofs.LineLaws.{lines-append, lines-cons}
 use Rattle.segments.specs.Columns.{plain_line}
@@ -32,9 +32,9 @@ plain-ends front none =
 newline : chars (10 ∷ []) ≡ 10 ∷ []
 newline = chars_past_char (10 ∷ []) [] 10 (IsUtf8-from_ascii (10 ∷ []) one) (sym (ap (λ xs. xs ++ []) (encode_ascii 10 (omega arith)))) ∙ ap (λ xs. 10 ∷ xs) chars-nil
   where
-  one : IsAscii (10 ∷ [])
-  one zero = omega arith
-  one (suc n) = omega arith
+    one : IsAscii (10 ∷ [])
+    one zero = omega arith
+    one (suc n) = omega arith
 
 -- what is found of a text whose first newline begins at a byte
 pub record IsCut (text first rest : List ℕ) : Type 0 where

@@ -1,6 +1,6 @@
-ghost use Rattle.std.specs.Prelude.{◌≡◌, ℕ, ◌+◌, ◌<◌, ◌^◌, ◌++◌, IfNone, IfSome, IfOk, OnOk, chars, length, vec_len, vec_capacity};
+ghost use Rattle.std.specs.Prelude.{◌≡◌, ◌+◌, ◌<◌, ◌≤◌, ◌^◌, ◌++◌, IfNone, IfSome, IfOk, OnOk, chars, length};
 ghost use Rattle.text_model.specs.Lines.{lines};
-ghost use Rattle.segments.specs.Columns.{after_text, plain_line};
+ghost use Rattle.segments.specs.Columns.{after_text, line_before, line_behind, plain_line};
 ghost use Rattle.line_lists.specs.Drafts.{IsText, text_at};
 ghost use Rattle.line_lists.specs.Insertions.{IsOpen, IsPartly, Opens, place_at};
 ghost use Rattle.line_lists.specs.Lists.{IsLine};
@@ -21,6 +21,20 @@ fn cut_line(text: &str) -> Option<(&str, &str)>
     Some(text.split_at(end))
 }
 
+/// Puts a text in before the character at a column of a line, takes what is behind the text off, and hands it out.
+fn insert_and_cut(line: &mut Line, column: usize, text: &str) -> Result<Line, AllocError>
+    requires { column ≤ length line.old.columns }
+    ensures head { OnOk result (line.new
+        ≡ line_before (column + length (chars text.now)) (after_text column (chars text.now) line.old)) }
+    ensures tail { IfOk result (λ tail. tail
+        ≡ line_behind (column + length (chars text.now)) (after_text column (chars text.now) line.old)) }
+{
+    let behind = line.len() - column;
+    line.insert_text(column, text)?;
+    let end = line.len() - behind;
+    line.cut(end)
+}
+
 impl<'a, L: LineList> Draft<'a, L> {
     /// Puts a line with its newline in before the character at an offset, and cuts the text's line behind it: the place
     /// stands there then.
@@ -38,10 +52,7 @@ impl<'a, L: LineList> Draft<'a, L> {
     {
         let Found { mut stop, column } = self.take(offset)?;
         self.back.reserve(1)?;
-        let behind = stop.copy.line.len() - column;
-        stop.copy.line.insert_text(column, text)?;
-        let end = stop.copy.line.len() - behind;
-        let line = stop.copy.line.cut(end)?;
+        let line = insert_and_cut(&mut stop.copy.line, column, text)?;
         self.front.push_reserved(stop);
         self.back.push_reserved(Copied {
             kept: 0,

@@ -1,7 +1,3 @@
-use Rattle.line_lists.proofs.OpenLaws.{line-opens, split-opens}
-use Rattle.line_lists.proofs.TextCuts.{first-cut, no-lines}
-use Rattle.line_lists.proofs.CutLaws.{split-makes}
-use Rattle.line_lists.proofs.InsertionLaws.{line-makes, right-moved, text-none, text-twice}
 use Rattle.line_lists.proofs.RowLaws.{rows-before, toggled-line, toggled-rows, toggled-whole, whole-around}
 use Rattle.line_lists.proofs.FindLaws.{found, opened-kept, opened-place, opened-rest, put-back, taken-last}
 use Rattle.line_lists.proofs.DraftLaws.{draft-back, draft-forth, drafted-append, in_order-moved, made-append, stops-last, used-append}
