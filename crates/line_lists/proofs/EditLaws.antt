@@ -62,7 +62,7 @@ goes-changed line new [] among before within goes = within goes
 goes-changed line new (next ∷ others) among before within goes = (before goes.0, apart-first line.marks new.marks (whole (next ∷ others)).marks among goes.1)
 
 -- ---- a text goes in
-characters-plain : (text : List ℕ) → characters (plain_columns text) ≡ text
+pub characters-plain : (text : List ℕ) → characters (plain_columns text) ≡ text
 characters-plain [] = refl
 characters-plain (c ∷ text) = ap (λ cs. c ∷ cs) (characters-plain text)
 
@@ -96,7 +96,7 @@ moved-stands : (at count end : ℕ) (marks : Marks) → StandBefore end marks �
 moved-stands at count end marks stand number place is =
     moved_one at count end (finite.get marks number) place (stand number) (sym (get-map_marks (moved at count) marks number) ∙ is)
 
-text-goes : (at : ℕ) (text : List ℕ) (line : LineContent) (behind : List LineContent) → at < length line.columns → GoesBefore line behind → GoesBefore (after_text at text line) behind
+pub text-goes : (at : ℕ) (text : List ℕ) (line : LineContent) (behind : List LineContent) → at < length line.columns → GoesBefore line behind → GoesBefore (after_text at text line) behind
 text-goes at text line behind within goes =
     let long = length-text at text line.columns (omega arith) in
     let moves = moved-stands at (length text) in
@@ -113,7 +113,7 @@ text-rows at text before behind line within free rows =
     rows-before before (line ∷ behind) (new ∷ behind) (omega arith) (omega arith) rows (text-line at text line within free rest.0, text-goes at text line behind within rest.1, rest.2)
     (among-first line new behind (text-among (moved at (length text)) line.marks))
 
-text-whole : (at : ℕ) (text : List ℕ) (before behind : List LineContent) (line : LineContent) → at < length line.columns → AreRows (before ++ line ∷ behind)
+pub text-whole : (at : ℕ) (text : List ℕ) (before behind : List LineContent) (line : LineContent) → at < length line.columns → AreRows (before ++ line ∷ behind)
     → whole (before ++ after_text at text line ∷ behind) ≡ after_text (length (whole before).columns + at) text (whole (before ++ line ∷ behind))
 text-whole at text before behind line within rows =
     whole-around before behind (after_text at text line)

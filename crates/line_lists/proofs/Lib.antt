@@ -1,10 +1,12 @@
 pub mod CountRows
+pub mod CutLaws
 pub mod DraftLaws
 pub mod EditLaws
 pub mod FindLaws
 pub mod FreedLaws
 pub mod GatherLaws
 pub mod HeldLaws
+pub mod InsertionLaws
 pub mod JoinLaws
 pub mod LineStarts
 pub mod ListLaws
@@ -15,6 +17,7 @@ pub mod MarksAtRows
 pub mod NearChanges
 pub mod NearMarks
 pub mod NewlineRows
+pub mod OpenLaws
 pub mod PieceLaws
 pub mod PlaceRows
 pub mod RemovalLaws
@@ -23,6 +26,7 @@ pub mod SearchRows
 pub mod SlotLaws
 pub mod StepLaws
 pub mod TagLaws
+pub mod TextCuts
 pub mod TextRows
 pub mod ToggleColumns
 pub mod VecLaws

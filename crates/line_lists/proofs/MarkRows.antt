@@ -88,7 +88,7 @@ abbrev pub StandWithin : ℕ → Marks → Type 0
 StandWithin end marks = (number : ℕ) (place : Place) → finite.get marks number ≡ Some place → place.offset ≤ end
 
 -- an insertion in the second
-moved_before : (at count : ℕ) (place : Place) → place.offset < at → moved at count place ≡ place
+pub moved_before : (at count : ℕ) (place : Place) → place.offset < at → moved at count place ≡ place
 moved_before at count place before =
     ap (λ b. if b then record place { offset = place.offset + count } else place)
     (ap₂ (λ less same. less || (same && is_right place.gravity)) (let no : nat_lt at place.offset ≡ false = grind (arith, nat_tests) in no) (let no : (place.offset == at) ≡ false = grind (arith, nat_tests) in no))

@@ -1,5 +1,6 @@
 pub mod Drafts
 pub mod Edits
+pub mod Insertions
 pub mod Lists
 pub mod Pieces
 pub mod Places

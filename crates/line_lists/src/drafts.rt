@@ -82,6 +82,7 @@ pub struct Stop {
 /// It reads the list, and changes its copies alone.
 #[derive(Drop)]
 pub struct Draft<'a, L: LineList> {
+    pub alloc: Global,
     pub list: &'a L,
     /// The copies before the place.
     pub front: Vec<Stop>,
@@ -97,6 +98,7 @@ impl<'a, L: LineList> Draft<'a, L> {
         ensures list { result.list.now ≡ list.now }
     {
         Draft {
+            alloc,
             list,
             front: Vec::new(alloc),
             back: Vec::new(alloc),

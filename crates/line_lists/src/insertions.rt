@@ -1,0 +1,147 @@
+ghost use Rattle.std.specs.Prelude.{◌≡◌, ◌+◌, ◌<◌, ◌≤◌, ◌^◌, ◌++◌, IfNone, IfSome, IfOk, OnOk, chars, length};
+ghost use Rattle.text_model.specs.Lines.{lines};
+ghost use Rattle.segments.specs.Columns.{after_text, line_before, line_behind, plain_line};
+ghost use Rattle.line_lists.specs.Drafts.{IsText, text_at};
+ghost use Rattle.line_lists.specs.Insertions.{IsOpen, IsPartly, Opens, place_at};
+ghost use Rattle.line_lists.specs.Lists.{IsLine};
+
+use crate::drafts::{Copied, Draft, Found, Stop};
+use crate::lists::LineList;
+use segments::Line;
+use std::alloc::AllocError;
+
+/// The first line of a text with its newline, and the text behind it; nothing where there is no newline.
+fn cut_line(text: &str) -> Option<(&str, &str)>
+    ensures line { IfSome result (λ parts. IsLine (plain_line (chars parts.0.now))) }
+    ensures parts { IfSome result (λ parts. chars text.now ≡ chars parts.0.now ++ chars parts.1.now) }
+    ensures less { IfSome result (λ parts. length parts.1.now < length text.now) }
+    ensures none { IfNone result (lines (chars text.now) ≡ 0) }
+{
+    let end = text.find('\n')? + 1;
+    Some(text.split_at(end))
+}
+
+/// Puts a text in before the character at a column of a line, takes what is behind the text off, and hands it out.
+fn insert_and_cut(line: &mut Line, column: usize, text: &str) -> Result<Line, AllocError>
+    requires { column ≤ length line.old.columns }
+    ensures head { OnOk result (line.new
+        ≡ line_before (column + length (chars text.now)) (after_text column (chars text.now) line.old)) }
+    ensures tail { IfOk result (λ tail. tail
+        ≡ line_behind (column + length (chars text.now)) (after_text column (chars text.now) line.old)) }
+{
+    let behind = line.len() - column;
+    line.insert_text(column, text)?;
+    let end = line.len() - behind;
+    line.cut(end)
+}
+
+impl<'a, L: LineList> Draft<'a, L> {
+    /// Puts a line with its newline in before the character at an offset, and cuts the text's line behind it: the place
+    /// stands there then.
+    fn split(&mut self, offset: usize, text: &str) -> Result<(), AllocError>
+        requires is { IsText (L.lines self.old.list.now) self.old.front.items self.old.back.items }
+        requires within { offset
+            < length (text_at (L.lines self.old.list.now) self.old.front.items self.old.back.items).columns }
+        requires line { IsLine (plain_line (chars text.now)) }
+        requires counted { length (text_at (L.lines self.old.list.now) self.old.front.items self.old.back.items).columns
+            + length (chars text.now) < 2 ^ 64 }
+        ensures list { self.new.list.now ≡ self.old.list.now }
+        ensures opens { OnOk result (Opens (L.lines self.new.list.now) self.new.front.items self.new.back.items
+            offset (chars text.now)
+            (text_at (L.lines self.old.list.now) self.old.front.items self.old.back.items)) }
+    {
+        let Found { mut stop, column } = self.take(offset)?;
+        self.back.reserve(1)?;
+        let line = insert_and_cut(&mut stop.copy.line, column, text)?;
+        self.front.push_reserved(stop);
+        self.back.push_reserved(Copied {
+            kept: 0,
+            gone: 0,
+            line,
+        });
+        Ok(())
+    }
+
+    /// Puts a line with its newline in at the place, which stands behind it then.
+    fn put_line(&mut self, text: &str) -> Result<(), AllocError>
+        requires is { IsOpen (L.lines self.old.list.now) self.old.front.items self.old.back.items }
+        requires line { IsLine (plain_line (chars text.now)) }
+        requires counted { length (text_at (L.lines self.old.list.now) self.old.front.items self.old.back.items).columns
+            + length (chars text.now) < 2 ^ 64 }
+        ensures list { self.new.list.now ≡ self.old.list.now }
+        ensures opens { OnOk result (Opens (L.lines self.new.list.now) self.new.front.items self.new.back.items
+            (place_at (L.lines self.old.list.now) self.old.front.items) (chars text.now)
+            (text_at (L.lines self.old.list.now) self.old.front.items self.old.back.items)) }
+    {
+        self.front.reserve(1)?;
+        let reached = self.reached();
+        let copy = Copied {
+            kept: 0,
+            gone: 0,
+            line: Line::new(self.alloc, text)?,
+        };
+        self.front.push_reserved(Stop { reached, copy });
+        Ok(())
+    }
+
+    /// Puts the lines of a text that end in a newline in at the place, and gives what is behind them.
+    fn put_lines<'t>(&mut self, text: &'t str) -> Result<&'t str, AllocError>
+        requires is { IsOpen (L.lines self.old.list.now) self.old.front.items self.old.back.items }
+        requires counted { length (text_at (L.lines self.old.list.now) self.old.front.items self.old.back.items).columns
+            + length (chars text.now) < 2 ^ 64 }
+        ensures list { self.new.list.now ≡ self.old.list.now }
+        ensures partly { IfOk result (λ rest.
+            IsPartly (L.lines self.new.list.now) self.new.front.items self.new.back.items
+            (place_at (L.lines self.old.list.now) self.old.front.items) (chars text.now) (chars rest.now)
+            (text_at (L.lines self.old.list.now) self.old.front.items self.old.back.items)) }
+        ensures free { IfOk result (λ rest. lines (chars rest.now) ≡ 0) }
+    {
+        let mut rest = text;
+        while let Some((line, behind)) = cut_line(rest) {
+            self.put_line(line)?;
+            rest = behind;
+        }
+        Ok(rest)
+    }
+
+    /// Puts a text in at the place.
+    fn put_text(&mut self, text: &str) -> Result<(), AllocError>
+        requires is { IsOpen (L.lines self.old.list.now) self.old.front.items self.old.back.items }
+        requires counted { length (text_at (L.lines self.old.list.now) self.old.front.items self.old.back.items).columns
+            + length (chars text.now) < 2 ^ 64 }
+        ensures list { self.new.list.now ≡ self.old.list.now }
+        ensures is { OnOk result (IsText (L.lines self.new.list.now) self.new.front.items self.new.back.items) }
+        ensures new { OnOk result (text_at (L.lines self.new.list.now) self.new.front.items self.new.back.items
+            ≡ after_text (place_at (L.lines self.old.list.now) self.old.front.items) (chars text.now)
+            (text_at (L.lines self.old.list.now) self.old.front.items self.old.back.items)) }
+    {
+        let last = self.put_lines(text)?;
+        if last.is_empty() {
+            return Ok(());
+        }
+        let offset = self.reached().characters;
+        self.insert_within(offset, last)
+    }
+
+    /// Puts a text in before the character at an offset.
+    pub fn insert(&mut self, offset: usize, text: &str) -> Result<(), AllocError>
+        requires is { IsText (L.lines self.old.list.now) self.old.front.items self.old.back.items }
+        requires within { offset
+            < length (text_at (L.lines self.old.list.now) self.old.front.items self.old.back.items).columns }
+        requires counted { length (text_at (L.lines self.old.list.now) self.old.front.items self.old.back.items).columns
+            + length (chars text.now) < 2 ^ 64 }
+        ensures list { self.new.list.now ≡ self.old.list.now }
+        ensures is { OnOk result (IsText (L.lines self.new.list.now) self.new.front.items self.new.back.items) }
+        ensures new { OnOk result (text_at (L.lines self.new.list.now) self.new.front.items self.new.back.items
+            ≡ after_text offset (chars text.now)
+            (text_at (L.lines self.old.list.now) self.old.front.items self.old.back.items)) }
+    {
+        match cut_line(text) {
+            None => self.insert_within(offset, text),
+            Some((line, rest)) => {
+                self.split(offset, line)?;
+                self.put_text(rest)
+            }
+        }
+    }
+}
