@@ -11,6 +11,7 @@ mod marks;
 mod pieces;
 mod queries;
 mod removals;
+mod steps;
 
 pub use line_vec::LineVec;
 pub use lists::LineList;

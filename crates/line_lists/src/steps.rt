@@ -1,0 +1,250 @@
+ghost use Rattle.std.specs.Prelude.{◌≡◌, ◌+◌, ◌<◌, ◌≤◌, IfOk, OnOk, chars, drop, length, take};
+ghost use Rattle.text_model.specs.SlotSets.{differing};
+ghost use Rattle.text_model.specs.Steps.{Fits, StepFitsIn, after, set_slot};
+ghost use Rattle.text_model.specs.TagBits.{slot_count};
+ghost use Rattle.text_model.specs.declared.edits.Step.TheVariants.{ClearSlot, ClearTags, Insert, PutMark, SetTag};
+ghost use Rattle.segments.specs.Columns.{tags_before};
+ghost use Rattle.line_lists.specs.Drafts.{IsText, drafted_at, text_at};
+ghost use Rattle.line_lists.specs.Edits.{made, with_toggled};
+ghost use Rattle.line_lists.specs.Texts.{text_of};
+ghost use Rattle.line_lists.specs.Toggling.{switched};
+
+use crate::drafts::{Draft, Found};
+use crate::lists::LineList;
+use std::alloc::AllocError;
+use text_model::{MarkNo, Place, Step, TagSet, TagSlot};
+
+/// The slots that change where one is put in a set, or taken out.
+fn switched_slots(before: &TagSet, slot: TagSlot, is_on: bool) -> TagSet
+    requires { slot.0 < slot_count }
+    ensures { result ≡ differing before.now (set_slot slot.0 is_on before.now) }
+{
+    let after = if is_on {
+        before.with(slot)
+    } else {
+        before.without(slot)
+    };
+    before.differing(&after)
+}
+
+impl<'a, L: LineList> Draft<'a, L> {
+    /// Toggles each slot of a set before the character at an offset of a text of so many characters; at its end there
+    /// is nothing to toggle.
+    fn toggle_before(
+        &mut self,
+        offset: usize,
+        slots: &TagSet,
+        len: usize,
+    ) -> Result<(), AllocError>
+        requires is { IsText (L.lines self.old.list.now) self.old.front.items self.old.back.items }
+        requires len { len
+            ≡ length (text_at (L.lines self.old.list.now) self.old.front.items self.old.back.items).columns }
+        ensures list { self.new.list.now ≡ self.old.list.now }
+        ensures is { OnOk result (IsText (L.lines self.new.list.now) self.new.front.items self.new.back.items) }
+        ensures new { OnOk result (text_at (L.lines self.new.list.now) self.new.front.items self.new.back.items
+            ≡ with_toggled offset slots.now
+            (text_at (L.lines self.old.list.now) self.old.front.items self.old.back.items)) }
+    {
+        if len <= offset || slots.words() == TagSet::empty().words() {
+            return Ok(());
+        }
+        self.toggle(offset, slots)
+    }
+
+    /// The slots that are on at a character.
+    fn tags_at(&mut self, offset: usize) -> Result<TagSet, AllocError>
+        requires is { IsText (L.lines self.old.list.now) self.old.front.items self.old.back.items }
+        requires within { offset
+            < length (text_at (L.lines self.old.list.now) self.old.front.items self.old.back.items).columns }
+        ensures list { self.new.list.now ≡ self.old.list.now }
+        ensures is { OnOk result (IsText (L.lines self.new.list.now) self.new.front.items self.new.back.items) }
+        ensures same { OnOk result (drafted_at (L.lines self.new.list.now) self.new.front.items self.new.back.items
+            ≡ drafted_at (L.lines self.old.list.now) self.old.front.items self.old.back.items) }
+        ensures value { IfOk result (λ slots. slots ≡ tags_before offset
+            (text_at (L.lines self.old.list.now) self.old.front.items self.old.back.items).columns) }
+    {
+        let Found { stop, column } = self.take(offset)?;
+        let before = stop.reached.tags_behind(self.list, stop.copy.kept);
+        let slots = before.differing(&stop.copy.line.tags_before(column));
+        self.put(stop);
+        Ok(slots)
+    }
+
+    /// The slots that change before an offset of a text of so many characters where one is put on there, or taken off;
+    /// of its end nothing is asked.
+    fn switched(
+        &mut self,
+        offset: usize,
+        slot: TagSlot,
+        is_on: bool,
+        len: usize,
+    ) -> Result<TagSet, AllocError>
+        requires is { IsText (L.lines self.old.list.now) self.old.front.items self.old.back.items }
+        requires slot { slot.0 < slot_count }
+        requires len { len
+            ≡ length (text_at (L.lines self.old.list.now) self.old.front.items self.old.back.items).columns }
+        ensures list { self.new.list.now ≡ self.old.list.now }
+        ensures is { IsText (L.lines self.new.list.now) self.new.front.items self.new.back.items }
+        ensures same { drafted_at (L.lines self.new.list.now) self.new.front.items self.new.back.items
+            ≡ drafted_at (L.lines self.old.list.now) self.old.front.items self.old.back.items }
+        ensures value { IfOk result (λ slots. offset < len → slots ≡ switched (set_slot slot.0 is_on) offset
+            (text_at (L.lines self.old.list.now) self.old.front.items self.old.back.items).columns) }
+    {
+        if len <= offset {
+            return Ok(TagSet::empty());
+        }
+        let before = self.tags_behind(offset)?;
+        Ok(switched_slots(&before, slot, is_on))
+    }
+
+    /// Puts a text with slots in a text of so many characters, before the one at an offset, and gives how many there
+    /// are then.
+    fn insert_tagged(
+        &mut self,
+        offset: usize,
+        text: &str,
+        slots: &TagSet,
+        len: usize,
+    ) -> Result<usize, AllocError>
+        requires is { IsText (L.lines self.old.list.now) self.old.front.items self.old.back.items }
+        requires len { len
+            ≡ length (text_at (L.lines self.old.list.now) self.old.front.items self.old.back.items).columns }
+        requires within { offset < len }
+        ensures list { self.new.list.now ≡ self.old.list.now }
+        ensures is { OnOk result (IsText (L.lines self.new.list.now) self.new.front.items self.new.back.items) }
+        ensures new { OnOk result (text_at (L.lines self.new.list.now) self.new.front.items self.new.back.items
+            ≡ made (Insert offset (chars text.now) slots.now)
+            (text_at (L.lines self.old.list.now) self.old.front.items self.old.back.items)) }
+        ensures len { IfOk result (λ longer. longer ≡ len + length (chars text.now)) }
+    {
+        let count = text.chars().count();
+        // More characters than a number can count have no room in memory.
+        let longer = len.checked_add(count).ok_or(AllocError)?;
+        let before = self.tags_behind(offset)?;
+        let differ = before.differing(slots);
+        self.insert(offset, text)?;
+        self.toggle_before(offset + count, &differ, longer)?;
+        self.toggle_before(offset, &differ, longer)?;
+        Ok(longer)
+    }
+
+    /// Puts a slot on the characters from one offset to another of a text of so many, or takes it off them.
+    fn set_tag(
+        &mut self,
+        (from, to): (usize, usize),
+        slot: TagSlot,
+        is_on: bool,
+        len: usize,
+    ) -> Result<(), AllocError>
+        requires is { IsText (L.lines self.old.list.now) self.old.front.items self.old.back.items }
+        requires len { len
+            ≡ length (text_at (L.lines self.old.list.now) self.old.front.items self.old.back.items).columns }
+        requires slot { slot.0 < slot_count }
+        requires ordered { from ≤ to }
+        requires within { to ≤ len }
+        ensures list { self.new.list.now ≡ self.old.list.now }
+        ensures is { OnOk result (IsText (L.lines self.new.list.now) self.new.front.items self.new.back.items) }
+        ensures new { OnOk result (text_at (L.lines self.new.list.now) self.new.front.items self.new.back.items
+            ≡ made (SetTag from to slot is_on)
+            (text_at (L.lines self.old.list.now) self.old.front.items self.old.back.items)) }
+    {
+        let first = self.switched(from, slot, is_on, len)?;
+        let last = self.switched(to, slot, is_on, len)?;
+        self.clear(slot, from, to)?;
+        self.toggle_before(to, &last, len)?;
+        self.toggle_before(from, &first, len)
+    }
+
+    /// Takes all slots off a character of a text of so many.
+    fn clear_tags(&mut self, offset: usize, len: usize) -> Result<(), AllocError>
+        requires is { IsText (L.lines self.old.list.now) self.old.front.items self.old.back.items }
+        requires len { len
+            ≡ length (text_at (L.lines self.old.list.now) self.old.front.items self.old.back.items).columns }
+        requires within { offset < len }
+        ensures list { self.new.list.now ≡ self.old.list.now }
+        ensures is { OnOk result (IsText (L.lines self.new.list.now) self.new.front.items self.new.back.items) }
+        ensures new { OnOk result (text_at (L.lines self.new.list.now) self.new.front.items self.new.back.items
+            ≡ made (ClearTags offset)
+            (text_at (L.lines self.old.list.now) self.old.front.items self.old.back.items)) }
+    {
+        let here = self.tags_at(offset)?;
+        self.toggle_before(offset + 1, &here, len)?;
+        self.toggle_before(offset, &here, len)
+    }
+
+    /// Puts the mark of a number at a place of a text of so many characters, wherever it stood.
+    fn move_mark(&mut self, number: MarkNo, place: Place, len: usize) -> Result<(), AllocError>
+        requires is { IsText (L.lines self.old.list.now) self.old.front.items self.old.back.items }
+        requires len { len
+            ≡ length (text_at (L.lines self.old.list.now) self.old.front.items self.old.back.items).columns }
+        requires some { 0 < len }
+        requires within { place.offset ≤ len }
+        ensures list { self.new.list.now ≡ self.old.list.now }
+        ensures is { OnOk result (IsText (L.lines self.new.list.now) self.new.front.items self.new.back.items) }
+        ensures new { OnOk result (text_at (L.lines self.new.list.now) self.new.front.items self.new.back.items
+            ≡ made (PutMark number place)
+            (text_at (L.lines self.old.list.now) self.old.front.items self.old.back.items)) }
+    {
+        self.take_mark(number)?;
+        if place.offset < len {
+            self.put_mark(number, place)
+        } else {
+            self.put_last_mark(number, place)
+        }
+    }
+
+    /// Makes a step in a text of so many characters, at least one, and gives how many there are then.
+    fn make_step(&mut self, step: &Step, len: usize) -> Result<usize, AllocError>
+        requires is { IsText (L.lines self.old.list.now) self.old.front.items self.old.back.items }
+        requires len { len
+            ≡ length (text_at (L.lines self.old.list.now) self.old.front.items self.old.back.items).columns }
+        requires some { 0 < len }
+        requires fits { StepFitsIn step.now len }
+        ensures list { self.new.list.now ≡ self.old.list.now }
+        ensures is { OnOk result (IsText (L.lines self.new.list.now) self.new.front.items self.new.back.items) }
+        ensures new { OnOk result (text_at (L.lines self.new.list.now) self.new.front.items self.new.back.items
+            ≡ made step.now (text_at (L.lines self.old.list.now) self.old.front.items self.old.back.items)) }
+        ensures len { IfOk result (λ after. after
+            ≡ length (text_at (L.lines self.new.list.now) self.new.front.items self.new.back.items).columns) }
+        ensures some { IfOk result (λ after. 0 < after) }
+    {
+        match step {
+            Step::Remove(from, to) => {
+                self.remove(*from, *to)?;
+                return Ok(len - (*to - *from));
+            }
+            Step::Insert(offset, text, slots) => {
+                return self.insert_tagged(*offset, text.as_str(), slots, len);
+            }
+            Step::SetTag(from, to, slot, is_on) => {
+                self.set_tag((*from, *to), *slot, *is_on, len)?;
+            }
+            Step::ClearTags(offset) => self.clear_tags(*offset, len)?,
+            Step::ClearSlot(slot) => self.clear(*slot, 0, len)?,
+            Step::PutMark(number, place) => self.move_mark(*number, *place, len)?,
+            Step::TakeMark(number) => self.take_mark(*number)?,
+        }
+        Ok(len)
+    }
+
+    /// Makes the steps of an edit.
+    pub fn make_steps(&mut self, steps: &[Step], len: usize) -> Result<(), AllocError>
+        requires is { IsText (L.lines self.old.list.now) self.old.front.items self.old.back.items }
+        requires len { len
+            ≡ length (text_at (L.lines self.old.list.now) self.old.front.items self.old.back.items).columns }
+        requires some { 0 < len }
+        requires fits { Fits steps.now
+            (text_of (text_at (L.lines self.old.list.now) self.old.front.items self.old.back.items)) }
+        ensures list { self.new.list.now ≡ self.old.list.now }
+        ensures is { OnOk result (IsText (L.lines self.new.list.now) self.new.front.items self.new.back.items) }
+        ensures new { OnOk result
+            (text_of (text_at (L.lines self.new.list.now) self.new.front.items self.new.back.items)
+            ≡ after steps.now (text_of (text_at (L.lines self.old.list.now) self.old.front.items self.old.back.items))) }
+    {
+        let mut len = len;
+        for step in steps {
+            len = self.make_step(step, len)?;
+        }
+        Ok(())
+    }
+}

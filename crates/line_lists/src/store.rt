@@ -1,0 +1,113 @@
+ghost use Rattle.std.specs.Prelude.{◌≡◌, ◌≤◌, length};
+ghost use Rattle.std.specs.List.{All};
+ghost use Rattle.line_lists.specs.Pieces.{IsReady, freed, named, placed};
+ghost use Rattle.line_lists.specs.Texts.{content_of};
+
+use crate::drafts::Draft;
+use crate::lists::LineList;
+use crate::pieces::{Piece, bound_of, place, take_marks};
+use crate::queries;
+use std::alloc::{AllocError, Global};
+use text_model::{Edit, MarkNo, Place, TagSet, TagSlot, TextStore};
+
+/// A text that is kept as a list of lines.
+#[derive(Drop)]
+pub struct LineStore<L: LineList> {
+    alloc: Global,
+    list: L,
+}
+
+/// What an edit makes of a list of lines: pieces of it, and the numbers of all marks in these.
+#[derive(Drop)]
+pub struct Change {
+    numbers: Vec<MarkNo>,
+    pieces: Vec<Piece>,
+}
+
+impl<L: LineList> TextStore for LineStore<L> {
+    type Prepared = Change;
+
+    ghost content = { λ store. content_of (L.lines store.list) };
+
+    ghost ready = { λ store change.
+        IsReady (L.lines store.list) (L.line_room store.list) (L.mark_room store.list)
+        (named change.numbers.items) change.pieces.items };
+
+    ghost outcome = { λ store change.
+        content_of (placed change.pieces.items (freed (named change.numbers.items) (L.lines store.list))) };
+
+    fn new(alloc: Global) -> Result<LineStore<L>, AllocError> {
+        Ok(LineStore {
+            alloc,
+            list: L::new(alloc)?,
+        })
+    }
+
+    fn len(&self) -> usize {
+        queries::len(&self.list)
+    }
+
+    fn lines(&self) -> usize {
+        queries::lines(&self.list)
+    }
+
+    fn line_start(&self, line: usize) -> usize {
+        queries::line_start(&self.list, line)
+    }
+
+    fn line_of(&self, offset: usize) -> usize {
+        queries::line_of(&self.list, offset)
+    }
+
+    fn char_at(&self, offset: usize) -> char {
+        queries::char_at(&self.list, offset)
+    }
+
+    fn has_tag(&self, offset: usize, slot: TagSlot) -> bool {
+        queries::has_tag(&self.list, offset, slot)
+    }
+
+    fn tags_at(&self, offset: usize) -> TagSet {
+        queries::tags_at(&self.list, offset)
+    }
+
+    fn next_change(&self, offset: usize, slot: TagSlot) -> usize {
+        queries::next_change(&self.list, offset, slot)
+    }
+
+    fn previous_change(&self, offset: usize, slot: TagSlot) -> usize {
+        queries::previous_change(&self.list, offset, slot)
+    }
+
+    fn mark_place(&self, number: MarkNo) -> Option<Place> {
+        queries::mark_place(&self.list, number)
+    }
+
+    fn next_mark(&self, offset: usize) -> Option<usize> {
+        queries::next_mark(&self.list, offset)
+    }
+
+    fn previous_mark(&self, offset: usize) -> Option<usize> {
+        queries::previous_mark(&self.list, offset)
+    }
+
+    fn mark_at(&self, offset: usize, index: usize) -> Option<MarkNo> {
+        queries::mark_at(&self.list, offset, index)
+    }
+
+    fn copy_text(&self, start: usize, end: usize) -> Result<String, AllocError> {
+        queries::copy_text(&self.list, start, end)
+    }
+
+    fn prepare(&mut self, edit: &Edit) -> Result<Change, AllocError> {
+        let change = drafted_change(self.alloc, &self.list, edit)?;
+        self.list
+            .reserve(change.count, bound_of(&change.numbers))?;
+        Ok(change)
+    }
+
+    fn commit(&mut self, change: Change) {
+        take_marks(&mut self.list, &change.numbers);
+        place(&mut self.list, change.pieces);
+    }
+}
