@@ -142,12 +142,12 @@ between_first k to = grind (arith, nat_tests)
 between_next : (from to k : ℕ) → (nat_le (suc from) (suc k) && nat_lt (suc k) (suc to)) ≡ (nat_le from k && nat_lt k to)
 between_next from to k = grind (arith, nat_tests)
 
-changed-first : (f : Column → Column) (to : ℕ) (x : Column) (xs : List Column) → changed f 0 (suc to) (x ∷ xs) ≡ f x ∷ changed f 0 to xs
+pub changed-first : {A : Type 0} (f : A → A) (to : ℕ) (x : A) (xs : List A) → changed f 0 (suc to) (x ∷ xs) ≡ f x ∷ changed f 0 to xs
 changed-first f to x xs =
     ap (λ n. map f (take n (x ∷ xs)) ++ drop to xs) (let same : suc to - 0 ≡ suc to = omega arith in same)
     ∙ ap (λ n. f x ∷ (map f (take n xs) ++ drop to xs)) (let same : to ≡ to - 0 = omega arith in same)
 
-changed-next : (f : Column → Column) (from to : ℕ) (x : Column) (xs : List Column) → changed f (suc from) (suc to) (x ∷ xs) ≡ x ∷ changed f from to xs
+pub changed-next : {A : Type 0} (f : A → A) (from to : ℕ) (x : A) (xs : List A) → changed f (suc from) (suc to) (x ∷ xs) ≡ x ∷ changed f from to xs
 changed-next f from to x xs = ap (λ n. x ∷ (take from xs ++ map f (take n (drop from xs)) ++ drop to xs)) (let same : suc to - suc from ≡ to - from = omega arith in same)
 
 columns_between : (first from to : ℕ) (f : Slots → Slots) (text : List ℕ) (new old : List Toggled) → from ≤ to → to ≤ length text
