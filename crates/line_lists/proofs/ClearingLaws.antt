@@ -17,7 +17,7 @@ use Rattle.line_lists.specs.declared.drafts.Copied.{Copied}
 use Rattle.line_lists.specs.declared.drafts.Reached.{Reached}
 use Rattle.line_lists.specs.declared.drafts.Stop.{Stop}
 use Rattle.line_lists.specs.Clearing.{AreFree, free_end, free_length, lines_on, place_of}
-use Rattle.line_lists.specs.Drafts.{BeginsBehind, IsDraft, IsFound, IsReached, IsTaken, IsText, StandsAt, copies_of, covered, drafted, drafted_at, lines_before, lines_behind, made_lines, taken_lines, text_at, used}
+use Rattle.line_lists.specs.Drafts.{BeginsBehind, IsFound, IsReached, IsTaken, IsText, StandsAt, copies_of, covered, drafted, drafted_at, lines_before, lines_behind, made_lines, taken_lines, text_at, used}
 use Rattle.line_lists.specs.Edits.{with_cleared}
 use Rattle.line_lists.specs.Lists.{AreRows, has_toggle, next_line}
 use Rattle.line_lists.specs.Texts.{whole}
@@ -399,12 +399,12 @@ pub passed-end : (slot : ℕ) (lines : List LineContent) (front front₂ : List 
     → free_end slot lines front₂ back₂ ≡ free_end slot lines front back
 passed-end slot lines front front₂ back back₂ reached some same moved =
     which (slice_get back (length back - 1)) refl where
-  which : (last : Option Copied) → last ≡ slice_get back (length back - 1) → free_end slot lines front₂ back₂ ≡ free_end slot lines front back
-  which None last = absurd (omega (arith, some, ap length (no_last back last)))
-  which (Some copy) last =
-      let behind = take (length back - 1) back in
-      let is = moved behind copy (last_is back copy last) in
-      ap₂ (λ xs ys. free_end slot lines xs ys) is.1 is.0 ∙ sym (same behind (record { reached = reached; copy = copy }) (last_is back copy last))
+      which : (last : Option Copied) → last ≡ slice_get back (length back - 1) → free_end slot lines front₂ back₂ ≡ free_end slot lines front back
+      which None last = absurd (omega (arith, some, ap length (no_last back last)))
+      which (Some copy) last =
+          let behind = take (length back - 1) back in
+          let is = moved behind copy (last_is back copy last) in
+          ap₂ (λ xs ys. free_end slot lines xs ys) is.1 is.0 ∙ sym (same behind (record { reached = reached; copy = copy }) (last_is back copy last))
 
 -- it stands in the text
 free-le : (slot : ℕ) (lines : List LineContent) → free_length slot lines ≤ length (whole lines).columns

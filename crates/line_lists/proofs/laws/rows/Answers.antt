@@ -1,4 +1,3 @@
-use Rattle.line_lists.proofs.ClearingLaws.{copied-tags, kept-ends, kept-tags, free-cleared, cleared-none, cleared-both, length-cleared, cleared-makes, end-within, below-free, end-passed, passed-end, clears-line, clears-on}
 use Rattle.line_lists.proofs.RowLaws.{rows-before, toggled-line, toggled-rows, toggled-whole, whole-around}
 use Rattle.line_lists.proofs.FindLaws.{found, opened-kept, opened-place, opened-rest, put-back, taken-last}
 use Rattle.line_lists.proofs.DraftLaws.{draft-back, draft-forth, drafted-append, in_order-moved, made-append, stops-last, used-append}

@@ -1,4 +1,4 @@
-use Rattle.std.proofs.Common.{◌≡◌, ◌≤◌, subst, sym, ap, ◌∙◌, arith}
+use Rattle.std.proofs.Common.{subst, sym, ap, ◌∙◌, arith}
 use Rattle.line_lists.specs.Drafts.{text_at}
 use Rattle.line_lists.specs.Lists.{AreRows}
 use Rattle.line_lists.specs.Texts.{whole}
@@ -15,8 +15,7 @@ loop-at-preserved g c =
     let new = text_at (g.L.LineList.lines c.next_toggled.new.self.list.now) c.next_toggled.new.self.front.items c.next_toggled.new.self.back.items in
     let so_far = c.loop-at.invariant in
     let here = c.in_ok-clear_line.ensures in
-    let next = c.in_ok-at.ensures in
-    (
+    let next = c.in_ok-at.ensures in (
       next.list ∙ here.list ∙ so_far.0,
       record { draft = next.is; rows = subst AreRows (sym next.same) here.is.rows },
       omega (arith, next.value, here.above, so_far.2, c.loop-at-test.true),

@@ -1,10 +1,9 @@
 use Rattle.std.proofs.Common.{◌≡◌, ◌<◌, ◌+◌, ◌-◌, min, length, subst, sym, ap, ◌∙◌}
-use Rattle.segments.specs.Columns.{LineContent}
 use Rattle.line_lists.specs.Clearing.{place_of}
 use Rattle.line_lists.specs.Drafts.{IsText, drafted_at, text_at}
 use Rattle.line_lists.specs.Edits.{with_cleared}
 use Rattle.line_lists.specs.Texts.{whole}
-use Rattle.line_lists.proofs.ClearingLaws.{ClearsLine, clears-line}
+use Rattle.line_lists.proofs.ClearingLaws.{clears-line}
 use Rattle.line_lists.proofs.drafts.Draft.clear_line.Goals as goal
 
 pub returns-clause-is : goal.returns-clause-is

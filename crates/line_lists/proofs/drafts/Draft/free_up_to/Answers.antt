@@ -1,8 +1,7 @@
-use Rattle.std.proofs.Common.{◌≡◌, ◌-◌, ◌<◌, ◌≤◌, ◌+◌, ◌^◌, true, Some, Fits, w64, length, take, drop, sym, ap, ◌∙◌, arith}
+use Rattle.std.proofs.Common.{◌≡◌, ◌-◌, ◌+◌, true, length, take, sym, ap, ◌∙◌, arith}
 use Rattle.std.specs.FinSet as set
-use Rattle.std.specs.Prelude.{IfSome, slice_get}
+use Rattle.std.specs.Prelude.{slice_get}
 use Rattle.toggle_sums.specs.Counts.{Count}
-use Rattle.segments.specs.Columns.{LineContent}
 use Rattle.line_lists.specs.Lists.{has_toggle}
 use Rattle.line_lists.proofs.ClearingLaws.{end-kept, end-passed, end-rest, end-within}
 use Rattle.line_lists.proofs.CountRows.{count-lines}

@@ -1,4 +1,4 @@
-use Rattle.std.proofs.Common.{ap₂, sym, ◌∙◌, arith}
+use Rattle.std.proofs.Common.{ap₂, sym, ◌∙◌}
 use Rattle.text_model.specs.SlotSets.{differing}
 use Rattle.line_lists.proofs.ClearingLaws.{kept-ends, kept-tags}
 use Rattle.line_lists.proofs.FindLaws.{reached-there}

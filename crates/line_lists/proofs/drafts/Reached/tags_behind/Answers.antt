@@ -1,4 +1,4 @@
-use Rattle.std.proofs.Common.{ap, ap₂, ◌∙◌, Fits, w64, arith}
+use Rattle.std.proofs.Common.{ap, ap₂, ◌∙◌, arith}
 use Rattle.toggle_sums.specs.Counts.{Count}
 use Rattle.text_model.specs.SlotSets.{differing}
 use Rattle.line_lists.proofs.CountRows.{count-lines}
