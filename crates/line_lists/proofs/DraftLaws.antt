@@ -219,7 +219,7 @@ last_of : {A : Type 0} (xs : List A) (x : A) → slice_get (xs ++ x ∷ []) (len
 last_of [] x = refl
 last_of (y ∷ ys) x = last_of ys x
 
-last_same : {A : Type 0} (all before : List A) (x y : A) → Some x ≡ slice_get all (length all - 1) → all ≡ before ++ y ∷ [] → x ≡ y
+pub last_same : {A : Type 0} (all before : List A) (x y : A) → Some x ≡ slice_get all (length all - 1) → all ≡ before ++ y ∷ [] → x ≡ y
 last_same all before x y last is =
     let long : length all - 1 ≡ length before = omega (arith, ap length is, length-append before (y ∷ [])) in
     some_same x y (last ∙ ap₂ slice_get is long ∙ last_of before y)

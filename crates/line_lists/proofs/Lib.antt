@@ -1,3 +1,4 @@
+pub mod ClearingLaws
 pub mod CountRows
 pub mod CutLaws
 pub mod DraftLaws

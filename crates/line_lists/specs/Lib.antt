@@ -1,3 +1,4 @@
+pub mod Clearing
 pub mod Drafts
 pub mod Edits
 pub mod Insertions

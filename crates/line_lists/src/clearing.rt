@@ -1,0 +1,224 @@
+ghost use Rattle.std.specs.Prelude.{◌≡◌, ◌+◌, ◌-◌, ◌<◌, ◌≤◌, ◌^◌, List, [], ◌∷◌, ◌++◌, None, IfOk, IfSome, OnOk, drop, length, min, slice_get, take, true, vec_len};
+ghost use Rattle.text_model.specs.SlotSets.{differing};
+ghost use Rattle.segments.specs.Columns.{LineContent};
+ghost use Rattle.text_model.specs.TagBits.{slot_count};
+ghost use Rattle.line_lists.specs.Clearing.{AreFree, free_end, place_of};
+ghost use Rattle.line_lists.specs.Drafts.{BeginsBehind, BeginsBy, IsDraft, IsReached, IsText, copies_of, drafted_at, made_lines, text_at};
+ghost use Rattle.line_lists.specs.Edits.{with_cleared};
+ghost use Rattle.line_lists.specs.Lists.{has_toggle};
+ghost use Rattle.line_lists.specs.Texts.{whole};
+ghost use Rattle.line_lists.specs.Toggling.{tags_behind};
+
+use crate::drafts::{Copied, Draft, Found, Reached, Stop};
+use crate::lists::LineList;
+use std::alloc::AllocError;
+use text_model::{TagSet, TagSlot};
+
+/// The first line from one on in which a slot is toggled, or `end`, which is further on, if there is none before it.
+fn next_below<L: LineList>(list: &L, slot: TagSlot, from: usize, end: usize) -> usize
+    requires slot { slot.0 < slot_count }
+    requires ordered { from ≤ end }
+    requires within { end ≤ length (L.lines list.now) }
+    ensures above { from ≤ result }
+    ensures bound { result ≤ end }
+    ensures free { AreFree slot.0 (take (result - from) (drop from (L.lines list.now))) }
+    ensures stops { result < end →
+        IfSome (slice_get (L.lines list.now) result) (λ (line : LineContent). has_toggle slot.0 line ≡ true) }
+{
+    list.next_with(slot, from).unwrap_or(end).min(end)
+}
+
+impl Reached {
+    /// The slots that are on behind so many kept lines that follow.
+    fn tags_behind<L: LineList>(&self, list: &L, count: usize) -> TagSet
+        requires { self.now.used + count ≤ length (L.lines list.now) }
+        ensures { result ≡ differing self.now.tags
+            (tags_behind (whole (take count (drop self.now.used (L.lines list.now)))).columns) }
+    {
+        let start = list.prefix(self.used).odd_slots();
+        let kept = list.prefix(self.used + count).odd_slots();
+        self.tags.differing(&start.differing(&kept))
+    }
+
+    /// How many characters stand before the end of so many kept lines that follow.
+    fn characters_behind<L: LineList>(&self, list: &L, count: usize) -> usize
+        requires there { self.now.used + count ≤ length (L.lines list.now) }
+        requires counted { self.now.characters
+            + length (whole (take count (drop self.now.used (L.lines list.now)))).columns < 2 ^ 64 }
+        ensures { result ≡ self.now.characters
+            + length (whole (take count (drop self.now.used (L.lines list.now)))).columns }
+    {
+        let start = list.prefix(self.used).characters();
+        let kept = list.prefix(self.used + count).characters();
+        self.characters + (kept - start)
+    }
+}
+
+impl<'a, L: LineList> Draft<'a, L> {
+    /// The slots that are on behind so many characters, of which the next is one of the last copy's before the place.
+    fn copied_tags(&self, offset: usize) -> TagSet
+        requires is { IsDraft (L.lines self.now.list.now) self.now.front.items self.now.back.items }
+        requires begun { BeginsBy (L.lines self.now.list.now) offset self.now.front.items }
+        requires within { offset
+            < length (whole (made_lines (copies_of self.now.front.items) (L.lines self.now.list.now))).columns }
+        ensures { result ≡ tags_behind (take offset
+            (text_at (L.lines self.now.list.now) self.now.front.items self.now.back.items).columns) }
+    {
+        let stop = self.front.last().unwrap();
+        let column = offset - stop.reached.start(self.list, &stop.copy);
+        let before = stop.reached.tags_behind(self.list, stop.copy.kept);
+        before.differing(&stop.copy.line.tags_behind(column))
+    }
+
+    /// The slots that are on behind so many characters, of which the next is one of a kept line's behind the place.
+    fn kept_tags(&self, reached: &Reached, offset: usize) -> TagSet
+        requires is { IsDraft (L.lines self.now.list.now) self.now.front.items self.now.back.items }
+        requires reached { IsReached reached.now (copies_of self.now.front.items) (L.lines self.now.list.now) }
+        requires behind { reached.now.characters ≤ offset }
+        requires ahead { BeginsBehind (L.lines self.now.list.now) offset self.now.front.items self.now.back.items }
+        requires within { offset
+            < length (text_at (L.lines self.now.list.now) self.now.front.items self.now.back.items).columns }
+        ensures { result ≡ tags_behind (take offset
+            (text_at (L.lines self.now.list.now) self.now.front.items self.now.back.items).columns) }
+    {
+        let (index, column) = self.find_line(reached, offset);
+        let before = reached.tags_behind(self.list, index - reached.used);
+        before.differing(&self.list.line(index).tags_behind(column))
+    }
+
+    /// The slots that are on behind so many characters of the text, which are those of the character before the offset.
+    pub fn tags_behind(&mut self, offset: usize) -> Result<TagSet, AllocError>
+        requires is { IsText (L.lines self.old.list.now) self.old.front.items self.old.back.items }
+        requires within { offset
+            < length (text_at (L.lines self.old.list.now) self.old.front.items self.old.back.items).columns }
+        ensures list { self.new.list.now ≡ self.old.list.now }
+        ensures is { IsText (L.lines self.new.list.now) self.new.front.items self.new.back.items }
+        ensures same { drafted_at (L.lines self.new.list.now) self.new.front.items self.new.back.items
+            ≡ drafted_at (L.lines self.old.list.now) self.old.front.items self.old.back.items }
+        ensures value { IfOk result (λ slots. slots ≡ tags_behind (take offset
+            (text_at (L.lines self.old.list.now) self.old.front.items self.old.back.items).columns)) }
+    {
+        self.back_to(offset)?;
+        self.forth_to(offset)?;
+        let reached = self.reached();
+        if offset < reached.characters {
+            return Ok(self.copied_tags(offset));
+        }
+        Ok(self.kept_tags(&reached, offset))
+    }
+
+    /// Where the first line begins in which a slot is toggled, among those behind the place up to the next copy's, or
+    /// where the text ends if there is neither; `None` if there is none, but a next copy.
+    fn free_up_to(&self, slot: TagSlot, reached: &Reached) -> Option<usize>
+        requires slot { slot.0 < slot_count }
+        requires is { IsDraft (L.lines self.now.list.now) self.now.front.items self.now.back.items }
+        requires reached { IsReached reached.now (copies_of self.now.front.items) (L.lines self.now.list.now) }
+        ensures some { IfSome result (λ next. next
+            ≡ free_end slot.0 (L.lines self.now.list.now) self.now.front.items self.now.back.items) }
+        ensures none { result ≡ None → (behind : List Copied) (stop : Stop) →
+            self.now.back.items ≡ behind ++ stop.copy ∷ [] →
+            free_end slot.0 (L.lines self.now.list.now) self.now.front.items self.now.back.items
+            ≡ free_end slot.0 (L.lines self.now.list.now) (self.now.front.items ++ stop ∷ []) behind }
+        ensures next { result ≡ None → 0 < vec_len self.now.back }
+    {
+        match self.back.last() {
+            None => {
+                let index = next_below(self.list, slot, reached.used, self.list.len());
+                Some(reached.characters_behind(self.list, index - reached.used))
+            }
+            Some(copy) => {
+                let end = reached.used + copy.kept;
+                let index = next_below(self.list, slot, reached.used, end);
+                if index < end || copy.line.sum().has(slot) {
+                    return Some(reached.characters_behind(self.list, index - reached.used));
+                }
+                None
+            }
+        }
+    }
+
+    /// Goes on by one copy, where what the copies before the place cover is known.
+    fn pass(&mut self, reached: Reached) -> Result<(), AllocError>
+        requires is { IsDraft (L.lines self.old.list.now) self.old.front.items self.old.back.items }
+        requires reached { IsReached reached (copies_of self.old.front.items) (L.lines self.old.list.now) }
+        ensures list { self.new.list.now ≡ self.old.list.now }
+        ensures is { IsDraft (L.lines self.new.list.now) self.new.front.items self.new.back.items }
+        ensures same { drafted_at (L.lines self.new.list.now) self.new.front.items self.new.back.items
+            ≡ drafted_at (L.lines self.old.list.now) self.old.front.items self.old.back.items }
+        ensures moved { OnOk result ((behind : List Copied) (copy : Copied) → self.old.back.items ≡ behind ++ copy ∷ [] →
+            (self.new.back.items ≡ behind)
+            × (self.new.front.items ≡ self.old.front.items ++ record { reached = reached; copy = copy } ∷ [])) }
+        ensures fewer { OnOk result (vec_len self.new.back ≡ vec_len self.old.back - 1) }
+    {
+        self.front.reserve(1)?;
+        if let Some(copy) = self.back.pop() {
+            self.front.push_reserved(Stop { reached, copy });
+        }
+        Ok(())
+    }
+
+    /// Where the first line behind the place begins in which a slot is toggled, or `end` if that isn't before it.
+    fn next_toggled(&mut self, slot: TagSlot, end: usize) -> Result<usize, AllocError>
+        requires slot { slot.0 < slot_count }
+        requires is { IsDraft (L.lines self.old.list.now) self.old.front.items self.old.back.items }
+        ensures list { self.new.list.now ≡ self.old.list.now }
+        ensures is { IsDraft (L.lines self.new.list.now) self.new.front.items self.new.back.items }
+        ensures same { drafted_at (L.lines self.new.list.now) self.new.front.items self.new.back.items
+            ≡ drafted_at (L.lines self.old.list.now) self.old.front.items self.old.back.items }
+        ensures value { IfOk result (λ next. next
+            ≡ min end (free_end slot.0 (L.lines self.old.list.now) self.old.front.items self.old.back.items)) }
+    {
+        let mut reached = self.reached();
+        while reached.characters < end {
+            if let Some(next) = self.free_up_to(slot, &reached) {
+                return Ok(next.min(end));
+            }
+            self.pass(reached)?;
+            reached = self.reached();
+        }
+        Ok(end)
+    }
+
+    /// Takes the toggles of a slot before the characters from one offset on away, up to the end of their line or another
+    /// offset, and goes behind that line.
+    fn clear_line(&mut self, slot: TagSlot, from: usize, to: usize) -> Result<(), AllocError>
+        requires is { IsText (L.lines self.old.list.now) self.old.front.items self.old.back.items }
+        requires slot { slot.0 < slot_count }
+        requires ordered { from < to }
+        requires within { to
+            ≤ length (text_at (L.lines self.old.list.now) self.old.front.items self.old.back.items).columns }
+        ensures list { self.new.list.now ≡ self.old.list.now }
+        ensures is { OnOk result (IsText (L.lines self.new.list.now) self.new.front.items self.new.back.items) }
+        ensures above { OnOk result (from < place_of (L.lines self.new.list.now) self.new.front.items) }
+        ensures new { OnOk result (text_at (L.lines self.new.list.now) self.new.front.items self.new.back.items
+            ≡ with_cleared slot.0 from (min to (place_of (L.lines self.new.list.now) self.new.front.items))
+            (text_at (L.lines self.old.list.now) self.old.front.items self.old.back.items)) }
+    {
+        let Found { mut stop, column } = self.take(from)?;
+        let end = stop.copy.line.len().min(column + (to - from));
+        stop.copy.line.clear(slot, column, end);
+        self.front.push_reserved(stop);
+        Ok(())
+    }
+
+    /// Takes the toggles of a slot before the characters from one offset to another away.
+    pub fn clear(&mut self, slot: TagSlot, from: usize, to: usize) -> Result<(), AllocError>
+        requires is { IsText (L.lines self.old.list.now) self.old.front.items self.old.back.items }
+        requires slot { slot.0 < slot_count }
+        requires ordered { from ≤ to }
+        requires within { to
+            ≤ length (text_at (L.lines self.old.list.now) self.old.front.items self.old.back.items).columns }
+        ensures list { self.new.list.now ≡ self.old.list.now }
+        ensures is { OnOk result (IsText (L.lines self.new.list.now) self.new.front.items self.new.back.items) }
+        ensures new { OnOk result (text_at (L.lines self.new.list.now) self.new.front.items self.new.back.items
+            ≡ with_cleared slot.0 from to
+            (text_at (L.lines self.old.list.now) self.old.front.items self.old.back.items)) }
+    {
+        let mut at = from;
+        while at < to {
+            self.clear_line(slot, at, to)?;
+            at = self.next_toggled(slot, to)?;
+        }
+        Ok(())
+    }
+}

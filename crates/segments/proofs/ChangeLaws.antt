@@ -1,5 +1,5 @@
 -- The columns that other toggles make.
-use Rattle.std.proofs.Common.{◌≡◌, ℕ, zero, suc, ◌+◌, ◌-◌, ◌<◌, ◌≢◌, Bool, true, false, ◌==◌, ◌||◌, List, [], ◌∷◌, ◌++◌, length, map, take, drop, inl, inr, refl, sym, ap, ap₂, subst, ◌∙◌, arith, cond}
+use Rattle.std.proofs.Common.{◌≡◌, ℕ, zero, suc, ◌+◌, ◌-◌, ◌<◌, ◌≤◌, ◌≢◌, nat_le, nat_lt, ◌&&◌, Bool, true, false, ◌==◌, ◌||◌, List, [], ◌∷◌, ◌++◌, length, map, take, drop, inl, inr, refl, sym, ap, ap₂, subst, ◌∙◌, arith, cond}
 use Rattle.std.specs.Prelude.{if◌then◌else◌}
 use Rattle.std.proofs.lemmas.Bool.{cases_eq}
 use Rattle.std.proofs.lemmas.Bool.Decides.{nat_tests}
@@ -14,7 +14,7 @@ use Rattle.text_model.specs.SlotSets.{differing}
 use Rattle.text_model.specs.Splices.{changed}
 use Rattle.segments.specs.declared.toggles.Toggled.{Toggled}
 use Rattle.segments.specs.Columns.{Column}
-use Rattle.segments.specs.Entries.{flipped, toggled_at}
+use Rattle.segments.specs.Entries.{flipped, slots_cleared, toggled_at}
 use Rattle.segments.specs.Kept.{columns_from}
 
 -- the same columns where the toggles are the same, if need be some columns on
@@ -134,3 +134,59 @@ columns_turned column slot on one text new old within one_is other is =
     (λ k apart.
     let test : (k == column) ≡ false = grind (arith, nat_tests) in
     is k ∙ ap (λ (b : Bool). if b then differing one (toggled_at old k) else toggled_at old k) test)
+
+-- columns from one to another changed
+between_first : (k to : ℕ) → (nat_le 0 (suc k) && nat_lt (suc k) (suc to)) ≡ (nat_le 0 k && nat_lt k to)
+between_first k to = grind (arith, nat_tests)
+
+between_next : (from to k : ℕ) → (nat_le (suc from) (suc k) && nat_lt (suc k) (suc to)) ≡ (nat_le from k && nat_lt k to)
+between_next from to k = grind (arith, nat_tests)
+
+pub changed-first : {A : Type 0} (f : A → A) (to : ℕ) (x : A) (xs : List A) → changed f 0 (suc to) (x ∷ xs) ≡ f x ∷ changed f 0 to xs
+changed-first f to x xs =
+    ap (λ n. map f (take n (x ∷ xs)) ++ drop to xs) (let same : suc to - 0 ≡ suc to = omega arith in same)
+    ∙ ap (λ n. f x ∷ (map f (take n xs) ++ drop to xs)) (let same : to ≡ to - 0 = omega arith in same)
+
+pub changed-next : {A : Type 0} (f : A → A) (from to : ℕ) (x : A) (xs : List A) → changed f (suc from) (suc to) (x ∷ xs) ≡ x ∷ changed f from to xs
+changed-next f from to x xs = ap (λ n. x ∷ (take from xs ++ map f (take n (drop from xs)) ++ drop to xs)) (let same : suc to - suc from ≡ to - from = omega arith in same)
+
+columns_between : (first from to : ℕ) (f : Slots → Slots) (text : List ℕ) (new old : List Toggled) → from ≤ to → to ≤ length text
+    → ((k : ℕ) → k < length text → toggled_at new (first + k) ≡ (if nat_le from k && nat_lt k to then f (toggled_at old (first + k)) else toggled_at old (first + k)))
+    → columns_from first text new ≡ changed (with_slots f) from to (columns_from first text old)
+columns_between first zero zero f text new old ordered within is =
+    columns_same first first text new old (λ k small.
+    let none : (nat_le 0 k && nat_lt k 0) ≡ false = grind (arith, nat_tests) in
+    is k small ∙ ap (λ (b : Bool). if b then f (toggled_at old (first + k)) else toggled_at old (first + k)) none)
+columns_between first zero (suc to) f [] new old ordered within is = absurd (omega (arith, within))
+columns_between first zero (suc to) f (character ∷ text) new old ordered within is =
+    let one : first + 0 ≡ first = omega arith in
+    let some : (nat_le 0 0 && nat_lt 0 (suc to)) ≡ true = grind (arith, nat_tests) in
+    ap₂ (λ slots (columns : List Column). record { character = character; toggled = slots } ∷ columns)
+    (sym (ap (toggled_at new) one) ∙ is 0 (omega arith) ∙ ap (λ (b : Bool). if b then f (toggled_at old (first + 0)) else toggled_at old (first + 0)) some ∙ ap (λ n. f (toggled_at old n)) one)
+    (columns_between (suc first) zero to f text new old (omega arith) (omega (arith, within)) (λ k small.
+    let one : suc first + k ≡ first + suc k = omega arith in
+    ap (toggled_at new) one ∙ is (suc k) (omega (arith, small))
+    ∙ ap (λ (b : Bool). if b then f (toggled_at old (first + suc k)) else toggled_at old (first + suc k)) (between_first k to)
+    ∙ ap (λ n. if nat_le 0 k && nat_lt k to then f (toggled_at old n) else toggled_at old n) (sym one)))
+    ∙ sym (changed-first (with_slots f) to (record { character = character; toggled = toggled_at old first }) (columns_from (suc first) text old))
+columns_between first (suc from) zero f text new old ordered within is = absurd (omega (arith, ordered))
+columns_between first (suc from) (suc to) f [] new old ordered within is = absurd (omega (arith, within))
+columns_between first (suc from) (suc to) f (character ∷ text) new old ordered within is =
+    let one : first + 0 ≡ first = omega arith in
+    let none : (nat_le (suc from) 0 && nat_lt 0 (suc to)) ≡ false = grind (arith, nat_tests) in
+    ap₂ (λ slots (columns : List Column). record { character = character; toggled = slots } ∷ columns)
+    (sym (ap (toggled_at new) one) ∙ is 0 (omega arith) ∙ ap (λ (b : Bool). if b then f (toggled_at old (first + 0)) else toggled_at old (first + 0)) none ∙ ap (toggled_at old) one)
+    (columns_between (suc first) from to f text new old (omega (arith, ordered)) (omega (arith, within)) (λ k small.
+    let one : suc first + k ≡ first + suc k = omega arith in
+    ap (toggled_at new) one ∙ is (suc k) (omega (arith, small))
+    ∙ ap (λ (b : Bool). if b then f (toggled_at old (first + suc k)) else toggled_at old (first + suc k)) (between_next from to k)
+    ∙ ap (λ n. if nat_le from k && nat_lt k to then f (toggled_at old n) else toggled_at old n) (sym one)))
+    ∙ sym (changed-next (with_slots f) from to (record { character = character; toggled = toggled_at old first }) (columns_from (suc first) text old))
+
+pub columns_cleared : (slot from to : ℕ) (text : List ℕ) (new old : List Toggled) → from ≤ to → to ≤ length text
+    → ((at : ℕ) → toggled_at new at ≡ slots_cleared slot from to at (toggled_at old at))
+    → columns_from 0 text new ≡ changed (λ (column : Column). record column { toggled = set_slot slot false column.toggled }) from to (columns_from 0 text old)
+columns_cleared slot from to text new old ordered within is =
+    columns_between 0 from to (set_slot slot false) text new old ordered within (λ k small.
+    let one : 0 + k ≡ k = omega arith in
+    ap (toggled_at new) one ∙ is k ∙ ap (λ n. slots_cleared slot from to k (toggled_at old n)) (sym one))

@@ -100,16 +100,20 @@ presence-columns at to (character ∷ text) (entry ∷ entries) is lie =
           ∙ empty-union (any_of (entry ∷ entries))
     ]
 
--- the slots toggled an odd number of times up to a column are those of the entries up to it
-pub tags-entries : (text : List ℕ) (entries : List Toggled) (count at : ℕ) → LieIn 0 (length text) entries → LieIn 0 (at + 1) (take count entries) → LieIn (at + 1) (length text) (drop count entries)
-    → odd_of (take count entries) ≡ tags_before at (columns_from 0 text entries)
-tags-entries text entries count at lie front behind =
-    let n = at + 1 in
+-- the slots toggled an odd number of times in the first columns are those of the entries in them
+pub front-entries : (text : List ℕ) (entries : List Toggled) (count n : ℕ) → LieIn 0 (length text) entries → LieIn 0 n (take count entries) → LieIn n (length text) (drop count entries)
+    → odd_of (take count entries) ≡ parity (toggles (take n (columns_from 0 text entries)))
+front-entries text entries count n lie front behind =
     let long : length (take n text) ≡ min n (length text) = length-take n text in
     let within : 0 + length (take n text) ≤ n = omega (arith, long) in
     let sum : min n (length text) ≡ 0 + length (take n text) = omega (arith, long) in
     sym (ap (λ columns. parity (toggles columns)) (take-columns n 0 text entries ∙ ap (columns_from 0 (take n text)) (sym (take-append-drop count entries)) ∙ columns-front 0 n (length text) (take n text) (take count entries) (drop count entries) behind within)
     ∙ parity-columns 0 (min n (length text)) (take n text) (take count entries) sum (LieIn-both 0 n (length text) (take count entries) front (LieIn-take 0 (length text) count entries lie)))
+
+-- and those up to a column
+pub tags-entries : (text : List ℕ) (entries : List Toggled) (count at : ℕ) → LieIn 0 (length text) entries → LieIn 0 (at + 1) (take count entries) → LieIn (at + 1) (length text) (drop count entries)
+    → odd_of (take count entries) ≡ tags_before at (columns_from 0 text entries)
+tags-entries text entries count at lie front behind = front-entries text entries count (at + 1) lie front behind
 
 -- and at the end of the line those of all entries
 pub tags-whole : (text : List ℕ) (entries : List Toggled) → LieIn 0 (length text) entries → odd_of entries ≡ tags_before (length text) (columns_from 0 text entries)

@@ -1,16 +1,19 @@
 -- The toggles of a column among the entries of a line.
-use Rattle.std.proofs.Common.{◌≡◌, ℕ, zero, suc, ◌<◌, ◌≤◌, ◌≢◌, Bool, true, false, ◌==◌, List, [], ◌∷◌, ◌++◌, length, take, drop, get_or, set, inl, inr, refl, sym, ap, subst, ◌∙◌, arith, take-append-drop}
+use Rattle.std.proofs.Common.{◌≡◌, ℕ, zero, suc, ◌<◌, ◌≤◌, ◌≢◌, nat_le, nat_lt, ◌&&◌, Bool, true, false, ◌==◌, List, [], ◌∷◌, ◌++◌, length, take, drop, get_or, set, inl, inr, refl, sym, ap, subst, ◌∙◌, arith, take-append-drop}
 use Rattle.std.specs.Prelude.{if◌then◌else◌}
 use Rattle.std.proofs.Math.Seq.{drop-cons}
 use Rattle.std.proofs.lemmas.Bool.{cases_eq, cases_lt}
 use Rattle.std.proofs.lemmas.Bool.Decides.{nat_tests}
 use Rattle.std.proofs.lemmas.List.{set_split}
 use Rattle.std.specs.FinSet as finset
+use Rattle.std.specs.List.Retain.{RetainsInTurn}
+use Rattle.std.specs.Ordering.{nat_cmp}
 use Rattle.text_model.specs.Content.{Slots}
 use Rattle.text_model.specs.SlotSets.{differing}
 use Rattle.toggle_sums.specs.CountLaws.{differing-associative, differing-commutative, differing-empty, empty-differing}
 use Rattle.segments.specs.declared.toggles.Toggled.{Toggled}
-use Rattle.segments.specs.Entries.{LieIn, flipped, toggled_at}
+use Rattle.segments.specs.Entries.{LieIn, flipped, slots_cleared, toggled_at}
+use Rattle.segments.proofs.ChangeLaws.{slots_kept}
 use Rattle.segments.proofs.EntryLaws.{met, none_before, passed}
 
 -- the entry between those before a column and those behind is the column's, if one is
@@ -165,3 +168,66 @@ pub lies_inserted : (entries : List Toggled) (i : ℕ) (d new : Toggled) (from t
 lies_inserted entries i d new from to before behind above below other =
     let column = new.column in
     LieIn-append from column to (take i entries) (new ∷ drop i entries) before (LieIn-append column (suc column) to (new ∷ []) (drop i entries) (LieIn-one column new refl) (behind_none column to entries i d behind other) (omega arith) below) above (omega arith)
+
+-- ---- a slot that is toggled nowhere from one column to another
+-- what is made of an entry, and whether it stays
+pub record ClearsEntry (slot from to : ℕ) (old : Toggled) (stays : Bool) (new : Toggled) : Type 0 where
+  pub column : new.column ≡ old.column
+  pub slots : new.slots ≡ slots_cleared slot from to old.column old.slots
+  pub gone : stays ≡ false → new.slots ≡ finset.empty
+
+none_left : (test : Bool) (slot : ℕ) → ◌≡◌ {A = Slots} (if test then finset.remove finset.empty slot else finset.empty) finset.empty
+none_left true slot = sym (slots_kept slot false finset.empty (finset.contains-empty nat_cmp slot))
+none_left false slot = refl
+
+cleared_none : (slot from to at : ℕ) → slots_cleared slot from to at finset.empty ≡ finset.empty
+cleared_none slot from to at = none_left (nat_le from at && nat_lt at to) slot
+
+-- the entry of a column says what is toggled there
+alone : (at high : ℕ) (x : Toggled) (xs : List Toggled) → x.column ≡ at → LieIn (suc x.column) high xs → toggled_at (x ∷ xs) at ≡ x.slots
+alone at high x xs same lie = met x xs at same ∙ ap (differing x.slots) (none_before (suc x.column) high xs at lie (omega (arith, same))) ∙ differing-empty x.slots
+
+module _ {S : Type 0} (R : S → Toggled → Bool → S → Toggled → Type 0) (s : S) (slot from to : ℕ)
+    (says : (x : Toggled) (b : Bool) (t : S) (y : Toggled) → R s x b t y → ClearsEntry slot from to x b y × (t ≡ s)) where
+  pub lies_cleared : (low high : ℕ) (xs ys : List Toggled) → RetainsInTurn R s xs ys → LieIn low high xs → LieIn low high ys
+  lies_cleared low high [] ys is lie = subst (LieIn low high) (sym is) tt
+  lies_cleared low high (x ∷ xs) ys (true, t, y, one, zs, rest, is) lie =
+      let here = says x true t y one in
+      let behind = lies_cleared (suc x.column) high xs zs (subst (λ u. RetainsInTurn R u xs zs) here.1 rest) lie.2 in
+      subst (LieIn low high) (sym is) (omega (arith, lie.0, here.0.column), omega (arith, lie.1, here.0.column), subst (λ n. LieIn (suc n) high zs) (sym here.0.column) behind)
+  lies_cleared low high (x ∷ xs) ys (false, t, y, one, zs, rest, is) lie =
+      let here = says x false t y one in
+      let behind = lies_cleared (suc x.column) high xs zs (subst (λ u. RetainsInTurn R u xs zs) here.1 rest) lie.2 in
+      subst (LieIn low high) (sym is) (LieIn-append low (suc x.column) high [] zs tt behind (omega (arith, lie.0)) (omega (arith, lie.1)))
+
+  pub slots_stay_cleared : (low high : ℕ) (xs ys : List Toggled) (at : ℕ) → RetainsInTurn R s xs ys → LieIn low high xs → toggled_at ys at ≡ slots_cleared slot from to at (toggled_at xs at)
+  slots_stay_cleared low high [] ys at is lie = ap (λ es. toggled_at es at) is ∙ sym (cleared_none slot from to at)
+  slots_stay_cleared low high (x ∷ xs) ys at (true, t, y, one, zs, rest, is) lie =
+      let here = says x true t y one in
+      let others = subst (λ u. RetainsInTurn R u xs zs) here.1 rest in
+      let column = here.0.column in
+      ap (λ es. toggled_at es at) is
+      ∙ elim (cases_eq x.column at) [
+        | inl same ↦
+            met y zs at (column ∙ same)
+            ∙ ap (differing y.slots) (none_before (suc x.column) high zs at (lies_cleared (suc x.column) high xs zs others lie.2) (omega (arith, same)))
+            ∙ differing-empty y.slots ∙ here.0.slots ∙ ap (λ n. slots_cleared slot from to n x.slots) same
+            ∙ ap (slots_cleared slot from to at) (sym (alone at high x xs same lie.2))
+        | inr apart ↦
+            passed y zs at (λ same. apart (sym column ∙ same))
+            ∙ slots_stay_cleared (suc x.column) high xs zs at others lie.2
+            ∙ ap (slots_cleared slot from to at) (sym (passed x xs at apart))
+      ]
+  slots_stay_cleared low high (x ∷ xs) ys at (false, t, y, one, zs, rest, is) lie =
+      let here = says x false t y one in
+      let others = subst (λ u. RetainsInTurn R u xs zs) here.1 rest in
+      ap (λ es. toggled_at es at) is
+      ∙ elim (cases_eq x.column at) [
+        | inl same ↦
+            none_before (suc x.column) high zs at (lies_cleared (suc x.column) high xs zs others lie.2) (omega (arith, same))
+            ∙ sym (here.0.gone refl) ∙ here.0.slots ∙ ap (λ n. slots_cleared slot from to n x.slots) same
+            ∙ ap (slots_cleared slot from to at) (sym (alone at high x xs same lie.2))
+        | inr apart ↦
+            slots_stay_cleared (suc x.column) high xs zs at others lie.2
+            ∙ ap (slots_cleared slot from to at) (sym (passed x xs at apart))
+      ]

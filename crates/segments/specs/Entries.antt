@@ -53,6 +53,10 @@ without_span from to at entries =
     if at == to then differing (odd_of (entries_in from to entries)) (toggled_at entries at)
     else (if nat_le from at && nat_lt at to then set.empty else toggled_at entries at)
 
+-- what is toggled at a column, once a slot is toggled nowhere from one column to another
+abbrev pub slots_cleared : ℕ → ℕ → ℕ → ℕ → Slots → Slots
+slots_cleared slot from to at old = if nat_le from at && nat_lt at to then set.remove old slot else old
+
 -- the first column from one on at which a slot is toggled, and the last below one, if any
 abbrev pub next_entry : ℕ → ℕ → List Toggled → Option ℕ
 next_entry slot column [] = None

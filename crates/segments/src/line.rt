@@ -1,10 +1,11 @@
-ghost use Rattle.std.specs.Prelude.{◌≡◌, ℕ, ◌+◌, ◌<◌, ◌≤◌, Bool, length, map, slice_get, slice_range, Some, IfSome, IfOk, IfErr, OnOk, OnErr, chars, string_bytes, option_map};
+ghost use Rattle.std.specs.Prelude.{◌≡◌, ℕ, ◌+◌, ◌<◌, ◌≤◌, Bool, false, length, map, take, slice_get, slice_range, Some, IfSome, IfOk, IfErr, OnOk, OnErr, chars, string_bytes, option_map};
 ghost use Rattle.std.specs.FinMap as finite;
 ghost use Rattle.text_model.specs.declared.places.MarkNo.{MarkNo};
 ghost use Rattle.text_model.specs.MarkOrder.{marks_at, next_mark, previous_mark};
 ghost use Rattle.text_model.specs.Splices.{changed};
 ghost use Rattle.text_model.specs.TagBits.{slot_count};
-ghost use Rattle.segments.specs.Columns.{after_removal, after_text, characters, joined, line_before, line_behind, line_count, next_toggle, plain_line, previous_toggle, tags_before, toggled_more, with_toggle};
+ghost use Rattle.segments.specs.Columns.{after_removal, after_text, characters, joined, line_before, line_behind, line_count, next_toggle, plain_line, previous_toggle, tags_before, toggled_more, toggles, with_toggle};
+ghost use Rattle.toggle_sums.specs.Toggles.{parity};
 
 use crate::characters::Characters;
 use crate::marks::{
@@ -12,8 +13,8 @@ use crate::marks::{
     next_mark, previous_mark, put_mark, take_mark,
 };
 use crate::toggles::{
-    Toggled, count_before, flip, move_on, move_rest_back, move_rest_on, next_toggle, odd_slots,
-    previous_toggle, remove_columns, slots_at,
+    Toggled, clear, count_before, flip, move_on, move_rest_back, move_rest_on, next_toggle,
+    odd_slots, previous_toggle, remove_columns, slots_at,
 };
 use std::alloc::{AllocError, AllocFailed, Global};
 use std::marker::Model;
@@ -89,6 +90,15 @@ impl Line {
             return odd_slots(&self.toggles);
         }
         let count = count_before(&self.toggles, column + 1);
+        odd_slots(&self.toggles[..count])
+    }
+
+    /// The slots that are toggled an odd number of times before the characters before a column.
+    pub fn tags_behind(&self, column: usize) -> TagSet
+        requires { column ≤ length self.now.columns }
+        ensures { result ≡ parity (toggles (take column self.now.columns)) }
+    {
+        let count = count_before(&self.toggles, column);
         odd_slots(&self.toggles[..count])
     }
 
@@ -306,6 +316,17 @@ impl Line {
         ensures refused { OnErr result (self.new ≡ self.old) }
     {
         flip(&mut self.toggles, column, slots)
+    }
+
+    /// Takes the toggles of a slot before the characters from one column to another away, which takes no memory.
+    pub fn clear(&mut self, slot: TagSlot, from: usize, to: usize)
+        requires slot { slot.0 < slot_count }
+        requires ordered { from ≤ to }
+        requires within { to ≤ length self.old.columns }
+        ensures columns { self.new.columns ≡ changed (with_toggle slot.0 false) from to self.old.columns }
+        ensures marks { self.new.marks ≡ self.old.marks }
+    {
+        clear(&mut self.toggles, slot, from, to);
     }
 
     /// Puts the mark of a number at a place.

@@ -1,10 +1,10 @@
-ghost use Rattle.std.specs.Prelude.{◌≡◌, ℕ, ◌+◌, ◌<◌, ◌≤◌, ◌^◌, ◌==◌, ⊤, true, length, map, take, drop, vec_len, Option, Some, None, option_map, IfSome, OnOk, OnErr, ◌-◌, if◌then◌else◌, [], ◌++◌};
+ghost use Rattle.std.specs.Prelude.{◌≡◌, ℕ, ◌+◌, ◌<◌, ◌≤◌, ◌^◌, ◌==◌, ⊤, true, false, length, map, take, drop, vec_len, Option, Some, None, option_map, IfSome, OnOk, OnErr, ◌-◌, if◌then◌else◌, [], ◌++◌};
 ghost use Rattle.std.specs.List.{All};
 ghost use Rattle.std.specs.FinSet as set;
 ghost use Rattle.text_model.specs.SlotSets.{differing};
 ghost use Rattle.text_model.specs.Splices.{removed};
 ghost use Rattle.text_model.specs.TagBits.{slot_count};
-ghost use Rattle.segments.specs.Entries.{CanMoveBack, CanMoveOn, LieIn, entries_in, flipped, moved_back, moved_on, next_entry, odd_of, previous_entry, toggled_at, without_span};
+ghost use Rattle.segments.specs.Entries.{CanMoveBack, CanMoveOn, LieIn, entries_in, flipped, moved_back, moved_on, next_entry, odd_of, previous_entry, slots_cleared, toggled_at, without_span};
 
 use std::alloc::AllocError;
 use text_model::{TagSet, TagSlot};
@@ -183,6 +183,30 @@ pub fn remove_columns(toggles: &mut Vec<Toggled>, from: usize, to: usize, len: u
     gather(toggles, from, to, len);
     let start = count_before(toggles, from);
     move_rest_back(toggles, start, to - from);
+}
+
+/// Takes a slot from the toggles of a column, if that lies from one to another. Says whether a slot is left.
+fn clear_entry(entry: &mut Toggled, slot: TagSlot, from: usize, to: usize) -> bool
+    requires { slot.0 < slot_count }
+    ensures column { entry.new.column ≡ entry.old.column }
+    ensures slots { entry.new.slots ≡ slots_cleared slot.0 from to entry.old.column entry.old.slots }
+    ensures some { result ≡ false → entry.new.slots ≡ set.empty }
+    ensures none { entry.new.slots ≡ set.empty → result ≡ false }
+{
+    if from <= entry.column && entry.column < to {
+        entry.slots = entry.slots.without(slot);
+    }
+    !is_empty(&entry.slots)
+}
+
+/// Takes the toggles of a slot at the columns from one to another away.
+pub fn clear(toggles: &mut Vec<Toggled>, slot: TagSlot, from: usize, to: usize)
+    requires { slot.0 < slot_count }
+    ensures lie { (low high : ℕ) → LieIn low high toggles.old.items → LieIn low high toggles.new.items }
+    ensures slots { (low high at : ℕ) → LieIn low high toggles.old.items →
+        toggled_at toggles.new.items at ≡ slots_cleared slot.0 from to at (toggled_at toggles.old.items at) }
+{
+    toggles.retain_mut(|entry| clear_entry(entry, slot, from, to));
 }
 
 /// The slots that are toggled at the index of a column, if that entry is the column's.

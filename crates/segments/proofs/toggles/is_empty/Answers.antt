@@ -1,4 +1,4 @@
-use Rattle.std.proofs.Common.{◌≡◌, sym, ◌∙◌, arith}
+use Rattle.std.proofs.Common.{sym, ◌∙◌, arith}
 use Rattle.segments.proofs.EntryLaws.{no_slots, no_words}
 use Rattle.segments.proofs.toggles.is_empty.Goals as goal
 

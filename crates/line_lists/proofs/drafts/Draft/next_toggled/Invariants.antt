@@ -1,0 +1,17 @@
+use Rattle.std.proofs.Common.{◌≡◌, vec_len}
+use Rattle.line_lists.specs.Clearing.{free_end}
+use Rattle.line_lists.specs.Drafts.{IsDraft, IsReached, copies_of, drafted_at}
+use Rattle.line_lists.proofs.drafts.Draft.next_toggled.Given as goal
+
+abbrev pub invariant-loop-reached : goal.invariant-loop-reached
+invariant-loop-reached g l =
+    (l.self.list.now ≡ l.initial.self.list.now)
+    × IsDraft (g.L.LineList.lines l.self.list.now) l.self.front.items l.self.back.items
+    × (drafted_at (g.L.LineList.lines l.self.list.now) l.self.front.items l.self.back.items
+    ≡ drafted_at (g.L.LineList.lines l.initial.self.list.now) l.initial.self.front.items l.initial.self.back.items)
+    × IsReached l.reached (copies_of l.self.front.items) (g.L.LineList.lines l.self.list.now)
+    × (free_end l.slot.0 (g.L.LineList.lines l.self.list.now) l.self.front.items l.self.back.items
+    ≡ free_end l.slot.0 (g.L.LineList.lines l.initial.self.list.now) l.initial.self.front.items l.initial.self.back.items)
+
+abbrev pub decreases-loop-reached : goal.decreases-loop-reached
+decreases-loop-reached g l = vec_len l.self.back
