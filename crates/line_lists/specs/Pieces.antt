@@ -1,6 +1,7 @@
 -- Pieces of a list of lines, in whose place others come.
 use Rattle.std.specs.Prelude.{◌≡◌, ℕ, ◌+◌, ◌≤◌, ◌++◌, List, [], ◌∷◌, ⊤, length, map, take}
 use Rattle.std.specs.FinMap as finite
+use Rattle.std.specs.List.{All}
 use Rattle.text_model.specs.declared.places.MarkNo.{MarkNo}
 use Rattle.text_model.specs.declared.places.Place.{Place}
 use Rattle.toggle_sums.specs.Counts.{Count, plus}
@@ -8,7 +9,7 @@ use Rattle.segments.specs.Columns.{LineContent}
 use Rattle.line_lists.specs.declared.drafts.Copied.{Copied}
 use Rattle.line_lists.specs.declared.pieces.Piece.{Piece}
 use Rattle.line_lists.specs.Edits.{without_mark}
-use Rattle.line_lists.specs.Lists.{AreApart, AreLines, AreRows, IsCounted, count_of, spliced}
+use Rattle.line_lists.specs.Lists.{AreApart, AreLines, AreRows, IsCounted, NumbersBelow, count_of, spliced}
 use Rattle.line_lists.specs.Texts.{whole}
 
 -- the lines with each piece in its place, from the last to the first
@@ -59,3 +60,9 @@ pub record Follows (used : ℕ) (made base : List LineContent) (sum : Count) (re
 pub record Covers (pieces : List Piece) (used : ℕ) (made base : List LineContent) (sum : Count) : Type 0 where
   pub places : (rest : List LineContent) → placed pieces (take used base ++ rest) ≡ made ++ rest
   pub can : (rest : List LineContent) → Follows used made base sum rest → CanPlace pieces (take used base ++ rest)
+
+-- a list with so much room takes pieces, once the marks of some numbers are taken off
+pub record IsReady (lines : List LineContent) (line_room mark_room : ℕ) (gone : List ℕ) (pieces : List Piece) : Type 0 where
+  pub can : CanPlace pieces (freed gone lines)
+  pub room : length (piece_lines pieces) ≤ line_room
+  pub numbers : All (λ (line : LineContent). NumbersBelow mark_room line.marks) (piece_lines pieces)

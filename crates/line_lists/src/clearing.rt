@@ -30,7 +30,7 @@ fn next_below<L: LineList>(list: &L, slot: TagSlot, from: usize, end: usize) -> 
 
 impl Reached {
     /// The slots that are on behind so many kept lines that follow.
-    fn tags_behind<L: LineList>(&self, list: &L, count: usize) -> TagSet
+    pub fn tags_behind<L: LineList>(&self, list: &L, count: usize) -> TagSet
         requires { self.now.used + count ≤ length (L.lines list.now) }
         ensures { result ≡ differing self.now.tags
             (tags_behind (whole (take count (drop self.now.used (L.lines list.now)))).columns) }

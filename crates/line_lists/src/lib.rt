@@ -12,6 +12,8 @@ mod pieces;
 mod queries;
 mod removals;
 mod steps;
+mod store;
 
 pub use line_vec::LineVec;
 pub use lists::LineList;
+pub use store::{Change, LineStore};

@@ -131,7 +131,8 @@ impl<'a, L: LineList> Draft<'a, L> {
     /// Puts a slot on the characters from one offset to another of a text of so many, or takes it off them.
     fn set_tag(
         &mut self,
-        (from, to): (usize, usize),
+        from: usize,
+        to: usize,
         slot: TagSlot,
         is_on: bool,
         len: usize,
@@ -217,7 +218,7 @@ impl<'a, L: LineList> Draft<'a, L> {
                 return self.insert_tagged(*offset, text.as_str(), slots, len);
             }
             Step::SetTag(from, to, slot, is_on) => {
-                self.set_tag((*from, *to), *slot, *is_on, len)?;
+                self.set_tag(*from, *to, *slot, *is_on, len)?;
             }
             Step::ClearTags(offset) => self.clear_tags(*offset, len)?,
             Step::ClearSlot(slot) => self.clear(*slot, 0, len)?,

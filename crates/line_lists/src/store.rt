@@ -1,6 +1,6 @@
-ghost use Rattle.std.specs.Prelude.{◌≡◌, ◌≤◌, length};
-ghost use Rattle.std.specs.List.{All};
-ghost use Rattle.line_lists.specs.Pieces.{IsReady, freed, named, placed};
+ghost use Rattle.std.specs.Prelude.{◌≡◌, IfOk, length};
+ghost use Rattle.text_model.specs.Steps.{Fits, after};
+ghost use Rattle.line_lists.specs.Pieces.{CanPlace, IsReady, freed, named, numbers_in, piece_lines, placed};
 ghost use Rattle.line_lists.specs.Texts.{content_of};
 
 use crate::drafts::Draft;
@@ -22,6 +22,33 @@ pub struct LineStore<L: LineList> {
 pub struct Change {
     numbers: Vec<MarkNo>,
     pieces: Vec<Piece>,
+    /// How many lines the pieces bring.
+    count: usize,
+}
+
+/// What an edit makes of a list of lines, which stays as it is.
+fn change_of<L: LineList>(alloc: Global, list: &L, edit: &Edit) -> Result<Change, AllocError>
+    requires { Fits edit.now.steps (content_of (L.lines list.now)) }
+    ensures can { IfOk result (λ change.
+        CanPlace change.pieces.items (freed (named change.numbers.items) (L.lines list.now))) }
+    ensures new { IfOk result (λ change.
+        content_of (placed change.pieces.items (freed (named change.numbers.items) (L.lines list.now)))
+        ≡ after edit.now.steps (content_of (L.lines list.now))) }
+    ensures numbers { IfOk result (λ change. named change.numbers.items ≡ numbers_in (piece_lines change.pieces.items)) }
+    ensures count { IfOk result (λ change. change.count ≡ length (piece_lines change.pieces.items)) }
+{
+    let mut draft = Draft::new(alloc, list);
+    draft.make_steps(edit.steps.as_slice(), queries::len(list))?;
+    draft.forth_to_end()?;
+    draft.count()?;
+    let numbers = draft.numbers(alloc)?;
+    let count = draft.front.len();
+    let pieces = draft.into_pieces(alloc)?;
+    Ok(Change {
+        numbers,
+        pieces,
+        count,
+    })
 }
 
 impl<L: LineList> TextStore for LineStore<L> {
@@ -100,7 +127,7 @@ impl<L: LineList> TextStore for LineStore<L> {
     }
 
     fn prepare(&mut self, edit: &Edit) -> Result<Change, AllocError> {
-        let change = drafted_change(self.alloc, &self.list, edit)?;
+        let change = change_of(self.alloc, &self.list, edit)?;
         self.list
             .reserve(change.count, bound_of(&change.numbers))?;
         Ok(change)
