@@ -27,6 +27,7 @@ use Rattle.line_lists.proofs.FindLaws.{begin-le, drop_after, found-before, found
 use Rattle.line_lists.proofs.RowLaws.{Makes, rows-changed, whole-around}
 use Rattle.line_lists.proofs.SearchRows.{FailFrom, found-next, none-next}
 use Rattle.line_lists.proofs.TagLaws.{behind-append}
+use Rattle.line_lists.proofs.ToggleColumns.{neither, presence-cons}
 use Rattle.line_lists.proofs.WholeLaws.{whole-append, with_cleared-between}
 
 -- ---- the slots that are on behind so many characters
@@ -148,15 +149,10 @@ changed-kept f n m front xs is same =
     ∙ ap (λ ys. front ++ ys) (take-append-drop m xs)
 
 -- columns without a toggle of a slot stay where it is cleared
-or-off : (a b : Bool) → (a || b) ≡ false → (a ≡ false) × (b ≡ false)
-or-off true b is = absurd (let no : true ≡ false = is in cc)
-or-off false b is = (refl, is)
-
 clear_kept : (slot : ℕ) (columns : List Column) → set.contains (presence (toggles columns)) slot ≡ false → map (with_toggle slot false) columns ≡ columns
 clear_kept slot [] free = refl
 clear_kept slot (x ∷ xs) free =
-    let none = or-off (set.contains x.toggled slot) (set.contains (presence (toggles xs)) slot)
-    (sym (set.contains-union nat_cmp_total x.toggled (presence (toggles xs)) slot) ∙ free) in
+    let none = neither _ _ (sym (presence-cons slot x xs) ∙ free) in
     ap₂ (λ slots (rest : List Column). record x { toggled = slots } ∷ rest) (sym (slots_kept slot false x.toggled none.0)) (clear_kept slot xs none.1)
 
 -- and so do lines up to the first one in which it is toggled

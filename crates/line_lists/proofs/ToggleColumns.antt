@@ -122,11 +122,11 @@ previous-change-is slot columns at start below within free stops =
     ap (λ b. is_alike b (flag_at all (start - 1))) (last ∙ turned) ∙ unlike_turned_back (flag_at all (start - 1)))
 
 -- ---- a line in which a slot is toggled
-neither : (a b : Bool) → (a || b) ≡ false → (a ≡ false) × (b ≡ false)
+pub neither : (a b : Bool) → (a || b) ≡ false → (a ≡ false) × (b ≡ false)
 neither true b is = absurd (let no : true ≡ false = is in cc)
 neither false b is = (refl, is)
 
-presence-cons : (slot : ℕ) (column : Column) (columns : List Column) → set.contains (presence (toggles (column ∷ columns))) slot ≡ (toggles_slot slot column || set.contains (presence (toggles columns)) slot)
+pub presence-cons : (slot : ℕ) (column : Column) (columns : List Column) → set.contains (presence (toggles (column ∷ columns))) slot ≡ (toggles_slot slot column || set.contains (presence (toggles columns)) slot)
 presence-cons slot column columns = set.contains-union nat_cmp_total column.toggled (presence (toggles columns)) slot
 
 none-toggled : (slot : ℕ) (columns : List Column) (i : ℕ) → set.contains (presence (toggles columns)) slot ≡ false → i < length columns → toggles_slot slot (get_or columns i no_column) ≡ false

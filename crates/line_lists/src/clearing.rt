@@ -145,8 +145,8 @@ impl<'a, L: LineList> Draft<'a, L> {
         ensures is { IsDraft (L.lines self.new.list.now) self.new.front.items self.new.back.items }
         ensures same { drafted_at (L.lines self.new.list.now) self.new.front.items self.new.back.items
             ≡ drafted_at (L.lines self.old.list.now) self.old.front.items self.old.back.items }
-        ensures moved { OnOk result ((behind : List Copied) (copy : Copied) → self.old.back.items ≡ behind ++ copy ∷ [] →
-            (self.new.back.items ≡ behind)
+        ensures moved { OnOk result ((behind : List Copied) (copy : Copied) →
+            self.old.back.items ≡ behind ++ copy ∷ [] → (self.new.back.items ≡ behind)
             × (self.new.front.items ≡ self.old.front.items ++ record { reached = reached; copy = copy } ∷ [])) }
         ensures fewer { OnOk result (vec_len self.new.back ≡ vec_len self.old.back - 1) }
     {
@@ -179,8 +179,8 @@ impl<'a, L: LineList> Draft<'a, L> {
         Ok(end)
     }
 
-    /// Takes the toggles of a slot before the characters from one offset on away, up to the end of their line or another
-    /// offset, and goes behind that line.
+    /// Takes the toggles of a slot before the characters from one offset on away, up to another offset or the end of
+    /// their line, and goes behind that line.
     fn clear_line(&mut self, slot: TagSlot, from: usize, to: usize) -> Result<(), AllocError>
         requires is { IsText (L.lines self.old.list.now) self.old.front.items self.old.back.items }
         requires slot { slot.0 < slot_count }

@@ -12,7 +12,7 @@ use Rattle.text_model.specs.TagBits.{slot_count, slots_of, word_below}
 use Rattle.text_model.specs.TagBitLaws.{contains-slots_below}
 use Rattle.text_model.specs.Content.{Slots}
 use Rattle.text_model.specs.SlotSets.{differing}
-use Rattle.toggle_sums.specs.CountLaws.{differing-associative, same_slots, union-associative}
+use Rattle.toggle_sums.specs.CountLaws.{differing-associative, differing-empty, same_slots, union-associative}
 use Rattle.toggle_sums.specs.SlotWordLaws.{word_of_bits}
 use Rattle.segments.specs.declared.toggles.Toggled.{Toggled}
 use Rattle.segments.specs.Entries.{LieIn, any_of, odd_of, toggled_at}
@@ -105,6 +105,11 @@ pub none_before : (from to : ℕ) (entries : List Toggled) (at : ℕ) → LieIn 
 none_before from to [] at lie before = refl
 none_before from to (entry ∷ entries) at lie before =
     passed entry entries at (omega (arith, lie.0)) ∙ none_before (suc entry.column) to entries at lie.2 (omega (arith, lie.0))
+
+-- the first entry alone says what is toggled at its column
+pub own_slots : (high at : ℕ) (entry : Toggled) (entries : List Toggled) → LieIn (suc entry.column) high entries → entry.column ≡ at → toggled_at (entry ∷ entries) at ≡ entry.slots
+own_slots high at entry entries lie is =
+    met entry entries at is ∙ ap (differing entry.slots) (none_before (suc entry.column) high entries at lie (omega (arith, is))) ∙ differing-empty entry.slots
 
 pub front_alone : (front behind : List Toggled) (at : ℕ) → toggled_at behind at ≡ set.empty → toggled_at (front ++ behind) at ≡ toggled_at front at
 front_alone [] behind at none = none

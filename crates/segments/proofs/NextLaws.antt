@@ -14,13 +14,8 @@ use Rattle.segments.specs.Columns.{Column, free_behind, next_toggle, previous_to
 use Rattle.segments.specs.Entries.{LieIn, later_of, next_entry, previous_entry, toggled_at}
 use Rattle.segments.specs.Kept.{columns_from}
 use Rattle.segments.proofs.ColumnLaws.{drop-columns, length-columns}
-use Rattle.segments.proofs.EntryLaws.{met, none_before, passed}
+use Rattle.segments.proofs.EntryLaws.{met, none_before, own_slots, passed}
 use Rattle.segments.proofs.PreviousLaws.{behind_none, own}
-
--- a slot at a column whose entry is the first one, and where all entries stand behind the column
-own_slots : (high at : ℕ) (entry : Toggled) (entries : List Toggled) → LieIn (suc entry.column) high entries → entry.column ≡ at → toggled_at (entry ∷ entries) at ≡ entry.slots
-own_slots high at entry entries lie is =
-    met entry entries at is ∙ ap (differing entry.slots) (none_before (suc entry.column) high entries at lie (omega (arith, is))) ∙ differing-empty entry.slots
 
 none_has : (slot from to at : ℕ) (entries : List Toggled) → LieIn from to entries → at < from → finset.contains (toggled_at entries at) slot ≡ false
 none_has slot from to at entries lie before = ap (λ s. finset.contains s slot) (none_before from to entries at lie before) ∙ finset.contains-empty nat_cmp slot

@@ -14,7 +14,7 @@ use Rattle.toggle_sums.specs.CountLaws.{differing-associative, differing-commuta
 use Rattle.segments.specs.declared.toggles.Toggled.{Toggled}
 use Rattle.segments.specs.Entries.{LieIn, flipped, slots_cleared, toggled_at}
 use Rattle.segments.proofs.ChangeLaws.{slots_kept}
-use Rattle.segments.proofs.EntryLaws.{met, none_before, passed}
+use Rattle.segments.proofs.EntryLaws.{met, none_before, own_slots, passed}
 
 -- the entry between those before a column and those behind is the column's, if one is
 pub slots_here : (from to column : ℕ) (entries : List Toggled) (i : ℕ) (d e : Toggled) → LieIn from column (take i entries) → LieIn column to (drop i entries) → i < length entries → (get_or entries i e).column ≡ column → (get_or entries i d).slots ≡ toggled_at entries column
@@ -183,10 +183,6 @@ none_left false slot = refl
 cleared_none : (slot from to at : ℕ) → slots_cleared slot from to at finset.empty ≡ finset.empty
 cleared_none slot from to at = none_left (nat_le from at && nat_lt at to) slot
 
--- the entry of a column says what is toggled there
-alone : (at high : ℕ) (x : Toggled) (xs : List Toggled) → x.column ≡ at → LieIn (suc x.column) high xs → toggled_at (x ∷ xs) at ≡ x.slots
-alone at high x xs same lie = met x xs at same ∙ ap (differing x.slots) (none_before (suc x.column) high xs at lie (omega (arith, same))) ∙ differing-empty x.slots
-
 module _ {S : Type 0} (R : S → Toggled → Bool → S → Toggled → Type 0) (s : S) (slot from to : ℕ)
     (says : (x : Toggled) (b : Bool) (t : S) (y : Toggled) → R s x b t y → ClearsEntry slot from to x b y × (t ≡ s)) where
   pub lies_cleared : (low high : ℕ) (xs ys : List Toggled) → RetainsInTurn R s xs ys → LieIn low high xs → LieIn low high ys
@@ -209,10 +205,9 @@ module _ {S : Type 0} (R : S → Toggled → Bool → S → Toggled → Type 0) 
       ap (λ es. toggled_at es at) is
       ∙ elim (cases_eq x.column at) [
         | inl same ↦
-            met y zs at (column ∙ same)
-            ∙ ap (differing y.slots) (none_before (suc x.column) high zs at (lies_cleared (suc x.column) high xs zs others lie.2) (omega (arith, same)))
-            ∙ differing-empty y.slots ∙ here.0.slots ∙ ap (λ n. slots_cleared slot from to n x.slots) same
-            ∙ ap (slots_cleared slot from to at) (sym (alone at high x xs same lie.2))
+            own_slots high at y zs (subst (λ n. LieIn (suc n) high zs) (sym column) (lies_cleared (suc x.column) high xs zs others lie.2)) (column ∙ same)
+            ∙ here.0.slots ∙ ap (λ n. slots_cleared slot from to n x.slots) same
+            ∙ ap (slots_cleared slot from to at) (sym (own_slots high at x xs lie.2 same))
         | inr apart ↦
             passed y zs at (λ same. apart (sym column ∙ same))
             ∙ slots_stay_cleared (suc x.column) high xs zs at others lie.2
@@ -226,7 +221,7 @@ module _ {S : Type 0} (R : S → Toggled → Bool → S → Toggled → Type 0) 
         | inl same ↦
             none_before (suc x.column) high zs at (lies_cleared (suc x.column) high xs zs others lie.2) (omega (arith, same))
             ∙ sym (here.0.gone refl) ∙ here.0.slots ∙ ap (λ n. slots_cleared slot from to n x.slots) same
-            ∙ ap (slots_cleared slot from to at) (sym (alone at high x xs same lie.2))
+            ∙ ap (slots_cleared slot from to at) (sym (own_slots high at x xs lie.2 same))
         | inr apart ↦
             slots_stay_cleared (suc x.column) high xs zs at others lie.2
             ∙ ap (slots_cleared slot from to at) (sym (passed x xs at apart))
