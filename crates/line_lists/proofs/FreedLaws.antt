@@ -127,7 +127,7 @@ found_names q (entry ∷ entries) (inr names) =
       | false ↦ found_names q entries names
     ]
 
-names_of : (q : ℕ) (line : LineContent) (place : Place) → finite.get line.marks q ≡ Some place → Names q (numbers_of line)
+pub names_of : (q : ℕ) (line : LineContent) (place : Place) → finite.get line.marks q ≡ Some place → Names q (numbers_of line)
 names_of q line place is = names_found q (finite.entries line.marks) place (sym (finite.get-entries line.marks q) ∙ is)
 
 of_names : (q : ℕ) (line : LineContent) → Names q (numbers_of line) → finite.get line.marks q ≢ None
