@@ -3,6 +3,7 @@ pub mod CutLaws
 pub mod DraftLaws
 pub mod EditLaws
 pub mod FindLaws
+pub mod FoundMarks
 pub mod FreedLaws
 pub mod GatherLaws
 pub mod HeldLaws
