@@ -16,10 +16,10 @@ use Rattle.line_lists.proofs.PlaceRows.{split_at}
 use Rattle.line_lists.proofs.WholeLaws.{whole-one}
 
 -- where lines begin
-abbrev begin : List LineContent → ℕ → ℕ
+abbrev pub begin : List LineContent → ℕ → ℕ
 begin lines line = length (whole (take line lines)).columns
 
-begin-more : (lines : List LineContent) (n k : ℕ) → begin lines (n + k) ≡ begin lines n + length (whole (take k (drop n lines))).columns
+pub begin-more : (lines : List LineContent) (n k : ℕ) → begin lines (n + k) ≡ begin lines n + length (whole (take k (drop n lines))).columns
 begin-more lines n k = sym (count-characters (take (n + k) lines)) ∙ counted-between n k lines ∙ ap (λ m. m + length (whole (take k (drop n lines))).columns) (count-characters (take n lines))
 
 pub begin-rises : (lines : List LineContent) (i j : ℕ) → i ≤ j → begin lines i ≤ begin lines j
@@ -57,7 +57,7 @@ found reached lines offset place line column behind place_is holds =
     }
 
 -- ---- a copy at its place
-slice_get-drop : {A : Type 0} (u b : ℕ) (xs : List A) → slice_get (drop u xs) b ≡ slice_get xs (u + b)
+pub slice_get-drop : {A : Type 0} (u b : ℕ) (xs : List A) → slice_get (drop u xs) b ≡ slice_get xs (u + b)
 slice_get-drop zero b xs = ap (slice_get xs) (let same : b ≡ 0 + b = omega arith in same)
 slice_get-drop (suc u) b [] = refl
 slice_get-drop (suc u) b (x ∷ xs) = slice_get-drop u b xs ∙ sym (ap (slice_get (x ∷ xs)) (let same : suc u + b ≡ suc (u + b) = omega arith in same))

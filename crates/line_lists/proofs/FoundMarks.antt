@@ -31,7 +31,7 @@ none-behind : (lines : List LineContent) → AreRows lines → length (whole lin
 none-behind [] rows none = refl
 none-behind (line ∷ lines) rows none = absurd (let some = rows-some (line ∷ lines) (omega arith) rows in omega (arith, some, none))
 
-length-around : (before behind : List LineContent) (line : LineContent) → length (whole (before ++ line ∷ behind)).columns ≡ length (whole before).columns + (length line.columns + length (whole behind).columns)
+pub length-around : (before behind : List LineContent) (line : LineContent) → length (whole (before ++ line ∷ behind)).columns ≡ length (whole before).columns + (length line.columns + length (whole behind).columns)
 length-around before behind line =
     ap (λ (x : LineContent). length x.columns) (whole-around before behind line)
     ∙ length-append (whole before).columns (line.columns ++ (whole behind).columns)

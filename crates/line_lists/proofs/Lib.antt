@@ -25,6 +25,7 @@ pub mod RemovalLaws
 pub mod RowLaws
 pub mod SearchRows
 pub mod SlotLaws
+pub mod StandLaws
 pub mod StepLaws
 pub mod TagLaws
 pub mod TextCuts
