@@ -16,7 +16,7 @@ use Rattle.line_lists.proofs.PlaceRows.{split_at}
 use Rattle.line_lists.proofs.WholeLaws.{whole-one}
 
 -- where lines begin
-abbrev begin : List LineContent → ℕ → ℕ
+abbrev pub begin : List LineContent → ℕ → ℕ
 begin lines line = length (whole (take line lines)).columns
 
 pub begin-more : (lines : List LineContent) (n k : ℕ) → begin lines (n + k) ≡ begin lines n + length (whole (take k (drop n lines))).columns

@@ -162,7 +162,7 @@ same_one : (test : Bool) (found : Option Place) → (test ≡ true → found ≡
 same_one true found none = sym (none refl)
 same_one false found none = refl
 
-same-line : (n : ℕ) (line : LineContent) → finite.get line.marks n ≡ None → without_mark n line ≡ line
+pub same-line : (n : ℕ) (line : LineContent) → finite.get line.marks n ≡ None → without_mark n line ≡ line
 same-line n line free =
     let marks = same_marks _ _ (λ q.
     finite.get-remove nat_cmp_total line.marks n q
@@ -174,7 +174,7 @@ same-lines n [] free = refl
 same-lines n (line ∷ lines) free =
     let parts = free-parts line (whole lines) n free in ap₂ (λ x xs. x ∷ xs) (same-line n line parts.1) (same-lines n lines parts.0)
 
-free-front : (a b : List LineContent) (number : ℕ) → finite.get (whole (a ++ b)).marks number ≡ None → (finite.get (whole a).marks number ≡ None) × (finite.get (whole b).marks number ≡ None)
+pub free-front : (a b : List LineContent) (number : ℕ) → finite.get (whole (a ++ b)).marks number ≡ None → (finite.get (whole a).marks number ≡ None) × (finite.get (whole b).marks number ≡ None)
 free-front a b number free =
     let parts = free-parts (whole a) (whole b) number (ap (λ (line : LineContent). finite.get line.marks number) (sym (whole-append a b)) ∙ free) in (parts.1, parts.0)
 
