@@ -26,6 +26,7 @@ pub mod RowLaws
 pub mod SearchRows
 pub mod SlotLaws
 pub mod StepLaws
+pub mod StepTexts
 pub mod TagLaws
 pub mod TextCuts
 pub mod TextRows
