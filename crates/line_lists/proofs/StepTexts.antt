@@ -1,8 +1,9 @@
 -- What the steps of an edit make of the text of a draft.
-use Rattle.std.proofs.Common.{◌≡◌, ℕ, suc, ◌+◌, ◌-◌, ◌<◌, ◌≤◌, Bool, true, false, cond, List, [], ◌∷◌, ◌++◌, Option, None, Some, length, map, take, drop, inl, inr, refl, sym, ap, ap₂, subst, ◌∙◌, arith}
+use Rattle.std.proofs.Common.{◌≡◌, ℕ, suc, ◌+◌, ◌-◌, ◌<◌, ◌≤◌, Bool, true, false, cond, List, [], ◌∷◌, ◌++◌, Option, None, Some, Result, Err, Ok, length, map, take, drop, inl, inr, refl, sym, ap, ap₂, subst, ◌∙◌, arith}
 use Rattle.std.specs.Cmp.{nat_cmp_total}
 use Rattle.std.specs.FinMap as finite
 use Rattle.std.specs.FinSet as set
+use Rattle.std.specs.Option.{SomeIff, ok_or}
 use Rattle.std.specs.Ordering.{eq_by_cmp, nat_cmp}
 use Rattle.std.proofs.lemmas.Bool.{cases_lt}
 use Rattle.std.proofs.lemmas.List.{append-nil, drop_all, take_all}
@@ -71,6 +72,16 @@ cleared-long slot from to text new len ordered within is clears =
 pub inserted-long : (at : ℕ) (text : List ℕ) (old new : LineContent) (len longer : ℕ) → at < len → len ≡ length old.columns → longer ≡ len + length text → new ≡ after_text at text old → longer ≡ length new.columns
 inserted-long at text old new len longer within is sum new_is =
     omega (arith, is, sum, ap (λ (line : LineContent). length line.columns) new_is, length-text at text old.columns (omega (arith, within, is)))
+
+sum-there : {E : Type 0} (found : Option ℕ) (refused : E) (bound sum longer : ℕ) → SomeIff found (sum < bound) sum → Ok longer ≡ ok_or found refused → (sum < bound) × (longer ≡ sum)
+sum-there {E = E} None refused bound sum longer some is = let no : ◌≡◌ {A = Result ℕ E} (Ok longer) (Err refused) = is in absurd (cc)
+sum-there {E = E} (Some x) refused bound sum longer some is = let same : ◌≡◌ {A = Result ℕ E} (Ok longer) (Ok x) = is in let eq : longer ≡ x = cc in (some.0, eq ∙ some.1)
+
+-- so many characters more, where they can be counted
+pub more-there : {E : Type 0} (found : Option ℕ) (refused : E) (bound len count more longer : ℕ) → SomeIff found (len + count < bound) (len + count) → Ok longer ≡ ok_or found refused → count ≡ more
+    → (len + more < bound) × (longer ≡ len + more)
+more-there found refused bound len count more longer some is counted =
+    let there = sum-there found refused bound (len + count) longer some is in (omega (arith, there.0, counted), omega (arith, there.1, counted))
 
 pub inserted-made : (at end : ℕ) (text : List ℕ) (slots differ : Slots) (old one two : LineContent) → end ≡ at + length text → differ ≡ differing (tags_behind (take at old.columns)) slots
     → one ≡ after_text at text old → two ≡ with_toggled end differ one → with_toggled at differ two ≡ made (Insert at text slots) old
