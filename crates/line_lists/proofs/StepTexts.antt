@@ -1,12 +1,12 @@
 -- What the steps of an edit make of the text of a draft.
-use Rattle.std.proofs.Common.{◌≡◌, ℕ, suc, ◌+◌, ◌-◌, ◌<◌, ◌≤◌, Bool, true, false, cond, List, [], ◌∷◌, ◌++◌, Option, None, Some, Result, Err, Ok, length, map, take, drop, inl, inr, refl, sym, ap, ap₂, subst, ◌∙◌, arith}
+use Rattle.std.proofs.Common.{◌≡◌, ℕ, suc, ◌+◌, ◌-◌, ◌<◌, ◌≤◌, Bool, true, false, cond, List, [], ◌∷◌, ◌++◌, Option, None, Some, Result, Err, Ok, get_or, length, map, take, drop, inl, inr, refl, sym, ap, ap₂, subst, ◌∙◌, arith}
 use Rattle.std.specs.Cmp.{nat_cmp_total}
 use Rattle.std.specs.FinMap as finite
 use Rattle.std.specs.FinSet as set
 use Rattle.std.specs.Option.{SomeIff, ok_or}
 use Rattle.std.specs.Ordering.{eq_by_cmp, nat_cmp}
 use Rattle.std.proofs.lemmas.Bool.{cases_lt}
-use Rattle.std.proofs.lemmas.List.{append-nil, drop_all, take_all}
+use Rattle.std.proofs.lemmas.List.{append-nil, drop_all, drop_more, take_all}
 use Rattle.std.proofs.Common.{take-append-drop}
 use Rattle.text_model.specs.declared.edits.Step.{Step}
 use Rattle.text_model.specs.declared.edits.Step.TheVariants.{ClearTags, Insert, SetTag}
@@ -167,6 +167,11 @@ pub record Goes (steps : List Step) (first : LineContent) (rest : List Step) (te
 
 pub goes-first : (steps : List Step) (text : LineContent) (len : ℕ) → len ≡ length text.columns → 0 < len → Fits steps (text_of text) → Goes steps text steps text len
 goes-first steps text len is some fits = record { len = is; some = some; fits = fits; new = refl }
+
+pub goes-at : (steps : List Step) (first text : LineContent) (step : Step) (i len : ℕ) → i < length steps → step ≡ get_or steps i step → Goes steps first (drop i steps) text len
+    → Goes steps first (step ∷ drop (i + 1) steps) text len
+goes-at steps first text step i len within is goes =
+    subst (λ rest. Goes steps first rest text len) (drop_more steps i step within ∙ ap (λ here. here ∷ drop (i + 1) steps) (sym is)) goes
 
 pub step-fits : (steps rest : List Step) (first text : LineContent) (step : Step) (len : ℕ) → Goes steps first (step ∷ rest) text len → StepFitsIn step len
 step-fits steps rest first text step len goes =
