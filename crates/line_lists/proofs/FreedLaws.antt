@@ -94,7 +94,7 @@ free-freed : (q : ℕ) (numbers : List ℕ) (lines : List LineContent) → finit
 free-freed q [] lines free = free
 free-freed q (number ∷ numbers) lines free = free-freed q numbers (map (without_mark number) lines) (free-without q number lines free)
 
-eq_self : (number : ℕ) → eq_by_cmp nat_cmp number number ≡ true
+pub eq_self : (number : ℕ) → eq_by_cmp nat_cmp number number ≡ true
 eq_self number = unsigned_tied number number ∙ grind (arith, nat_tests)
 
 gone-without : (number : ℕ) (lines : List LineContent) → finite.get (whole (map (without_mark number) lines)).marks number ≡ None

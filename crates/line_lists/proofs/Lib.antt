@@ -28,6 +28,7 @@ pub mod SearchRows
 pub mod SlotLaws
 pub mod StandLaws
 pub mod StepLaws
+pub mod StepTexts
 pub mod StoreLaws
 pub mod TagLaws
 pub mod TextCuts
