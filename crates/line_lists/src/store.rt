@@ -129,8 +129,7 @@ impl<L: LineList> TextStore for LineStore<L> {
 
     fn prepare(&mut self, edit: &Edit) -> Result<Change, AllocError> {
         let change = change_of(self.alloc, &self.list, edit)?;
-        self.list
-            .reserve(change.count, bound_of(&change.numbers))?;
+        self.list.reserve(change.count, bound_of(&change.numbers))?;
         Ok(change)
     }
 

@@ -1,11 +1,10 @@
-use Rattle.std.proofs.Common.{◌≡◌, ◌+◌, ◌^◌, length, chars, sym, ap, ◌∙◌, arith}
+use Rattle.std.proofs.Common.{◌≡◌, ◌+◌, ◌^◌, length, chars, ap, ◌∙◌, arith}
 use Rattle.std.proofs.lemmas.Iterator.{YieldsList-from_chars}
 use Rattle.std.proofs.lemmas.Iterator.Consumers.{count_from_yields_List}
 use Rattle.text_model.specs.SlotSets.{differing}
 use Rattle.segments.specs.Columns.{after_text}
 use Rattle.line_lists.specs.Drafts.{text_at}
 use Rattle.line_lists.specs.Texts.{whole}
-use Rattle.line_lists.specs.Toggling.{tags_behind}
 use Rattle.line_lists.proofs.StepTexts.{inserted-long, inserted-made, more-there, toggled-long}
 use Rattle.line_lists.proofs.drafts.Draft.insert_tagged.Goals as goal
 

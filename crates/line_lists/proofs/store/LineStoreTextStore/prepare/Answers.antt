@@ -1,6 +1,6 @@
-use Rattle.std.proofs.Common.{◌<◌, ◌≤◌, subst, sym, arith, ap, ◌∙◌}
+use Rattle.std.proofs.Common.{◌<◌, subst, sym, arith}
 use Rattle.std.specs.List.{All}
-use Rattle.line_lists.specs.Pieces.{CanPlace, IsReady, freed, named, numbers_in, piece_lines}
+use Rattle.line_lists.specs.Pieces.{CanPlace, freed, named, numbers_in, piece_lines}
 use Rattle.line_lists.proofs.StoreLaws.{all-names, below-lines}
 use Rattle.line_lists.proofs.store.LineStoreTextStore.prepare.Goals as goal
 
