@@ -1,14 +1,12 @@
 -- A mark that goes to the end of the text of a draft.
-use Rattle.std.proofs.Common.{◌≡◌, ◌≢◌, ℕ, zero, suc, ◌+◌, ◌-◌, min, ◌<◌, ◌≤◌, List, [], ◌∷◌, ◌++◌, Option, None, Some, length, take, drop, refl, sym, ap, ap₂, subst, ◌∙◌, arith, append_assoc, length-append}
+use Rattle.std.proofs.Common.{◌≡◌, ℕ, ◌+◌, ◌-◌, ◌<◌, ◌≤◌, List, [], ◌∷◌, ◌++◌, None, length, take, drop, refl, sym, ap, ap₂, subst, ◌∙◌, arith, length-append}
 use Rattle.std.specs.FinMap as finite
-use Rattle.std.specs.Prelude.{option_map}
 use Rattle.text_model.specs.declared.places.Place.{Place}
-use Rattle.segments.specs.Columns.{LineContent, joined, later}
+use Rattle.segments.specs.Columns.{LineContent, later}
 use Rattle.line_lists.specs.declared.drafts.Copied.{Copied}
-use Rattle.line_lists.specs.Drafts.{StandsBy, covered, drafted}
+use Rattle.line_lists.specs.Drafts.{covered, drafted}
 use Rattle.line_lists.specs.Edits.{with_mark}
-use Rattle.line_lists.specs.Lists.{AreRows, GoesBefore, IsLine, StandWithin}
-use Rattle.line_lists.specs.Marking.{StandsIn}
+use Rattle.line_lists.specs.Lists.{AreRows, GoesBefore, IsLine}
 use Rattle.line_lists.specs.Texts.{whole}
 use Rattle.line_lists.proofs.EditLaws.{free-around, mark-stays, mark-whole, put-stands, some-columns}
 use Rattle.line_lists.proofs.FreedLaws.{drafted-cons}

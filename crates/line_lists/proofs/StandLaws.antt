@@ -1,5 +1,5 @@
 -- Where the mark of a number stands in the lines of a draft.
-use Rattle.std.proofs.Common.{◌≡◌, ◌≢◌, ℕ, zero, suc, ◌+◌, ◌-◌, min, ◌<◌, ◌≤◌, ◌^◌, Bool, true, false, List, [], ◌∷◌, ◌++◌, Option, None, Some, IfSome, length, take, drop, get_or, inl, inr, refl, sym, ap, ap₂, subst, ◌∙◌, arith, append_assoc, length-append, take-append-drop, length-drop}
+use Rattle.std.proofs.Common.{◌≡◌, ◌≢◌, ℕ, suc, ◌+◌, ◌-◌, min, ◌<◌, ◌≤◌, true, false, List, [], ◌∷◌, ◌++◌, Option, None, Some, IfSome, length, take, drop, get_or, inl, inr, refl, sym, ap, ap₂, subst, ◌∙◌, arith, append_assoc, length-append, take-append-drop, length-drop}
 use Rattle.std.specs.FinMap as finite
 use Rattle.std.specs.Ordering.{nat_cmp}
 use Rattle.std.specs.Prelude.{is_some, option_map, reverse, slice_get}
@@ -11,9 +11,8 @@ use Rattle.segments.proofs.MarkLaws.{or_else}
 use Rattle.line_lists.specs.declared.drafts.Copied.{Copied}
 use Rattle.line_lists.specs.declared.drafts.Reached.{Reached}
 use Rattle.line_lists.specs.declared.drafts.Stop.{Stop}
-use Rattle.line_lists.specs.Drafts.{AreStops, CanFollow, IsDraft, IsReached, IsText, StandsBy, copies_of, covered, drafted, drafted_at, in_order, lines_behind, made_lines, text_at, used}
-use Rattle.line_lists.specs.Edits.{without_mark}
-use Rattle.line_lists.specs.Lists.{AreRows, GoesBefore, StandBefore, count_of, has_mark, next_line}
+use Rattle.line_lists.specs.Drafts.{AreStops, CanFollow, IsReached, IsText, StandsBy, copies_of, covered, drafted, drafted_at, in_order, made_lines, text_at, used}
+use Rattle.line_lists.specs.Lists.{AreRows, GoesBefore, StandBefore, has_mark, next_line}
 use Rattle.line_lists.specs.Marking.{StandsIn, lines_with}
 use Rattle.line_lists.specs.Texts.{whole}
 use Rattle.line_lists.proofs.DraftLaws.{copies-snoc, drafted-append, length-whole, made-snoc, stops-last, take-more, used-append}
@@ -26,7 +25,7 @@ use Rattle.line_lists.proofs.MarkPlaces.{apart-rest, mark-nowhere}
 use Rattle.line_lists.proofs.MarkRows.{get-row}
 use Rattle.line_lists.proofs.NewlineRows.{row-at}
 use Rattle.line_lists.proofs.RowLaws.{free-joined, rows-behind, whole-around}
-use Rattle.line_lists.proofs.SearchRows.{FailFrom, line_at, next-found, next-none}
+use Rattle.line_lists.proofs.SearchRows.{line_at, next-found, next-none}
 use Rattle.line_lists.proofs.WholeLaws.{whole-append}
 
 -- ---- lines among others

@@ -1,4 +1,4 @@
-use Rattle.std.proofs.Common.{◌≡◌, ◌+◌, ◌-◌, ◌<◌, ◌≤◌, ◌^◌, None, Some, Fits, w64, get_or, length, sym, ap, subst, ◌∙◌, arith}
+use Rattle.std.proofs.Common.{◌≡◌, ◌+◌, ◌-◌, ◌<◌, None, length, subst, arith}
 use Rattle.std.specs.FinMap as finite
 use Rattle.line_lists.specs.Drafts.{IsReached, drafted_at, made_lines}
 use Rattle.line_lists.specs.Texts.{whole}

@@ -1,9 +1,5 @@
-use Rattle.std.proofs.Common.{◌≡◌, ◌+◌, ◌-◌, ◌<◌, ◌≤◌, ◌^◌, ◌∷◌, [], None, Some, IfSome, Fits, w64, length, take, drop, sym, ap, subst, ◌∙◌, arith}
-use Rattle.std.specs.FinMap as finite
+use Rattle.std.proofs.Common.{◌+◌, take, ap, ◌∙◌, arith}
 use Rattle.toggle_sums.specs.Counts.{Count}
-use Rattle.segments.specs.Columns.{LineContent}
-use Rattle.line_lists.specs.Marking.{StandsIn, lines_with}
-use Rattle.line_lists.specs.Texts.{whole}
 use Rattle.line_lists.proofs.CountRows.{count-characters, count-lines}
 use Rattle.line_lists.proofs.FindLaws.{begin-more}
 use Rattle.line_lists.proofs.StandLaws.{copied-none, kept-found, kept-nowhere, stands-copied}

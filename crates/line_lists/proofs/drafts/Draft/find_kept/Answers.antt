@@ -1,6 +1,5 @@
-use Rattle.std.proofs.Common.{◌≡◌, ◌+◌, ◌-◌, ◌<◌, ◌≤◌, ◌^◌, None, Some, Fits, w64, inl, inr, length, take, sym, ap, ◌∙◌, arith}
+use Rattle.std.proofs.Common.{inl, inr, take, sym, ap, ◌∙◌, arith}
 use Rattle.toggle_sums.specs.Counts.{Count}
-use Rattle.line_lists.specs.Texts.{whole}
 use Rattle.line_lists.proofs.CountRows.{count-characters}
 use Rattle.line_lists.proofs.FindLaws.{begin-rises}
 use Rattle.line_lists.proofs.StandLaws.{kept-before, kept-behind, kept-counted, kept-none, kept-there, line-some, stands-kept}

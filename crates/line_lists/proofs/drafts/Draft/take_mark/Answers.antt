@@ -1,4 +1,4 @@
-use Rattle.std.proofs.Common.{◌≡◌, None, sym, ap, subst, ◌∙◌}
+use Rattle.std.proofs.Common.{sym}
 use Rattle.line_lists.specs.Drafts.{drafted_at, text_at}
 use Rattle.line_lists.proofs.FreedLaws.{same-line}
 use Rattle.line_lists.proofs.StandLaws.{stands-found}
