@@ -1,4 +1,4 @@
--- The mark of a number at the end of the text of a draft, and where it stands there.
+-- A mark that goes to the end of the text of a draft.
 use Rattle.std.proofs.Common.{◌≡◌, ℕ, ◌+◌, ◌-◌, ◌<◌, ◌≤◌, List, [], ◌∷◌, ◌++◌, None, length, take, drop, refl, sym, ap, ap₂, subst, ◌∙◌, arith, length-append}
 use Rattle.std.specs.FinMap as finite
 use Rattle.text_model.specs.declared.places.Place.{Place}

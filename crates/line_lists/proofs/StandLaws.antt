@@ -1,25 +1,25 @@
 -- Where the mark of a number stands in the lines of a draft.
-use Rattle.std.proofs.Common.{◌≡◌, ◌≢◌, ℕ, suc, ◌+◌, ◌-◌, min, ◌<◌, ◌≤◌, ◌^◌, true, false, List, [], ◌∷◌, ◌++◌, Option, None, Some, IfSome, length, take, drop, get_or, inl, inr, refl, sym, ap, ap₂, subst, ◌∙◌, arith, append_assoc, take-append-drop, length-drop}
+use Rattle.std.proofs.Common.{◌≡◌, ◌≢◌, ℕ, suc, ◌+◌, ◌-◌, min, ◌<◌, ◌≤◌, true, false, List, [], ◌∷◌, ◌++◌, Option, None, Some, IfSome, length, take, drop, get_or, inl, inr, refl, sym, ap, ap₂, subst, ◌∙◌, arith, append_assoc, length-append, take-append-drop, length-drop}
 use Rattle.std.specs.FinMap as finite
 use Rattle.std.specs.Ordering.{nat_cmp}
 use Rattle.std.specs.Prelude.{is_some, option_map, reverse, slice_get}
 use Rattle.std.proofs.lemmas.Bool.{cases_lt}
-use Rattle.std.proofs.lemmas.List.{append-nil, drop-drop, get_or-take, length-take-le, map-append, reverse-reverse, take_all, take_more}
+use Rattle.std.proofs.lemmas.List.{append-nil, drop-drop, drop_more, get_or-take, length-take-le, map-append, reverse-append, take_all, take_more}
 use Rattle.text_model.specs.declared.places.Place.{Place}
 use Rattle.segments.specs.Columns.{LineContent, later}
 use Rattle.segments.proofs.MarkLaws.{or_else}
 use Rattle.line_lists.specs.declared.drafts.Copied.{Copied}
 use Rattle.line_lists.specs.declared.drafts.Reached.{Reached}
 use Rattle.line_lists.specs.declared.drafts.Stop.{Stop}
-use Rattle.line_lists.specs.Drafts.{AreStops, CanFollow, IsDraft, IsReached, IsText, StandsBy, copies_of, drafted, drafted_at, in_order, lines_behind, made_lines, text_at, used}
+use Rattle.line_lists.specs.Drafts.{AreStops, CanFollow, IsReached, IsText, StandsBy, copies_of, covered, drafted, drafted_at, in_order, made_lines, text_at, used}
 use Rattle.line_lists.specs.Lists.{AreRows, GoesBefore, StandBefore, has_mark, next_line}
 use Rattle.line_lists.specs.Marking.{StandsIn, lines_with}
 use Rattle.line_lists.specs.Texts.{whole}
-use Rattle.line_lists.proofs.DraftLaws.{can-follow, copies-snoc, length-whole, made-snoc, stops-last, take-more}
+use Rattle.line_lists.proofs.DraftLaws.{copies-snoc, drafted-append, length-whole, made-snoc, stops-last, take-more, used-append}
 use Rattle.line_lists.proofs.EditLaws.{some-columns}
-use Rattle.line_lists.proofs.FindLaws.{begin-le, begin-next, drop_after, slice_get-drop, taken-is}
+use Rattle.line_lists.proofs.FindLaws.{begin-le, begin-next, drop_after, slice_get-drop}
 use Rattle.line_lists.proofs.FoundMarks.{length-around}
-use Rattle.line_lists.proofs.FreedLaws.{free-front}
+use Rattle.line_lists.proofs.FreedLaws.{drafted-cons, free-front}
 use Rattle.line_lists.proofs.LineStarts.{lent, there}
 use Rattle.line_lists.proofs.MarkPlaces.{apart-rest, mark-nowhere}
 use Rattle.line_lists.proofs.MarkRows.{get-row}
@@ -182,102 +182,123 @@ copied-none number reached copy lines none free =
     ∙ free-joined (whole kept) (whole (copy.line ∷ [])) number free (free-joined copy.line (whole []) number none (finite.get-empty nat_cmp number))
 
 -- ---- in the lines of a draft
+-- a copy of a draft, and what it is among
+pub record AtCopy (lines : List LineContent) (front : List Stop) (back before : List Copied) (reached : Reached) (copy : Copied) : Type 0 where
+  pub is : IsReached reached before lines
+  pub follows : CanFollow reached copy lines
+  pub some : 0 < length copy.line.columns
+  pub rest : List LineContent
+  pub all : drafted_at lines front back ≡ made_lines before lines ++ (lines_with reached copy lines ++ rest)
+
+at-copy : (lines : List LineContent) (front : List Stop) (back before behind : List Copied) (reached : Reached) (copy : Copied) → IsText lines front back
+    → in_order front back ≡ before ++ copy ∷ behind → IsReached reached before lines → AtCopy lines front back before reached copy
+at-copy lines front back before behind reached copy text split is =
+    let others = drop (used before) lines in
+    let made = made_lines before lines in
+    let kept = take copy.kept others in
+    let rest = drafted behind (drop (covered copy) others) in
+    let same : drafted_at lines front back ≡ made ++ (kept ++ copy.line ∷ rest) =
+    ap (λ xs. drafted xs lines) split ∙ drafted-append before (copy ∷ behind) lines ∙ ap (λ xs. made ++ xs) (drafted-cons copy behind others) in
+    let kept_is : take copy.kept (drop reached.used lines) ≡ kept = ap (λ n. take copy.kept (drop n lines)) is.used in
+    let long : length (whole (drafted_at lines front back)).columns ≡ length (whole made).columns + (length (whole kept).columns + (length copy.line.columns + length (whole rest).columns)) =
+    ap (λ xs. length (whole xs).columns) same ∙ length-whole made (kept ++ copy.line ∷ rest)
+    ∙ ap (λ n. length (whole made).columns + n) (length-whole kept (copy.line ∷ rest) ∙ ap (λ n. length (whole kept).columns + n) (length-append copy.line.columns (whole rest).columns)) in
+    let here : length (whole (take copy.kept (drop reached.used lines))).columns ≡ length (whole kept).columns = ap (λ xs. length (whole xs).columns) kept_is in
+    record {
+      is = is;
+      follows = record {
+        there = omega (arith, is.used, ap used split, used-append before (copy ∷ behind), text.draft.there);
+        counted = omega (arith, is.characters, here, long, text.draft.counted);
+      };
+      some = some-columns copy.line.columns (rows-behind kept (copy.line ∷ rest) (rows-behind made (kept ++ copy.line ∷ rest) (subst AreRows same text.rows))).0.ends;
+      rest = rest;
+      all = same ∙ ap (λ xs. made ++ xs) (sym (append_assoc kept (copy.line ∷ []) rest) ∙ ap (λ xs. (xs ++ copy.line ∷ []) ++ rest) (sym kept_is));
+    }
+
 stops-part : (lines : List LineContent) (before : List Copied) (front rest : List Stop) → AreStops lines before (front ++ rest) → AreStops lines before front
 stops-part lines before [] rest stops = tt
 stops-part lines before (first ∷ front) rest stops = (stops.0, stops-part lines (before ++ first.copy ∷ []) front rest stops.1)
 
-order-part : (front rest : List Stop) → in_order (front ++ rest) [] ≡ in_order front (reverse (copies_of rest))
-order-part front rest =
-    append-nil (copies_of (front ++ rest)) ∙ map-append (λ (x : Stop). x.copy) front rest ∙ ap (λ xs. copies_of front ++ xs) (sym (reverse-reverse (copies_of rest)))
-
-draft-part : (lines : List LineContent) (front rest : List Stop) → IsDraft lines (front ++ rest) [] → IsDraft lines front (reverse (copies_of rest))
-draft-part lines front rest draft =
-    let same = order-part front rest in record {
-      stops = stops-part lines [] front rest draft.stops;
-      there = subst (λ copies. used copies ≤ length lines) same draft.there;
-      counted = subst (λ copies. length (whole (drafted copies lines)).columns < 2 ^ 64) same draft.counted;
-    }
-
--- the copies before one, it, and those behind it
-pub record AtStop (lines : List LineContent) (front before : List Stop) (stop : Stop) : Type 0 where
-  pub reached : IsReached stop.reached (copies_of before) lines
-  pub follows : CanFollow stop.reached stop.copy lines
-  pub some : 0 < length stop.copy.line.columns
-  pub rest : List LineContent
-  pub all : drafted_at lines front [] ≡ made_lines (copies_of before) lines ++ (lines_with stop.reached stop.copy lines ++ rest)
-
-front_at : (front : List Stop) (i : ℕ) (stop : Stop) → i < length front → stop ≡ get_or front i stop → front ≡ (take i front ++ stop ∷ []) ++ drop (i + 1) front
-front_at front i stop within is =
-    sym (take-append-drop (i + 1) front) ∙ ap (λ xs. xs ++ drop (i + 1) front) (take_more front i stop within ∙ ap (λ x. take i front ++ x ∷ []) (sym is))
-
-pub at-stop : (lines : List LineContent) (front : List Stop) (i : ℕ) (stop : Stop) → IsText lines front [] → i < length front → stop ≡ get_or front i stop → AtStop lines front (take i front) stop
-at-stop lines front i stop text within is =
+-- one before the place
+pub at-front : (lines : List LineContent) (front : List Stop) (back : List Copied) (i : ℕ) (stop : Stop) → IsText lines front back → i < length front → stop ≡ get_or front i stop
+    → AtCopy lines front back (copies_of (take i front)) stop.reached stop.copy
+at-front lines front back i stop text within is =
     let before = take i front in
-    let behind = reverse (copies_of (drop (i + 1) front)) in
-    let split = front_at front i stop within is in
-    let draft = draft-part lines (before ++ stop ∷ []) (drop (i + 1) front) (subst (λ xs. IsDraft lines xs []) split text.draft) in
-    let reached = stops-last lines [] before stop draft.stops in
-    let copies = copies_of before in
-    let made = made_lines copies lines in
-    let kept = take stop.copy.kept (drop (used copies) lines) in
-    let rest = lines_behind copies stop.copy behind lines in
-    let same : drafted_at lines front [] ≡ (made ++ kept) ++ stop.copy.line ∷ rest =
-    ap (λ xs. drafted_at lines xs []) split ∙ ap (λ xs. drafted xs lines) (order-part (before ++ stop ∷ []) (drop (i + 1) front)) ∙ taken-is lines before behind stop in
-    record {
-      reached = reached;
-      follows = can-follow lines before behind stop draft;
-      some = some-columns stop.copy.line.columns (rows-behind (made ++ kept) (stop.copy.line ∷ rest) (subst AreRows same text.rows)).0.ends;
-      rest = rest;
-      all =
-          same ∙ append_assoc made kept (stop.copy.line ∷ rest) ∙ ap (λ xs. made ++ xs) (sym (append_assoc kept (stop.copy.line ∷ []) rest))
-          ∙ ap (λ n. made ++ ((take stop.copy.kept (drop n lines) ++ stop.copy.line ∷ []) ++ rest)) (sym reached.used);
-    }
+    let behind = drop (i + 1) front in
+    let all : front ≡ (before ++ stop ∷ []) ++ behind = sym (take-append-drop (i + 1) front) ∙ ap (λ xs. xs ++ behind) (take_more front i stop within ∙ ap (λ x. before ++ x ∷ []) (sym is)) in
+    let stops = stops-part lines [] (before ++ stop ∷ []) behind (subst (AreStops lines []) all text.draft.stops) in
+    let split : in_order front back ≡ copies_of before ++ stop.copy ∷ (copies_of behind ++ reverse back) =
+    ap (λ xs. copies_of xs ++ reverse back) (all ∙ append_assoc before (stop ∷ []) behind)
+    ∙ ap (λ xs. xs ++ reverse back) (map-append (λ (x : Stop). x.copy) before (stop ∷ behind)) ∙ append_assoc (copies_of before) (stop.copy ∷ copies_of behind) (reverse back) in
+    at-copy lines front back (copies_of before) (copies_of behind ++ reverse back) stop.reached stop.copy text split (stops-last lines [] before stop stops)
 
-pub stands-at : (number offset : ℕ) (lines : List LineContent) (front before : List Stop) (stop : Stop) → AtStop lines front before stop → StandsIn number offset (lines_with stop.reached stop.copy lines)
-    → StandsIn number (stop.reached.characters + offset) (drafted_at lines front [])
-stands-at number offset lines front before stop at stands =
-    let made = made_lines (copies_of before) lines in
-    let with = lines_with stop.reached stop.copy lines in
-    subst (λ n. StandsIn number (n + offset) (drafted_at lines front [])) (sym at.reached.characters)
+-- one behind it
+abbrev pub copies_to : List Stop → List Copied → ℕ → List Copied
+copies_to front back n = copies_of front ++ reverse (drop n back)
+
+pub at-back : (lines : List LineContent) (front : List Stop) (back : List Copied) (i n : ℕ) (reached : Reached) (copy : Copied) → IsText lines front back → n ≡ i + 1 → i < length back → copy ≡ get_or back i copy
+    → IsReached reached (copies_to front back n) lines → AtCopy lines front back (copies_to front back n) reached copy
+at-back lines front back i n reached copy text next within is so_far =
+    let behind = drop n back in
+    let all : back ≡ take i back ++ copy ∷ behind =
+    sym (take-append-drop (i + 1) back) ∙ ap (λ xs. xs ++ drop (i + 1) back) (take_more back i copy within ∙ ap (λ x. take i back ++ x ∷ []) (sym is))
+    ∙ append_assoc (take i back) (copy ∷ []) (drop (i + 1) back) ∙ ap (λ m. take i back ++ copy ∷ drop m back) (sym next) in
+    let split : in_order front back ≡ copies_to front back n ++ copy ∷ reverse (take i back) =
+    ap (λ xs. copies_of front ++ reverse xs) all
+    ∙ ap (λ xs. copies_of front ++ xs) (reverse-append (take i back) (copy ∷ behind) ∙ ap (λ xs. xs ++ reverse (take i back)) (reverse-append (copy ∷ []) behind) ∙ append_assoc (reverse behind) (copy ∷ []) (reverse (take i back)))
+    ∙ sym (append_assoc (copies_of front) (reverse behind) (copy ∷ reverse (take i back))) in
+    at-copy lines front back (copies_to front back n) (reverse (take i back)) reached copy text split so_far
+
+pub front-more : (front : List Stop) (i : ℕ) (stop : Stop) → i < length front → stop ≡ get_or front i stop → copies_of (take i front) ++ stop.copy ∷ [] ≡ copies_of (take (i + 1) front)
+front-more front i stop within is = sym (ap copies_of (take_more front i stop within ∙ ap (λ x. take i front ++ x ∷ []) (sym is)) ∙ copies-snoc (take i front) stop)
+
+pub back-more : (front : List Stop) (back : List Copied) (i n : ℕ) (copy : Copied) → n ≡ i + 1 → i < length back → copy ≡ get_or back i copy → copies_to front back n ++ copy ∷ [] ≡ copies_to front back i
+back-more front back i n copy next within is =
+    let first : drop i back ≡ copy ∷ drop n back = drop_more back i copy within ∙ ap₂ (λ x m. x ∷ drop m back) (sym is) (sym next) in
+    append_assoc (copies_of front) (reverse (drop n back)) (copy ∷ [])
+    ∙ ap (λ xs. copies_of front ++ xs) (sym (ap reverse first ∙ reverse-append (copy ∷ []) (drop n back)))
+
+pub stands-at : (number offset : ℕ) (lines : List LineContent) (front : List Stop) (back before : List Copied) (reached : Reached) (copy : Copied) → AtCopy lines front back before reached copy
+    → StandsIn number offset (lines_with reached copy lines) → StandsIn number (reached.characters + offset) (drafted_at lines front back)
+stands-at number offset lines front back before reached copy at stands =
+    let made = made_lines before lines in
+    let with = lines_with reached copy lines in
+    subst (λ n. StandsIn number (n + offset) (drafted_at lines front back)) (sym at.is.characters)
     (subst (StandsIn number (length (whole made).columns + offset)) (sym at.all)
     (stands-behind number offset made (with ++ at.rest) (stands-before number offset with at.rest stands)))
 
-pub none-more : (number i : ℕ) (lines : List LineContent) (front : List Stop) (stop : Stop) → i < length front → stop ≡ get_or front i stop → AtStop lines front (take i front) stop
-    → finite.get (whole (made_lines (copies_of (take i front)) lines)).marks number ≡ None → finite.get (whole (lines_with stop.reached stop.copy lines)).marks number ≡ None
-    → finite.get (whole (made_lines (copies_of (take (i + 1) front)) lines)).marks number ≡ None
-none-more number i lines front stop within is at free none =
-    let before = copies_of (take i front) in
+pub none-more : (number : ℕ) (lines : List LineContent) (front : List Stop) (back before more : List Copied) (reached : Reached) (copy : Copied) → AtCopy lines front back before reached copy → before ++ copy ∷ [] ≡ more
+    → finite.get (whole (made_lines before lines)).marks number ≡ None → finite.get (whole (lines_with reached copy lines)).marks number ≡ None
+    → finite.get (whole (made_lines more lines)).marks number ≡ None
+none-more number lines front back before more reached copy at more_is free none =
     let made = made_lines before lines in
-    let with = lines_with stop.reached stop.copy lines in
-    let all : made_lines (copies_of (take (i + 1) front)) lines ≡ made ++ with =
-    ap (λ xs. made_lines (copies_of xs) lines) (take_more front i stop within ∙ ap (λ x. take i front ++ x ∷ []) (sym is))
-    ∙ ap (λ xs. made_lines xs lines) (copies-snoc (take i front) stop) ∙ made-snoc before stop.copy lines
-    ∙ ap (λ n. made ++ (take stop.copy.kept (drop n lines) ++ stop.copy.line ∷ [])) (sym at.reached.used) in
+    let with = lines_with reached copy lines in
+    let all : made_lines more lines ≡ made ++ with =
+    ap (λ xs. made_lines xs lines) (sym more_is) ∙ made-snoc before copy lines ∙ ap (λ n. made ++ (take copy.kept (drop n lines) ++ copy.line ∷ [])) (sym at.is.used) in
     ap (λ xs. finite.get (whole xs).marks number) all ∙ ap (λ (x : LineContent). finite.get x.marks number) (whole-append made with) ∙ free-joined (whole made) (whole with) number free none
 
 -- the lines behind all copies
-rest_all : (lines : List LineContent) (front : List Stop) (reached : Reached) (n : ℕ) → IsReached reached (copies_of front) lines → n ≡ length lines
-    → drafted_at lines front [] ≡ made_lines (copies_of front) lines ++ take (n - reached.used) (drop reached.used lines)
-rest_all lines front reached n is all =
-    ap (λ copies. drafted copies lines) (append-nil (copies_of front))
-    ∙ ap (λ xs. made_lines (copies_of front) lines ++ xs)
+rest_all : (lines : List LineContent) (front : List Stop) (back : List Copied) (reached : Reached) (n : ℕ) → IsReached reached (in_order front back) lines → n ≡ length lines
+    → drafted_at lines front back ≡ made_lines (in_order front back) lines ++ take (n - reached.used) (drop reached.used lines)
+rest_all lines front back reached n is all =
+    ap (λ xs. made_lines (in_order front back) lines ++ xs)
     (ap (λ k. drop k lines) (sym is.used) ∙ sym (take_all (n - reached.used) (drop reached.used lines) (omega (arith, all, length-drop reached.used lines))))
 
-pub stands-rest : (number offset n : ℕ) (lines : List LineContent) (front : List Stop) (reached : Reached) → IsReached reached (copies_of front) lines → n ≡ length lines
-    → StandsIn number offset (take (n - reached.used) (drop reached.used lines)) → StandsIn number (reached.characters + offset) (drafted_at lines front [])
-stands-rest number offset n lines front reached is all stands =
-    let made = made_lines (copies_of front) lines in
-    subst (λ m. StandsIn number (m + offset) (drafted_at lines front [])) (sym is.characters)
-    (subst (StandsIn number (length (whole made).columns + offset)) (sym (rest_all lines front reached n is all))
+pub stands-rest : (number offset n : ℕ) (lines : List LineContent) (front : List Stop) (back : List Copied) (reached : Reached) → IsReached reached (in_order front back) lines → n ≡ length lines
+    → StandsIn number offset (take (n - reached.used) (drop reached.used lines)) → StandsIn number (reached.characters + offset) (drafted_at lines front back)
+stands-rest number offset n lines front back reached is all stands =
+    let made = made_lines (in_order front back) lines in
+    subst (λ m. StandsIn number (m + offset) (drafted_at lines front back)) (sym is.characters)
+    (subst (StandsIn number (length (whole made).columns + offset)) (sym (rest_all lines front back reached n is all))
     (stands-behind number offset made (take (n - reached.used) (drop reached.used lines)) stands))
 
-pub none-rest : (number n : ℕ) (lines : List LineContent) (front : List Stop) (reached : Reached) → IsReached reached (copies_of front) lines → n ≡ length lines
-    → finite.get (whole (made_lines (copies_of front) lines)).marks number ≡ None → finite.get (whole (take (n - reached.used) (drop reached.used lines))).marks number ≡ None
-    → finite.get (text_at lines front []).marks number ≡ None
-none-rest number n lines front reached is all free none =
-    let made = made_lines (copies_of front) lines in
+pub none-rest : (number n : ℕ) (lines : List LineContent) (front : List Stop) (back : List Copied) (reached : Reached) → IsReached reached (in_order front back) lines → n ≡ length lines
+    → finite.get (whole (made_lines (in_order front back) lines)).marks number ≡ None → finite.get (whole (take (n - reached.used) (drop reached.used lines))).marks number ≡ None
+    → finite.get (text_at lines front back).marks number ≡ None
+none-rest number n lines front back reached is all free none =
+    let made = made_lines (in_order front back) lines in
     let rest = take (n - reached.used) (drop reached.used lines) in
-    ap (λ xs. finite.get (whole xs).marks number) (rest_all lines front reached n is all)
+    ap (λ xs. finite.get (whole xs).marks number) (rest_all lines front back reached n is all)
     ∙ ap (λ (x : LineContent). finite.get x.marks number) (whole-append made rest) ∙ free-joined (whole made) (whole rest) number free none
 
 -- ---- lines of the list
@@ -310,3 +331,12 @@ pub kept-nowhere : (number : ℕ) (reached : Reached) (copy : Copied) (lines : L
     → finite.get (whole (take ((reached.used + copy.kept) - reached.used) (drop reached.used lines))).marks number ≡ None
     → finite.get (whole (take copy.kept (drop reached.used lines))).marks number ≡ None
 kept-nowhere number reached copy lines none = subst (λ xs. finite.get (whole xs).marks number ≡ None) (kept_lines reached copy lines) none
+
+-- none of the copies behind the place
+pub back-none : (front : List Stop) (back : List Copied) (n : ℕ) → n ≡ length back → copies_of front ≡ copies_to front back n
+back-none front back n all =
+    sym (ap (λ xs. copies_of front ++ reverse xs) (ap (λ m. drop m back) all ∙ drop_all back) ∙ append-nil (copies_of front))
+  where
+    drop_all : (xs : List Copied) → drop (length xs) xs ≡ []
+    drop_all [] = refl
+    drop_all (x ∷ xs) = drop_all xs

@@ -1,12 +1,12 @@
 ghost use Rattle.std.specs.Prelude.{◌≡◌, ◌-◌, ◌<◌, ◌≤◌, [], ◌∷◌, IfSome, OnOk, None, length, take, drop};
 ghost use Rattle.std.specs.FinMap as finite;
-ghost use Rattle.line_lists.specs.Drafts.{CanFollow, IsText, drafted_at, text_at};
+ghost use Rattle.line_lists.specs.Drafts.{CanFollow, IsText, copies_of, drafted_at, made_lines, text_at};
 ghost use Rattle.line_lists.specs.Edits.{with_mark, without_mark};
 ghost use Rattle.line_lists.specs.Lists.{has_mark, next_line};
 ghost use Rattle.line_lists.specs.Marking.{StandsIn, lines_with};
 ghost use Rattle.line_lists.specs.Texts.{whole};
 
-use crate::drafts::{Draft, Found, Stop};
+use crate::drafts::{Copied, Draft, Found, Reached};
 use crate::lists::LineList;
 use segments::Line;
 use std::alloc::AllocError;
@@ -75,42 +75,83 @@ impl<'a, L: LineList> Draft<'a, L> {
 
     /// Where the mark of a number stands in the lines that are kept before a copy and in the copy's line, counted from
     /// the first of them. In the list it stands in a line that is given.
-    fn find_copied(&self, stop: &Stop, number: MarkNo, marked: Option<usize>) -> Option<usize>
-        requires follows { CanFollow stop.now.reached stop.now.copy (L.lines self.now.list.now) }
-        requires some { 0 < length stop.now.copy.line.columns }
+    fn find_copied(
+        &self,
+        reached: &Reached,
+        copy: &Copied,
+        number: MarkNo,
+        marked: Option<usize>,
+    ) -> Option<usize>
+        requires follows { CanFollow reached.now copy.now (L.lines self.now.list.now) }
+        requires some { 0 < length copy.now.line.columns }
         requires marked { marked ≡ next_line (has_mark number.0) 0 (L.lines self.now.list.now) }
         ensures some { IfSome result (λ offset.
-            StandsIn number.0 offset (lines_with stop.now.reached stop.now.copy (L.lines self.now.list.now))) }
+            StandsIn number.0 offset (lines_with reached.now copy.now (L.lines self.now.list.now))) }
         ensures none { result ≡ None → finite.get
-            (whole (lines_with stop.now.reached stop.now.copy (L.lines self.now.list.now))).marks number.0 ≡ None }
+            (whole (lines_with reached.now copy.now (L.lines self.now.list.now))).marks number.0 ≡ None }
     {
-        let from = stop.reached.used;
-        let to = from + stop.copy.kept;
-        let Some(column) = mark_column(&stop.copy.line, number) else {
+        let from = reached.used;
+        let to = from + copy.kept;
+        let Some(column) = mark_column(&copy.line, number) else {
             return self.find_kept(from, to, number, marked);
         };
         let start = self.list.prefix(from).characters();
         Some(self.list.prefix(to).characters() - start + column)
     }
 
-    /// Where the mark of a number stands in the text, behind the last copy of which is the place.
-    fn find_mark(&self, number: MarkNo) -> Option<usize>
+    /// Where the mark of a number stands in the text, if that is in what the copies before the place cover.
+    fn find_before(&self, number: MarkNo, marked: Option<usize>) -> Option<usize>
         requires is { IsText (L.lines self.now.list.now) self.now.front.items self.now.back.items }
-        requires end { self.now.back.items ≡ [] }
+        requires marked { marked ≡ next_line (has_mark number.0) 0 (L.lines self.now.list.now) }
+        ensures some { IfSome result (λ offset. StandsIn number.0 offset
+            (drafted_at (L.lines self.now.list.now) self.now.front.items self.now.back.items)) }
+        ensures none { result ≡ None → finite.get
+            (whole (made_lines (copies_of self.now.front.items) (L.lines self.now.list.now))).marks number.0 ≡ None }
+    {
+        for stop in &self.front {
+            if let Some(offset) = self.find_copied(&stop.reached, &stop.copy, number, marked) {
+                return Some(stop.reached.characters + offset);
+            }
+        }
+        None
+    }
+
+    /// Where the mark of a number stands in the text, if it isn't in what the copies before the place cover.
+    fn find_behind(&self, number: MarkNo, marked: Option<usize>) -> Option<usize>
+        requires is { IsText (L.lines self.now.list.now) self.now.front.items self.now.back.items }
+        requires marked { marked ≡ next_line (has_mark number.0) 0 (L.lines self.now.list.now) }
+        requires none { finite.get
+            (whole (made_lines (copies_of self.now.front.items) (L.lines self.now.list.now))).marks number.0 ≡ None }
+        ensures some { IfSome result (λ offset. StandsIn number.0 offset
+            (drafted_at (L.lines self.now.list.now) self.now.front.items self.now.back.items)) }
+        ensures none { result ≡ None → finite.get
+            (text_at (L.lines self.now.list.now) self.now.front.items self.now.back.items).marks number.0 ≡ None }
+    {
+        let mut reached = self.reached();
+        for index in (0..self.back.len()).rev() {
+            let copy = &self.back[index];
+            if let Some(offset) = self.find_copied(&reached, copy, number, marked) {
+                return Some(reached.characters + offset);
+            }
+            reached = reached.with(self.list, copy);
+        }
+        let offset = self.find_kept(reached.used, self.list.len(), number, marked)?;
+        Some(reached.characters + offset)
+    }
+
+    /// Where the mark of a number stands in the text.
+    fn find_mark(&self, number: MarkNo) -> Option<usize>
+        requires { IsText (L.lines self.now.list.now) self.now.front.items self.now.back.items }
         ensures some { IfSome result (λ offset. StandsIn number.0 offset
             (drafted_at (L.lines self.now.list.now) self.now.front.items self.now.back.items)) }
         ensures none { result ≡ None → finite.get
             (text_at (L.lines self.now.list.now) self.now.front.items self.now.back.items).marks number.0 ≡ None }
     {
         let marked = self.list.mark_line(number);
-        for stop in &self.front {
-            if let Some(offset) = self.find_copied(stop, number, marked) {
-                return Some(stop.reached.characters + offset);
-            }
+        match self.find_before(number, marked) {
+            None => self.find_behind(number, marked),
+            Some(offset) => Some(offset),
         }
-        let reached = self.reached();
-        let offset = self.find_kept(reached.used, self.list.len(), number, marked)?;
-        Some(reached.characters + offset)
     }
 
     /// Takes the mark of a number away, wherever it stands, if it does.
@@ -121,7 +162,6 @@ impl<'a, L: LineList> Draft<'a, L> {
         ensures new { OnOk result (text_at (L.lines self.new.list.now) self.new.front.items self.new.back.items
             ≡ without_mark number.0 (text_at (L.lines self.old.list.now) self.old.front.items self.old.back.items)) }
     {
-        self.forth_to_end()?;
         match self.find_mark(number) {
             None => Ok(()),
             Some(offset) => self.take_mark_at(offset, number),
