@@ -8,6 +8,8 @@ mod cursors;
 #[cfg(test)]
 mod mark_numbers;
 #[cfg(test)]
+mod random_edits;
+#[cfg(test)]
 mod stores;
 #[cfg(test)]
 mod sums;
