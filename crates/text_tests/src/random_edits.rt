@@ -118,14 +118,21 @@ struct Stores<S: TextStore> {
     other: S,
 }
 
-/// Whether the cell at an offset is the same.
-fn has_cell<S: TextStore>(stores: &Stores<S>, offset: usize) -> bool {
+/// Whether the character at an offset has the same tags.
+fn has_tags<S: TextStore>(stores: &Stores<S>, offset: usize) -> bool {
+    let Stores { plain, other } = stores;
+    offset < plain.len()
+        && offset < other.len()
+        && plain.tags_at(offset).words() == other.tags_at(offset).words()
+}
+
+/// Whether the character at an offset is the same, and its line.
+fn has_character<S: TextStore>(stores: &Stores<S>, offset: usize) -> bool {
     let Stores { plain, other } = stores;
     offset < plain.len()
         && offset < other.len()
         && plain.char_at(offset) == other.char_at(offset)
         && plain.line_of(offset) == other.line_of(offset)
-        && plain.tags_at(offset).words() == other.tags_at(offset).words()
 }
 
 /// Whether a slot changes in the same places around the character at an offset.
@@ -167,14 +174,23 @@ fn has_text<S: TextStore>(stores: &Stores<S>, offset: usize) -> Result<bool, All
     Ok(text == other.copy_text(offset, other.len())?)
 }
 
-/// Compares the cells, and around each of them one of `SLOTS`.
-fn check_cells<S: TextStore>(rt: &impl Abort, stores: &Stores<S>) {
+fn check_tags<S: TextStore>(rt: &impl Abort, stores: &Stores<S>) {
     assert!(rt; stores.plain.len() == stores.other.len());
     for offset in 0..stores.plain.len() {
-        let slot = TagSlot(SLOTS[offset % 4]);
-        assert!(rt; has_cell(stores, offset), "at {offset}");
-        assert!(rt; has_changes(stores, offset, slot), "at {offset}");
+        assert!(rt; has_tags(stores, offset), "at {offset}");
     }
+}
+
+/// Compares what is found from a few offsets.
+fn check_places<S: TextStore>(rt: &impl Abort, stores: &Stores<S>, numbers: &mut Numbers) {
+    let len = stores.plain.len();
+    for _ in 0..12 {
+        let offset = numbers.below(len.max(1));
+        assert!(rt; has_character(stores, offset), "at {offset}");
+        assert!(rt; has_changes(stores, offset, numbers.slot()), "at {offset}");
+        assert!(rt; has_marks(stores, offset), "at {offset}");
+    }
+    assert!(rt; has_marks(stores, len));
 }
 
 fn check_lines<S: TextStore>(rt: &impl Abort, stores: &Stores<S>) {
@@ -192,9 +208,6 @@ fn check_marks<S: TextStore>(rt: &impl Abort, stores: &Stores<S>) {
             plain.mark_place(number) == other.mark_place(number),
             "{number:?}"
         );
-    }
-    for offset in 0..stores.plain.len().saturating_add(2) {
-        assert!(rt; has_marks(stores, offset), "at {offset}");
     }
 }
 
@@ -221,9 +234,10 @@ fn make_random<S: TextStore>(
     for _ in 0..200 {
         let steps = random_steps(rt, alloc, numbers, stores.plain.len())?;
         make_both(rt, stores, &Edit { steps })?;
-        check_cells(rt, stores);
+        check_tags(rt, stores);
         check_lines(rt, stores);
         check_marks(rt, stores);
+        check_places(rt, stores, numbers);
         let has_text = has_text(stores, numbers.below(4))?;
         assert!(rt; has_text);
     }
