@@ -1,6 +1,5 @@
 -- The slots that are on in a draft, and its lines without the toggles of a slot.
-use Rattle.std.proofs.Common.{◌≡◌, ℕ, zero, suc, ◌+◌, ◌-◌, ◌<◌, ◌≤◌, ◌^◌, min, Bool, true, false, ◌||◌, List, [], ◌∷◌, ◌++◌, Option, None, Some, length, get_or, map, take, drop, inl, inr, refl, sym, ap, ap₂, subst, ◌∙◌, arith, append_assoc, length-append, length-drop, length-take, take-append-drop}
-use Rattle.std.specs.Cmp.{nat_cmp_total}
+use Rattle.std.proofs.Common.{◌≡◌, ℕ, zero, suc, ◌+◌, ◌-◌, ◌<◌, ◌≤◌, ◌^◌, min, Bool, true, false, List, [], ◌∷◌, ◌++◌, Option, None, Some, length, get_or, map, take, drop, inl, inr, refl, sym, ap, ap₂, subst, ◌∙◌, arith, append_assoc, length-append, length-drop, length-take, take-append-drop}
 use Rattle.std.specs.FinSet as set
 use Rattle.std.specs.Prelude.{IfSome, if◌then◌else◌, reverse, slice_get, unwrap_or}
 use Rattle.std.proofs.lemmas.Bool.{cases_lt}
@@ -39,7 +38,7 @@ take-around before behind line offset column place inside =
     ∙ take-append-add (whole before).columns (line.columns ++ (whole behind).columns) column
     ∙ ap (λ part. (whole before).columns ++ part) (take-append-le column line.columns (whole behind).columns inside)
 
-tags-around : (before behind old : List LineContent) (line : LineContent) (offset column : ℕ) → before ++ line ∷ behind ≡ old → offset ≡ length (whole before).columns + column → column ≤ length line.columns
+pub tags-around : (before behind old : List LineContent) (line : LineContent) (offset column : ℕ) → before ++ line ∷ behind ≡ old → offset ≡ length (whole before).columns + column → column ≤ length line.columns
     → tags_behind (take offset (whole old).columns) ≡ differing (tags_behind (whole before).columns) (tags_behind (take column line.columns))
 tags-around before behind old line offset column old_is place inside =
     ap (λ lines. tags_behind (take offset (whole lines).columns)) (sym old_is)
@@ -47,7 +46,7 @@ tags-around before behind old line offset column old_is place inside =
     ∙ behind-append (whole before).columns (take column line.columns)
 
 -- the slots that are on where the line of a copy begins
-tags-before : (lines : List LineContent) (copies : List Copied) (reached : Reached) (copy : Copied) → IsReached reached copies lines
+pub tags-before : (lines : List LineContent) (copies : List Copied) (reached : Reached) (copy : Copied) → IsReached reached copies lines
     → tags_behind (whole (lines_before copies copy lines)).columns ≡ differing reached.tags (tags_behind (whole (take copy.kept (drop reached.used lines))).columns)
 tags-before lines copies reached copy is =
     behind-whole (made_lines copies lines) (take copy.kept (drop (used copies) lines))

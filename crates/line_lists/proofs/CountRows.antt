@@ -1,11 +1,10 @@
 -- What is counted of lines in a row.
-use Rattle.std.proofs.Common.{◌≡◌, ℕ, zero, suc, ◌+◌, ◌<◌, ◌≤◌, ◌^◌, List, [], ◌∷◌, ◌++◌, length, take, drop, refl, sym, ap, ap₂, ◌∙◌, arith, length-append, take-append-drop}
-use Rattle.std.specs.FinMap as finite
+use Rattle.std.proofs.Common.{◌≡◌, ◌+◌, List, [], ◌∷◌, ◌++◌, length, refl, sym, ap, ◌∙◌, arith, length-append}
 use Rattle.std.specs.FinSet as set
 use Rattle.text_model.specs.SlotSets.{differing}
-use Rattle.toggle_sums.specs.CountLaws.{no_text-plus, plus-associative, differing-empty, empty-differing}
-use Rattle.toggle_sums.specs.Counts.{Count, CountsFit, no_text, plus}
-use Rattle.toggle_sums.specs.Toggles.{parity, presence}
+use Rattle.toggle_sums.specs.CountLaws.{no_text-plus, plus-associative}
+use Rattle.toggle_sums.specs.Counts.{Count, CountsFit, plus}
+use Rattle.toggle_sums.specs.Toggles.{presence}
 use Rattle.toggle_sums.proofs.ToggleLaws.{presence-append}
 use Rattle.segments.specs.Columns.{Column, LineContent, line_count, toggles}
 use Rattle.line_lists.specs.Lists.{IsCounted, count_of}

@@ -145,7 +145,7 @@ put_apart : (test : Bool) (new place : Place) (found other : Option Place) → (
 put_apart true new place found other free apart is = free refl
 put_apart false new place found other free apart is = apart is
 
-put-stands : (number end : ℕ) (place : Place) (marks : Marks) → place.offset < end → StandBefore end marks → StandBefore end (finite.insert marks number place)
+pub put-stands : (number end : ℕ) (place : Place) (marks : Marks) → place.offset < end → StandBefore end marks → StandBefore end (finite.insert marks number place)
 put-stands number end place marks within stand q here is =
     put_stands (eq_by_cmp nat_cmp q number) end place here (finite.get marks q) within (stand q here) (sym (finite.get-insert nat_cmp_total marks number place q) ∙ is)
 
@@ -162,7 +162,7 @@ mark-goes number place line [] within free goes = λ q here is.
 mark-goes number place line (next ∷ others) within free goes =
     (put-stands number (length line.columns) place line.marks within goes.0, put-apart number place line.marks (whole (next ∷ others)).marks free goes.1)
 
-mark-stays : (number : ℕ) (place : Place) (line : LineContent) (before behind : List LineContent) → finite.get (whole before).marks number ≡ None
+pub mark-stays : (number : ℕ) (place : Place) (line : LineContent) (before behind : List LineContent) → finite.get (whole before).marks number ≡ None
     → StayFree (whole before).marks (whole (line ∷ behind)).marks (whole (with_mark number place line ∷ behind)).marks
 mark-stays number place line before behind none q there free =
     let parts = free-parts line (whole behind) q free in
@@ -170,7 +170,7 @@ mark-stays number place line before behind none q there free =
     free-joined (with_mark number place line) (whole behind) q
     (finite.get-insert nat_cmp_total line.marks number place q ∙ put_free (eq_by_cmp nat_cmp q number) place (finite.get line.marks q) other parts.1) parts.0
 
-free-around : (number : ℕ) (before behind : List LineContent) (line : LineContent) → finite.get (whole (before ++ line ∷ behind)).marks number ≡ None
+pub free-around : (number : ℕ) (before behind : List LineContent) (line : LineContent) → finite.get (whole (before ++ line ∷ behind)).marks number ≡ None
     → (finite.get (whole before).marks number ≡ None) × (finite.get (whole behind).marks number ≡ None)
 free-around number before behind line free =
     let parts = free-parts (whole before) (joined line (whole behind)) number (ap (λ (all : LineContent). finite.get all.marks number) (sym (whole-around before behind line)) ∙ free) in
@@ -185,7 +185,7 @@ mark-rows number place before behind line within free rows =
     rows-among before (line ∷ behind) (with_mark number place line ∷ behind) (omega arith) (omega arith) rows (is, mark-goes number place line behind within none.1 rest.1, rest.2)
     (mark-stays number place line before behind none.0)
 
-mark-whole : (number : ℕ) (place : Place) (before behind : List LineContent) (line : LineContent) → finite.get (whole (before ++ line ∷ behind)).marks number ≡ None
+pub mark-whole : (number : ℕ) (place : Place) (before behind : List LineContent) (line : LineContent) → finite.get (whole (before ++ line ∷ behind)).marks number ≡ None
     → whole (before ++ with_mark number place line ∷ behind) ≡ with_mark number (later (length (whole before).columns) place) (whole (before ++ line ∷ behind))
 mark-whole number place before behind line free =
     whole-around before behind (with_mark number place line)

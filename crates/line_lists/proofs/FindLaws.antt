@@ -8,7 +8,7 @@ use Rattle.line_lists.specs.declared.drafts.Copied.{Copied}
 use Rattle.line_lists.specs.declared.drafts.Reached.{Reached}
 use Rattle.line_lists.specs.declared.drafts.Stop.{Stop}
 use Rattle.line_lists.specs.Drafts.{AreStops, IsDraft, IsFound, IsReached, IsTaken, StandsAt, copies_of, covered, drafted, drafted_at, in_order, line_start, lines_before, made_lines, taken_lines, used}
-use Rattle.line_lists.specs.Lists.{Holds, count_of}
+use Rattle.line_lists.specs.Lists.{Holds}
 use Rattle.line_lists.specs.Texts.{whole}
 use Rattle.line_lists.proofs.CountRows.{count-characters}
 use Rattle.line_lists.proofs.DraftLaws.{copies-snoc, counted-between, drafted-append, length-whole, made-snoc, none_at, start-is, stops-front, stops-last, stops-snoc, take-more, used-append}
@@ -16,7 +16,7 @@ use Rattle.line_lists.proofs.PlaceRows.{split_at}
 use Rattle.line_lists.proofs.WholeLaws.{whole-one}
 
 -- where lines begin
-abbrev begin : List LineContent → ℕ → ℕ
+abbrev pub begin : List LineContent → ℕ → ℕ
 begin lines line = length (whole (take line lines)).columns
 
 pub begin-more : (lines : List LineContent) (n k : ℕ) → begin lines (n + k) ≡ begin lines n + length (whole (take k (drop n lines))).columns

@@ -1,5 +1,5 @@
 -- Lines from which the marks of copies are taken off.
-use Rattle.std.proofs.Common.{◌≡◌, ◌≢◌, ℕ, zero, suc, ◌+◌, ◌-◌, ◌<◌, ◌≤◌, Bool, true, false, ◌⊎◌, inl, inr, List, [], ◌∷◌, ◌++◌, Option, None, Some, cond, length, map, take, drop, refl, sym, ap, ap₂, subst, ◌∙◌, arith, append_assoc}
+use Rattle.std.proofs.Common.{◌≡◌, ◌≢◌, ℕ, zero, suc, ◌+◌, ◌<◌, ◌≤◌, Bool, true, false, ◌⊎◌, inl, inr, List, [], ◌∷◌, ◌++◌, Option, None, Some, cond, length, map, take, drop, refl, sym, ap, ap₂, subst, ◌∙◌, arith, append_assoc}
 use Rattle.std.specs.Prelude.{slice_get}
 use Rattle.std.specs.Cmp.{nat_cmp_total, unsigned_tied}
 use Rattle.std.specs.FinMap as finite
@@ -8,7 +8,6 @@ use Rattle.std.specs.Ordering.{eq_by_cmp, nat_cmp}
 use Rattle.std.proofs.lemmas.Bool.Decides.{nat_tests}
 use Rattle.std.proofs.lemmas.List.{drop-drop, drop-map, length-map, take-map, take_all}
 use Rattle.text_model.specs.declared.places.Place.{Place}
-use Rattle.text_model.specs.Content.{Marks}
 use Rattle.text_model.proofs.PlaceLaws.{same_marks}
 use Rattle.segments.specs.Columns.{LineContent}
 use Rattle.segments.proofs.MarkLaws.{tied_same}
@@ -94,7 +93,7 @@ free-freed : (q : ℕ) (numbers : List ℕ) (lines : List LineContent) → finit
 free-freed q [] lines free = free
 free-freed q (number ∷ numbers) lines free = free-freed q numbers (map (without_mark number) lines) (free-without q number lines free)
 
-eq_self : (number : ℕ) → eq_by_cmp nat_cmp number number ≡ true
+pub eq_self : (number : ℕ) → eq_by_cmp nat_cmp number number ≡ true
 eq_self number = unsigned_tied number number ∙ grind (arith, nat_tests)
 
 gone-without : (number : ℕ) (lines : List LineContent) → finite.get (whole (map (without_mark number) lines)).marks number ≡ None
@@ -127,7 +126,7 @@ found_names q (entry ∷ entries) (inr names) =
       | false ↦ found_names q entries names
     ]
 
-names_of : (q : ℕ) (line : LineContent) (place : Place) → finite.get line.marks q ≡ Some place → Names q (numbers_of line)
+pub names_of : (q : ℕ) (line : LineContent) (place : Place) → finite.get line.marks q ≡ Some place → Names q (numbers_of line)
 names_of q line place is = names_found q (finite.entries line.marks) place (sym (finite.get-entries line.marks q) ∙ is)
 
 of_names : (q : ℕ) (line : LineContent) → Names q (numbers_of line) → finite.get line.marks q ≢ None
@@ -162,7 +161,7 @@ same_one : (test : Bool) (found : Option Place) → (test ≡ true → found ≡
 same_one true found none = sym (none refl)
 same_one false found none = refl
 
-same-line : (n : ℕ) (line : LineContent) → finite.get line.marks n ≡ None → without_mark n line ≡ line
+pub same-line : (n : ℕ) (line : LineContent) → finite.get line.marks n ≡ None → without_mark n line ≡ line
 same-line n line free =
     let marks = same_marks _ _ (λ q.
     finite.get-remove nat_cmp_total line.marks n q
@@ -174,7 +173,7 @@ same-lines n [] free = refl
 same-lines n (line ∷ lines) free =
     let parts = free-parts line (whole lines) n free in ap₂ (λ x xs. x ∷ xs) (same-line n line parts.1) (same-lines n lines parts.0)
 
-free-front : (a b : List LineContent) (number : ℕ) → finite.get (whole (a ++ b)).marks number ≡ None → (finite.get (whole a).marks number ≡ None) × (finite.get (whole b).marks number ≡ None)
+pub free-front : (a b : List LineContent) (number : ℕ) → finite.get (whole (a ++ b)).marks number ≡ None → (finite.get (whole a).marks number ≡ None) × (finite.get (whole b).marks number ≡ None)
 free-front a b number free =
     let parts = free-parts (whole a) (whole b) number (ap (λ (line : LineContent). finite.get line.marks number) (sym (whole-append a b)) ∙ free) in (parts.1, parts.0)
 

@@ -4,6 +4,7 @@ pub mod CutLaws
 pub mod DraftLaws
 pub mod EditLaws
 pub mod FindLaws
+pub mod FoundMarks
 pub mod FreedLaws
 pub mod GatherLaws
 pub mod HeldLaws
@@ -25,7 +26,10 @@ pub mod RemovalLaws
 pub mod RowLaws
 pub mod SearchRows
 pub mod SlotLaws
+pub mod StandLaws
 pub mod StepLaws
+pub mod StepTexts
+pub mod StoreLaws
 pub mod TagLaws
 pub mod TextCuts
 pub mod TextRows

@@ -1,8 +1,7 @@
 -- What a step makes of a text that is one long line is what it makes of the text.
-use Rattle.std.proofs.Common.{◌≡◌, ℕ, ◌<◌, ◌≤◌, length, refl, arith}
+use Rattle.std.proofs.Common.{◌≡◌, length, refl, arith}
 use Rattle.text_model.specs.declared.edits.Step.{Step}
 use Rattle.text_model.specs.declared.edits.Step.TheVariants.{Remove, Insert, SetTag, ClearTags, ClearSlot, PutMark, TakeMark}
-use Rattle.text_model.specs.Content.{Content}
 use Rattle.text_model.specs.Steps.{StepFitsIn, after_step}
 use Rattle.segments.specs.Columns.{LineContent}
 use Rattle.line_lists.specs.Edits.{made}

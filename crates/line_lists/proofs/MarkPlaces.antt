@@ -60,7 +60,7 @@ mark-in (line ∷ lines) number place is =
     (sym (get-joined_marks (length line.columns) line.marks (whole lines).marks number) ∙ is) (mark-in lines number)
 
 -- what stands in a line is a mark of the text
-apart-rest : (line : LineContent) (rest : List LineContent) → GoesBefore line rest → AreApart line.marks (whole rest).marks
+pub apart-rest : (line : LineContent) (rest : List LineContent) → GoesBefore line rest → AreApart line.marks (whole rest).marks
 apart-rest line [] before number place is = finite.get-empty nat_cmp number
 apart-rest line (next ∷ rest) before number place is = before.1 number place is
 

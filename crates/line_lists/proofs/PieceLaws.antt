@@ -1,13 +1,12 @@
 -- Copies of lines as pieces of a list, which come in from the last to the first.
-use Rattle.std.proofs.Common.{◌≡◌, ◌≢◌, ℕ, zero, suc, ◌+◌, ◌-◌, ◌<◌, ◌≤◌, ◌^◌, Bool, true, false, List, [], ◌∷◌, ◌++◌, Option, None, Some, length, map, take, drop, inl, inr, refl, sym, ap, ap₂, subst, ◌∙◌, arith, append_assoc, length-append, length-drop, take-append-drop}
+use Rattle.std.proofs.Common.{◌≡◌, ◌≢◌, ℕ, zero, suc, ◌+◌, ◌-◌, ◌<◌, ◌≤◌, List, [], ◌∷◌, ◌++◌, None, Some, length, take, drop, inl, inr, refl, sym, ap, ap₂, subst, ◌∙◌, arith, append_assoc, length-append, length-drop, take-append-drop}
 use Rattle.std.specs.FinMap as finite
 use Rattle.std.specs.Ordering.{nat_cmp}
 use Rattle.std.proofs.lemmas.Bool.{cases_lt}
 use Rattle.std.proofs.lemmas.List.{append-nil, drop-drop, length-take-le, take_all}
-use Rattle.text_model.specs.declared.places.Place.{Place}
 use Rattle.text_model.specs.Content.{Marks}
 use Rattle.toggle_sums.specs.Counts.{Count, plus}
-use Rattle.segments.specs.Columns.{LineContent, joined, line_count}
+use Rattle.segments.specs.Columns.{LineContent, line_count}
 use Rattle.line_lists.specs.declared.pieces.Piece.{Piece}
 use Rattle.line_lists.specs.Lists.{AreApart, AreLines, AreRows, IsCounted, count_of, spliced}
 use Rattle.line_lists.specs.Pieces.{CanPlace, Covers, Follows, placed}

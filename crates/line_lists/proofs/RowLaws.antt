@@ -1,5 +1,5 @@
 -- Lines of a text, of which one changes.
-use Rattle.std.proofs.Common.{◌≡◌, ◌≢◌, ℕ, ◌+◌, ◌<◌, ◌≤◌, List, [], ◌∷◌, ◌++◌, Option, None, Some, length, get_or, map, take, drop, refl, sym, ap, ap₂, subst, ◌∙◌, arith, append_assoc, take-append-drop}
+use Rattle.std.proofs.Common.{◌≡◌, ◌≢◌, ℕ, ◌+◌, ◌<◌, List, [], ◌∷◌, ◌++◌, Option, None, Some, length, get_or, map, take, drop, refl, sym, ap, ap₂, subst, ◌∙◌, arith, append_assoc, take-append-drop}
 use Rattle.std.specs.FinMap as finite
 use Rattle.std.specs.Prelude.{option_map}
 use Rattle.text_model.specs.declared.places.Place.{Place}
@@ -12,11 +12,11 @@ use Rattle.text_model.specs.Splices.{changed}
 use Rattle.segments.specs.Columns.{Column, LineContent, characters, joined, later, toggled_first, toggled_more}
 use Rattle.segments.proofs.MarkLaws.{get-joined_marks, or_else}
 use Rattle.line_lists.specs.Edits.{with_toggled}
-use Rattle.line_lists.specs.Lists.{AreApart, AreRows, GoesBefore, IsLine, StandBefore, StandWithin}
+use Rattle.line_lists.specs.Lists.{AreApart, AreRows, GoesBefore, IsLine}
 use Rattle.line_lists.specs.Texts.{whole}
 use Rattle.line_lists.specs.Toggling.{toggled_before}
 use Rattle.line_lists.proofs.StepLaws.{slice-one}
-use Rattle.line_lists.proofs.WholeLaws.{between, length-toggled, whole-append, with_toggled-between}
+use Rattle.line_lists.proofs.WholeLaws.{between, whole-append, with_toggled-between}
 
 pub whole-around : (before behind : List LineContent) (line : LineContent) → whole (before ++ line ∷ behind) ≡ between (whole before) line (whole behind)
 whole-around before behind line = whole-append before (line ∷ behind)

@@ -1,13 +1,12 @@
 -- What the steps of an edit make of columns is what they make of the cells.
-use Rattle.std.proofs.Common.{◌≡◌, ℕ, zero, suc, ◌+◌, ◌-◌, ◌<◌, ◌≤◌, Bool, false, List, [], ◌∷◌, ◌++◌, length, map, take, drop, refl, sym, ap, ap₂, ◌∙◌, arith}
+use Rattle.std.proofs.Common.{◌≡◌, ℕ, Bool, false, List, [], ◌∷◌, ◌++◌, map, refl, sym, ap, ◌∙◌}
 use Rattle.std.specs.FinSet as set
 use Rattle.text_model.specs.declared.cells.Cell.{Cell}
 use Rattle.text_model.specs.Content.{Slots}
 use Rattle.text_model.specs.SlotSets.{differing}
-use Rattle.text_model.specs.Steps.{cells_of, set_slot, with_slot, without_slots}
+use Rattle.text_model.specs.Steps.{cells_of, set_slot, with_slot}
 use Rattle.toggle_sums.specs.CountLaws.{differing-associative, differing-empty, empty-differing}
-use Rattle.toggle_sums.specs.Toggles.{parity}
-use Rattle.segments.specs.Columns.{Column, plain_columns, toggled_first, toggles, with_toggle}
+use Rattle.segments.specs.Columns.{Column, plain_columns, toggled_first, with_toggle}
 use Rattle.line_lists.specs.Texts.{cells_from}
 use Rattle.line_lists.specs.Toggling.{tags_behind}
 use Rattle.line_lists.proofs.SlotLaws.{differing-set}

@@ -1,15 +1,14 @@
 -- Lines in a row, and what a change of one of them makes of the row.
-use Rattle.std.proofs.Common.{◌≡◌, ℕ, Bool, true, false, ◌+◌, ◌-◌, ◌<◌, ◌≤◌, ◌==◌, List, [], ◌∷◌, ◌++◌, Option, None, Some, cond, length, take, drop, refl, sym, ap, ap₂, ◌∙◌, arith, append_assoc, length-append, length-drop, take-append-drop}
-use Rattle.std.specs.Cmp.{nat_cmp_total, unsigned_tied}
+use Rattle.std.proofs.Common.{◌≡◌, ℕ, Bool, true, false, ◌+◌, ◌-◌, ◌<◌, ◌≤◌, List, [], ◌∷◌, ◌++◌, Option, None, Some, cond, length, take, drop, refl, sym, ap, ap₂, ◌∙◌, arith, append_assoc, length-append, length-drop, take-append-drop}
+use Rattle.std.specs.Cmp.{nat_cmp_total}
 use Rattle.std.specs.FinMap as finite
 use Rattle.std.specs.Ordering.{eq_by_cmp, nat_cmp}
 use Rattle.std.specs.Prelude.{option_map, slice_range}
 use Rattle.std.proofs.lemmas.List.{append-nil, length-map, length-take-le, drop-append-le, take-append-le}
-use Rattle.std.proofs.lemmas.Bool.Decides.{nat_tests}
 use Rattle.std.proofs.Math.Seq.{drop-append-add, take-append-add}
 use Rattle.text_model.specs.declared.places.Place.{Place}
-use Rattle.text_model.specs.Content.{Marks, Slots, map_marks}
-use Rattle.text_model.specs.Splices.{changed, drawn, inserted, moved}
+use Rattle.text_model.specs.Content.{Slots, map_marks}
+use Rattle.text_model.specs.Splices.{drawn, inserted, moved}
 use Rattle.text_model.proofs.PlaceLaws.{same_marks}
 use Rattle.text_model.proofs.SpliceLaws.{changed-append_left, changed-append_right, inserted-append_left, inserted-append_right, length-changed, length-inserted}
 use Rattle.segments.specs.Columns.{Column, LineContent, after_removal, after_text, joined, joined_marks, later, plain_columns, plain_line, toggled_first, toggles, with_toggle, without_columns}
@@ -17,7 +16,7 @@ use Rattle.toggle_sums.specs.Toggles.{parity}
 use Rattle.segments.proofs.MarkLaws.{or_else, tied_same}
 use Rattle.line_lists.specs.Edits.{with_cleared, with_mark, with_toggled, without_mark}
 use Rattle.line_lists.specs.Texts.{whole}
-use Rattle.line_lists.specs.Toggling.{cleared, toggled_before}
+use Rattle.line_lists.specs.Toggling.{toggled_before}
 use Rattle.line_lists.proofs.MarkRows.{StandBefore, StandWithin, drawn-Lifts, get-row, joined_marks-associative, joined_marks-none, map_marks-row, moved-Lifts, none-joined_marks, row}
 
 pub joined-associative : (a b c : LineContent) → joined a (joined b c) ≡ joined (joined a b) c

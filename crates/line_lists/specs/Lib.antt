@@ -3,6 +3,7 @@ pub mod Drafts
 pub mod Edits
 pub mod Insertions
 pub mod Lists
+pub mod Marking
 pub mod Pieces
 pub mod Places
 pub mod Removals

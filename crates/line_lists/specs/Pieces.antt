@@ -62,7 +62,7 @@ pub record Covers (pieces : List Piece) (used : ℕ) (made base : List LineConte
   pub can : (rest : List LineContent) → Follows used made base sum rest → CanPlace pieces (take used base ++ rest)
 
 -- a list with so much room takes pieces, once the marks of some numbers are taken off
-pub record IsReady (lines : List LineContent) (line_room mark_room : ℕ) (gone : List ℕ) (pieces : List Piece) : Type 0 where
+pub record IsReady (lines : List LineContent) (room bound : ℕ) (gone : List ℕ) (pieces : List Piece) : Type 0 where
   pub can : CanPlace pieces (freed gone lines)
-  pub room : length (piece_lines pieces) ≤ line_room
-  pub numbers : All (λ (line : LineContent). NumbersBelow mark_room line.marks) (piece_lines pieces)
+  pub few : length (piece_lines pieces) ≤ room
+  pub below : All (λ (line : LineContent). NumbersBelow bound line.marks) (piece_lines pieces)

@@ -160,7 +160,8 @@ impl<'a, L: LineList> Draft<'a, L> {
         ensures new { IfOk result (λ pieces. placed pieces.items
             (freed (numbers_in (copied_lines (copies_of self.entry.front.items))) (L.lines self.entry.list.now))
             ≡ drafted_at (L.lines self.entry.list.now) self.entry.front.items []) }
-        ensures lines { IfOk result (λ pieces. piece_lines pieces.items ≡ copied_lines (copies_of self.entry.front.items)) }
+        ensures lines { IfOk result (λ pieces.
+            piece_lines pieces.items ≡ copied_lines (copies_of self.entry.front.items)) }
     {
         let mut pieces = Vec::new(alloc);
         for stop in self.front {

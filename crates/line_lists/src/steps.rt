@@ -30,12 +30,7 @@ fn switched_slots(before: &TagSet, slot: TagSlot, is_on: bool) -> TagSet
 impl<'a, L: LineList> Draft<'a, L> {
     /// Toggles each slot of a set before the character at an offset of a text of so many characters; at its end there
     /// is nothing to toggle.
-    fn toggle_before(
-        &mut self,
-        offset: usize,
-        slots: &TagSet,
-        len: usize,
-    ) -> Result<(), AllocError>
+    fn toggle_before(&mut self, offset: usize, slots: &TagSet, len: usize) -> Result<(), AllocError>
         requires is { IsText (L.lines self.old.list.now) self.old.front.items self.old.back.items }
         requires len { len
             ≡ length (text_at (L.lines self.old.list.now) self.old.front.items self.old.back.items).columns }

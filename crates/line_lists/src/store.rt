@@ -34,7 +34,8 @@ fn change_of<L: LineList>(alloc: Global, list: &L, edit: &Edit) -> Result<Change
     ensures new { IfOk result (λ change.
         content_of (placed change.pieces.items (freed (named change.numbers.items) (L.lines list.now)))
         ≡ after edit.now.steps (content_of (L.lines list.now))) }
-    ensures numbers { IfOk result (λ change. named change.numbers.items ≡ numbers_in (piece_lines change.pieces.items)) }
+    ensures numbers { IfOk result (λ change.
+        named change.numbers.items ≡ numbers_in (piece_lines change.pieces.items)) }
     ensures count { IfOk result (λ change. change.count ≡ length (piece_lines change.pieces.items)) }
 {
     let mut draft = Draft::new(alloc, list);
@@ -128,8 +129,7 @@ impl<L: LineList> TextStore for LineStore<L> {
 
     fn prepare(&mut self, edit: &Edit) -> Result<Change, AllocError> {
         let change = change_of(self.alloc, &self.list, edit)?;
-        self.list
-            .reserve(change.count, bound_of(&change.numbers))?;
+        self.list.reserve(change.count, bound_of(&change.numbers))?;
         Ok(change)
     }
 

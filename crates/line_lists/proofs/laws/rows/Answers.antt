@@ -1,12 +1,4 @@
-use Rattle.line_lists.proofs.GatherLaws.{bound-more, count-stop, freed-more, gather-more, gather-new, gather-none, gathered, next-fits, numbers-stop}
-use Rattle.line_lists.proofs.FreedLaws.{freed-apart, freed-append, freed-count_characters, freed-count_lines, freed-count_marks, freed-drafted, freed-length, freed-lines, in_names}
-use Rattle.line_lists.proofs.PieceLaws.{can-split, covers-all, covers-more, covers-new, covers-none}
-use Rattle.line_lists.proofs.RowLaws.{rows-before, toggled-line, toggled-rows, toggled-whole, whole-around}
-use Rattle.line_lists.proofs.FindLaws.{found, opened-kept, opened-place, opened-rest, put-back, taken-last}
-use Rattle.line_lists.proofs.DraftLaws.{draft-back, draft-forth, drafted-append, in_order-moved, made-append, stops-last, used-append}
-use Rattle.line_lists.proofs.CountRows.{count-append, count-characters, count-lines, count-parity, count-presence, counted-more, counted-part}
-use Rattle.line_lists.proofs.MadeLaws.{text-made}
-use Rattle.line_lists.proofs.WholeLaws.{after_removal-between, after_text-between, whole-between, with_cleared-between, with_mark-between, with_toggled-between, without_mark-between}
+use Rattle.line_lists.proofs.WholeLaws.{whole-between}
 use Rattle.line_lists.proofs.laws.rows.Goals as goal
 
 pub returns : goal.returns

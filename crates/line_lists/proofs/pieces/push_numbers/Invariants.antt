@@ -1,4 +1,4 @@
-use Rattle.std.proofs.Common.{◌≡◌, ◌-◌, ◌++◌, length, map, take}
+use Rattle.std.proofs.Common.{◌≡◌, ◌-◌, ◌++◌, length, take}
 use Rattle.std.specs.FinMap as finite
 use Rattle.line_lists.specs.Pieces.{named, numbers_of}
 use Rattle.line_lists.proofs.pieces.push_numbers.Given as goal

@@ -1,7 +1,7 @@
-use Rattle.std.proofs.Common.{◌≡◌, ◌-◌, ◌<◌, Some, refl, sym, ap, ◌∙◌, subst}
+use Rattle.std.proofs.Common.{◌-◌, Some, refl, sym, ap, ◌∙◌}
 use Rattle.std.specs.Prelude.{slice_get}
 use Rattle.line_lists.specs.declared.drafts.Copied.{Copied}
-use Rattle.line_lists.specs.Drafts.{drafted_at, taken_lines}
+use Rattle.line_lists.specs.Drafts.{taken_lines}
 use Rattle.line_lists.proofs.FindLaws.{found-line, inside-line, opened-place, opened-rest, rest-within}
 use Rattle.line_lists.proofs.drafts.Draft.copy_rest.Goals as goal
 

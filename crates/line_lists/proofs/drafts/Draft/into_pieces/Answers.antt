@@ -1,12 +1,12 @@
-use Rattle.std.proofs.Common.{◌≡◌, Global, Vec, ◌<◌, ◌≤◌, ◌++◌, ◌∷◌, [], None, Some, length, sym, ap, subst, ◌∙◌, arith, append_assoc}
+use Rattle.std.proofs.Common.{◌≡◌, Global, Vec, ◌++◌, ◌∷◌, [], None, Some, sym, ap, subst, ◌∙◌, arith, append_assoc}
 use Rattle.std.specs.Prelude.{option_to_list, reverse}
 use Rattle.std.proofs.lemmas.List.{append-nil}
 use Rattle.line_lists.specs.declared.pieces.Piece.{Piece}
-use Rattle.line_lists.specs.Drafts.{copies_of, drafted, used}
+use Rattle.line_lists.specs.Drafts.{copies_of, drafted}
 use Rattle.line_lists.specs.Lists.{AreRows}
 use Rattle.line_lists.proofs.CountRows.{count-lines}
 use Rattle.line_lists.proofs.DraftLaws.{used-append}
-use Rattle.line_lists.proofs.GatherLaws.{Gathers, Goes, gather-more, gather-new, gather-none, gathered, last-fits, next-fits, no_items, none_popped}
+use Rattle.line_lists.proofs.GatherLaws.{Gathers, Goes, gather-more, gather-new, gathered, last-fits, next-fits, no_items, none_popped}
 use Rattle.line_lists.proofs.drafts.Draft.into_pieces.Goals.{then-stop-eq0, else-stop-eq0, in-Some-last+in_ok-piece-in-Some-last, in-None-last+in_ok-piece-in-None-last}
 use Rattle.line_lists.proofs.drafts.Draft.into_pieces.Goals as goal
 

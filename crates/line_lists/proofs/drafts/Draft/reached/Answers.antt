@@ -1,4 +1,4 @@
-use Rattle.std.proofs.Common.{◌≡◌, ◌-◌, ◌++◌, ◌∷◌, [], List, length, take, subst, sym, ap, ◌∙◌}
+use Rattle.std.proofs.Common.{◌-◌, [], length, take, subst, sym, ap, ◌∙◌}
 use Rattle.std.specs.Prelude.{slice_get}
 use Rattle.line_lists.specs.Drafts.{IsDraft, IsReached, copies_of}
 use Rattle.line_lists.proofs.DraftLaws.{can-follow, copies-snoc, last_is, no_last, stops-last}

@@ -1,10 +1,10 @@
-use Rattle.std.proofs.Common.{◌≡◌, ◌+◌, ◌<◌, ◌^◌, ◌++◌, ◌∷◌, length, sym, ap, ◌∙◌, subst, arith}
+use Rattle.std.proofs.Common.{◌≡◌, length, sym, ap, ◌∙◌, subst, arith}
 use Rattle.segments.specs.Columns.{LineContent}
 use Rattle.line_lists.specs.Drafts.{copies_of, drafted_at, lines_before, lines_behind}
 use Rattle.line_lists.specs.Edits.{with_toggled}
 use Rattle.line_lists.specs.Lists.{AreRows}
 use Rattle.line_lists.specs.Texts.{whole}
-use Rattle.line_lists.proofs.RowLaws.{Makes, toggled-line, toggled-makes}
+use Rattle.line_lists.proofs.RowLaws.{toggled-line, toggled-makes}
 use Rattle.line_lists.proofs.WholeLaws.{length-toggled}
 use Rattle.line_lists.proofs.drafts.Draft.toggle.Goals as goal
 

@@ -1,0 +1,43 @@
+-- What a store over lines asks of its list.
+use Rattle.std.proofs.Common.{◌≡◌, ℕ, ◌<◌, ◌≤◌, inl, inr, List, [], ◌∷◌, length, sym, ap, subst, ◌∙◌, arith, length-append}
+use Rattle.std.specs.FinMap as finite
+use Rattle.std.specs.FinSet as set
+use Rattle.std.specs.List.{All}
+use Rattle.std.proofs.lemmas.List.Elements.{All-cons, All-head, All-nil, All-tail}
+use Rattle.text_model.specs.Content.{new_content}
+use Rattle.segments.specs.Columns.{LineContent, plain_line}
+use Rattle.line_lists.specs.Lists.{AreLines, AreRows, NumbersBelow}
+use Rattle.line_lists.specs.Pieces.{numbers_in, numbers_of}
+use Rattle.line_lists.specs.Texts.{content_of, text_of, whole}
+use Rattle.line_lists.proofs.EditLaws.{some-columns}
+use Rattle.line_lists.proofs.FreedLaws.{Names, names-left, names-right, names_of}
+use Rattle.line_lists.proofs.TagLaws.{cells-plain}
+use Rattle.line_lists.proofs.WholeLaws.{whole-one}
+
+some_text : (lines : List LineContent) → 0 < length lines → AreRows lines → 0 < length (whole lines).columns
+some_text [] some rows = some
+some_text (line ∷ lines) some rows = omega (arith, some-columns line.columns rows.0.ends, length-append line.columns (whole lines).columns)
+
+-- a text has a character
+pub some-text : (lines : List LineContent) → AreLines lines → 0 < length (whole lines).columns
+some-text lines are = some_text lines are.some are.rows
+
+pub all-names : (P : ℕ → Type 0) (numbers : List ℕ) → All P numbers → (number : ℕ) → Names number numbers → P number
+all-names P [] all number names = absurd names
+all-names P (first ∷ numbers) all number (inl same) = subst P (sym same) (All-head P first numbers all)
+all-names P (first ∷ numbers) all number (inr names) = all-names P numbers (All-tail P first numbers all) number names
+
+-- marks whose numbers are among some that are below a bound
+pub below-lines : (bound room : ℕ) → bound ≤ room → (lines : List LineContent) → ((number : ℕ) → Names number (numbers_in lines) → number < bound)
+    → All (λ (line : LineContent). NumbersBelow room line.marks) lines
+below-lines bound room more [] below = All-nil (λ (line : LineContent). NumbersBelow room line.marks)
+below-lines bound room more (line ∷ lines) below =
+    All-cons (λ (x : LineContent). NumbersBelow room x.marks) line lines
+    (λ number place is. omega (arith, more, below number (names-left number (numbers_of line) (numbers_in lines) (names_of number line place is))))
+    (below-lines bound room more lines (λ number names. below number (names-right number (numbers_of line) (numbers_in lines) names)))
+
+-- the line that a list begins with is the text that a store begins with
+pub new-text : (lines : List LineContent) → lines ≡ plain_line (10 ∷ []) ∷ [] → content_of lines ≡ new_content
+new-text lines is =
+    ap content_of is ∙ ap text_of (whole-one (plain_line (10 ∷ [])))
+    ∙ (λ i. record { cells = cells-plain set.empty (10 ∷ []) i; marks = finite.empty })
