@@ -1,6 +1,7 @@
 ghost use Rattle.std.specs.Prelude.{◌≡◌, length, OnOk};
 ghost use Rattle.text_cursor.specs.Cursors.{IsCursor};
 
+use line_lists::{LineStore, LineVec};
 use std::alloc::{AllocError, Global};
 use std::process::Abort;
 use std::test::Fail;
@@ -157,21 +158,31 @@ fn set_tag<S: TextStore>(rt: &impl Abort, alloc: Global, store: &mut S) -> Resul
     Ok(())
 }
 
-#[test]
-fn a_cursor_looks_around(rt: HostRuntime) -> Result<(), Fail> {
-    let mut store: PlainStore = two_lines(rt.alloc())?;
-    set_tag(&rt, rt.alloc(), &mut store)?;
+fn check_looks<S: TextStore>(rt: &impl Abort, alloc: Global) -> Result<(), Fail> {
+    let mut store: S = two_lines(alloc)?;
+    set_tag(rt, alloc, &mut store)?;
     for row in &LOOKED {
-        check_looked(&rt, rt.alloc(), &store, row)?;
+        check_looked(rt, alloc, &store, row)?;
     }
     Ok(())
 }
 
-#[test]
-fn lines_begin(rt: HostRuntime) -> Result<(), Fail> {
-    let store: PlainStore = two_lines(rt.alloc())?;
+fn check_lines<S: TextStore>(rt: &impl Abort, alloc: Global) -> Result<(), Fail> {
+    let store: S = two_lines(alloc)?;
     assert!(rt; 6 <= store.len());
     assert!(rt; line_at(&store, 4) == 3 && line_behind(&store, 2) == 3);
     assert!(rt; line_behind(&store, 6) == 6);
     Ok(())
+}
+
+#[test]
+fn a_cursor_looks_around(rt: HostRuntime) -> Result<(), Fail> {
+    check_looks::<PlainStore>(&rt, rt.alloc())?;
+    check_looks::<LineStore<LineVec>>(&rt, rt.alloc())
+}
+
+#[test]
+fn lines_begin(rt: HostRuntime) -> Result<(), Fail> {
+    check_lines::<PlainStore>(&rt, rt.alloc())?;
+    check_lines::<LineStore<LineVec>>(&rt, rt.alloc())
 }

@@ -1,6 +1,8 @@
 ghost use Rattle.std.specs.Prelude.{◌≡◌, ◌<◌, true, length, IfSome};
 ghost use Rattle.text_model.specs.Steps.{length_after, FitsIn, StepFitsIn};
 
+use crate::random_edits::{Numbers, random_steps};
+use line_lists::{LineStore, LineVec};
 use std::alloc::{AllocError, Global};
 use std::process::Abort;
 use std::test::Fail;
@@ -9,10 +11,10 @@ use text_model::{
 };
 
 /// The slots that the tests use: at both ends of the words of a set.
-const SLOTS: [u16; 4] = [0, 63, 64, 255];
+pub const SLOTS: [u16; 4] = [0, 63, 64, 255];
 
 /// How many marks the tests use.
-const MARKS: u16 = 5;
+pub const MARKS: u16 = 5;
 
 /// A cell as the tests keep it: a character, and whether it has each of `SLOTS`.
 #[derive(Clone, Copy)]
@@ -42,7 +44,7 @@ fn count(text: &Text) -> usize
 }
 
 /// How many characters there are after a step, if it fits a text of so many.
-fn length_after(len: usize, step: &Step) -> Option<usize>
+pub fn length_after(len: usize, step: &Step) -> Option<usize>
     ensures { IfSome result (λ after. StepFitsIn step.now len × (after ≡ length_after step.now len)) }
 {
     match step {
@@ -75,11 +77,11 @@ fn fits(len: usize, steps: &[Step]) -> bool
     true
 }
 
-/// Makes an edit of these steps, if they fit.
-fn make<S: TextStore>(store: &mut S, steps: StepList) -> Result<bool, AllocError> {
-    let fits = fits(store.len(), steps.as_slice());
+/// Makes an edit, if its steps fit.
+pub fn make<S: TextStore>(store: &mut S, edit: &Edit) -> Result<bool, AllocError> {
+    let fits = fits(store.len(), edit.steps.as_slice());
     if fits {
-        let prepared = store.prepare(&Edit { steps })?;
+        let prepared = store.prepare(edit)?;
         store.commit(prepared);
     }
     Ok(fits)
@@ -398,7 +400,7 @@ fn check<S: TextStore>(rt: &impl Abort, store: &S, text: &PlainText) -> Result<(
 
 /// A step as the tests keep it.
 #[derive(Clone, Copy)]
-enum PlainStep {
+pub enum PlainStep {
     Remove(usize, usize),
     Insert(usize, &'static str, &'static [u16]),
     SetTag(usize, usize, TagSlot, bool),
@@ -419,7 +421,7 @@ fn tags_of(slots: &[u16]) -> TagSet {
     tags
 }
 
-fn step_of(alloc: Global, step: PlainStep) -> Result<Step, AllocError> {
+pub fn step_of(alloc: Global, step: PlainStep) -> Result<Step, AllocError> {
     Ok(match step {
         PlainStep::Remove(from, to) => Step::Remove(from, to),
         PlainStep::Insert(at, text, slots) => {
@@ -451,7 +453,7 @@ fn make_and_check<S: TextStore>(
     steps: StepList,
 ) -> Result<(), AllocError> {
     let after = text.after(alloc, steps.as_slice())?;
-    assert!(rt; make(store, steps)?);
+    assert!(rt; make(store, &Edit { steps })?);
     *text = after;
     check(rt, store, text)
 }
@@ -591,82 +593,6 @@ fn check_all_steps<S: TextStore>(rt: &impl Abort, alloc: Global) -> Result<(), A
     Ok(())
 }
 
-/// Numbers that look random.
-#[derive(Drop)]
-struct Numbers(u64);
-
-impl Numbers {
-    /// A number below another.
-    fn below(&mut self, end: usize) -> usize
-        requires { 0 < end }
-        ensures { result < end }
-    {
-        self.0 = self
-            .0
-            .wrapping_mul(6_364_136_223_846_793_005)
-            .wrapping_add(1_442_695_040_888_963_407);
-        (self.0 >> 33) as usize % end
-    }
-
-    fn slot(&mut self) -> TagSlot {
-        TagSlot(SLOTS[self.below(4)])
-    }
-
-    fn mark(&mut self) -> MarkNo {
-        MarkNo(self.below(MARKS as usize) as u16)
-    }
-
-    /// A place from an offset on, or behind the character there.
-    fn place(&mut self, offset: usize) -> Place
-        requires { offset < 1000000 }
-    {
-        let gravity = match self.below(2) {
-            0 => Gravity::Left,
-            _ => Gravity::Right,
-        };
-        let offset = offset + self.below(2);
-        Place { offset, gravity }
-    }
-
-    /// A step that fits a text of so many characters.
-    fn step(&mut self, len: usize) -> PlainStep
-        requires some { 0 < len }
-        requires few { len < 1000000 }
-    {
-        let from = self.below(len);
-        let to = from + self.below(len - from);
-        match self.below(9) {
-            0 => PlainStep::Remove(from, to),
-            1 => PlainStep::Insert(from, "", &[]),
-            2 => PlainStep::Insert(from, "é\n", &[63, 64]),
-            3 => PlainStep::Insert(from, "xyz", &[0]),
-            4 => PlainStep::SetTag(from, to + self.below(2), self.slot(), self.below(2) == 0),
-            5 => PlainStep::ClearSlot(self.slot()),
-            6 => PlainStep::ClearTags(from),
-            7 => PlainStep::TakeMark(self.mark()),
-            _ => PlainStep::PutMark(self.mark(), self.place(to)),
-        }
-    }
-}
-
-/// One step to four, which fit a text of so many characters.
-fn random_steps(
-    rt: &impl Abort,
-    alloc: Global,
-    numbers: &mut Numbers,
-    len: usize,
-) -> Result<StepList, AllocError> {
-    let mut steps = StepList::new(alloc);
-    let mut len = len;
-    for _ in 0..1 + numbers.below(4) {
-        assert!(rt; 0 < len && len < 1_000_000);
-        let step = step_of(alloc, numbers.step(len))?;
-        len = length_after(len, &step).unwrap_or(0);
-        steps.push(step)?;
-    }
-    Ok(steps)
-}
-
 /// Random edits, of one step to four.
 fn make_random<S: TextStore>(
     rt: &impl Abort,
@@ -683,29 +609,33 @@ fn make_random<S: TextStore>(
 
 fn check_random_edits<S: TextStore>(rt: &impl Abort, alloc: Global) -> Result<(), AllocError> {
     let mut pair: Pair<S> = make_pair(alloc)?;
-    make_random(rt, alloc, &mut pair, &mut Numbers(1))
+    make_random(rt, alloc, &mut pair, &mut Numbers::new(usize::MAX))
 }
 
 #[test]
 fn stores_begin_with_a_newline(rt: HostRuntime) -> Result<(), Fail> {
     check_begin::<PlainStore>(&rt, rt.alloc())?;
+    check_begin::<LineStore<LineVec>>(&rt, rt.alloc())?;
     Ok(())
 }
 
 #[test]
 fn each_step_is_made(rt: HostRuntime) -> Result<(), Fail> {
     check_each_step::<PlainStore>(&rt, rt.alloc())?;
+    check_each_step::<LineStore<LineVec>>(&rt, rt.alloc())?;
     Ok(())
 }
 
 #[test]
 fn all_steps_are_made(rt: HostRuntime) -> Result<(), Fail> {
     check_all_steps::<PlainStore>(&rt, rt.alloc())?;
+    check_all_steps::<LineStore<LineVec>>(&rt, rt.alloc())?;
     Ok(())
 }
 
 #[test]
 fn random_edits_are_made(rt: HostRuntime) -> Result<(), Fail> {
     check_random_edits::<PlainStore>(&rt, rt.alloc())?;
+    check_random_edits::<LineStore<LineVec>>(&rt, rt.alloc())?;
     Ok(())
 }

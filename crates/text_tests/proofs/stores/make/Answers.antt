@@ -6,5 +6,5 @@ use Rattle.text_tests.proofs.stores.make.Goals as goal
 pub prepare-requires : goal.prepare-requires
 prepare-requires g c =
     let content = g.S.TextStore.content c.args.store.now in
-    Fits-from_FitsIn c.args.steps content
-    (subst (λ n. FitsIn c.args.steps n) c.len.ensures (subst (λ steps. FitsIn steps c.len.result) c.as_slice.ensures (c.fits-fits.ensures c.if-fits.true)))
+    Fits-from_FitsIn c.args.edit.now.steps content
+    (subst (λ n. FitsIn c.args.edit.now.steps n) c.len.ensures (subst (λ steps. FitsIn steps c.len.result) c.as_slice.ensures (c.fits-fits.ensures c.if-fits.true)))
