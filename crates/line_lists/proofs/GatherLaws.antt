@@ -184,8 +184,8 @@ gather-new front stops rest lines stop pieces piece gathers goes from count brou
           gathers.covers (omega (arith, next-used front stops lines stop rest goes, freed-length numbers lines)) (freed-lines numbers lines goes.are).rows (from ∙ ap (λ n. n + stop.copy.kept) here) count brought
           (λ zero. made-none stops base (gathers.none (first zero))) (alone front stops lines stop rest goes));
       ends = λ before last is.
-      let same = snoc_same pieces before piece last is in
-      omega (arith, ap (λ (p : Piece). p.from) same, ap (λ (p : Piece). p.count) same, from, count, here, used-snoc stops stop);
+          let same = snoc_same pieces before piece last is in
+          omega (arith, ap (λ (p : Piece). p.from) same, ap (λ (p : Piece). p.count) same, from, count, here, used-snoc stops stop);
       none = λ is. let long : length pieces + 1 ≡ 0 = sym (length-append pieces (piece ∷ [])) ∙ ap length is in absurd (omega (arith, long));
       brings = piece_lines-snoc pieces piece ∙ ap₂ (λ xs ys. xs ++ ys) gathers.brings brought ∙ sym (copied-snoc stops stop);
     }
@@ -205,8 +205,8 @@ gather-more front stops rest lines stop pieces before last more gathers goes pie
           (subst (λ k. Covers (before ++ more ∷ []) (used (copies_of stops) + (k + stop.copy.gone)) (made_lines (copies_of stops) base ++ (take k (drop (used (copies_of stops)) base) ++ stop.copy.line ∷ []))
           base (plus (count_of (copied_lines (copies_of stops))) (line_count stop.copy.line))) (sym zero) covers);
       ends = λ others end is.
-      let same = snoc_same before others more end is in
-      omega (arith, ap (λ (p : Piece). p.from) same, ap (λ (p : Piece). p.count) same, from, count, zero, ends, used-snoc stops stop);
+          let same = snoc_same before others more end is in
+          omega (arith, ap (λ (p : Piece). p.from) same, ap (λ (p : Piece). p.count) same, from, count, zero, ends, used-snoc stops stop);
       none = λ is. let long : length before + 1 ≡ 0 = sym (length-append before (more ∷ [])) ∙ ap length is in absurd (omega (arith, long));
       brings =
           piece_lines-snoc before more ∙ ap (λ xs. piece_lines before ++ xs) brought ∙ sym (append_assoc (piece_lines before) last.lines.items (stop.copy.line ∷ []))

@@ -218,23 +218,23 @@ covers-new pieces piece u kept gone made base line sum covers within rows from c
     λ rest. new-state piece u kept gone base rest line from count lines within in
     record {
       places = λ rest.
-      placed-snoc pieces piece (take (u + (kept + gone)) base ++ rest)
-      ∙ ap (placed pieces) (state rest ∙ split rest) ∙ covers.places (middle ++ line ∷ rest)
-      ∙ sym (append_assoc made (middle ++ line ∷ []) rest ∙ ap (λ xs. made ++ xs) (append_assoc middle (line ∷ []) rest));
+          placed-snoc pieces piece (take (u + (kept + gone)) base ++ rest)
+          ∙ ap (placed pieces) (state rest ∙ split rest) ∙ covers.places (middle ++ line ∷ rest)
+          ∙ sym (append_assoc made (middle ++ line ∷ []) rest ∙ ap (λ xs. made ++ xs) (append_assoc middle (line ∷ []) rest));
       can = λ rest follows.
-      let before = follows-before u kept gone made base rest line sum within rows alone follows in
-      let apart = apart-front (take (u + kept) base) more rest (subst (λ xs. AreApart (whole xs).marks (whole rest).marks) (all ∙ ap (λ xs. xs ++ more) (sym (take-more u kept base))) follows.apart) in
-      let here = rows-new u kept made base (line ∷ rest) (omega arith) (omega (arith, within)) rows first (apart-line (u + kept) base rest line alone apart) before.rows in
-      let are : AreLines (take (u + kept) base ++ (line ∷ rest)) = record {
-        some = omega (arith, length-append (take (u + kept) base) (line ∷ rest));
-        rows = here;
-        counted = counted-new (take (u + kept) base) more rest line sum
-            (subst (λ xs. IsCounted (plus (count_of (xs ++ rest)) (plus sum (line_count line)))) (all ∙ ap (λ xs. xs ++ more) (sym (take-more u kept base))) follows.counted);
-      } in
-      can-snoc pieces piece (take (u + (kept + gone)) base ++ rest)
-      (subst (CanPlace pieces) (sym (state rest ∙ split rest)) (covers.can (middle ++ line ∷ rest) before))
-      (omega (arith, from, count, within, long_take (u + (kept + gone)) base within, length-append (take (u + (kept + gone)) base) rest))
-      (subst AreLines (sym (state rest)) are);
+          let before = follows-before u kept gone made base rest line sum within rows alone follows in
+          let apart = apart-front (take (u + kept) base) more rest (subst (λ xs. AreApart (whole xs).marks (whole rest).marks) (all ∙ ap (λ xs. xs ++ more) (sym (take-more u kept base))) follows.apart) in
+          let here = rows-new u kept made base (line ∷ rest) (omega arith) (omega (arith, within)) rows first (apart-line (u + kept) base rest line alone apart) before.rows in
+          let are : AreLines (take (u + kept) base ++ (line ∷ rest)) = record {
+            some = omega (arith, length-append (take (u + kept) base) (line ∷ rest));
+            rows = here;
+            counted = counted-new (take (u + kept) base) more rest line sum
+                (subst (λ xs. IsCounted (plus (count_of (xs ++ rest)) (plus sum (line_count line)))) (all ∙ ap (λ xs. xs ++ more) (sym (take-more u kept base))) follows.counted);
+          } in
+          can-snoc pieces piece (take (u + (kept + gone)) base ++ rest)
+          (subst (CanPlace pieces) (sym (state rest ∙ split rest)) (covers.can (middle ++ line ∷ rest) before))
+          (omega (arith, from, count, within, long_take (u + (kept + gone)) base within, length-append (take (u + (kept + gone)) base) rest))
+          (subst AreLines (sym (state rest)) are);
     }
 
 -- ---- the last piece with a line more
@@ -259,15 +259,15 @@ covers-more before last more u gone made base line sum covers within rows ends f
     λ rest. ap (λ n. spliced more.from more.count more.lines.items (take n base ++ rest)) (sym same) ∙ more-state last more u gone base rest line ends from count lines within in
     record {
       places = λ rest.
-      placed-snoc before more (take (u + (0 + gone)) base ++ rest)
-      ∙ ap (placed before) (state rest) ∙ sym (placed-snoc before last (take u base ++ (line ∷ rest)))
-      ∙ covers.places (line ∷ rest) ∙ sym (append_assoc made (line ∷ []) rest);
+          placed-snoc before more (take (u + (0 + gone)) base ++ rest)
+          ∙ ap (placed before) (state rest) ∙ sym (placed-snoc before last (take u base ++ (line ∷ rest)))
+          ∙ covers.places (line ∷ rest) ∙ sym (append_assoc made (line ∷ []) rest);
       can = λ rest follows.
-      let can = can-split before last (take u base ++ (line ∷ rest))
-      (covers.can (line ∷ rest) (follows-before u 0 gone made base rest line sum (omega (arith, within)) rows alone follows)) in
-      can-snoc before more (take (u + (0 + gone)) base ++ rest) (subst (CanPlace before) (sym (state rest)) can.0)
-      (omega (arith, from, count, ends, within, long_take (u + (0 + gone)) base (omega (arith, within)), length-append (take (u + (0 + gone)) base) rest))
-      (subst AreLines (sym (state rest)) can.2);
+          let can = can-split before last (take u base ++ (line ∷ rest))
+          (covers.can (line ∷ rest) (follows-before u 0 gone made base rest line sum (omega (arith, within)) rows alone follows)) in
+          can-snoc before more (take (u + (0 + gone)) base ++ rest) (subst (CanPlace before) (sym (state rest)) can.0)
+          (omega (arith, from, count, ends, within, long_take (u + (0 + gone)) base (omega (arith, within)), length-append (take (u + (0 + gone)) base) rest))
+          (subst AreLines (sym (state rest)) can.2);
     }
 
 -- ---- all of them

@@ -53,7 +53,10 @@ fn sum_of(first: &Sums<WORDS>, second: &Sums<WORDS>) -> Result<Sums<WORDS>, Allo
     ensures counted { IfOk result (λ sum. IsCounted sum) }
 {
     first.lines().checked_add(second.lines()).ok_or(AllocError)?;
-    first.characters().checked_add(second.characters()).ok_or(AllocError)?;
+    first
+        .characters()
+        .checked_add(second.characters())
+        .ok_or(AllocError)?;
     first.marks().checked_add(second.marks()).ok_or(AllocError)?;
     Ok(first.plus(second))
 }
@@ -166,7 +169,11 @@ impl<'a, L: LineList> Draft<'a, L> {
         let mut pieces = Vec::new(alloc);
         for stop in self.front {
             let from = stop.reached.used + stop.copy.kept;
-            let last = if stop.copy.kept == 0 { pieces.pop() } else { None };
+            let last = if stop.copy.kept == 0 {
+                pieces.pop()
+            } else {
+                None
+            };
             let piece = match last {
                 Some(last) => with_line(last, stop.copy)?,
                 None => piece_of(alloc, from, stop.copy)?,
