@@ -213,6 +213,15 @@ pub cleared-both : (slot from middle to : ℕ) (text : LineContent) → from ≤
 cleared-both slot from middle to text first second within =
     λ i. record text { columns = changed-both (with_toggle slot false) from middle to text.columns first second within i }
 
+-- a slot is cleared in the whole text by clearing it from where it is toggled first
+pub cleared-all : (slot first len : ℕ) (lines : List LineContent) (front : List Stop) (back : List Copied) → front ≡ [] → first ≡ min len (free_end slot lines front back)
+    → len ≡ length (text_at lines front back).columns → with_cleared slot first len (text_at lines front back) ≡ with_cleared slot 0 len (text_at lines front back)
+cleared-all slot first len lines front back start first_is long =
+    let text = text_at lines front back in
+    let none : min len (place_of lines front) ≡ 0 = omega (arith, ap (place_of lines) start) in
+    let free : with_cleared slot 0 first text ≡ text = ap₂ (λ a b. with_cleared slot a b text) (sym none) first_is ∙ free-cleared slot len lines front back in
+    ap (with_cleared slot first len) (sym free) ∙ cleared-both slot 0 first len text (omega arith) (omega (arith, first_is)) (omega (arith, long))
+
 pub length-cleared : (slot from to : ℕ) (text : LineContent) → from ≤ to → to ≤ length text.columns → length (with_cleared slot from to text).columns ≡ length text.columns
 length-cleared slot from to text ordered within = length-changed (with_toggle slot false) from to text.columns ordered within
 

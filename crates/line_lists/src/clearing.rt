@@ -221,4 +221,36 @@ impl<'a, L: LineList> Draft<'a, L> {
         }
         Ok(())
     }
+
+    /// Goes back before the first copy.
+    fn back_to_start(&mut self) -> Result<(), AllocError>
+        requires { IsDraft (L.lines self.old.list.now) self.old.front.items self.old.back.items }
+        ensures list { self.new.list.now ≡ self.old.list.now }
+        ensures is { IsDraft (L.lines self.new.list.now) self.new.front.items self.new.back.items }
+        ensures same { drafted_at (L.lines self.new.list.now) self.new.front.items self.new.back.items
+            ≡ drafted_at (L.lines self.old.list.now) self.old.front.items self.old.back.items }
+        ensures start { OnOk result (self.new.front.items ≡ []) }
+    {
+        while !self.front.is_empty() {
+            self.step_back()?;
+        }
+        Ok(())
+    }
+
+    /// Takes all toggles of a slot away in a text of so many characters.
+    pub fn clear_slot(&mut self, slot: TagSlot, len: usize) -> Result<(), AllocError>
+        requires is { IsText (L.lines self.old.list.now) self.old.front.items self.old.back.items }
+        requires slot { slot.0 < slot_count }
+        requires len { len
+            ≡ length (text_at (L.lines self.old.list.now) self.old.front.items self.old.back.items).columns }
+        ensures list { self.new.list.now ≡ self.old.list.now }
+        ensures is { OnOk result (IsText (L.lines self.new.list.now) self.new.front.items self.new.back.items) }
+        ensures new { OnOk result (text_at (L.lines self.new.list.now) self.new.front.items self.new.back.items
+            ≡ with_cleared slot.0 0 len
+            (text_at (L.lines self.old.list.now) self.old.front.items self.old.back.items)) }
+    {
+        self.back_to_start()?;
+        let first = self.next_toggled(slot, len)?;
+        self.clear(slot, first, len)
+    }
 }

@@ -216,7 +216,7 @@ impl<'a, L: LineList> Draft<'a, L> {
                 self.set_tag(*from, *to, *slot, *is_on, len)?;
             }
             Step::ClearTags(offset) => self.clear_tags(*offset, len)?,
-            Step::ClearSlot(slot) => self.clear(*slot, 0, len)?,
+            Step::ClearSlot(slot) => self.clear_slot(*slot, len)?,
             Step::PutMark(number, place) => self.move_mark(*number, *place, len)?,
             Step::TakeMark(number) => self.take_mark(*number)?,
         }
@@ -235,7 +235,8 @@ impl<'a, L: LineList> Draft<'a, L> {
         ensures is { OnOk result (IsText (L.lines self.new.list.now) self.new.front.items self.new.back.items) }
         ensures new { OnOk result
             (text_of (text_at (L.lines self.new.list.now) self.new.front.items self.new.back.items)
-            ≡ after steps.now (text_of (text_at (L.lines self.old.list.now) self.old.front.items self.old.back.items))) }
+            ≡ after steps.now
+            (text_of (text_at (L.lines self.old.list.now) self.old.front.items self.old.back.items))) }
     {
         let mut len = len;
         for step in steps {
