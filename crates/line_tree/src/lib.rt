@@ -6,6 +6,7 @@ mod fill;
 mod find;
 mod insert;
 mod locate;
+mod prefix;
 mod remove;
 mod shrink;
 mod tree;

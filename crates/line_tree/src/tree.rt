@@ -3,11 +3,14 @@ use crate::fill::{join, top};
 use crate::find::select;
 use crate::insert::{insert_in, new_line};
 use crate::locate::locate;
+use crate::prefix::prefix;
 use crate::remove::{lower, remove_in};
 use raw_nodes::{NodePtr, NodeStore, Ticks};
 use segments::Line;
 use std::alloc::{AllocError, Global};
 use std::marker::Model;
+use text_model::WORDS;
+use toggle_sums::Sums;
 
 /// A list of lines with names, as a balanced tree.
 #[derive(Drop)]
@@ -41,10 +44,11 @@ impl<C: Ticks> Model for LineTree<C> {
 }
 
 impl<C: Ticks> LineTree<C> {
-    ghost use Rattle.std.specs.Prelude.{◌≡◌, ℕ, ◌+◌, ◌-◌, ◌*◌, ◌^◌, ◌≤◌, ◌<◌, length, OnOk, IfOk, [], ◌∷◌, slice_get};
+    ghost use Rattle.std.specs.Prelude.{◌≡◌, ℕ, ◌+◌, ◌-◌, ◌*◌, ◌^◌, ◌≤◌, ◌<◌, length, take, OnOk, IfOk, [], ◌∷◌, slice_get};
     ghost use Rattle.std.specs.List.{insert, remove};
     ghost use Rattle.toggle_sums.specs.Counts.{plus};
-    ghost use Rattle.line_tree.specs.Trees.{total};
+    ghost use Rattle.line_lists.specs.Lists.{count_of};
+    ghost use Rattle.line_tree.specs.Trees.{contents, total};
     ghost use Rattle.segments.specs.Columns.{line_count, plain_line};
     ghost use Rattle.line_tree.specs.Changes.{Distinct, FitsSum};
     ghost use Rattle.line_tree.specs.Places.{IsLineAt, line_names};
@@ -115,6 +119,14 @@ impl<C: Ticks> LineTree<C> {
         ensures ticks { C.count ticks.new ≤ C.count ticks.old + 23 * self.now.height }
     {
         rank(&self.store, self.root, self.height, name, ticks)
+    }
+
+    /// The sum of the first `k` lines.
+    pub fn prefix(&self, k: usize, ticks: &mut C) -> Sums<WORDS>
+        requires { k ≤ length self.now.lines }
+        ensures { result ≡ count_of (take k (contents self.now.lines)) }
+    {
+        prefix(&self.store, self.root, self.height, k, ticks)
     }
 
     /// Puts in a line as number `k`, and gives its name.
