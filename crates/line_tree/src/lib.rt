@@ -6,6 +6,7 @@ mod fill;
 mod find;
 mod insert;
 mod locate;
+mod nearest;
 mod prefix;
 mod remove;
 mod shrink;

@@ -3,13 +3,14 @@ use crate::fill::{join, top};
 use crate::find::select;
 use crate::insert::{insert_in, new_line};
 use crate::locate::locate;
+use crate::nearest::{Wanted, next};
 use crate::prefix::prefix;
 use crate::remove::{lower, remove_in};
 use raw_nodes::{NodePtr, NodeStore, Ticks};
 use segments::Line;
 use std::alloc::{AllocError, Global};
 use std::marker::Model;
-use text_model::WORDS;
+use text_model::{TagSlot, WORDS};
 use toggle_sums::Sums;
 
 /// A list of lines with names, as a balanced tree.
@@ -47,7 +48,8 @@ impl<C: Ticks> LineTree<C> {
     ghost use Rattle.std.specs.Prelude.{◌≡◌, ℕ, ◌+◌, ◌-◌, ◌*◌, ◌^◌, ◌≤◌, ◌<◌, length, take, OnOk, IfOk, [], ◌∷◌, slice_get};
     ghost use Rattle.std.specs.List.{insert, remove};
     ghost use Rattle.toggle_sums.specs.Counts.{plus};
-    ghost use Rattle.line_lists.specs.Lists.{count_of};
+    ghost use Rattle.text_model.specs.TagBits.{slot_count};
+    ghost use Rattle.line_lists.specs.Lists.{count_of, has_marks, has_toggle, next_line};
     ghost use Rattle.line_tree.specs.Trees.{contents, total};
     ghost use Rattle.segments.specs.Columns.{line_count, plain_line};
     ghost use Rattle.line_tree.specs.Changes.{Distinct, FitsSum};
@@ -127,6 +129,24 @@ impl<C: Ticks> LineTree<C> {
         ensures { result ≡ count_of (take k (contents self.now.lines)) }
     {
         prefix(&self.store, self.root, self.height, k, ticks)
+    }
+
+    /// The first line from one on in which a slot is toggled.
+    pub fn next_with(&self, slot: TagSlot, from: usize, ticks: &mut C) -> Option<usize>
+        requires slot { slot.0 < slot_count }
+        requires within { from ≤ length self.now.lines }
+        ensures { result ≡ next_line (has_toggle slot.0) from (contents self.now.lines) }
+    {
+        let wanted = Wanted::Toggle(slot);
+        next(&self.store, self.root, self.height, wanted, from, ticks)
+    }
+
+    /// The first line from one on in which a mark stands.
+    pub fn next_marked(&self, from: usize, ticks: &mut C) -> Option<usize>
+        requires { from ≤ length self.now.lines }
+        ensures { result ≡ next_line has_marks from (contents self.now.lines) }
+    {
+        next(&self.store, self.root, self.height, Wanted::Mark, from, ticks)
     }
 
     /// Puts in a line as number `k`, and gives its name.

@@ -1,0 +1,182 @@
+-- Ways down to the nearest line that has what is wanted.
+use Rattle.std.proofs.Common.{◌≡◌, ℕ, zero, suc, ◌+◌, ◌-◌, ◌<◌, ◌≤◌, inl, inr, Bool, true, false, ◌||◌, nat_lt, List, [], ◌∷◌, length, refl, sym, ap, ◌∙◌, subst, arith}
+use Rattle.std.specs.Prelude.{slice_get}
+use Rattle.std.specs.Cmp.{nat_cmp_total}
+use Rattle.std.specs.FinMap as finite
+use Rattle.std.specs.FinSet as set
+use Rattle.std.specs.List.{sum_by}
+use Rattle.std.specs.Ordering.{nat_cmp}
+use Rattle.std.specs.declared.option.Option.{Option}
+use Rattle.std.specs.declared.option.Option.TheVariants.{None, Some}
+use Rattle.std.proofs.lemmas.Bool.{cases_lt}
+use Rattle.std.proofs.lemmas.List.{length-map, take_all}
+use Rattle.std.proofs.lemmas.List.Sums.{sum_by-take-le}
+use mathlib.Core.Bool.{false≢true}
+use Rattle.toggle_sums.specs.CountLaws.{plus-no_text}
+use Rattle.toggle_sums.specs.Counts.{Count, plus}
+use Rattle.segments.specs.Columns.{LineContent, line_count, plain_line}
+use Rattle.raw_nodes.specs.Records.{Records}
+use Rattle.raw_nodes.specs.Rows.{kids}
+use Rattle.raw_nodes.specs.declared.names.NodePtr.{NodePtr}
+use Rattle.line_lists.specs.Lists.{next_line, previous_line}
+use Rattle.line_lists.proofs.ListLaws.{no-marks, some-marks}
+use Rattle.line_lists.proofs.SearchRows.{FailFrom, NextAt, PreviousAt, line_at, next-found, next-none, previous-found, previous-none}
+use Rattle.line_tree.specs.Nearest.{passes, shows}
+use Rattle.line_tree.specs.Places.{lines_before}
+use Rattle.line_tree.specs.Shape.{IsTree, line_of, lines_at, lines_in}
+use Rattle.line_tree.specs.Trees.{Named, contents, lines, total}
+use Rattle.line_tree.specs.declared.nearest.Wanted.{Wanted}
+use Rattle.line_tree.specs.declared.nearest.Wanted.TheVariants.{Toggle, Mark}
+use Rattle.line_tree.proofs.RowLaws.{step_yes}
+use Rattle.line_tree.proofs.TreeLaws.{below-tree, child-tree, count-tree, line-found, row-tree}
+
+-- ---- the nearest line by what holds of it
+differ : (b : Bool) → b ≡ true → b ≡ false → ⊥
+differ b is isn't = false≢true (sym isn't ∙ is)
+
+next-is : (test : LineContent → Bool) (from : ℕ) (ls : List LineContent) (k : ℕ) → NextAt test from ls k → next_line test from ls ≡ Some k
+next-is test from ls k at = which (next_line test from ls) refl where
+  which : (o : Option ℕ) → next_line test from ls ≡ o → o ≡ Some k
+  which None is = absurd (differ (test (line_at ls k)) at.passes (next-none test from ls is k at.above at.within))
+  which (Some j) is = let found = next-found test from ls j is in elim (cases_lt j k) [
+    | inl less ↦ absurd (differ (test (line_at ls j)) found.passes (at.free j found.above less))
+    | inr least ↦ elim (cases_lt k j) [
+      | inl more ↦ absurd (differ (test (line_at ls k)) at.passes (found.free k at.above more))
+      | inr most ↦ let e : j ≡ k = omega arith in ap (λ n. Some n) e
+    ]
+  ]
+
+pub next-no : (test : LineContent → Bool) (from : ℕ) (ls : List LineContent) → FailFrom test ls from (length ls) → next_line test from ls ≡ None
+next-no test from ls fail = which (next_line test from ls) refl where
+  which : (o : Option ℕ) → next_line test from ls ≡ o → o ≡ None
+  which None is = refl
+  which (Some j) is = let found = next-found test from ls j is in absurd (differ (test (line_at ls j)) found.passes (fail j found.above found.within))
+
+-- ---- the lines of a child among those of its parent
+abbrev content_or : Option Named → LineContent
+content_or None = plain_line []
+content_or (Some l) = l.1
+
+at-contents : (ls : List Named) (k : ℕ) → line_at (contents ls) k ≡ content_or (slice_get ls k)
+at-contents [] k = refl
+at-contents (l ∷ ls) zero = refl
+at-contents (l ∷ ls) (suc k) = at-contents ls k
+
+pub long : (ls : List Named) → length (contents ls) ≡ length ls
+long ls = length-map ls (λ (l : Named). l.1)
+
+-- the first lines of these, and those from one on
+abbrev pub SameFrom : List LineContent → ℕ → List LineContent → Type 0
+SameFrom ls b xs = (j : ℕ) → j < length xs → line_at ls (b + j) ≡ line_at xs j
+
+pub child-lines : (m : Records) (h : ℕ) (p : NodePtr) (i b : ℕ) (c : NodePtr) → IsTree m (suc h) p → slice_get (kids m p) i ≡ Some c → b ≡ lines_before m p i → SameFrom (contents (lines_in m (suc h) p)) b (contents (lines_in m h c))
+child-lines m h p i b c is at before j less =
+    let n = count-tree m h c (child-tree m h (kids m p) i c is.2 at) in let l = long (lines_in m h c) in
+    at-contents (lines_in m (suc h) p) (b + j) ∙ ap content_or (line-found m h (kids m p) i j (b + j) c is.2 at (omega arith) (omega arith)) ∙ sym (at-contents (lines_in m h c) j)
+
+pub passed-child : (test : LineContent → Bool) (ls xs : List LineContent) (from b : ℕ) → SameFrom ls b xs → FailFrom test ls from b → next_line test (from - b) xs ≡ None → FailFrom test ls from (b + length xs)
+passed-child test ls xs from b same free none j more less = elim (cases_lt j b) [
+  | inl before ↦ free j more before
+  | inr behind ↦
+      let e : b + (j - b) ≡ j = omega arith in
+      ap test (ap (line_at ls) (sym e) ∙ same (j - b) (omega arith)) ∙ next-none test (from - b) xs none (j - b) (omega arith) (omega arith)
+]
+
+pub found-child : (test : LineContent → Bool) (ls xs : List LineContent) (from b n : ℕ) → SameFrom ls b xs → b + length xs ≤ length ls → FailFrom test ls from b → next_line test (from - b) xs ≡ Some n
+    → next_line test from ls ≡ Some (b + n)
+found-child test ls xs from b n same within free is = let found = next-found test (from - b) xs n is in let above = found.above in let inside = found.within in next-is test from ls (b + n) (record {
+  above = omega arith;
+  within = omega arith;
+  passes = ap test (same n found.within) ∙ found.passes;
+  free = λ j more less. elim (cases_lt j b) [
+    | inl before ↦ free j more before
+    | inr behind ↦
+        let e : b + (j - b) ≡ j = omega arith in
+        ap test (ap (line_at ls) (sym e) ∙ same (j - b) (omega arith)) ∙ found.free (j - b) (omega arith) (omega arith)
+  ];
+})
+
+pub found-within : (test : LineContent → Bool) (from n : ℕ) (xs : List LineContent) → next_line test from xs ≡ Some n → n < length xs
+found-within test from n xs is = (next-found test from xs n is).within
+
+-- ---- what a sum shows
+some_of : (x y : ℕ) → nat_lt 0 (x + y) ≡ (nat_lt 0 x || nat_lt 0 y)
+some_of x y = elim (cases_lt 0 x) [
+  | inl less ↦ some-marks (x + y) (x + y) refl (omega arith) ∙ sym (ap (λ b. b || nat_lt 0 y) (some-marks x x refl less))
+  | inr none ↦ let e : x + y ≡ y = omega arith in ap (nat_lt 0) e ∙ sym (ap (λ b. b || nat_lt 0 y) (no-marks x x refl none))
+]
+
+shows-plus : (w : Wanted) (a b : Count) → shows w (plus a b) ≡ (shows w a || shows w b)
+shows-plus (Toggle slot) a b = set.contains-union nat_cmp_total a.presence b.presence slot.0
+shows-plus Mark a b = some_of a.marks b.marks
+
+passes-shows : (w : Wanted) (l : LineContent) → passes w l ≡ shows w (line_count l)
+passes-shows (Toggle slot) l = refl
+passes-shows Mark l = refl
+
+neither : (a b : Bool) → (a || b) ≡ false → (a ≡ false) × (b ≡ false)
+neither true b is = absurd (false≢true (sym is))
+neither false b is = (refl, is)
+
+all-fail : (w : Wanted) (ls : List Named) → shows w (total ls) ≡ false → (j : ℕ) → j < length ls → passes w (line_at (contents ls) j) ≡ false
+all-fail w [] none j less = absurd (omega arith)
+all-fail w (l ∷ ls) none zero less = passes-shows w l.1 ∙ (neither (shows w (line_count l.1)) (shows w (total ls)) (sym (shows-plus w (line_count l.1) (total ls)) ∙ none)).0
+all-fail w (l ∷ ls) none (suc j) less = all-fail w ls (neither (shows w (line_count l.1)) (shows w (total ls)) (sym (shows-plus w (line_count l.1) (total ls)) ∙ none)).1 j (omega arith)
+
+one-passes : (w : Wanted) (q : NodePtr) (l : LineContent) → shows w (total ((q, l) ∷ [])) ≡ true → passes w l ≡ true
+one-passes w q l some = passes-shows w l ∙ ap (shows w) (sym (plus-no_text (line_count l))) ∙ some
+
+-- ---- where no child is asked
+pub past-next : (w : Wanted) (from : ℕ) (ls : List Named) → length ls ≤ from → next_line (passes w) from (contents ls) ≡ None
+past-next w from ls past = let l = long ls in next-no (passes w) from (contents ls) (λ j more less. absurd (omega arith))
+
+pub none-next : (w : Wanted) (from : ℕ) (ls : List Named) → shows w (total ls) ≡ false → next_line (passes w) from (contents ls) ≡ None
+none-next w from ls none = let l = long ls in next-no (passes w) from (contents ls) (λ j more less. all-fail w ls none j (omega arith))
+
+line-first : (m : Records) (q : NodePtr) (w : Wanted) (from : ℕ) → from < length (lines_in m zero q) → shows w (total (lines_in m zero q)) ≡ true → next_line (passes w) from (contents (lines_in m zero q)) ≡ Some 0
+line-first m q w from = one (line_of (finite.get m q)) where
+  one : (o : Option LineContent) → from < length (lines zero (q, o)) → shows w (total (lines zero (q, o))) ≡ true → next_line (passes w) from (contents (lines zero (q, o))) ≡ Some 0
+  one None less some = absurd (omega arith)
+  one (Some l) less some = next-is (passes w) from (l ∷ []) 0 (record { above = omega arith; within = omega arith; passes = one-passes w q l some; free = λ j more below. absurd (omega arith) })
+
+pub line-next : (m : Records) (h : ℕ) (q : NodePtr) (w : Wanted) (from : ℕ) → h ≡ 0 → from < length (lines_in m h q) → shows w (total (lines_in m h q)) ≡ true → next_line (passes w) from (contents (lines_in m h q)) ≡ Some 0
+line-next m h q w from e = subst (λ k. from < length (lines_in m k q) → shows w (total (lines_in m k q)) ≡ true → next_line (passes w) from (contents (lines_in m k q)) ≡ Some 0) (sym e) (line-first m q w from)
+
+-- ---- one child of a node
+module _ (m : Records) (h n : ℕ) (p : NodePtr) (i b : ℕ) (e : h ≡ suc n) (is : IsTree m h p) (before : b ≡ lines_before m p i) where
+  abbrev pub at_top : IsTree m (suc n) p
+  at_top = subst (λ k. IsTree m k p) e is
+
+  whole : lines_in m h p ≡ lines_in m (suc n) p
+  whole = ap (λ k. lines_in m k p) e
+
+  module _ (c : NodePtr) (at : slice_get (kids m p) i ≡ Some c) where
+    pub child-is : IsTree m n c
+    child-is = child-tree m n (kids m p) i c at_top.2 at
+
+    pub child-within : b + length (lines_in m n c) ≤ length (lines_in m h p)
+    child-within =
+        let same = ap length whole in let below = below-tree m n p at_top in let count = count-tree m n c child-is in
+        let more = step_yes (lines_at m) (kids m p) i c at in let part = sum_by-take-le (lines_at m) (kids m p) (i + 1) in omega arith
+
+    same : SameFrom (contents (lines_in m h p)) b (contents (lines_in m n c))
+    same = subst (λ ls. SameFrom (contents ls) b (contents (lines_in m n c))) (sym whole) (child-lines m n p i b c at_top at before)
+
+    pub next-hit : (w : Wanted) (from k : ℕ) → FailFrom (passes w) (contents (lines_in m h p)) from b → next_line (passes w) (from - b) (contents (lines_in m n c)) ≡ Some k
+        → next_line (passes w) from (contents (lines_in m h p)) ≡ Some (b + k)
+    next-hit w from k free found =
+        let l = long (lines_in m h p) in let s = long (lines_in m n c) in let inside = child-within in
+        found-child (passes w) (contents (lines_in m h p)) (contents (lines_in m n c)) from b k same (omega arith) free found
+
+    pub next-missed : (w : Wanted) (from : ℕ) → FailFrom (passes w) (contents (lines_in m h p)) from b → next_line (passes w) (from - b) (contents (lines_in m n c)) ≡ None
+        → FailFrom (passes w) (contents (lines_in m h p)) from (b + lines_at m c)
+    next-missed w from free none =
+        let s = long (lines_in m n c) in let count = count-tree m n c child-is in let more : b + length (contents (lines_in m n c)) ≡ b + lines_at m c = omega arith in
+        subst (λ z. FailFrom (passes w) (contents (lines_in m h p)) from z) more (passed-child (passes w) (contents (lines_in m h p)) (contents (lines_in m n c)) from b same free none)
+
+  pub next-end : (w : Wanted) (from : ℕ) → 12 ≤ i → FailFrom (passes w) (contents (lines_in m h p)) from b → next_line (passes w) from (contents (lines_in m h p)) ≡ None
+  next-end w from past free =
+      let row = row-tree m n p at_top in let few = row.few in
+      let all = ap (sum_by (lines_at m)) (take_all i (kids m p) (omega arith)) in let below = below-tree m n p at_top in let l = long (lines_in m h p) in let w_l = ap length whole in
+      let end : b ≡ length (contents (lines_in m h p)) = omega arith in
+      next-no (passes w) from (contents (lines_in m h p)) (subst (λ z. FailFrom (passes w) (contents (lines_in m h p)) from z) end free)
