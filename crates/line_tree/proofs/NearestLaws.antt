@@ -1,5 +1,5 @@
 -- Ways down to the nearest line that has what is wanted.
-use Rattle.std.proofs.Common.{◌≡◌, ℕ, zero, suc, ◌+◌, ◌-◌, ◌<◌, ◌≤◌, inl, inr, Bool, true, false, ◌||◌, nat_lt, List, [], ◌∷◌, length, refl, sym, ap, ◌∙◌, subst, arith}
+use Rattle.std.proofs.Common.{◌≡◌, ℕ, zero, suc, ◌+◌, ◌-◌, ◌<◌, ◌≤◌, ◌⊎◌, inl, inr, Bool, true, false, ◌||◌, min, nat_lt, List, [], ◌∷◌, length, refl, sym, ap, ◌∙◌, subst, arith}
 use Rattle.std.specs.Prelude.{slice_get}
 use Rattle.std.specs.Cmp.{nat_cmp_total}
 use Rattle.std.specs.FinMap as finite
@@ -8,6 +8,7 @@ use Rattle.std.specs.List.{sum_by}
 use Rattle.std.specs.Ordering.{nat_cmp}
 use Rattle.std.specs.declared.option.Option.{Option}
 use Rattle.std.specs.declared.option.Option.TheVariants.{None, Some}
+use Rattle.std.proofs.Math.Nat.{le-min, min-le_left, min-le_right}
 use Rattle.std.proofs.lemmas.Bool.{cases_lt}
 use Rattle.std.proofs.lemmas.List.{length-map, take_all}
 use Rattle.std.proofs.lemmas.List.Sums.{sum_by-take-le}
@@ -51,6 +52,24 @@ next-no test from ls fail = which (next_line test from ls) refl where
   which : (o : Option ℕ) → next_line test from ls ≡ o → o ≡ None
   which None is = refl
   which (Some j) is = let found = next-found test from ls j is in absurd (differ (test (line_at ls j)) found.passes (fail j found.above found.within))
+
+previous-is : (test : LineContent → Bool) (to : ℕ) (ls : List LineContent) (k : ℕ) → to ≤ length ls → PreviousAt test to ls k → previous_line test to ls ≡ Some k
+previous-is test to ls k within at = which (previous_line test to ls) refl where
+  which : (o : Option ℕ) → previous_line test to ls ≡ o → o ≡ Some k
+  which None is = absurd (differ (test (line_at ls k)) at.passes (previous-none test to ls within is k (omega arith) at.below))
+  which (Some j) is = let found = previous-found test to ls within j is in elim (cases_lt j k) [
+    | inl less ↦ absurd (differ (test (line_at ls k)) at.passes (found.free k less at.below))
+    | inr least ↦ elim (cases_lt k j) [
+      | inl more ↦ absurd (differ (test (line_at ls j)) found.passes (at.free j more found.below))
+      | inr most ↦ let e : j ≡ k = omega arith in ap (λ n. Some n) e
+    ]
+  ]
+
+pub previous-no : (test : LineContent → Bool) (to : ℕ) (ls : List LineContent) → to ≤ length ls → FailFrom test ls 0 to → previous_line test to ls ≡ None
+previous-no test to ls within fail = which (previous_line test to ls) refl where
+  which : (o : Option ℕ) → previous_line test to ls ≡ o → o ≡ None
+  which None is = refl
+  which (Some j) is = let found = previous-found test to ls within j is in absurd (differ (test (line_at ls j)) found.passes (fail j (omega arith) found.below))
 
 -- ---- the lines of a child among those of its parent
 abbrev content_or : Option Named → LineContent
@@ -99,6 +118,44 @@ found-child test ls xs from b n same within free is = let found = next-found tes
 pub found-within : (test : LineContent → Bool) (from n : ℕ) (xs : List LineContent) → next_line test from xs ≡ Some n → n < length xs
 found-within test from n xs is = (next-found test from xs n is).within
 
+-- t is how many lines below one stand in the child, or all of its lines
+pub record Reaches (to b n t : ℕ) : Type 0 where
+  pub inside : t ≤ n
+  pub below : b + t ≤ to ⊎ t ≡ 0
+  pub ends : (j : ℕ) → b ≤ j → j < to → j < b + n → j < b + t
+
+pub reaches : (to b n d t : ℕ) → d ≡ to - b → t ≡ min d n → Reaches to b n t
+reaches to b n d t is least = let low : t ≤ d = subst (λ z. z ≤ d) (sym least) (min-le_left d n) in let high : t ≤ n = subst (λ z. z ≤ n) (sym least) (min-le_right d n) in elim (cases_lt b to) [
+  | inl some ↦ record { inside = high; below = inl (omega arith); ends = λ j more less before. let far : suc (j - b) ≤ min d n = le-min (omega arith) (omega arith) in omega arith }
+  | inr none ↦ record { inside = high; below = inr (omega arith); ends = λ j more less before. absurd (omega arith) }
+]
+
+pub passed-back : (test : LineContent → Bool) (ls xs : List LineContent) (to b t : ℕ) → SameFrom ls b xs → Reaches to b (length xs) t → FailFrom test ls (b + length xs) to → previous_line test t xs ≡ None → FailFrom test ls b to
+passed-back test ls xs to b t same reach free none j more less = elim (cases_lt j (b + length xs)) [
+  | inl before ↦
+      let e : b + (j - b) ≡ j = omega arith in let far = reach.ends j more less before in
+      ap test (ap (line_at ls) (sym e) ∙ same (j - b) (omega arith)) ∙ previous-none test t xs reach.inside none (j - b) (omega arith) (omega arith)
+  | inr behind ↦ free j behind less
+]
+
+pub found-back : (test : LineContent → Bool) (ls xs : List LineContent) (to b t n : ℕ) → SameFrom ls b xs → Reaches to b (length xs) t → to ≤ length ls → FailFrom test ls (b + length xs) to → previous_line test t xs ≡ Some n
+    → previous_line test to ls ≡ Some (b + n)
+found-back test ls xs to b t n same reach within free is =
+    let found = previous-found test t xs reach.inside n is in let below = found.below in let inside = reach.inside in
+    previous-is test to ls (b + n) within (record {
+      below = elim reach.below [ inl low ↦ omega arith | inr none ↦ absurd (omega arith) ];
+      passes = ap test (same n (omega arith)) ∙ found.passes;
+      free = λ j more less. elim (cases_lt j (b + length xs)) [
+        | inl before ↦
+            let e : b + (j - b) ≡ j = omega arith in let far = reach.ends j (omega arith) less before in
+            ap test (ap (line_at ls) (sym e) ∙ same (j - b) (omega arith)) ∙ found.free (j - b) (omega arith) (omega arith)
+        | inr behind ↦ free j behind less
+      ];
+    })
+
+pub found-below : (test : LineContent → Bool) (t n : ℕ) (xs : List LineContent) → t ≤ length xs → previous_line test t xs ≡ Some n → n < t
+found-below test t n xs within is = (previous-found test t xs within n is).below
+
 -- ---- what a sum shows
 some_of : (x y : ℕ) → nat_lt 0 (x + y) ≡ (nat_lt 0 x || nat_lt 0 y)
 some_of x y = elim (cases_lt 0 x) [
@@ -142,6 +199,21 @@ line-first m q w from = one (line_of (finite.get m q)) where
 pub line-next : (m : Records) (h : ℕ) (q : NodePtr) (w : Wanted) (from : ℕ) → h ≡ 0 → from < length (lines_in m h q) → shows w (total (lines_in m h q)) ≡ true → next_line (passes w) from (contents (lines_in m h q)) ≡ Some 0
 line-next m h q w from e = subst (λ k. from < length (lines_in m k q) → shows w (total (lines_in m k q)) ≡ true → next_line (passes w) from (contents (lines_in m k q)) ≡ Some 0) (sym e) (line-first m q w from)
 
+pub first-previous : (w : Wanted) (to : ℕ) (ls : List Named) → to ≡ 0 → previous_line (passes w) to (contents ls) ≡ None
+first-previous w to ls none = previous-no (passes w) to (contents ls) (omega arith) (λ j more less. absurd (omega arith))
+
+pub none-previous : (w : Wanted) (to : ℕ) (ls : List Named) → to ≤ length ls → shows w (total ls) ≡ false → previous_line (passes w) to (contents ls) ≡ None
+none-previous w to ls within none = let l = long ls in previous-no (passes w) to (contents ls) (omega arith) (λ j more less. all-fail w ls none j (omega arith))
+
+line-last : (m : Records) (q : NodePtr) (w : Wanted) (to : ℕ) → 0 < to → to ≤ length (lines_in m zero q) → shows w (total (lines_in m zero q)) ≡ true → previous_line (passes w) to (contents (lines_in m zero q)) ≡ Some 0
+line-last m q w to = one (line_of (finite.get m q)) where
+  one : (o : Option LineContent) → 0 < to → to ≤ length (lines zero (q, o)) → shows w (total (lines zero (q, o))) ≡ true → previous_line (passes w) to (contents (lines zero (q, o))) ≡ Some 0
+  one None more within some = absurd (omega arith)
+  one (Some l) more within some = previous-is (passes w) to (l ∷ []) 0 within (record { below = more; passes = one-passes w q l some; free = λ j above below. absurd (omega arith) })
+
+pub line-previous : (m : Records) (h : ℕ) (q : NodePtr) (w : Wanted) (to : ℕ) → h ≡ 0 → 0 < to → to ≤ length (lines_in m h q) → shows w (total (lines_in m h q)) ≡ true → previous_line (passes w) to (contents (lines_in m h q)) ≡ Some 0
+line-previous m h q w to e = subst (λ k. 0 < to → to ≤ length (lines_in m k q) → shows w (total (lines_in m k q)) ≡ true → previous_line (passes w) to (contents (lines_in m k q)) ≡ Some 0) (sym e) (line-last m q w to)
+
 -- ---- one child of a node
 module _ (m : Records) (h n : ℕ) (p : NodePtr) (i b : ℕ) (e : h ≡ suc n) (is : IsTree m h p) (before : b ≡ lines_before m p i) where
   abbrev pub at_top : IsTree m (suc n) p
@@ -174,9 +246,34 @@ module _ (m : Records) (h n : ℕ) (p : NodePtr) (i b : ℕ) (e : h ≡ suc n) (
         let s = long (lines_in m n c) in let count = count-tree m n c child-is in let more : b + length (contents (lines_in m n c)) ≡ b + lines_at m c = omega arith in
         subst (λ z. FailFrom (passes w) (contents (lines_in m h p)) from z) more (passed-child (passes w) (contents (lines_in m h p)) (contents (lines_in m n c)) from b same free none)
 
+    pub previous-hit : (w : Wanted) (to t k : ℕ) → Reaches to b (lines_at m c) t → to ≤ length (lines_in m h p) → FailFrom (passes w) (contents (lines_in m h p)) (b + lines_at m c) to
+        → previous_line (passes w) t (contents (lines_in m n c)) ≡ Some k → previous_line (passes w) to (contents (lines_in m h p)) ≡ Some (b + k)
+    previous-hit w to t k reach within free found =
+        let l = long (lines_in m h p) in let s = long (lines_in m n c) in let count = count-tree m n c child-is in let all : lines_at m c ≡ length (contents (lines_in m n c)) = omega arith in
+        found-back (passes w) (contents (lines_in m h p)) (contents (lines_in m n c)) to b t k same (subst (λ z. Reaches to b z t) all reach) (omega arith)
+        (subst (λ z. FailFrom (passes w) (contents (lines_in m h p)) (b + z) to) all free) found
+
+    pub previous-missed : (w : Wanted) (to t : ℕ) → Reaches to b (lines_at m c) t → FailFrom (passes w) (contents (lines_in m h p)) (b + lines_at m c) to
+        → previous_line (passes w) t (contents (lines_in m n c)) ≡ None → FailFrom (passes w) (contents (lines_in m h p)) b to
+    previous-missed w to t reach free none =
+        let s = long (lines_in m n c) in let count = count-tree m n c child-is in let all : lines_at m c ≡ length (contents (lines_in m n c)) = omega arith in
+        passed-back (passes w) (contents (lines_in m h p)) (contents (lines_in m n c)) to b t same (subst (λ z. Reaches to b z t) all reach)
+        (subst (λ z. FailFrom (passes w) (contents (lines_in m h p)) (b + z) to) all free) none
+
+  pub previous-end : (w : Wanted) (to : ℕ) → i ≡ 0 → to ≤ length (lines_in m h p) → FailFrom (passes w) (contents (lines_in m h p)) b to → previous_line (passes w) to (contents (lines_in m h p)) ≡ None
+  previous-end w to first within free =
+      let l = long (lines_in m h p) in let none : b ≡ 0 = before ∙ ap (lines_before m p) first in
+      previous-no (passes w) to (contents (lines_in m h p)) (omega arith) (subst (λ z. FailFrom (passes w) (contents (lines_in m h p)) z to) none free)
+
   pub next-end : (w : Wanted) (from : ℕ) → 12 ≤ i → FailFrom (passes w) (contents (lines_in m h p)) from b → next_line (passes w) from (contents (lines_in m h p)) ≡ None
   next-end w from past free =
       let row = row-tree m n p at_top in let few = row.few in
       let all = ap (sum_by (lines_at m)) (take_all i (kids m p) (omega arith)) in let below = below-tree m n p at_top in let l = long (lines_in m h p) in let w_l = ap length whole in
       let end : b ≡ length (contents (lines_in m h p)) = omega arith in
       next-no (passes w) from (contents (lines_in m h p)) (subst (λ z. FailFrom (passes w) (contents (lines_in m h p)) from z) end free)
+
+-- all children are before the last
+pub last-before : (m : Records) (h n : ℕ) (p : NodePtr) → h ≡ suc n → IsTree m h p → lines_at m p ≡ lines_before m p 12
+last-before m h n p e is =
+    let top = subst (λ k. IsTree m k p) e is in let few = (row-tree m n p top).few in let below = below-tree m n p top in let count = count-tree m (suc n) p top in
+    let all = ap (sum_by (lines_at m)) (take_all 12 (kids m p) few) in omega arith

@@ -65,3 +65,40 @@ pub fn next<C: Ticks>(
     }
     None
 }
+
+/// The last line below a node, below one, that has what is wanted. A node whose sum doesn't show it isn't entered.
+pub fn previous<C: Ticks>(
+    store: &NodeStore<C>,
+    node: NodePtr,
+    height: usize,
+    wanted: Wanted,
+    to: usize,
+    ticks: &mut C,
+) -> Option<usize>
+    requires tree { IsTree (records store.now) height node }
+    requires within { to ≤ length (lines_in (records store.now) height node) }
+    requires known { IsKnown wanted }
+    ensures { result ≡ previous_line (passes wanted) to (contents (lines_in (records store.now) height node)) }
+{
+    let sum = store.sum(node, ticks);
+    if to == 0 || !wanted.is_in(&sum) {
+        return None;
+    }
+    if height == 0 {
+        return Some(0);
+    }
+    let mut before = sum.lines();
+    let mut slot = 12;
+    while slot > 0 {
+        slot -= 1;
+        if let Some(child) = store.child(node, slot, ticks) {
+            let lines = store.sum(child, ticks).lines();
+            before -= lines;
+            let rest = to.saturating_sub(before).min(lines);
+            if let Some(found) = previous(store, child, height - 1, wanted, rest, ticks) {
+                return Some(before + found);
+            }
+        }
+    }
+    None
+}

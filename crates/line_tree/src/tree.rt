@@ -3,7 +3,7 @@ use crate::fill::{join, top};
 use crate::find::select;
 use crate::insert::{insert_in, new_line};
 use crate::locate::locate;
-use crate::nearest::{Wanted, next};
+use crate::nearest::{Wanted, next, previous};
 use crate::prefix::prefix;
 use crate::remove::{lower, remove_in};
 use raw_nodes::{NodePtr, NodeStore, Ticks};
@@ -49,7 +49,7 @@ impl<C: Ticks> LineTree<C> {
     ghost use Rattle.std.specs.List.{insert, remove};
     ghost use Rattle.toggle_sums.specs.Counts.{plus};
     ghost use Rattle.text_model.specs.TagBits.{slot_count};
-    ghost use Rattle.line_lists.specs.Lists.{count_of, has_marks, has_toggle, next_line};
+    ghost use Rattle.line_lists.specs.Lists.{count_of, has_marks, has_toggle, next_line, previous_line};
     ghost use Rattle.line_tree.specs.Trees.{contents, total};
     ghost use Rattle.segments.specs.Columns.{line_count, plain_line};
     ghost use Rattle.line_tree.specs.Changes.{Distinct, FitsSum};
@@ -147,6 +147,24 @@ impl<C: Ticks> LineTree<C> {
         ensures { result ≡ next_line has_marks from (contents self.now.lines) }
     {
         next(&self.store, self.root, self.height, Wanted::Mark, from, ticks)
+    }
+
+    /// The last line below one in which a slot is toggled.
+    pub fn previous_with(&self, slot: TagSlot, to: usize, ticks: &mut C) -> Option<usize>
+        requires slot { slot.0 < slot_count }
+        requires within { to ≤ length self.now.lines }
+        ensures { result ≡ previous_line (has_toggle slot.0) to (contents self.now.lines) }
+    {
+        let wanted = Wanted::Toggle(slot);
+        previous(&self.store, self.root, self.height, wanted, to, ticks)
+    }
+
+    /// The last line below one in which a mark stands.
+    pub fn previous_marked(&self, to: usize, ticks: &mut C) -> Option<usize>
+        requires { to ≤ length self.now.lines }
+        ensures { result ≡ previous_line has_marks to (contents self.now.lines) }
+    {
+        previous(&self.store, self.root, self.height, Wanted::Mark, to, ticks)
     }
 
     /// Puts in a line as number `k`, and gives its name.
