@@ -157,15 +157,15 @@ pub found-below : (test : LineContent → Bool) (t n : ℕ) (xs : List LineConte
 found-below test t n xs within is = (previous-found test t xs within n is).below
 
 -- ---- what a sum shows
-some_of : (x y : ℕ) → nat_lt 0 (x + y) ≡ (nat_lt 0 x || nat_lt 0 y)
-some_of x y = elim (cases_lt 0 x) [
+any-of : (x y : ℕ) → nat_lt 0 (x + y) ≡ (nat_lt 0 x || nat_lt 0 y)
+any-of x y = elim (cases_lt 0 x) [
   | inl less ↦ some-marks (x + y) (x + y) refl (omega arith) ∙ sym (ap (λ b. b || nat_lt 0 y) (some-marks x x refl less))
   | inr none ↦ let e : x + y ≡ y = omega arith in ap (nat_lt 0) e ∙ sym (ap (λ b. b || nat_lt 0 y) (no-marks x x refl none))
 ]
 
 shows-plus : (w : Wanted) (a b : Count) → shows w (plus a b) ≡ (shows w a || shows w b)
 shows-plus (Toggle slot) a b = set.contains-union nat_cmp_total a.presence b.presence slot.0
-shows-plus Mark a b = some_of a.marks b.marks
+shows-plus Mark a b = any-of a.marks b.marks
 
 passes-shows : (w : Wanted) (l : LineContent) → passes w l ≡ shows w (line_count l)
 passes-shows (Toggle slot) l = refl
@@ -216,7 +216,7 @@ line-previous m h q w to e = subst (λ k. 0 < to → to ≤ length (lines_in m k
 
 -- ---- one child of a node
 module _ (m : Records) (h n : ℕ) (p : NodePtr) (i b : ℕ) (e : h ≡ suc n) (is : IsTree m h p) (before : b ≡ lines_before m p i) where
-  abbrev pub at_top : IsTree m (suc n) p
+  abbrev at_top : IsTree m (suc n) p
   at_top = subst (λ k. IsTree m k p) e is
 
   whole : lines_in m h p ≡ lines_in m (suc n) p

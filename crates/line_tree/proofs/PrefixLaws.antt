@@ -26,7 +26,7 @@ use Rattle.line_tree.proofs.GrowLaws.{all-left}
 use Rattle.line_tree.proofs.RowLaws.{past}
 use Rattle.line_tree.proofs.StepLaws.{at-place, split-same}
 use Rattle.line_tree.proofs.SumLaws.{fits-both, fits-left, total-append}
-use Rattle.line_tree.proofs.TreeLaws.{child-tree, count-tree, counted, sum-held, top-tree_at, tops-tree_at, total-lines}
+use Rattle.line_tree.proofs.TreeLaws.{child-tree, count-tree, counted, sum-tree, tops-tree_at, total-lines}
 
 -- ---- lines without names
 pub count-contents : (ls : List Named) → count_of (contents ls) ≡ total ls
@@ -37,9 +37,6 @@ pub count-first : (k : ℕ) (ls : List Named) → count_of (take k (contents ls)
 count-first k ls = ap count_of (take-map (λ (l : Named). l.1) k ls) ∙ count-contents (take k ls)
 
 -- ---- sums of children
-pub sum-tree : (m : Records) (h : ℕ) (p : NodePtr) → IsTree m h p → sum_at m p ≡ total (lines_in m h p)
-sum-tree m h p is = ap (sum_at m) (sym (top-tree_at m h p)) ∙ sum-held m h (tree_at m h p) is
-
 summed : (m : Records) (h : ℕ) (cs : List NodePtr) → AllByRecursion (Holds m h) (map (tree_at m h) cs) → sum_all m cs ≡ total (flat_map (lines h) (map (tree_at m h) cs))
 summed m h cs all = ap (sum_all m) (sym (tops-tree_at m h cs)) ∙ sum-trees m h (map (tree_at m h) cs) all
 

@@ -45,7 +45,8 @@ impl<C: Ticks> Model for LineTree<C> {
 }
 
 impl<C: Ticks> LineTree<C> {
-    ghost use Rattle.std.specs.Prelude.{◌≡◌, ℕ, ◌+◌, ◌-◌, ◌*◌, ◌^◌, ◌≤◌, ◌<◌, length, take, OnOk, IfOk, [], ◌∷◌, slice_get};
+    ghost use Rattle.std.specs.Prelude.{◌≡◌, ℕ, ◌+◌, ◌-◌, ◌*◌, ◌^◌, ◌≤◌, ◌<◌, OnOk, IfOk};
+    ghost use Rattle.std.specs.Prelude.{[], ◌∷◌, length, slice_get, take};
     ghost use Rattle.std.specs.List.{insert, remove};
     ghost use Rattle.toggle_sums.specs.Counts.{plus};
     ghost use Rattle.text_model.specs.TagBits.{slot_count};
@@ -146,7 +147,8 @@ impl<C: Ticks> LineTree<C> {
         requires { from ≤ length self.now.lines }
         ensures { result ≡ next_line has_marks from (contents self.now.lines) }
     {
-        next(&self.store, self.root, self.height, Wanted::Mark, from, ticks)
+        let wanted = Wanted::Mark;
+        next(&self.store, self.root, self.height, wanted, from, ticks)
     }
 
     /// The last line below one in which a slot is toggled.
@@ -164,7 +166,8 @@ impl<C: Ticks> LineTree<C> {
         requires { to ≤ length self.now.lines }
         ensures { result ≡ previous_line has_marks to (contents self.now.lines) }
     {
-        previous(&self.store, self.root, self.height, Wanted::Mark, to, ticks)
+        let wanted = Wanted::Mark;
+        previous(&self.store, self.root, self.height, wanted, to, ticks)
     }
 
     /// Puts in a line as number `k`, and gives its name.

@@ -8,10 +8,9 @@ use Rattle.line_lists.proofs.SearchRows.{FailFrom}
 use Rattle.line_tree.specs.Nearest.{passes, shows}
 use Rattle.line_tree.specs.Shape.{lines_at, lines_in, sum_at}
 use Rattle.line_tree.specs.Trees.{contents, total}
-use Rattle.line_tree.proofs.NearestLaws.{at_top, child-is, child-within, found-within, line-next, long, next-end, next-hit, next-missed, none-next, past-next}
-use Rattle.line_tree.proofs.PrefixLaws.{sum-tree}
+use Rattle.line_tree.proofs.NearestLaws.{child-is, child-within, found-within, line-next, long, next-end, next-hit, next-missed, none-next, past-next}
 use Rattle.line_tree.proofs.RowLaws.{child_is, none_of, step_no, step_yes, sum_is}
-use Rattle.line_tree.proofs.TreeLaws.{count-tree, named-tree, row-tree}
+use Rattle.line_tree.proofs.TreeLaws.{count-tree, named-tree, row-above, sum-tree}
 use Rattle.line_tree.proofs.nearest.+next.Goals as goal
 use Rattle.line_tree.proofs.nearest.+next.Goals.{in-Some+in_default-next, in_default, then-from-lines-via-then-from-lines, then-from-lines-via-else-from-lines+then-not-is_in}
 
@@ -41,20 +40,20 @@ returns-then-height-eq0 g t c = let m = records c.args.store.now in let h = c.ar
 pub next-requires : goal.next-requires
 next-requires g t c κs inside = let m = records c.args.store.now in let h = c.args.height in let p = c.args.node in let n = h - 1 in let not = c.if-height-eq0.false in
     let e : h ≡ suc n = omega arith in
-    let here = sym (child_is m p (row-tree m n p (at_top m h n p c.loop-slot.slot c.loop-slot.before e c.requires.tree c.loop-slot.invariant.before)) c.child.result c.loop-slot.slot c.child.ensures.value) ∙ c.in-Some.is in
+    let here = sym (child_is m p (row-above m h n p e c.requires.tree) c.child.result c.loop-slot.slot c.child.ensures.value) ∙ c.in-Some.is in
     let inside_of = child-within m h n p c.loop-slot.slot c.loop-slot.before e c.requires.tree c.loop-slot.invariant.before c.in-Some.child here in let fits = c.requires.fits in
     (omega (arith, c.decreases), (inside, (child-is m h n p c.loop-slot.slot c.loop-slot.before e c.requires.tree c.loop-slot.invariant.before c.in-Some.child here, (omega arith, c.requires.known))))
 
 pub sum-requires : goal.sum-requires
 sum-requires g t c = let m = records c.args.store.now in let h = c.args.height in let p = c.args.node in let n = h - 1 in let not = c.if-height-eq0.false in
     let e : h ≡ suc n = omega arith in
-    let row = row-tree m n p (at_top m h n p c.loop-slot.slot c.loop-slot.before e c.requires.tree c.loop-slot.invariant.before) in
+    let row = row-above m h n p e c.requires.tree in
     row.each c.loop-slot.slot c.in-Some.child (sym (child_is m p row c.child.result c.loop-slot.slot c.child.ensures.value) ∙ c.in-Some.is)
 
 pub overflow_add-result : goal.overflow_add-result
 overflow_add-result g t c = let m = records c.args.store.now in let h = c.args.height in let p = c.args.node in let n = h - 1 in let not = c.if-height-eq0.false in
     let e : h ≡ suc n = omega arith in
-    let here = sym (child_is m p (row-tree m n p (at_top m h n p c.loop-slot.slot c.loop-slot.before e c.requires.tree c.loop-slot.invariant.before)) c.child.result c.loop-slot.slot c.child.ensures.value) ∙ c.in-Some.is in
+    let here = sym (child_is m p (row-above m h n p e c.requires.tree) c.child.result c.loop-slot.slot c.child.ensures.value) ∙ c.in-Some.is in
     let inside = child-within m h n p c.loop-slot.slot c.loop-slot.before e c.requires.tree c.loop-slot.invariant.before c.in-Some.child here in let fits = c.requires.fits in
     let xs = lines_in m n c.in-Some.child in let s = long xs in
     let less = found-within (passes c.args.wanted) c.saturating_sub-rest.result c.in-Some-next.found (contents xs) (sym c.next.ensures ∙ c.in-Some-next.is) in omega arith
@@ -62,7 +61,7 @@ overflow_add-result g t c = let m = records c.args.store.now in let h = c.args.h
 pub overflow_add-before : goal.overflow_add-before
 overflow_add-before g t c = let m = records c.args.store.now in let h = c.args.height in let p = c.args.node in let n = h - 1 in let not = c.if-height-eq0.false in
     let e : h ≡ suc n = omega arith in
-    let row = row-tree m n p (at_top m h n p c.loop-slot.slot c.loop-slot.before e c.requires.tree c.loop-slot.invariant.before) in
+    let row = row-above m h n p e c.requires.tree in
     let here = sym (child_is m p row c.child.result c.loop-slot.slot c.child.ensures.value) ∙ c.in-Some.is in
     let inside = child-within m h n p c.loop-slot.slot c.loop-slot.before e c.requires.tree c.loop-slot.invariant.before c.in-Some.child here in let fits = c.requires.fits in
     let count = count-tree m n c.in-Some.child (child-is m h n p c.loop-slot.slot c.loop-slot.before e c.requires.tree c.loop-slot.invariant.before c.in-Some.child here) in
@@ -71,7 +70,7 @@ overflow_add-before g t c = let m = records c.args.store.now in let h = c.args.h
 pub returns-in-Some-next : goal.returns-in-Some-next
 returns-in-Some-next g t c = let m = records c.args.store.now in let h = c.args.height in let p = c.args.node in let n = h - 1 in let not = c.if-height-eq0.false in
     let e : h ≡ suc n = omega arith in
-    let here = sym (child_is m p (row-tree m n p (at_top m h n p c.loop-slot.slot c.loop-slot.before e c.requires.tree c.loop-slot.invariant.before)) c.child.result c.loop-slot.slot c.child.ensures.value) ∙ c.in-Some.is in
+    let here = sym (child_is m p (row-above m h n p e c.requires.tree) c.child.result c.loop-slot.slot c.child.ensures.value) ∙ c.in-Some.is in
     let xs = lines_in m n c.in-Some.child in
     let asked = c.next.ensures ∙ ap (λ r. next_line (passes c.args.wanted) r (contents xs)) c.saturating_sub-rest.ensures in
     sym (next-hit m h n p c.loop-slot.slot c.loop-slot.before e c.requires.tree c.loop-slot.invariant.before c.in-Some.child here c.args.wanted c.args.from c.in-Some-next.found c.loop-slot.invariant.free (sym asked ∙ c.in-Some-next.is))
@@ -80,7 +79,7 @@ pub loop-slot-preserved : goal.loop-slot-preserved
 loop-slot-preserved g t c = let m = records c.args.store.now in let h = c.args.height in let p = c.args.node in let n = h - 1 in let not = c.if-height-eq0.false in
     let i = c.loop-slot.slot in let b = c.loop-slot.before in let w = c.args.wanted in let from = c.args.from in
     let e : h ≡ suc n = omega arith in
-    let row = row-tree m n p (at_top m h n p i b e c.requires.tree c.loop-slot.invariant.before) in
+    let row = row-above m h n p e c.requires.tree in
     let child = child_is m p row c.child.result i c.child.ensures.value in
     let before = c.loop-slot.invariant.before in
     elim c.match-child.branch [

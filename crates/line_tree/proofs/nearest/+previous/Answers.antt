@@ -7,9 +7,8 @@ use Rattle.line_tree.specs.Places.{lines_before}
 use Rattle.line_tree.specs.Shape.{IsTree, lines_at, lines_in}
 use Rattle.line_tree.specs.Trees.{contents}
 use Rattle.line_tree.proofs.NearestLaws.{child-is, first-previous, last-before, line-previous, none-previous, previous-end, previous-hit, previous-missed, reaches}
-use Rattle.line_tree.proofs.PrefixLaws.{sum-tree}
 use Rattle.line_tree.proofs.RowLaws.{child_is, none_of, step_no, step_yes, sum_is}
-use Rattle.line_tree.proofs.TreeLaws.{count-tree, named-tree, row-tree}
+use Rattle.line_tree.proofs.TreeLaws.{count-tree, named-tree, row-above, sum-tree}
 use Rattle.line_tree.proofs.nearest.+previous.Goals as goal
 use Rattle.line_tree.proofs.nearest.+previous.Goals.{then-to-eq0-via-then-to-eq0, then-to-eq0-via-else-to-eq0+then-not-is_in}
 
@@ -44,13 +43,13 @@ loop-slot-init g t c = let m = records c.args.store.now in let h = c.args.height
 pub sum-requires : goal.sum-requires
 sum-requires g t c = let m = records c.args.store.now in let h = c.args.height in let p = c.args.node in let n = h - 1 in let not = c.if-height-eq0.false in
     let e : h ≡ suc n = omega arith in
-    let row = row-tree m n p (subst (λ k. IsTree m k p) e c.requires.tree) in
+    let row = row-above m h n p e c.requires.tree in
     row.each (c.loop-slot.slot - 1) c.in-Some.child (sym (child_is m p row c.child.result (c.loop-slot.slot - 1) c.child.ensures.value) ∙ c.in-Some.is)
 
 pub overflow_sub-before : goal.overflow_sub-before
 overflow_sub-before g t c = let m = records c.args.store.now in let h = c.args.height in let p = c.args.node in let n = h - 1 in let not = c.if-height-eq0.false in
     let e : h ≡ suc n = omega arith in let i = c.loop-slot.slot - 1 in
-    let row = row-tree m n p (subst (λ k. IsTree m k p) e c.requires.tree) in
+    let row = row-above m h n p e c.requires.tree in
     let here = sym (child_is m p row c.child.result i c.child.ensures.value) ∙ c.in-Some.is in
     let s = c.lines-lines.ensures ∙ ap (λ x. x.lines) (sum_is m c.in-Some.child c.sum.result (row.each i c.in-Some.child here) c.sum.ensures.value) in
     let some : i + 1 ≡ c.loop-slot.slot = omega (arith, c.loop-slot-test.true) in
@@ -60,7 +59,7 @@ overflow_sub-before g t c = let m = records c.args.store.now in let h = c.args.h
 pub previous-requires : goal.previous-requires
 previous-requires g t c κs inside = let m = records c.args.store.now in let h = c.args.height in let p = c.args.node in let n = h - 1 in let not = c.if-height-eq0.false in
     let e : h ≡ suc n = omega arith in let i = c.loop-slot.slot - 1 in
-    let row = row-tree m n p (subst (λ k. IsTree m k p) e c.requires.tree) in
+    let row = row-above m h n p e c.requires.tree in
     let here = sym (child_is m p row c.child.result i c.child.ensures.value) ∙ c.in-Some.is in
     let s = c.lines-lines.ensures ∙ ap (λ x. x.lines) (sum_is m c.in-Some.child c.sum.result (row.each i c.in-Some.child here) c.sum.ensures.value) in
     let some : i + 1 ≡ c.loop-slot.slot = omega (arith, c.loop-slot-test.true) in
@@ -75,7 +74,7 @@ previous-requires g t c κs inside = let m = records c.args.store.now in let h =
 pub returns-in-Some-previous : goal.returns-in-Some-previous
 returns-in-Some-previous g t c = let m = records c.args.store.now in let h = c.args.height in let p = c.args.node in let n = h - 1 in let not = c.if-height-eq0.false in
     let e : h ≡ suc n = omega arith in let i = c.loop-slot.slot - 1 in
-    let row = row-tree m n p (subst (λ k. IsTree m k p) e c.requires.tree) in
+    let row = row-above m h n p e c.requires.tree in
     let here = sym (child_is m p row c.child.result i c.child.ensures.value) ∙ c.in-Some.is in
     let s = c.lines-lines.ensures ∙ ap (λ x. x.lines) (sum_is m c.in-Some.child c.sum.result (row.each i c.in-Some.child here) c.sum.ensures.value) in
     let some : i + 1 ≡ c.loop-slot.slot = omega (arith, c.loop-slot-test.true) in
@@ -91,7 +90,7 @@ returns-in-Some-previous g t c = let m = records c.args.store.now in let h = c.a
 pub loop-slot-preserved-in_default-previous : goal.loop-slot-preserved-in_default-previous
 loop-slot-preserved-in_default-previous g t c = let m = records c.args.store.now in let h = c.args.height in let p = c.args.node in let n = h - 1 in let not = c.if-height-eq0.false in
     let e : h ≡ suc n = omega arith in let i = c.loop-slot.slot - 1 in
-    let row = row-tree m n p (subst (λ k. IsTree m k p) e c.requires.tree) in
+    let row = row-above m h n p e c.requires.tree in
     let here = sym (child_is m p row c.child.result i c.child.ensures.value) ∙ c.in-Some.is in
     let s = c.lines-lines.ensures ∙ ap (λ x. x.lines) (sum_is m c.in-Some.child c.sum.result (row.each i c.in-Some.child here) c.sum.ensures.value) in
     let some : i + 1 ≡ c.loop-slot.slot = omega (arith, c.loop-slot-test.true) in
@@ -112,7 +111,7 @@ loop-slot-preserved-in_default-previous g t c = let m = records c.args.store.now
 pub loop-slot-preserved : goal.loop-slot-preserved
 loop-slot-preserved g t c = let m = records c.args.store.now in let h = c.args.height in let p = c.args.node in let n = h - 1 in let not = c.if-height-eq0.false in
     let e : h ≡ suc n = omega arith in let i = c.loop-slot.slot - 1 in
-    let row = row-tree m n p (subst (λ k. IsTree m k p) e c.requires.tree) in
+    let row = row-above m h n p e c.requires.tree in
     let none = sym (child_is m p row c.child.result i c.child.ensures.value) ∙ none_of c.child.result c.in_default.not-Some in
     let some : i + 1 ≡ c.loop-slot.slot = omega (arith, c.loop-slot-test.true) in
     let few = c.loop-slot.invariant.few in
