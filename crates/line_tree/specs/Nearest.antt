@@ -1,5 +1,5 @@
 -- The nearest line in which a slot is toggled, or a mark stands.
-use Rattle.std.specs.Prelude.{ℕ, ◌<◌, ⊤, Bool, nat_lt}
+use Rattle.std.specs.Prelude.{◌<◌, ⊤, Bool, nat_lt}
 use Rattle.std.specs.FinSet as set
 use Rattle.text_model.specs.TagBits.{slot_count}
 use Rattle.toggle_sums.specs.Counts.{Count}

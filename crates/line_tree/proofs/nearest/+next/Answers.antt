@@ -1,13 +1,11 @@
-use Rattle.std.proofs.Common.{◌≡◌, ◌+◌, ◌-◌, ◌≤◌, ◌<◌, suc, length, sym, ap, ◌∙◌, subst, arith}
-use Rattle.std.specs.Prelude.{slice_get}
-use Rattle.std.specs.declared.option.Option.TheVariants.{Some}
+use Rattle.std.proofs.Common.{◌≡◌, ◌+◌, ◌-◌, suc, sym, ap, ◌∙◌, subst, arith}
 use Rattle.raw_nodes.specs.Names.{records}
 use Rattle.raw_nodes.specs.Rows.{kids}
 use Rattle.line_lists.specs.Lists.{next_line}
 use Rattle.line_lists.proofs.SearchRows.{FailFrom}
 use Rattle.line_tree.specs.Nearest.{passes, shows}
-use Rattle.line_tree.specs.Shape.{lines_at, lines_in, sum_at}
-use Rattle.line_tree.specs.Trees.{contents, total}
+use Rattle.line_tree.specs.Shape.{lines_at, lines_in}
+use Rattle.line_tree.specs.Trees.{contents}
 use Rattle.line_tree.proofs.NearestLaws.{child-is, child-within, found-within, line-next, long, next-end, next-hit, next-missed, none-next, past-next}
 use Rattle.line_tree.proofs.RowLaws.{child_is, none_of, step_no, step_yes, sum_is}
 use Rattle.line_tree.proofs.TreeLaws.{count-tree, named-tree, row-above, sum-tree}

@@ -5,7 +5,6 @@ use Rattle.line_tree.specs.Nearest.{passes}
 use Rattle.line_tree.specs.Places.{lines_before}
 use Rattle.line_tree.specs.Shape.{lines_in}
 use Rattle.line_tree.specs.Trees.{contents}
-use Rattle.line_tree.proofs.NearestLaws.{SameFrom}
 use Rattle.line_tree.proofs.nearest.+next.Given as goal
 
 abbrev pub invariant-loop-slot : goal.invariant-loop-slot
