@@ -19,10 +19,10 @@ use Rattle.line_tree.specs.declared.locate.Spot.{Spot}
 use Rattle.line_tree.proofs.GrowLaws.{all-left}
 use Rattle.line_tree.proofs.StepLaws.{at-place}
 use Rattle.line_tree.proofs.SumLaws.{total-append}
-use Rattle.line_tree.proofs.TreeLaws.{child-tree, counted, get-right, sum-held, top-tree_at}
+use Rattle.line_tree.proofs.TreeLaws.{child-tree, counted, get-right, sum-tree}
 
 characters-tree : (m : Records) (h : ℕ) (p : NodePtr) → IsTree m h p → characters_at m p ≡ (total (lines_in m h p)).characters
-characters-tree m h p is = ap (characters_at m) (sym (top-tree_at m h p)) ∙ ap (λ s. s.characters) (sum-held m h (tree_at m h p) is)
+characters-tree m h p is = ap (λ s. s.characters) (sum-tree m h p is)
 
 characters-counted : (m : Records) (h : ℕ) (cs : List NodePtr) → AllByRecursion (Holds m h) (map (tree_at m h) cs) → sum_by (characters_at m) cs ≡ (total (flat_map (lines h) (map (tree_at m h) cs))).characters
 characters-counted m h [] all = refl

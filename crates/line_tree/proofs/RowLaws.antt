@@ -32,7 +32,7 @@ pub step_yes : (f : NodePtr → ℕ) (cs : List NodePtr) (i : ℕ) (c : NodePtr)
 step_yes f cs i c is =
     ap (sum_by f) (take_more cs i c (slice_get_within cs i c is)) ∙ sum_by_push f (take i cs) (get_or cs i c) ∙ ap (λ x. sum_by f (take i cs) + f x) (get_or_from_slice_get cs i c c is)
 
-past : (cs : List NodePtr) (i : ℕ) → slice_get cs i ≡ None → length cs ≤ i
+pub past : (cs : List NodePtr) (i : ℕ) → slice_get cs i ≡ None → length cs ≤ i
 past [] i is = omega arith
 past (c ∷ cs) zero is = absurd (none-some c (sym is))
 past (c ∷ cs) (suc i) is = let r = past cs i is in omega arith

@@ -56,6 +56,9 @@ tops-tree_at m h (c ∷ cs) = λ i. top-tree_at m h c i ∷ tops-tree_at m h cs 
 pub count-tree : (m : Records) (h : ℕ) (p : NodePtr) → IsTree m h p → lines_at m p ≡ length (lines_in m h p)
 count-tree m h p is = ap (lines_at m) (sym (top-tree_at m h p)) ∙ count-held m h (tree_at m h p) is
 
+pub sum-tree : (m : Records) (h : ℕ) (p : NodePtr) → IsTree m h p → sum_at m p ≡ total (lines_in m h p)
+sum-tree m h p is = ap (sum_at m) (sym (top-tree_at m h p)) ∙ sum-held m h (tree_at m h p) is
+
 pub named-tree : (m : Records) (h : ℕ) (p : NodePtr) → IsTree m h p → IsSome (finite.get m p)
 named-tree m h p is = subst (λ q. IsSome (finite.get m q)) (top-tree_at m h p) (named-held m h (tree_at m h p) is)
 
@@ -80,6 +83,9 @@ row-tree m h p is = let node = is.0 in record {
   inner = node.inner;
   each = λ i c at. named-tree m h c (child-tree m h (kids m p) i c is.2 at);
 }
+
+pub row-above : (m : Records) (h n : ℕ) (p : NodePtr) → h ≡ suc n → IsTree m h p → HasRow m p
+row-above m h n p e is = row-tree m n p (subst (λ k. IsTree m k p) e is)
 
 pub below-tree : (m : Records) (h : ℕ) (p : NodePtr) → IsTree m (suc h) p → lines_below m p ≡ length (lines_in m (suc h) p)
 below-tree m h p is = counted m h (kids m p) is.2

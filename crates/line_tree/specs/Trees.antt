@@ -41,6 +41,10 @@ abbrev pub total : List Named → Count
 total [] = no_text
 total (l ∷ ls) = plus (line_count l.1) (total ls)
 
+-- the lines without their names
+abbrev pub contents : List Named → List LineContent
+contents ls = map (λ l. l.1) ls
+
 -- ---- balance
 -- a node below the root
 abbrev pub IsBalanced : (h : ℕ) → Tree h → Type 0

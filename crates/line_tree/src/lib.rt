@@ -1,4 +1,5 @@
-//! A list of lines as a balanced tree: lines by number and by offset, their numbers, one line in, one line out.
+//! A list of lines as a balanced tree: lines by number and by offset, their numbers, the sum of the first ones, the
+//! nearest with a toggle or a mark, one line in, one line out.
 #![tactic(auto)]
 
 mod climb;
@@ -6,6 +7,8 @@ mod fill;
 mod find;
 mod insert;
 mod locate;
+mod nearest;
+mod prefix;
 mod remove;
 mod shrink;
 mod tree;

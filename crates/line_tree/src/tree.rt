@@ -3,11 +3,15 @@ use crate::fill::{join, top};
 use crate::find::select;
 use crate::insert::{insert_in, new_line};
 use crate::locate::locate;
+use crate::nearest::{Wanted, next, previous};
+use crate::prefix::prefix;
 use crate::remove::{lower, remove_in};
 use raw_nodes::{NodePtr, NodeStore, Ticks};
 use segments::Line;
 use std::alloc::{AllocError, Global};
 use std::marker::Model;
+use text_model::{TagSlot, WORDS};
+use toggle_sums::Sums;
 
 /// A list of lines with names, as a balanced tree.
 #[derive(Drop)]
@@ -41,10 +45,13 @@ impl<C: Ticks> Model for LineTree<C> {
 }
 
 impl<C: Ticks> LineTree<C> {
-    ghost use Rattle.std.specs.Prelude.{◌≡◌, ℕ, ◌+◌, ◌-◌, ◌*◌, ◌^◌, ◌≤◌, ◌<◌, length, OnOk, IfOk, [], ◌∷◌, slice_get};
+    ghost use Rattle.std.specs.Prelude.{◌≡◌, ℕ, ◌+◌, ◌-◌, ◌*◌, ◌^◌, ◌≤◌, ◌<◌, OnOk, IfOk};
+    ghost use Rattle.std.specs.Prelude.{[], ◌∷◌, length, slice_get, take};
     ghost use Rattle.std.specs.List.{insert, remove};
     ghost use Rattle.toggle_sums.specs.Counts.{plus};
-    ghost use Rattle.line_tree.specs.Trees.{total};
+    ghost use Rattle.text_model.specs.TagBits.{slot_count};
+    ghost use Rattle.line_lists.specs.Lists.{count_of, has_marks, has_toggle, next_line, previous_line};
+    ghost use Rattle.line_tree.specs.Trees.{contents, total};
     ghost use Rattle.segments.specs.Columns.{line_count, plain_line};
     ghost use Rattle.line_tree.specs.Changes.{Distinct, FitsSum};
     ghost use Rattle.line_tree.specs.Places.{IsLineAt, line_names};
@@ -115,6 +122,52 @@ impl<C: Ticks> LineTree<C> {
         ensures ticks { C.count ticks.new ≤ C.count ticks.old + 23 * self.now.height }
     {
         rank(&self.store, self.root, self.height, name, ticks)
+    }
+
+    /// The sum of the first `k` lines.
+    pub fn prefix(&self, k: usize, ticks: &mut C) -> Sums<WORDS>
+        requires { k ≤ length self.now.lines }
+        ensures { result ≡ count_of (take k (contents self.now.lines)) }
+    {
+        prefix(&self.store, self.root, self.height, k, ticks)
+    }
+
+    /// The first line from one on in which a slot is toggled.
+    pub fn next_with(&self, slot: TagSlot, from: usize, ticks: &mut C) -> Option<usize>
+        requires slot { slot.0 < slot_count }
+        requires within { from ≤ length self.now.lines }
+        ensures { result ≡ next_line (has_toggle slot.0) from (contents self.now.lines) }
+    {
+        let wanted = Wanted::Toggle(slot);
+        next(&self.store, self.root, self.height, wanted, from, ticks)
+    }
+
+    /// The first line from one on in which a mark stands.
+    pub fn next_marked(&self, from: usize, ticks: &mut C) -> Option<usize>
+        requires { from ≤ length self.now.lines }
+        ensures { result ≡ next_line has_marks from (contents self.now.lines) }
+    {
+        let wanted = Wanted::Mark;
+        next(&self.store, self.root, self.height, wanted, from, ticks)
+    }
+
+    /// The last line below one in which a slot is toggled.
+    pub fn previous_with(&self, slot: TagSlot, to: usize, ticks: &mut C) -> Option<usize>
+        requires slot { slot.0 < slot_count }
+        requires within { to ≤ length self.now.lines }
+        ensures { result ≡ previous_line (has_toggle slot.0) to (contents self.now.lines) }
+    {
+        let wanted = Wanted::Toggle(slot);
+        previous(&self.store, self.root, self.height, wanted, to, ticks)
+    }
+
+    /// The last line below one in which a mark stands.
+    pub fn previous_marked(&self, to: usize, ticks: &mut C) -> Option<usize>
+        requires { to ≤ length self.now.lines }
+        ensures { result ≡ previous_line has_marks to (contents self.now.lines) }
+    {
+        let wanted = Wanted::Mark;
+        previous(&self.store, self.root, self.height, wanted, to, ticks)
     }
 
     /// Puts in a line as number `k`, and gives its name.

@@ -1,0 +1,17 @@
+use Rattle.std.proofs.Common.{◌≡◌}
+use Rattle.raw_nodes.specs.Names.{records}
+use Rattle.line_lists.proofs.SearchRows.{FailFrom}
+use Rattle.line_tree.specs.Nearest.{passes}
+use Rattle.line_tree.specs.Places.{lines_before}
+use Rattle.line_tree.specs.Shape.{lines_in}
+use Rattle.line_tree.specs.Trees.{contents}
+use Rattle.line_tree.proofs.nearest.+next.Given as goal
+
+abbrev pub invariant-loop-slot : goal.invariant-loop-slot
+invariant-loop-slot g l = record {
+  before : l.before ≡ lines_before (records l.store) l.node l.slot;
+  free : FailFrom (passes l.wanted) (contents (lines_in (records l.store) l.height l.node)) l.from l.before;
+}
+
+abbrev pub decreases-next : goal.decreases-next
+decreases-next g l = l.height

@@ -1,0 +1,21 @@
+use Rattle.std.proofs.Common.{◌≡◌, ◌≤◌}
+use Rattle.raw_nodes.specs.Names.{records}
+use Rattle.line_lists.proofs.SearchRows.{FailFrom}
+use Rattle.line_tree.specs.Nearest.{passes}
+use Rattle.line_tree.specs.Places.{lines_before}
+use Rattle.line_tree.specs.Shape.{lines_in}
+use Rattle.line_tree.specs.Trees.{contents}
+use Rattle.line_tree.proofs.nearest.+previous.Given as goal
+
+abbrev pub invariant-loop-slot : goal.invariant-loop-slot
+invariant-loop-slot g l = record {
+  few : l.slot ≤ 12;
+  before : l.before ≡ lines_before (records l.store) l.node l.slot;
+  free : FailFrom (passes l.wanted) (contents (lines_in (records l.store) l.height l.node)) l.before l.to;
+}
+
+abbrev pub decreases-loop-slot : goal.decreases-loop-slot
+decreases-loop-slot g l = l.slot
+
+abbrev pub decreases-previous : goal.decreases-previous
+decreases-previous g l = l.height

@@ -1,0 +1,104 @@
+ghost use Rattle.std.specs.Prelude.{◌≡◌, ◌^◌, ◌<◌, ◌≤◌, length};
+ghost use Rattle.raw_nodes.specs.Names.{records};
+ghost use Rattle.line_lists.specs.Lists.{next_line, previous_line};
+ghost use Rattle.line_tree.specs.Nearest.{IsKnown, passes, shows};
+ghost use Rattle.line_tree.specs.Shape.{IsTree, lines_in};
+ghost use Rattle.line_tree.specs.Trees.{contents};
+
+use raw_nodes::{NodePtr, NodeStore, Ticks};
+use text_model::{TagSlot, WORDS};
+use toggle_sums::Sums;
+
+/// What a line is looked for by.
+#[derive(Clone, Copy)]
+pub enum Wanted {
+    /// A toggle of a slot.
+    Toggle(TagSlot),
+    /// Any mark.
+    Mark,
+}
+
+impl Wanted {
+    /// Whether one of some lines has it, by their sum.
+    fn is_in(self, sum: &Sums<WORDS>) -> bool
+        requires { IsKnown self }
+        ensures { result ≡ shows self sum.now }
+    {
+        match self {
+            Wanted::Toggle(slot) => sum.has(slot),
+            Wanted::Mark => sum.marks() > 0,
+        }
+    }
+}
+
+/// The first line below a node, from one on, that has what is wanted. A node whose sum doesn't show it isn't entered.
+pub fn next<C: Ticks>(
+    store: &NodeStore<C>,
+    node: NodePtr,
+    height: usize,
+    wanted: Wanted,
+    from: usize,
+    ticks: &mut C,
+) -> Option<usize>
+    requires tree { IsTree (records store.now) height node }
+    requires fits { length (lines_in (records store.now) height node) < 2 ^ 64 }
+    requires known { IsKnown wanted }
+    ensures { result ≡ next_line (passes wanted) from (contents (lines_in (records store.now) height node)) }
+{
+    let sum = store.sum(node, ticks);
+    let lines = sum.lines();
+    if from >= lines || !wanted.is_in(&sum) {
+        return None;
+    }
+    if height == 0 {
+        return Some(0);
+    }
+    let mut before = 0;
+    for slot in 0..12 {
+        if let Some(child) = store.child(node, slot, ticks) {
+            let rest = from.saturating_sub(before);
+            if let Some(found) = next(store, child, height - 1, wanted, rest, ticks) {
+                return Some(before + found);
+            }
+            before += store.sum(child, ticks).lines();
+        }
+    }
+    None
+}
+
+/// The last line below a node, below one, that has what is wanted. A node whose sum doesn't show it isn't entered.
+pub fn previous<C: Ticks>(
+    store: &NodeStore<C>,
+    node: NodePtr,
+    height: usize,
+    wanted: Wanted,
+    to: usize,
+    ticks: &mut C,
+) -> Option<usize>
+    requires tree { IsTree (records store.now) height node }
+    requires within { to ≤ length (lines_in (records store.now) height node) }
+    requires known { IsKnown wanted }
+    ensures { result ≡ previous_line (passes wanted) to (contents (lines_in (records store.now) height node)) }
+{
+    let sum = store.sum(node, ticks);
+    if to == 0 || !wanted.is_in(&sum) {
+        return None;
+    }
+    if height == 0 {
+        return Some(0);
+    }
+    let mut before = sum.lines();
+    let mut slot = 12;
+    while slot > 0 {
+        slot -= 1;
+        if let Some(child) = store.child(node, slot, ticks) {
+            let lines = store.sum(child, ticks).lines();
+            before -= lines;
+            let rest = to.saturating_sub(before).min(lines);
+            if let Some(found) = previous(store, child, height - 1, wanted, rest, ticks) {
+                return Some(before + found);
+            }
+        }
+    }
+    None
+}
