@@ -15,10 +15,11 @@ pub struct LineTree<C: Ticks> {
     store: NodeStore<C>,
     root: NodePtr,
     height: usize,
+    count: usize,
 }
 
 impl<C: Ticks> Model for LineTree<C> {
-    ghost use Rattle.std.specs.Prelude.{◌+◌};
+    ghost use Rattle.std.specs.Prelude.{◌≡◌, ◌+◌, length};
     ghost use Rattle.std.specs.FinMap as finite;
     ghost use Rattle.raw_nodes.specs.Names.{records, rooms, spares};
     ghost use Rattle.line_tree.specs.Shape.{lines_in};
@@ -37,7 +38,8 @@ impl<C: Ticks> Model for LineTree<C> {
       nodes = spares t.store + finite.len (records t.store);
     } };
 
-    ghost invariant = { λ t. StandsAlone (records t.store) t.height t.root };
+    ghost invariant = { λ t. StandsAlone (records t.store) t.height t.root
+        × (t.count ≡ length (lines_in (records t.store) t.height t.root)) };
 }
 
 impl<C: Ticks> LineTree<C> {
@@ -65,6 +67,7 @@ impl<C: Ticks> LineTree<C> {
             store,
             root,
             height: 1,
+            count: 1,
         })
     }
 
@@ -85,6 +88,7 @@ impl<C: Ticks> LineTree<C> {
         ensures value { result ≡ self.now.height }
         ensures lines { 2 ≤ result → 2 * 6 ^ (result - 1) ≤ length self.now.lines }
         ensures names { Distinct (line_names self.now.lines) }
+        ensures many { length self.now.lines + self.now.spares + 1 ≤ self.now.nodes }
         ensures few { 5 * self.now.nodes ≤ 6 * length self.now.lines + 5 * self.now.spares + 4 }
     {
         self.height
@@ -128,6 +132,7 @@ impl<C: Ticks> LineTree<C> {
         ensures rooms { self.new.rooms + self.old.spares ≡ self.old.rooms + self.new.spares + 1 }
         ensures nodes { self.new.nodes ≡ self.old.nodes }
     {
+        self.count += 1;
         let name = new_line(&mut self.store, line);
         if let Some(sibling) = insert_in(&mut self.store, self.root, self.height, k, name, ticks) {
             self.root = join(&mut self.store, self.root, sibling, ticks);
@@ -142,10 +147,11 @@ impl<C: Ticks> LineTree<C> {
         requires two { 2 ≤ length self.old.lines }
         ensures lines { self.new.lines ≡ remove self.old.lines k }
         ensures line { (p : _) × (slice_get self.old.lines k ≡ Some (p, result)) }
-        ensures spares { self.old.spares ≤ self.new.spares }
+        ensures spares { self.old.spares + 1 ≤ self.new.spares }
         ensures rooms { self.new.rooms + self.old.spares + 1 ≡ self.old.rooms + self.new.spares }
         ensures nodes { self.new.nodes ≡ self.old.nodes }
     {
+        self.count -= 1;
         let name = remove_in(&mut self.store, self.root, self.height, k, ticks);
         let top = lower(&mut self.store, self.root, self.height, ticks);
         self.root = top.root;
