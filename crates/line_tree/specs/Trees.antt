@@ -41,6 +41,10 @@ abbrev pub total : List Named → Count
 total [] = no_text
 total (l ∷ ls) = plus (line_count l.1) (total ls)
 
+abbrev pub content_total : List LineContent → Count
+content_total [] = no_text
+content_total (l ∷ ls) = plus (line_count l) (content_total ls)
+
 -- ---- balance
 -- a node below the root
 abbrev pub IsBalanced : (h : ℕ) → Tree h → Type 0

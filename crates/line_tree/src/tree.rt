@@ -51,6 +51,7 @@ impl<C: Ticks> LineTree<C> {
     ghost use Rattle.line_tree.specs.Changes.{Distinct, FitsSum};
     ghost use Rattle.line_tree.specs.Places.{IsLineAt, line_names};
     ghost use Rattle.line_tree.specs.Locating.{IsPlaceAt};
+    ghost use Rattle.line_tree.specs.Room.{line_room};
 
     /// A tree of one line, the lone newline. Fails for want of memory.
     pub fn new(alloc: Global) -> Result<LineTree<C>, AllocError>
@@ -83,6 +84,21 @@ impl<C: Ticks> LineTree<C> {
         self.store.reserve(count)
     }
 
+    /// Reserves for `count` lines to be put in, whatever nodes split. Fails for want of memory.
+    pub fn reserve_for(&mut self, count: usize) -> Result<(), AllocError>
+        ensures lines { self.new.lines ≡ self.old.lines }
+        ensures height { self.new.height ≡ self.old.height }
+        ensures room { OnOk result (count ≤ line_room self.new) }
+    {
+        let steep = count.checked_mul(27).ok_or(AllocError)?;
+        let rooms = self.count / 5 + count / 5 + 27;
+        if steep <= rooms + count {
+            return self.store.reserve(steep);
+        }
+        self.store.reserve(rooms)?;
+        self.store.reserve_lines(rooms + count)
+    }
+
     /// How many levels of nodes there are.
     pub fn height(&self) -> usize
         ensures value { result ≡ self.now.height }
@@ -90,6 +106,8 @@ impl<C: Ticks> LineTree<C> {
         ensures names { Distinct (line_names self.now.lines) }
         ensures many { length self.now.lines + self.now.spares + 1 ≤ self.now.nodes }
         ensures few { 5 * self.now.nodes ≤ 6 * length self.now.lines + 5 * self.now.spares + 4 }
+        ensures room { 1 ≤ line_room self.now
+            → (self.now.height + 2 ≤ self.now.spares) × (self.now.height + 1 ≤ self.now.rooms) }
     {
         self.height
     }
@@ -131,6 +149,7 @@ impl<C: Ticks> LineTree<C> {
         ensures spares { self.old.spares ≤ self.new.spares + self.old.height + 2 }
         ensures rooms { self.new.rooms + self.old.spares ≡ self.old.rooms + self.new.spares + 1 }
         ensures nodes { self.new.nodes ≡ self.old.nodes }
+        ensures room { line_room self.old ≤ line_room self.new + 1 }
     {
         self.count += 1;
         let name = new_line(&mut self.store, line);
@@ -150,6 +169,7 @@ impl<C: Ticks> LineTree<C> {
         ensures spares { self.old.spares + 1 ≤ self.new.spares }
         ensures rooms { self.new.rooms + self.old.spares + 1 ≡ self.old.rooms + self.new.spares }
         ensures nodes { self.new.nodes ≡ self.old.nodes }
+        ensures room { line_room self.old ≤ line_room self.new }
     {
         self.count -= 1;
         let name = remove_in(&mut self.store, self.root, self.height, k, ticks);
