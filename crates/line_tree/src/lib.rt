@@ -8,6 +8,7 @@ mod insert;
 mod locate;
 mod remove;
 mod shrink;
+mod splice;
 mod tree;
 
 pub use tree::LineTree;

@@ -103,6 +103,7 @@ impl<C: Ticks> LineTree<C> {
     pub fn height(&self) -> usize
         ensures value { result ≡ self.now.height }
         ensures lines { 2 ≤ result → 2 * 6 ^ (result - 1) ≤ length self.now.lines }
+        ensures low { result ≤ 25 }
         ensures names { Distinct (line_names self.now.lines) }
         ensures many { length self.now.lines + self.now.spares + 1 ≤ self.now.nodes }
         ensures few { 5 * self.now.nodes ≤ 6 * length self.now.lines + 5 * self.now.spares + 4 }
