@@ -1,5 +1,5 @@
 -- How many lines there are, and how many can be put in.
-use Rattle.std.proofs.Common.{◌≡◌, ℕ, zero, suc, ◌+◌, ◌-◌, ◌*◌, ◌/◌, ◌^◌, ◌<◌, ◌≤◌, min, max, inl, inr, List, [], ◌∷◌, length, ap, arith, lit≤, lit<, ◌⊎◌, OnOk, Result, Ok, Err}
+use Rattle.std.proofs.Common.{◌≡◌, ℕ, zero, suc, ◌+◌, ◌-◌, ◌*◌, ◌/◌, ◌^◌, ◌<◌, ◌≤◌, min, max, inl, inr, List, length, ap, arith, lit≤, lit<, ◌⊎◌, OnOk, Result, Ok, Err}
 use Rattle.std.specs.FinMap as finite
 use Rattle.std.specs.List.{insert, remove}
 use Rattle.std.proofs.Math.Nat.{div-mul-le_self, le-max_left, le-max_right, le-min, pow-succ'}

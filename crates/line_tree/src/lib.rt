@@ -1,4 +1,4 @@
-//! A list of lines as a balanced tree: lines by number and by offset, their numbers, one line in, one line out.
+//! A list of lines as a balanced tree: lines by number and by offset, their numbers, lines put in and taken out.
 #![tactic(auto)]
 
 mod climb;

@@ -44,9 +44,10 @@ invariant_of-self g c = let m = records c.self.inside.store in let n = records c
     let e : suc h ≡ h + 1 = omega arith in
     let same = sym (ap (λ v. v.lines) c.self.view_is) in
     let fits = subst (λ ls. FitsSum (plus (total ls) (line_count c.args.line))) same c.requires.fits in
-    let grown = ap (λ j. lines_in u j a) (sym e) ∙ (new-root m n l u x c.args.line c.new_line-name.ensures.line h r c.args.k c.self.invariant.0.stands c.in-Some.sibling ins fits a c.join-self-inside.ensures.root).1 in
-    (subst (λ j. StandsAlone u j a) e (new-root-alone m n l u x c.args.line c.new_line-name.ensures.line h r c.args.k c.self.invariant.0 c.in-Some.sibling ins fits a c.join-self-inside.ensures.root),
-    one-more (lines_in m h r) c.args.k (x, c.args.line) (lines_in u (h + 1) a) c.self.inside.count (subst (λ ls. c.args.k ≤ length ls) same c.requires.place) c.self.invariant.1 grown)
+    let grown = ap (λ j. lines_in u j a) (sym e) ∙ (new-root m n l u x c.args.line c.new_line-name.ensures.line h r c.args.k c.self.invariant.0.stands c.in-Some.sibling ins fits a c.join-self-inside.ensures.root).1 in (
+      subst (λ j. StandsAlone u j a) e (new-root-alone m n l u x c.args.line c.new_line-name.ensures.line h r c.args.k c.self.invariant.0 c.in-Some.sibling ins fits a c.join-self-inside.ensures.root),
+      one-more (lines_in m h r) c.args.k (x, c.args.line) (lines_in u (h + 1) a) c.self.inside.count (subst (λ ls. c.args.k ≤ length ls) same c.requires.place) c.self.invariant.1 grown,
+    )
 
 pub invariant_of-self-in_default : goal.invariant_of-self-in_default
 invariant_of-self-in_default g c = let m = records c.self.inside.store in let n = records c.new_line-name.new.store in let l = records c.insert_in.new.store in let h = c.self.inside.height in let r = c.self.inside.root in
@@ -54,9 +55,10 @@ invariant_of-self-in_default g c = let m = records c.self.inside.store in let n 
     let ins = subst (λ o. Inserts n l h r c.args.k x o) (none_of c.insert_in.result c.in_default.not-Some) c.insert_in.ensures.inserts in
     let same = sym (ap (λ v. v.lines) c.self.view_is) in
     let fits = subst (λ ls. FitsSum (plus (total ls) (line_count c.args.line))) same c.requires.fits in
-    let grown = (same-root m n l x c.args.line c.new_line-name.ensures.line h r c.args.k c.self.invariant.0.stands ins fits).1 in
-    (same-root-alone m n l x c.args.line c.new_line-name.ensures.line h r c.args.k c.self.invariant.0 ins fits,
-    one-more (lines_in m h r) c.args.k (x, c.args.line) (lines_in l h r) c.self.inside.count (subst (λ ls. c.args.k ≤ length ls) same c.requires.place) c.self.invariant.1 grown)
+    let grown = (same-root m n l x c.args.line c.new_line-name.ensures.line h r c.args.k c.self.invariant.0.stands ins fits).1 in (
+      same-root-alone m n l x c.args.line c.new_line-name.ensures.line h r c.args.k c.self.invariant.0 ins fits,
+      one-more (lines_in m h r) c.args.k (x, c.args.line) (lines_in l h r) c.self.inside.count (subst (λ ls. c.args.k ≤ length ls) same c.requires.place) c.self.invariant.1 grown,
+    )
 
 pub returns-in-Some-clause-lines : goal.returns-in-Some-clause-lines
 returns-in-Some-clause-lines g c = let m = records c.self.inside.store in let n = records c.new_line-name.new.store in let l = records c.insert_in.new.store in let h = c.self.inside.height in let r = c.self.inside.root in

@@ -1,4 +1,3 @@
-use Rattle.std.proofs.Common.{length}
 use Rattle.line_tree.proofs.SpliceLaws.{PutsIn}
 use Rattle.line_tree.proofs.tree.LineTree.put_in.Given as goal
 

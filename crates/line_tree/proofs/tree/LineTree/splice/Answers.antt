@@ -1,4 +1,4 @@
-use Rattle.std.proofs.Common.{◌≡◌, ◌≤◌, ◌<◌, ◌+◌, length, ap, sym, ◌∙◌, subst, arith}
+use Rattle.std.proofs.Common.{◌≡◌, ◌+◌, length, ap, ◌∙◌, arith}
 use Rattle.std.specs.Prelude.{◌++◌, take, drop}
 use Rattle.std.proofs.lemmas.List.{length-map}
 use Rattle.line_tree.proofs.SpliceLaws.{few-lines, taken-behind}
