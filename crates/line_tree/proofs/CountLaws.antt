@@ -59,3 +59,22 @@ pub names-few-root : (m : Records) (h : ℕ) (t : Tree h) → Holds m h t → Is
 names-few-root m zero t holds balanced = absurd balanced
 names-few-root m (suc zero) t holds balanced = let all = names-sum m 0 (names-few m 0) t.1 holds.2 balanced.2 in let low = balanced.0 in omega arith
 names-few-root m (suc (suc h)) t holds balanced = let all = names-sum m (suc h) (names-few m (suc h)) t.1 holds.2 balanced.2 in let low = balanced.0 in omega arith
+
+-- ---- each line has a record, and each other node
+one-name : (p : NodePtr) (o : Option LineContent) → length (lines zero (p, o)) ≤ length (names zero (p, o))
+one-name p None = omega arith
+one-name p (Some l) = omega arith
+
+lines-sum : (h : ℕ) → ((t : Tree h) → length (lines h t) ≤ length (names h t)) → (ts : List (Tree h)) → length (lines_of h ts) ≤ length (names_of h ts)
+lines-sum h one [] = omega arith
+lines-sum h one (t ∷ ts) =
+    let here = one t in let rest = lines-sum h one ts in
+    let a = length-append (names h t) (names_of h ts) in let b = length-append (lines h t) (lines_of h ts) in omega arith
+
+lines-within : (h : ℕ) (t : Tree h) → length (lines h t) ≤ length (names h t)
+lines-within zero t = one-name t.0 t.1
+lines-within (suc h) t = let all = lines-sum h (lines-within h) t.1 in omega arith
+
+pub names-many-root : (h : ℕ) (t : Tree h) → IsBalancedRoot h t → length (lines h t) + 1 ≤ length (names h t)
+names-many-root zero t balanced = absurd balanced
+names-many-root (suc h) t balanced = let all = lines-sum h (lines-within h) t.1 in omega arith

@@ -12,9 +12,10 @@ use Rattle.raw_nodes.specs.Cells.{name_cmp}
 use Rattle.raw_nodes.specs.Records.{Record, Records, blank, update, with_child, with_parent, with_sum}
 use Rattle.raw_nodes.specs.Rows.{kids, row}
 use Rattle.raw_nodes.specs.declared.names.NodePtr.{NodePtr}
+use Rattle.raw_nodes.proofs.MapLaws.{get_unmoved}
 use Rattle.raw_nodes.proofs.PlaceLaws.{name_antisym, name_total}
 use Rattle.raw_nodes.proofs.UpdateLaws.{len-update, remove-named}
-use Rattle.line_tree.specs.Changes.{Among, Evens, Puts, link_one, refilled, relinked, resummed, sums}
+use Rattle.line_tree.specs.Changes.{Among, Distinct, Evens, Puts, link_one, refilled, relinked, resummed, sums}
 use Rattle.line_tree.specs.Growth.{NewLine, NewRoot}
 use Rattle.line_tree.specs.Shrinking.{Settles}
 
@@ -77,6 +78,13 @@ some-records m p s = elim (cases_lt 0 (finite.len m)) [
 
 pub len-gone : (m : Records) (p : NodePtr) → IsSome (finite.get m p) → finite.len (finite.remove m p) + 1 ≡ finite.len m
 len-gone m p s = gone-one (is_some (finite.get m p)) (finite.len m) (finite.len (finite.remove m p)) s (some-records m p s) (len-remove name_total m p)
+
+-- no fewer than names, if none stands twice
+pub len-many : (xs : List NodePtr) (m : Records) → Distinct xs → ((q : NodePtr) → Among q xs → IsSome (finite.get m q)) → length xs ≤ finite.len m
+len-many [] m d named = omega arith
+len-many (x ∷ xs) m d named =
+    let gone = len-gone m x (named x (inl refl)) in
+    let rest = len-many xs (finite.remove m x) d.1 (λ q a. subst (λ o. IsSome o) (sym (get_unmoved m x q (λ e. d.0 (subst (λ z. Among z xs) e a)))) (named q (inr a))) in omega arith
 
 len-evens : (m n : Records) (a b : NodePtr) (merged : Bool) → Evens m n a b merged → finite.len n ≡ finite.len m
 len-evens m n a b true e = ap finite.len e.same ∙ len-refilled m a (row (kids m a ++ kids m b))

@@ -1,5 +1,5 @@
 //! A list of lines as a balanced tree: lines by number and by offset, their numbers, the sum of the first ones, the
-//! nearest with a toggle or a mark, one line in, one line out.
+//! nearest with a toggle or a mark, lines put in and taken out.
 #![tactic(auto)]
 
 mod climb;
@@ -11,6 +11,7 @@ mod nearest;
 mod prefix;
 mod remove;
 mod shrink;
+mod splice;
 mod tree;
 
 pub use tree::LineTree;

@@ -19,10 +19,11 @@ pub struct LineTree<C: Ticks> {
     store: NodeStore<C>,
     root: NodePtr,
     height: usize,
+    count: usize,
 }
 
 impl<C: Ticks> Model for LineTree<C> {
-    ghost use Rattle.std.specs.Prelude.{◌+◌};
+    ghost use Rattle.std.specs.Prelude.{◌≡◌, ◌+◌, length};
     ghost use Rattle.std.specs.FinMap as finite;
     ghost use Rattle.raw_nodes.specs.Names.{records, rooms, spares};
     ghost use Rattle.line_tree.specs.Shape.{lines_in};
@@ -41,7 +42,8 @@ impl<C: Ticks> Model for LineTree<C> {
       nodes = spares t.store + finite.len (records t.store);
     } };
 
-    ghost invariant = { λ t. StandsAlone (records t.store) t.height t.root };
+    ghost invariant = { λ t. StandsAlone (records t.store) t.height t.root
+        × (t.count ≡ length (lines_in (records t.store) t.height t.root)) };
 }
 
 impl<C: Ticks> LineTree<C> {
@@ -56,6 +58,7 @@ impl<C: Ticks> LineTree<C> {
     ghost use Rattle.line_tree.specs.Changes.{Distinct, FitsSum};
     ghost use Rattle.line_tree.specs.Places.{IsLineAt, line_names};
     ghost use Rattle.line_tree.specs.Locating.{IsPlaceAt};
+    ghost use Rattle.line_tree.specs.Room.{line_room};
 
     /// A tree of one line, the lone newline. Fails for want of memory.
     pub fn new(alloc: Global) -> Result<LineTree<C>, AllocError>
@@ -72,6 +75,7 @@ impl<C: Ticks> LineTree<C> {
             store,
             root,
             height: 1,
+            count: 1,
         })
     }
 
@@ -87,12 +91,31 @@ impl<C: Ticks> LineTree<C> {
         self.store.reserve(count)
     }
 
+    /// Reserves for `count` lines to be put in, whatever nodes split. Fails for want of memory.
+    pub fn reserve_for(&mut self, count: usize) -> Result<(), AllocError>
+        ensures lines { self.new.lines ≡ self.old.lines }
+        ensures height { self.new.height ≡ self.old.height }
+        ensures room { OnOk result (count ≤ line_room self.new) }
+    {
+        let steep = count.checked_mul(27).ok_or(AllocError)?;
+        let rooms = self.count / 5 + count / 5 + 27;
+        if steep <= rooms + count {
+            return self.store.reserve(steep);
+        }
+        self.store.reserve(rooms)?;
+        self.store.reserve_lines(rooms + count)
+    }
+
     /// How many levels of nodes there are.
     pub fn height(&self) -> usize
         ensures value { result ≡ self.now.height }
         ensures lines { 2 ≤ result → 2 * 6 ^ (result - 1) ≤ length self.now.lines }
+        ensures low { result ≤ 25 }
         ensures names { Distinct (line_names self.now.lines) }
+        ensures many { length self.now.lines + self.now.spares + 1 ≤ self.now.nodes }
         ensures few { 5 * self.now.nodes ≤ 6 * length self.now.lines + 5 * self.now.spares + 4 }
+        ensures room { 1 ≤ line_room self.now
+            → (self.now.height + 2 ≤ self.now.spares) × (self.now.height + 1 ≤ self.now.rooms) }
     {
         self.height
     }
@@ -180,7 +203,9 @@ impl<C: Ticks> LineTree<C> {
         ensures spares { self.old.spares ≤ self.new.spares + self.old.height + 2 }
         ensures rooms { self.new.rooms + self.old.spares ≡ self.old.rooms + self.new.spares + 1 }
         ensures nodes { self.new.nodes ≡ self.old.nodes }
+        ensures room { line_room self.old ≤ line_room self.new + 1 }
     {
+        self.count += 1;
         let name = new_line(&mut self.store, line);
         if let Some(sibling) = insert_in(&mut self.store, self.root, self.height, k, name, ticks) {
             self.root = join(&mut self.store, self.root, sibling, ticks);
@@ -195,10 +220,12 @@ impl<C: Ticks> LineTree<C> {
         requires two { 2 ≤ length self.old.lines }
         ensures lines { self.new.lines ≡ remove self.old.lines k }
         ensures line { (p : _) × (slice_get self.old.lines k ≡ Some (p, result)) }
-        ensures spares { self.old.spares ≤ self.new.spares }
+        ensures spares { self.old.spares + 1 ≤ self.new.spares }
         ensures rooms { self.new.rooms + self.old.spares + 1 ≡ self.old.rooms + self.new.spares }
         ensures nodes { self.new.nodes ≡ self.old.nodes }
+        ensures room { line_room self.old ≤ line_room self.new }
     {
+        self.count -= 1;
         let name = remove_in(&mut self.store, self.root, self.height, k, ticks);
         let top = lower(&mut self.store, self.root, self.height, ticks);
         self.root = top.root;

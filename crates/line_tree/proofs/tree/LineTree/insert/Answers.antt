@@ -1,5 +1,6 @@
 use Rattle.std.proofs.Common.{◌≡◌, ◌≤◌, ◌+◌, suc, length, ap, sym, ◌∙◌, subst, arith, Some, [], ◌∷◌}
 use Rattle.std.specs.List.{insert}
+use Rattle.std.proofs.lemmas.List.Edits.{length-insert}
 use Rattle.toggle_sums.specs.Counts.{plus}
 use Rattle.segments.specs.Columns.{line_count}
 use Rattle.raw_nodes.specs.Names.{records}
@@ -7,16 +8,21 @@ use Rattle.line_tree.specs.Changes.{FitsSum}
 use Rattle.line_tree.specs.Growth.{Inserts, StandsAlone}
 use Rattle.line_tree.specs.Shape.{lines_in}
 use Rattle.line_tree.specs.Trees.{total}
+use Rattle.line_tree.proofs.LineRoomLaws.{low-height, one-more, room-falls}
 use Rattle.line_tree.proofs.RoomLaws.{len-line, len-root}
-use Rattle.line_tree.proofs.RootLaws.{can-insert, can-root, fits-now, new-root, new-root-alone, same-root, same-root-alone}
+use Rattle.line_tree.proofs.RootLaws.{can-insert, can-root, fits-now, new-root, new-root-alone, same-root, same-root-alone, stands-few, stands-least}
 use Rattle.line_tree.proofs.RowLaws.{none_of}
-use Rattle.line_tree.proofs.TreeLaws.{named-tree}
+use Rattle.line_tree.proofs.TreeLaws.{named-tree, total-lines}
 use Rattle.line_tree.proofs.tree.LineTree.insert.Goals as goal
+
+pub overflow_add-self : goal.overflow_add-self
+overflow_add-self g c = let few = c.requires.fits.lines in let n = total-lines c.args.self.now.lines in let is = c.self.invariant.1 in
+    let same = ap (λ v. length v.lines) c.self.view_is in omega arith
 
 pub insert_in-requires-clause-insert : goal.insert_in-requires-clause-insert
 insert_in-requires-clause-insert g c = let m = records c.self.inside.store in let h = c.self.inside.height in let r = c.self.inside.root in
     let same = sym (ap (λ v. v.lines) c.self.view_is) in
-    can-insert m (records c.new_line-name.new.store) c.new_line-name.result c.args.line c.new_line-name.ensures.line h r c.args.k c.self.invariant.stands
+    can-insert m (records c.new_line-name.new.store) c.new_line-name.result c.args.line c.new_line-name.ensures.line h r c.args.k c.self.invariant.0.stands
     (subst (λ ls. c.args.k ≤ length ls) same c.requires.place) (subst (λ ls. FitsSum (plus (total ls) (line_count c.args.line))) same c.requires.fits)
 
 pub join-self-inside-requires-clause-right : goal.join-self-inside-requires-clause-right
@@ -28,36 +34,45 @@ pub join-self-inside-requires-clause-fits : goal.join-self-inside-requires-claus
 join-self-inside-requires-clause-fits g c = let m = records c.self.inside.store in let n = records c.new_line-name.new.store in let l = records c.insert_in.new.store in let h = c.self.inside.height in let r = c.self.inside.root in
     let ins = subst (λ o. Inserts n l h r c.args.k c.new_line-name.result o) c.in-Some.is c.insert_in.ensures.inserts in
     can-root l h r c.in-Some.sibling ins.grows.holds
-    (fits-now m n l c.new_line-name.result c.args.line c.new_line-name.ensures.line h r c.args.k c.self.invariant.stands (Some c.in-Some.sibling) ins
+    (fits-now m n l c.new_line-name.result c.args.line c.new_line-name.ensures.line h r c.args.k c.self.invariant.0.stands (Some c.in-Some.sibling) ins
     (subst (λ ls. FitsSum (plus (total ls) (line_count c.args.line))) (sym (ap (λ v. v.lines) c.self.view_is)) c.requires.fits))
 
 pub invariant_of-self : goal.invariant_of-self
-invariant_of-self g c = let m = records c.self.inside.store in let n = records c.new_line-name.new.store in let l = records c.insert_in.new.store in let h = c.self.inside.height in let r = c.self.inside.root in
-    let ins = subst (λ o. Inserts n l h r c.args.k c.new_line-name.result o) c.in-Some.is c.insert_in.ensures.inserts in
+invariant_of-self g c = let m = records c.self.inside.store in let n = records c.new_line-name.new.store in let l = records c.insert_in.new.store in let u = records c.join-self-inside.new.store in let h = c.self.inside.height in let r = c.self.inside.root in
+    let a = c.join-self-inside.result in let x = c.new_line-name.result in
+    let ins = subst (λ o. Inserts n l h r c.args.k x o) c.in-Some.is c.insert_in.ensures.inserts in
     let e : suc h ≡ h + 1 = omega arith in
-    subst (λ j. StandsAlone (records c.join-self-inside.new.store) j c.join-self-inside.result) e
-    (new-root-alone m n l (records c.join-self-inside.new.store) c.new_line-name.result c.args.line c.new_line-name.ensures.line h r c.args.k c.self.invariant c.in-Some.sibling ins
-    (subst (λ ls. FitsSum (plus (total ls) (line_count c.args.line))) (sym (ap (λ v. v.lines) c.self.view_is)) c.requires.fits) c.join-self-inside.result c.join-self-inside.ensures.root)
+    let same = sym (ap (λ v. v.lines) c.self.view_is) in
+    let fits = subst (λ ls. FitsSum (plus (total ls) (line_count c.args.line))) same c.requires.fits in
+    let grown = ap (λ j. lines_in u j a) (sym e) ∙ (new-root m n l u x c.args.line c.new_line-name.ensures.line h r c.args.k c.self.invariant.0.stands c.in-Some.sibling ins fits a c.join-self-inside.ensures.root).1 in (
+      subst (λ j. StandsAlone u j a) e (new-root-alone m n l u x c.args.line c.new_line-name.ensures.line h r c.args.k c.self.invariant.0 c.in-Some.sibling ins fits a c.join-self-inside.ensures.root),
+      one-more (lines_in m h r) c.args.k (x, c.args.line) (lines_in u (h + 1) a) c.self.inside.count (subst (λ ls. c.args.k ≤ length ls) same c.requires.place) c.self.invariant.1 grown,
+    )
 
 pub invariant_of-self-in_default : goal.invariant_of-self-in_default
 invariant_of-self-in_default g c = let m = records c.self.inside.store in let n = records c.new_line-name.new.store in let l = records c.insert_in.new.store in let h = c.self.inside.height in let r = c.self.inside.root in
-    let ins = subst (λ o. Inserts n l h r c.args.k c.new_line-name.result o) (none_of c.insert_in.result c.in_default.not-Some) c.insert_in.ensures.inserts in
-    same-root-alone m n l c.new_line-name.result c.args.line c.new_line-name.ensures.line h r c.args.k c.self.invariant ins
-    (subst (λ ls. FitsSum (plus (total ls) (line_count c.args.line))) (sym (ap (λ v. v.lines) c.self.view_is)) c.requires.fits)
+    let x = c.new_line-name.result in
+    let ins = subst (λ o. Inserts n l h r c.args.k x o) (none_of c.insert_in.result c.in_default.not-Some) c.insert_in.ensures.inserts in
+    let same = sym (ap (λ v. v.lines) c.self.view_is) in
+    let fits = subst (λ ls. FitsSum (plus (total ls) (line_count c.args.line))) same c.requires.fits in
+    let grown = (same-root m n l x c.args.line c.new_line-name.ensures.line h r c.args.k c.self.invariant.0.stands ins fits).1 in (
+      same-root-alone m n l x c.args.line c.new_line-name.ensures.line h r c.args.k c.self.invariant.0 ins fits,
+      one-more (lines_in m h r) c.args.k (x, c.args.line) (lines_in l h r) c.self.inside.count (subst (λ ls. c.args.k ≤ length ls) same c.requires.place) c.self.invariant.1 grown,
+    )
 
 pub returns-in-Some-clause-lines : goal.returns-in-Some-clause-lines
 returns-in-Some-clause-lines g c = let m = records c.self.inside.store in let n = records c.new_line-name.new.store in let l = records c.insert_in.new.store in let h = c.self.inside.height in let r = c.self.inside.root in
     let ins = subst (λ o. Inserts n l h r c.args.k c.new_line-name.result o) c.in-Some.is c.insert_in.ensures.inserts in
     let e : suc h ≡ h + 1 = omega arith in
     ap (λ j. lines_in (records c.join-self-inside.new.store) j c.join-self-inside.result) (sym e)
-    ∙ (new-root m n l (records c.join-self-inside.new.store) c.new_line-name.result c.args.line c.new_line-name.ensures.line h r c.args.k c.self.invariant.stands c.in-Some.sibling ins
+    ∙ (new-root m n l (records c.join-self-inside.new.store) c.new_line-name.result c.args.line c.new_line-name.ensures.line h r c.args.k c.self.invariant.0.stands c.in-Some.sibling ins
     (subst (λ ls. FitsSum (plus (total ls) (line_count c.args.line))) (sym (ap (λ v. v.lines) c.self.view_is)) c.requires.fits) c.join-self-inside.result c.join-self-inside.ensures.root).1
     ∙ ap (λ ls. insert ls c.args.k (c.new_line-name.result, c.args.line)) (ap (λ v. v.lines) c.self.view_is)
 
 pub returns-in_default-clause-lines : goal.returns-in_default-clause-lines
 returns-in_default-clause-lines g c = let m = records c.self.inside.store in let n = records c.new_line-name.new.store in let l = records c.insert_in.new.store in let h = c.self.inside.height in let r = c.self.inside.root in
     let ins = subst (λ o. Inserts n l h r c.args.k c.new_line-name.result o) (none_of c.insert_in.result c.in_default.not-Some) c.insert_in.ensures.inserts in
-    (same-root m n l c.new_line-name.result c.args.line c.new_line-name.ensures.line h r c.args.k c.self.invariant.stands ins
+    (same-root m n l c.new_line-name.result c.args.line c.new_line-name.ensures.line h r c.args.k c.self.invariant.0.stands ins
     (subst (λ ls. FitsSum (plus (total ls) (line_count c.args.line))) (sym (ap (λ v. v.lines) c.self.view_is)) c.requires.fits)).1
     ∙ ap (λ ls. insert ls c.args.k (c.new_line-name.result, c.args.line)) (ap (λ v. v.lines) c.self.view_is)
 
@@ -80,3 +95,23 @@ pub returns-in_default-clause-rooms : goal.returns-in_default-clause-rooms
 returns-in_default-clause-rooms g c =
     let s1 = c.new_line-name.ensures.spares in let v = ap (λ z. z.spares) c.self.view_is in
     let r1 = c.new_line-name.ensures.rooms in let r2 = c.insert_in.ensures.rooms in let w = ap (λ z. z.rooms) c.self.view_is in omega arith
+
+pub returns-in-Some-clause-spares : goal.returns-in-Some-clause-spares
+returns-in-Some-clause-spares g c = let v = ap (λ z. z.spares) c.self.view_is in let w = ap (λ z. z.height) c.self.view_is in omega arith
+
+pub returns-in-Some-clause-room : goal.returns-in-Some-clause-room
+returns-in-Some-clause-room g c = let m = records c.self.inside.store in let h = c.self.inside.height in let r = c.self.inside.root in let stands = c.self.invariant.0.stands in
+    let old = c.args.self.now in
+    room-falls old _ (subst (λ v. v.height ≤ 25) c.self.view_is (low-height h (length (lines_in m h r)) (stands-least m h r stands) (stands-few m h r stands))) (returns-in-Some-clause-nodes g c)
+    (ap length (returns-in-Some-clause-lines g c) ∙ length-insert old.lines c.args.k (c.new_line-name.result, c.args.line) c.requires.place)
+    (returns-in-Some-clause-spares g c) (returns-in-Some-clause-rooms g c)
+
+pub returns-in_default-clause-spares : goal.returns-in_default-clause-spares
+returns-in_default-clause-spares g c = let v = ap (λ z. z.spares) c.self.view_is in let w = ap (λ z. z.height) c.self.view_is in omega arith
+
+pub returns-in_default-clause-room : goal.returns-in_default-clause-room
+returns-in_default-clause-room g c = let m = records c.self.inside.store in let h = c.self.inside.height in let r = c.self.inside.root in let stands = c.self.invariant.0.stands in
+    let old = c.args.self.now in
+    room-falls old _ (subst (λ v. v.height ≤ 25) c.self.view_is (low-height h (length (lines_in m h r)) (stands-least m h r stands) (stands-few m h r stands))) (returns-in_default-clause-nodes g c)
+    (ap length (returns-in_default-clause-lines g c) ∙ length-insert old.lines c.args.k (c.new_line-name.result, c.args.line) c.requires.place)
+    (returns-in_default-clause-spares g c) (returns-in_default-clause-rooms g c)

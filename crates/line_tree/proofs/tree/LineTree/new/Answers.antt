@@ -1,4 +1,4 @@
-use Rattle.std.proofs.Common.{◌≡◌, ap, sym, ◌∙◌, [], ◌∷◌, subst}
+use Rattle.std.proofs.Common.{◌≡◌, ap, sym, ◌∙◌, [], ◌∷◌, length, subst}
 use Rattle.std.specs.FinMap as finite
 use Rattle.std.specs.FinMap.{get-empty}
 use Rattle.segments.specs.Columns.{line_count, plain_line}
@@ -22,9 +22,13 @@ pub invariant_of-result : goal.invariant_of-result
 invariant_of-result g c = let m = records c.reserve_lines.new.self in
     let is : c.in_ok-line.line ≡ plain_line (10 ∷ []) = c.in_ok-line.ensures ∙ lone-line in
     let none = c.reserve_lines.ensures.records ∙ c.reserve.ensures.records ∙ c.new-store.ensures.records in
-    first-root-alone m (records c.new_line-name.new.store) (records c.top-root.new.store) c.new_line-name.result c.in_ok-line.line
-    (λ q s. unnamed m q s (ap (λ z. finite.get z q) none ∙ get-empty name_cmp q))
-    c.new_line-name.ensures.line (subst (λ l. FitsSum (line_count l)) (sym is) lone-fits) c.top-root.result c.top-root.ensures.root
+    let fits = subst (λ l. FitsSum (line_count l)) (sym is) lone-fits in
+    let first = first-root m (records c.new_line-name.new.store) (records c.top-root.new.store) c.new_line-name.result c.in_ok-line.line c.new_line-name.ensures.line fits c.top-root.result c.top-root.ensures.root in (
+      first-root-alone m (records c.new_line-name.new.store) (records c.top-root.new.store) c.new_line-name.result c.in_ok-line.line
+          (λ q s. unnamed m q s (ap (λ z. finite.get z q) none ∙ get-empty name_cmp q))
+          c.new_line-name.ensures.line fits c.top-root.result c.top-root.ensures.root,
+      sym (ap length first.1),
+    )
 
 pub returns : goal.returns
 returns g c =
