@@ -236,8 +236,7 @@ impl<'a, L: LineList> Draft<'a, L> {
         ensures taken { IsTaken (L.lines self.new.list.now) self.new.front.items self.new.back.items result.stop }
         ensures same { taken_lines (L.lines self.new.list.now) self.new.front.items self.new.back.items result.stop.copy
             ≡ drafted_at (L.lines self.old.list.now) self.old.front.items self.old.back.items }
-        ensures place {
-            StandsAt (L.lines self.new.list.now) self.new.front.items result.stop.copy offset result.column }
+        ensures place { StandsAt (L.lines self.new.list.now) self.new.front.items result.stop.copy offset result.column }
         ensures room { vec_len self.new.front < vec_capacity self.new.front }
     {
         let stop = self.front.pop().unwrap();
