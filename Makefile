@@ -3,10 +3,11 @@
 # make fuzz    the program against the plain model on random scripts: SEEDS=300 of them, FIRST=0 on
 # make gate    the gate alone, and its processor time over that of `rt selftest`; with nothing beside it
 # make bench   the program's time per command as the text grows, and its memory as the script does, into docs/bench.txt;
-#              what is done to one long line, into docs/bench_lines.txt
+#              what is done to one long line, into docs/bench_lines.txt; and lines in the tree, into docs/bench_tree.txt
 
 PROGRAM = crates/tktext/out/tktext
 LINE_BENCH = crates/line_bench/out/line_bench
+TREE_BENCH = crates/tree_bench/out/tree_bench
 NODE_MEMORY = crates/node_memory/out/node_memory
 SHIM = out/refuse.so
 WEIGH = out/weigh.so
@@ -36,21 +37,28 @@ test: $(SHIM) $(WEIGH)
 	python3 tools/total.py 'python3 tools/gate.py' \
 	  'python3 tools/selftest.py' \
 	  'python3 tools/fuzz.py --program $(PROGRAM) --seeds 300' \
+	  'python3 tools/fuzz.py --program $(PROGRAM) --seeds 100 --lines' \
 	  'python3 tools/refusals.py --program $(PROGRAM) --shim $(SHIM)' \
 	  'python3 tools/idle.py --program $(PROGRAM)' \
 	  'python3 tools/devices.py --program $(PROGRAM)' \
-	  'python3 tools/memory.py --program $(NODE_MEMORY) --shim $(WEIGH)'
+	  'python3 tools/memory.py --program $(NODE_MEMORY) --shim $(WEIGH)' \
+	  'python3 tools/own_counter.py'
 
 fuzz: $(PROGRAM)
 	python3 tools/fuzz.py --program $(PROGRAM) --seeds $(SEEDS) --first $(FIRST)
 
 $(LINE_BENCH): $(SOURCES)
-	cd crates/line_bench && rt run > /dev/null
+	cd crates/line_bench && rt run -- part 3 5 10 > /dev/null
 	@touch $@
 
-bench: $(PROGRAM) $(LINE_BENCH)
+$(TREE_BENCH): $(SOURCES)
+	cd crates/tree_bench && rt run -- mixed 100 20 > /dev/null
+	@touch $@
+
+bench: $(PROGRAM) $(LINE_BENCH) $(TREE_BENCH)
 	python3 tools/bench.py --program $(PROGRAM) --out docs/bench.txt
 	python3 tools/bench_lines.py --program $(LINE_BENCH) --out docs/bench_lines.txt
+	python3 tools/bench_tree.py --program $(TREE_BENCH) --out docs/bench_tree.txt
 
 gate:
 	python3 tools/gate.py --ratio

@@ -1,10 +1,10 @@
 #!/usr/bin/env python3
 """Compares the program with the model on random scripts.
 
-    python3 tools/fuzz.py --program PATH --seeds N [--first K]
+    python3 tools/fuzz.py --program PATH --seeds N [--first K] [--lines]
 
-Runs the scripts of the seeds K to K+N-1 (K is 0 if left out), prints the first difference, and ends in
-a line `N passed, M failed`.  The exit status is 1 if anything failed.
+Runs the scripts of the seeds K to K+N-1 (K is 0 if left out), with `--lines` those on texts of thousands of lines, prints the first
+difference, and ends in a line `N passed, M failed`.  The exit status is 1 if anything failed.
 """
 
 import argparse
@@ -32,11 +32,11 @@ def print_difference(seed, script, wanted, given):
         print(f"{name} status {result.status}, standard error {result.errors!r}, output {result.output!r}")
 
 
-def compare(program, seeds):
+def compare(program, make_script, seeds):
     """The numbers of seeds that passed and that failed."""
     passed = failed = 0
     for seed in seeds:
-        script = scripts.script(seed)
+        script = make_script(seed)
         wanted = wanted_result(script)
         given = run_program(program, script)
         if given == wanted:
@@ -56,8 +56,10 @@ def main():
     parser.add_argument("--program", required=True)
     parser.add_argument("--seeds", type=int, default=300)
     parser.add_argument("--first", type=int, default=0)
+    parser.add_argument("--lines", action="store_true")
     options = parser.parse_args()
-    passed, failed = compare(options.program, range(options.first, options.first + options.seeds))
+    make_script = scripts.long_script if options.lines else scripts.script
+    passed, failed = compare(options.program, make_script, range(options.first, options.first + options.seeds))
     print(f"{passed} passed, {failed} failed")
     return 1 if failed or not passed else 0
 

@@ -4,7 +4,7 @@ import subprocess
 import sys
 from typing import NamedTuple
 
-TIMEOUT_SECONDS = 10
+TIMEOUT_SECONDS = 60
 # A script of megabytes may take this long.
 LONG_TIMEOUT_SECONDS = 300
 # By how many kB the resident size may differ among scripts of several lengths.

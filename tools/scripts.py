@@ -1200,6 +1200,86 @@ def reading_commands(chance):
     return "".join(" ".join(spelled(chance, word) for word in each) + command_end(chance) for each in words)
 
 
+# ---------------------------------------------------------------------------------------------------
+# Scripts whose text has thousands of lines
+
+
+def line_texts(chance, count):
+    """So many short lines, without a newline behind the last."""
+    return "\n".join(chance.choices(["", "a", "bc", "aab", "é d", "漢b"], k=count))
+
+
+def far_place(chance):
+    """A place anywhere in a long text, now and then behind its end."""
+    return f"{chance.randrange(1, chance.lines + 3)}.{chance.choice([0, 0, 1, 2, 'end'])}"
+
+
+def far_span(chance):
+    """Two places in their order, from a few to hundreds of lines apart."""
+    line = chance.randrange(1, chance.lines + 1)
+    last = line + chance.choice([0, 0, 1, 2, 5, 13, 40, 150, 700])
+    return [f"{line}.{chance.randrange(0, 3)}", f"{last}.{chance.choice([0, 1, 'end'])}"]
+
+
+def short_span(chance):
+    """Two places a few lines apart."""
+    line = chance.randrange(1, chance.lines + 1)
+    return [f"{line}.0", f"{line + chance.randrange(0, 9)}.{chance.choice([0, 1, 'end'])}"]
+
+
+def far_lines(chance):
+    """From a character to hundreds of lines."""
+    return line_texts(chance, chance.choice([1, 2, 2, 3, 7, 13, 14, 40, 160, 400]))
+
+
+LONG_EDITS = [
+    (lambda chance: ["insert", far_place(chance), far_lines(chance)], 6),
+    (lambda chance: ["insert", far_place(chance), far_lines(chance), written_list(chance), far_lines(chance)], 2),
+    (lambda chance: ["delete", *far_span(chance)], 6),
+    (lambda chance: ["delete", far_place(chance)], 1),
+    (lambda chance: ["delete", *[word for _ in range(chance.randrange(2, 6)) for word in far_span(chance)]], 2),
+    (lambda chance: ["replace", *far_span(chance), far_lines(chance)], 3),
+    (lambda chance: ["tag", "add", tag_name(chance), *far_span(chance)], 5),
+    (lambda chance: ["tag", "remove", tag_name(chance), *far_span(chance)], 2),
+    (lambda chance: ["tag", "delete", tag_name(chance)], 0.5),
+    (lambda chance: ["mark", "set", mark_name(chance), far_place(chance)], 5),
+    (lambda chance: ["mark", "unset", mark_name(chance)], 0.5),
+    (lambda chance: ["mark", "gravity", mark_name(chance), chance.choice(["left", "right"])], 1),
+    (lambda chance: ["edit", chance.choice(["undo", "undo", "redo", "separator"])], 4),
+    (lambda chance: ["configure", "-startline", str(chance.randrange(1, chance.lines))], 0.3),
+    (lambda chance: ["configure", "-startline", "", "-endline", ""], 0.3),
+]
+
+LONG_QUERIES = [
+    (lambda chance: ["index", far_place(chance)], 2),
+    (lambda chance: ["index", far_place(chance) + chance.choice(["+700c", "-90c", "+200l", "-13l", " lineend", " wordstart"])], 2),
+    (lambda chance: ["index", mark_name(chance)], 2),
+    (lambda chance: ["index", "end"], 2),
+    (lambda chance: ["index", tag_index(chance)], 1),
+    (lambda chance: ["get", *short_span(chance)], 2),
+    (lambda chance: ["count", "-lines", "-chars", far_place(chance), far_place(chance)], 1),
+    (lambda chance: ["tag", "names", far_place(chance)], 1),
+    (lambda chance: ["tag", "ranges", tag_name(chance)], 1),
+    (lambda chance: ["tag", chance.choice(["nextrange", "prevrange"]), tag_name(chance), far_place(chance)], 2),
+    (lambda chance: ["mark", chance.choice(["next", "previous"]), far_place(chance)], 2),
+    (lambda chance: ["dump", *short_span(chance)], 2),
+    (lambda chance: ["search", chance.choice(["-forwards", "-backwards"]), "--", pattern(chance), *short_span(chance)], 1),
+]
+
+
+def long_script(seed):
+    """The script of a seed on a text of thousands of lines, as bytes: whatever list the lines are kept in, it grows and shrinks under every command."""
+    chance = Chance(seed)
+    chance.widgets = chance.choice([(".t",), (".t", ".p"), (".t", ".p")])
+    chance.lines = chance.choice([300, 1_000, 2_000, 4_000])
+    words = [["text", ".t"] + (["-undo", "1"] if chance.random() < 0.7 else []), [".t", "insert", "end", line_texts(chance, chance.lines)]]
+    words += [[".t", "peer", "create", name] for name in chance.widgets[1:]]
+    for _ in range(chance.choice([10, 20, 40])):
+        words.append([own_widget(chance)] + pick(chance, LONG_EDITS))
+        words.append([own_widget(chance)] + pick(chance, LONG_QUERIES))
+    return "".join(" ".join(spelled(chance, word) for word in each) + "\n" for each in words).encode("utf-8")
+
+
 def script(seed):
     """The script of a seed, as bytes."""
     chance = Chance(seed)

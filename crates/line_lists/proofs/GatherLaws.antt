@@ -197,9 +197,11 @@ gather-more front stops rest lines stop pieces before last more gathers goes pie
     let base = base_of front lines in
     let numbers = numbers_in (copied_lines (copies_of front)) in
     let ends = gathers.ends before last pieces_are in
+    let sum = ap count_of (sym gathers.brings ∙ ap piece_lines pieces_are ∙ piece_lines-snoc before last) ∙ count-append (piece_lines before) last.lines.items in
     let covers = covers-more before last more (used (copies_of stops)) stop.copy.gone (made_lines (copies_of stops) base) base stop.copy.line (count_of (copied_lines (copies_of stops)))
     (subst (λ ps. Covers ps (used (copies_of stops)) (made_lines (copies_of stops) base) base (count_of (copied_lines (copies_of stops)))) pieces_are gathers.covers)
-    (omega (arith, next-used front stops lines stop rest goes, zero, freed-length numbers lines)) (freed-lines numbers lines goes.are).rows ends from count brought (alone front stops lines stop rest goes) in
+    (omega (arith, next-used front stops lines stop rest goes, zero, freed-length numbers lines)) (freed-lines numbers lines goes.are).rows ends from count brought (alone front stops lines stop rest goes)
+    (count_of (piece_lines before)) sum in
     record {
       covers = covers-snoc front stops lines stop (before ++ more ∷ [])
           (subst (λ k. Covers (before ++ more ∷ []) (used (copies_of stops) + (k + stop.copy.gone)) (made_lines (copies_of stops) base ++ (take k (drop (used (copies_of stops)) base) ++ stop.copy.line ∷ []))

@@ -9,7 +9,7 @@ use Rattle.toggle_sums.specs.Counts.{Count, plus}
 use Rattle.segments.specs.Columns.{LineContent, line_count}
 use Rattle.line_lists.specs.declared.pieces.Piece.{Piece}
 use Rattle.line_lists.specs.Lists.{AreApart, AreLines, AreRows, IsCounted, count_of, spliced}
-use Rattle.line_lists.specs.Pieces.{CanPlace, Covers, Follows, placed}
+use Rattle.line_lists.specs.Pieces.{CanPlace, Covers, FitsIn, Follows, placed}
 use Rattle.line_lists.specs.Texts.{whole}
 use Rattle.line_lists.proofs.CountRows.{count-append}
 use Rattle.line_lists.proofs.DraftLaws.{take-more}
@@ -22,30 +22,15 @@ pub placed-snoc : (pieces : List Piece) (piece : Piece) (lines : List LineConten
 placed-snoc [] piece lines = refl
 placed-snoc (first ∷ pieces) piece lines = ap (spliced first.from first.count first.lines.items) (placed-snoc pieces piece lines)
 
-pub can-snoc : (pieces : List Piece) (piece : Piece) (lines : List LineContent) → CanPlace pieces (spliced piece.from piece.count piece.lines.items lines) → piece.from + piece.count ≤ length lines
-    → AreLines (spliced piece.from piece.count piece.lines.items lines) → CanPlace (pieces ++ piece ∷ []) lines
-can-snoc [] piece lines can within are = (tt, within, are)
-can-snoc (first ∷ pieces) piece lines can within are =
-    let same = sym (placed-snoc pieces piece lines) in (
-      can-snoc pieces piece lines can.0 within are,
-      subst (λ xs. first.from + first.count ≤ length xs) same can.1,
-      subst (λ xs. AreLines (spliced first.from first.count first.lines.items xs)) same can.2,
-    )
+pub can-snoc : (pieces : List Piece) (piece : Piece) (lines : List LineContent) → CanPlace pieces (spliced piece.from piece.count piece.lines.items lines) → FitsIn piece lines → CanPlace (pieces ++ piece ∷ []) lines
+can-snoc [] piece lines can fits = (tt, fits)
+can-snoc (first ∷ pieces) piece lines can fits = (can-snoc pieces piece lines can.0 fits, subst (FitsIn first) (sym (placed-snoc pieces piece lines)) can.1)
 
-pub can-split : (pieces : List Piece) (piece : Piece) (lines : List LineContent) → CanPlace (pieces ++ piece ∷ []) lines
-    → CanPlace pieces (spliced piece.from piece.count piece.lines.items lines) × (piece.from + piece.count ≤ length lines) × AreLines (spliced piece.from piece.count piece.lines.items lines)
-can-split [] piece lines can = (tt, can.1, can.2)
+pub can-split : (pieces : List Piece) (piece : Piece) (lines : List LineContent) → CanPlace (pieces ++ piece ∷ []) lines → CanPlace pieces (spliced piece.from piece.count piece.lines.items lines) × FitsIn piece lines
+can-split [] piece lines can = (tt, can.1)
 can-split (first ∷ pieces) piece lines can =
     let rest = can-split pieces piece lines can.0 in
-    let same = placed-snoc pieces piece lines in (
-      (
-        rest.0,
-        subst (λ xs. first.from + first.count ≤ length xs) same can.1,
-        subst (λ xs. AreLines (spliced first.from first.count first.lines.items xs)) same can.2,
-      ),
-      rest.1,
-      rest.2,
-    )
+    ((rest.0, subst (FitsIn first) (placed-snoc pieces piece lines) can.1), rest.1)
 
 -- ---- what pieces make, whatever follows them
 pub covers-none : (base : List LineContent) (sum : Count) → Covers [] 0 [] base sum
@@ -204,6 +189,24 @@ new-state piece u kept gone base rest line from count lines within =
     let same : u + (kept + gone) ≡ (u + kept) + gone = omega arith in
     (λ i. spliced (from i) (count i) (lines i) (take (same i) base ++ rest)) ∙ spliced-front (u + kept) gone (line ∷ []) base rest (omega (arith, within))
 
+-- all that is there, and the line of the piece, or the lines of it
+counted-one : (all : List LineContent) (line : LineContent) (sum : Count) → IsCounted (plus (count_of all) (plus sum (line_count line))) → IsCounted (plus (count_of all) (count_of (line ∷ [])))
+counted-one all line sum counted = record {
+  lines = omega (arith, counted.lines);
+  characters = omega (arith, counted.characters);
+  marks = omega (arith, counted.marks);
+}
+
+counted-two : (all brought : List LineContent) (line : LineContent) (before sum : Count) → sum ≡ plus before (count_of brought) → IsCounted (plus (count_of all) (plus sum (line_count line)))
+    → IsCounted (plus (count_of all) (count_of (brought ++ line ∷ [])))
+counted-two all brought line before sum is counted =
+    let more = count-append brought (line ∷ []) in
+    record {
+      lines = omega (arith, counted.lines, ap (λ (c : Count). c.lines) is, ap (λ (c : Count). c.lines) more);
+      characters = omega (arith, counted.characters, ap (λ (c : Count). c.characters) is, ap (λ (c : Count). c.characters) more);
+      marks = omega (arith, counted.marks, ap (λ (c : Count). c.marks) is, ap (λ (c : Count). c.marks) more);
+    }
+
 pub covers-new : (pieces : List Piece) (piece : Piece) (u kept gone : ℕ) (made base : List LineContent) (line : LineContent) (sum : Count)
     → Covers pieces u made base sum → u + (kept + gone) ≤ length base → AreRows base → piece.from ≡ u + kept → piece.count ≡ gone → piece.lines.items ≡ line ∷ []
     → (kept ≡ 0 → made ≡ take u base) → AreApart line.marks (whole base).marks
@@ -233,8 +236,11 @@ covers-new pieces piece u kept gone made base line sum covers within rows from c
           } in
           can-snoc pieces piece (take (u + (kept + gone)) base ++ rest)
           (subst (CanPlace pieces) (sym (state rest ∙ split rest)) (covers.can (middle ++ line ∷ rest) before))
-          (omega (arith, from, count, within, long_take (u + (kept + gone)) base within, length-append (take (u + (kept + gone)) base) rest))
-          (subst AreLines (sym (state rest)) are);
+          (record {
+            within = omega (arith, from, count, within, long_take (u + (kept + gone)) base within, length-append (take (u + (kept + gone)) base) rest);
+            are = subst AreLines (sym (state rest)) are;
+            counted = subst (λ xs. IsCounted (plus (count_of (take (u + (kept + gone)) base ++ rest)) (count_of xs))) (sym lines) (counted-one (take (u + (kept + gone)) base ++ rest) line sum follows.counted);
+          });
     }
 
 -- ---- the last piece with a line more
@@ -251,9 +257,9 @@ more-state last more u gone base rest line ends from count lines within =
 
 pub covers-more : (before : List Piece) (last more : Piece) (u gone : ℕ) (made base : List LineContent) (line : LineContent) (sum : Count)
     → Covers (before ++ last ∷ []) u made base sum → u + gone ≤ length base → AreRows base → last.from + last.count ≡ u → more.from ≡ last.from → more.count ≡ last.count + gone
-    → more.lines.items ≡ last.lines.items ++ line ∷ [] → AreApart line.marks (whole base).marks
+    → more.lines.items ≡ last.lines.items ++ line ∷ [] → AreApart line.marks (whole base).marks → (others : Count) → sum ≡ plus others (count_of last.lines.items)
     → Covers (before ++ more ∷ []) (u + (0 + gone)) (made ++ (take 0 (drop u base) ++ line ∷ [])) base (plus sum (line_count line))
-covers-more before last more u gone made base line sum covers within rows ends from count lines alone =
+covers-more before last more u gone made base line sum covers within rows ends from count lines alone others brought =
     let same : u + gone ≡ u + (0 + gone) = omega arith in
     let state : (rest : List LineContent) → spliced more.from more.count more.lines.items (take (u + (0 + gone)) base ++ rest) ≡ spliced last.from last.count last.lines.items (take u base ++ (line ∷ rest)) =
     λ rest. ap (λ n. spliced more.from more.count more.lines.items (take n base ++ rest)) (sym same) ∙ more-state last more u gone base rest line ends from count lines within in
@@ -266,8 +272,12 @@ covers-more before last more u gone made base line sum covers within rows ends f
           let can = can-split before last (take u base ++ (line ∷ rest))
           (covers.can (line ∷ rest) (follows-before u 0 gone made base rest line sum (omega (arith, within)) rows alone follows)) in
           can-snoc before more (take (u + (0 + gone)) base ++ rest) (subst (CanPlace before) (sym (state rest)) can.0)
-          (omega (arith, from, count, ends, within, long_take (u + (0 + gone)) base (omega (arith, within)), length-append (take (u + (0 + gone)) base) rest))
-          (subst AreLines (sym (state rest)) can.2);
+          (record {
+            within = omega (arith, from, count, ends, within, long_take (u + (0 + gone)) base (omega (arith, within)), length-append (take (u + (0 + gone)) base) rest);
+            are = subst AreLines (sym (state rest)) can.1.are;
+            counted = subst (λ xs. IsCounted (plus (count_of (take (u + (0 + gone)) base ++ rest)) (count_of xs))) (sym lines)
+                (counted-two (take (u + (0 + gone)) base ++ rest) last.lines.items line others sum brought follows.counted);
+          });
     }
 
 -- ---- all of them

@@ -17,13 +17,17 @@ abbrev pub placed : List Piece → List LineContent → List LineContent
 placed [] lines = lines
 placed (piece ∷ pieces) lines = spliced piece.from piece.count piece.lines.items (placed pieces lines)
 
--- each piece finds the lines in whose place it comes, and the lines with it are those of a text
+-- a piece finds the lines in whose place it comes, the lines with it are those of a text, and it can be counted
+-- together with all that are there before
+pub record FitsIn (piece : Piece) (lines : List LineContent) : Type 0 where
+  pub within : piece.from + piece.count ≤ length lines
+  pub are : AreLines (spliced piece.from piece.count piece.lines.items lines)
+  pub counted : IsCounted (plus (count_of lines) (count_of piece.lines.items))
+
+-- each piece fits in where those behind it are placed
 abbrev pub CanPlace : List Piece → List LineContent → Type 0
 CanPlace [] lines = ⊤
-CanPlace (piece ∷ pieces) lines =
-    CanPlace pieces lines
-    × (piece.from + piece.count ≤ length (placed pieces lines))
-    × AreLines (placed (piece ∷ pieces) lines)
+CanPlace (piece ∷ pieces) lines = CanPlace pieces lines × FitsIn piece (placed pieces lines)
 
 -- the lines that pieces bring
 abbrev pub piece_lines : List Piece → List LineContent

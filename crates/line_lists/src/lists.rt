@@ -1,9 +1,10 @@
 ghost use Rattle.std.specs.Prelude.{◌≡◌, ℕ, ◌+◌, ◌<◌, ◌≤◌, List, [], ◌∷◌, length, map, take, slice_get, Some, IfOk, OnOk};
 ghost use Rattle.std.specs.List.{All};
 ghost use Rattle.text_model.specs.TagBits.{slot_count};
+ghost use Rattle.toggle_sums.specs.Counts.{plus};
 ghost use Rattle.segments.specs.Columns.{LineContent, plain_line};
 ghost use Rattle.line_lists.specs.Edits.{without_mark};
-ghost use Rattle.line_lists.specs.Lists.{AreLines, Holds, NumbersBelow, count_of, has_mark, has_marks, has_toggle, next_line, previous_line, spliced};
+ghost use Rattle.line_lists.specs.Lists.{AreLines, Holds, IsCounted, NumbersBelow, count_of, has_mark, has_marks, has_toggle, next_line, previous_line, spliced};
 ghost use Rattle.line_lists.specs.Texts.{whole};
 
 use segments::Line;
@@ -94,6 +95,7 @@ pub trait LineList: Drop {
         requires room { length new.items ≤ line_room self.old }
         requires numbers { All (λ (line : LineContent). NumbersBelow (mark_room self.old) line.marks) new.items }
         requires lines { AreLines (spliced from count new.items (lines self.old)) }
+        requires counted { IsCounted (plus (count_of (lines self.old)) (count_of new.items)) }
         ensures lines { lines self.new ≡ spliced from count new.items (lines self.old) }
         ensures room { line_room self.old ≤ line_room self.new + length new.items }
         ensures numbers { mark_room self.old ≤ mark_room self.new };

@@ -52,6 +52,15 @@ fn change_of<L: LineList>(alloc: Global, list: &L, edit: &Edit) -> Result<Change
     })
 }
 
+impl<L: LineList> LineStore<L> {
+    /// The list of the lines, lent.
+    pub fn list(&self) -> &L
+        ensures lines { content_of (L.lines result.now) ≡ content_of (L.lines self.now.list) }
+    {
+        &self.list
+    }
+}
+
 impl<L: LineList> TextStore for LineStore<L> {
     type Prepared = Change;
 

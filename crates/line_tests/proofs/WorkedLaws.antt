@@ -1,5 +1,5 @@
 -- The lines of the tests of lists are those of a text.
-use Rattle.std.proofs.Common.{◌≡◌, ℕ, zero, suc, ◌+◌, ◌<◌, ◌≤◌, Bool, true, false, cond, ◌==◌, List, [], ◌∷◌, ◌++◌, Option, None, Some, length, get_or, refl, sym, ap, ap₂, subst, ◌∙◌, arith}
+use Rattle.std.proofs.Common.{◌≡◌, ℕ, zero, suc, ◌+◌, ◌<◌, ◌≤◌, Bool, true, false, cond, ◌==◌, List, [], ◌∷◌, ◌++◌, Option, None, Some, length, get_or, refl, sym, ap, ap₂, subst, subst₂, ◌∙◌, arith}
 use Rattle.std.specs.Cmp.{nat_cmp_total, unsigned_tied}
 use Rattle.std.specs.FinMap as finite
 use Rattle.std.specs.Ordering.{eq_by_cmp, nat_cmp}
@@ -8,7 +8,8 @@ use Rattle.std.proofs.lemmas.Bool.Decides.{nat_tests}
 use Rattle.text_model.specs.declared.places.Place.{Place}
 use Rattle.text_model.specs.Splices.{changed}
 use Rattle.segments.specs.Columns.{LineContent, plain_line, with_toggle}
-use Rattle.line_lists.specs.Lists.{AreLines, NumbersBelow, spliced}
+use Rattle.toggle_sums.specs.Counts.{plus}
+use Rattle.line_lists.specs.Lists.{AreLines, IsCounted, NumbersBelow, count_of, spliced}
 use Rattle.line_tests.specs.Worked.{marked_line, worked_lines, worked_place}
 
 pub first-text : chars (97 ∷ 10 ∷ []) ≡ 97 ∷ 10 ∷ []
@@ -80,6 +81,13 @@ pub spliced-worked : (old new : List LineContent) → old ≡ plain_line (10 ∷
 spliced-worked old new old_is new_is =
     let made : spliced 0 1 new old ≡ worked_lines = ap₂ (spliced 0 1) new_is old_is in
     subst AreLines (sym made) are-worked
+
+pub counted-worked : (old new : List LineContent) → old ≡ plain_line (10 ∷ []) ∷ [] → new ≡ worked_lines → IsCounted (plus (count_of old) (count_of new))
+counted-worked old new old_is new_is =
+    let none = finite.len-empty nat_cmp Place in
+    let few = most (finite.contains_key finite.empty 3) (finite.len marked_line.marks) (finite.len finite.empty) (finite.len-insert nat_cmp_total finite.empty 3 worked_place) none in
+    let both : IsCounted (plus (count_of (plain_line (10 ∷ []) ∷ [])) (count_of worked_lines)) = record { lines = omega arith; characters = omega arith; marks = omega (arith, none, few) } in
+    subst₂ (λ xs ys. IsCounted (plus (count_of xs) (count_of ys))) (sym old_is) (sym new_is) both
 
 pub numbers-worked : (room : ℕ) → 4 ≤ room → (k : ℕ) (d : LineContent) → k < length worked_lines → NumbersBelow room (get_or worked_lines k d).marks
 numbers-worked room above zero d below = λ q place is. absurd (no_mark q place is)

@@ -13,7 +13,7 @@ use Rattle.line_tree.specs.Growth.{lines_of, names_of}
 use Rattle.line_tree.specs.Shape.{Holds}
 use Rattle.line_tree.specs.Trees.{IsBalanced, IsBalancedRoot, Tree, lines, names}
 
-one-line : (p : NodePtr) (o : Option LineContent) → IsSome o → length (lines zero (p, o)) ≡ 1
+pub one-line : (p : NodePtr) (o : Option LineContent) → IsSome o → length (lines zero (p, o)) ≡ 1
 one-line p None s = absurd (false≢true s)
 one-line p (Some l) s = refl
 
@@ -33,7 +33,7 @@ pub least-lines-root : (m : Records) (h : ℕ) (t : Tree (suc (suc h))) → Hold
 least-lines-root m h t holds balanced =
     let all = many-lines m (suc h) (6 ^ suc h) (least-lines m (suc h)) t.1 holds.2 balanced.2 in let more = mul-le-mul_right (6 ^ suc h) balanced.0 in omega arith
 
-pow-more : (h : ℕ) → h < 6 ^ h
+pub pow-more : (h : ℕ) → h < 6 ^ h
 pow-more zero = omega arith
 pow-more (suc h) = let r = pow-more h in let p = pow-succ' 6 h in omega arith
 

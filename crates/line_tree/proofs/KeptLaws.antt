@@ -1,10 +1,12 @@
 -- Children that stay in their slots need not be written.
 --     kept-row      the first children of a row are as they were
-use Rattle.std.proofs.Common.{◌≡◌, ℕ, zero, suc, ◌+◌, ◌-◌, inl, inr, List, [], ◌∷◌, ◌++◌, append_assoc, drop, length, map, refl, replicate, set, sym, ap, ◌∙◌, subst, arith}
+--     kept-front    as many of them as are the same
+--     kept-whole    all of them
+use Rattle.std.proofs.Common.{◌≡◌, ℕ, zero, suc, ◌+◌, ◌-◌, inl, inr, List, [], ◌∷◌, ◌++◌, ◌<◌, ◌≤◌, append_assoc, drop, length, length-take, map, refl, replicate, set, sym, ap, take, ◌∙◌, subst, arith}
 use Rattle.std.specs.Prelude.{Option, None, Some, slice_get}
 use Rattle.std.specs.FinMap as finite
 use Rattle.std.specs.FinMap.{same_map}
-use Rattle.std.proofs.lemmas.List.{map-append}
+use Rattle.std.proofs.lemmas.List.{append-nil, map-append, take-append-drop}
 use Rattle.std.proofs.lemmas.Option.{none-some, same_Some}
 use Rattle.raw_nodes.specs.Records.{Record, Records, update, updated, with_child, with_parent}
 use Rattle.raw_nodes.specs.Rows.{kids, row}
@@ -80,3 +82,38 @@ kept-row m p has links front behind rest all was now =
     let z : 0 + length front ≡ length front = omega arith in
     ap (relinked m p 0) parts ∙ front-same m p has.found has.is 0 front os at (links-front m p 0 front behind (subst (Links m p 0) was links)) ∙ ap (λ k. relinked m p k os) z
     ∙ ap (relinked m p (length front)) (sym (ap (drop (length front)) parts ∙ drop-front front os))
+
+-- the first children of a list are those of the node
+pub kept-front : (m : Records) (p : NodePtr) → HasRow m p → Links m p 0 (kids m p) → (n : ℕ) (all : List NodePtr) → n ≤ length (kids m p) → take n all ≡ take n (kids m p) → Stay m p n (row all)
+kept-front m p has links n all within same = let ks = kids m p in let long : length (take n ks) ≡ n = omega (arith, length-take n ks) in
+    kept-row m p has links (take n ks) (drop n ks) (drop n all) all (sym (take-append-drop n ks)) (sym (take-append-drop n all) ∙ ap (λ cs. cs ++ drop n all) same)
+    ∙ ap (λ k. relinked m p k (drop k (row all))) long
+
+pub take-short : {X : Type 0} (n m : ℕ) (xs : List X) → n ≤ m → take n (take m xs) ≡ take n xs
+take-short zero m xs less = refl
+take-short (suc n) zero xs less = absurd (omega arith)
+take-short (suc n) (suc m) [] less = refl
+take-short (suc n) (suc m) (x ∷ xs) less = ap (λ zs. x ∷ zs) (take-short n m xs (omega arith))
+
+-- ---- all of them
+empty-same : (m : Records) (p : NodePtr) (r : Record) → finite.get m p ≡ Some r → (i n : ℕ) → ((j : ℕ) → j < n → slice_get r.children (i + j) ≡ Some None) → relinked m p i (replicate n None) ≡ m
+empty-same m p r is i zero at = refl
+empty-same m p r is i (suc n) at =
+    let e : i + 0 ≡ i = omega arith in
+    let same = set-same r.children i None (ap (slice_get r.children) (sym e) ∙ at 0 (omega arith)) in
+    ap (λ k. relinked k p (suc i) (replicate n None)) (update-same m p (λ x. with_child x i None) r is (λ j. record r { children = same j }))
+    ∙ empty-same m p r is (suc i) n (λ j less. let f : suc i + j ≡ i + suc j = omega arith in ap (slice_get r.children) f ∙ at (suc j) (omega arith))
+
+empty-get : (cs : List NodePtr) (n j : ℕ) → j < n → slice_get (map (λ c. Some c) cs ++ replicate n None) (length cs + j) ≡ Some None
+empty-get [] zero j less = absurd (omega arith)
+empty-get [] (suc n) zero less = refl
+empty-get [] (suc n) (suc j) less = let e : 0 + suc j ≡ suc (0 + j) = omega arith in
+    ap (slice_get (None ∷ replicate {A = Option NodePtr} n None)) e ∙ empty-get [] n j (omega arith)
+empty-get (c ∷ cs) n j less = let e : length (c ∷ cs) + j ≡ suc (length cs + j) = omega arith in
+    ap (slice_get (Some c ∷ (map (λ x. Some x) cs ++ replicate {A = Option NodePtr} n None))) e ∙ empty-get cs n j less
+
+pub kept-whole : (m : Records) (p : NodePtr) → HasRow m p → Links m p 0 (kids m p) → relinked m p 0 (row (kids m p)) ≡ m
+kept-whole m p has links =
+    let ks = kids m p in let none = replicate (12 - length ks) None in
+    kept-row m p has links ks [] [] ks (sym (append-nil ks)) (sym (append-nil ks)) ∙ ap (relinked m p (length ks)) (drop-front ks none)
+    ∙ empty-same m p has.found has.is (length ks) (12 - length ks) (λ j less. ap (λ os. slice_get os (length ks + j)) has.children ∙ empty-get ks (12 - length ks) j less)

@@ -86,6 +86,12 @@ room-grows t u nodes lines spares rooms =
     ((5 * u.nodes - (6 * length u.lines + 129)) / 6) (5 * u.nodes + 5 * u.rooms - (5 * u.spares + 6 * length u.lines + 129)) 0 (omega arith) q) in
     omega arith
 
+-- ---- the same numbers
+pub room-stays : (t u : TreeState) → u.nodes ≡ t.nodes → length u.lines ≡ length t.lines → u.spares ≡ t.spares → u.rooms ≡ t.rooms → line_room u ≡ line_room t
+unfolding line_room
+room-stays t u nodes lines spares rooms = λ i.
+    max (min (spares i) (rooms i) / 27) (min ((5 * nodes i - (6 * lines i + 129)) / 6) (5 * nodes i + 5 * rooms i - (5 * spares i + 6 * lines i + 129)))
+
 -- ---- where there is room, a line can be put in
 one-least : (a b : ℕ) → 1 ≤ min a b → (1 ≤ a) × (1 ≤ b)
 one-least a b h = (omega arith, omega arith)

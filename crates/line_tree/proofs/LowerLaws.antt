@@ -9,7 +9,8 @@ use Rattle.std.proofs.lemmas.Bool.{cases_lt}
 use Rattle.std.proofs.lemmas.List.{append-nil}
 use Rattle.std.proofs.lemmas.Option.{none-some, same_Some}
 use mathlib.Core.Bool.{false≢true}
-use Rattle.segments.specs.Columns.{LineContent}
+use Rattle.toggle_sums.specs.CountLaws.{plus-no_text}
+use Rattle.segments.specs.Columns.{LineContent, line_count}
 use Rattle.raw_nodes.specs.Records.{Record, Records, update, with_parent}
 use Rattle.raw_nodes.specs.Rows.{kids}
 use Rattle.raw_nodes.specs.declared.names.NodePtr.{NodePtr}
@@ -36,6 +37,7 @@ pub record HasLine (m : Records) (x : NodePtr) (l : LineContent) : Type 0 where
   pub found : Record
   pub is : finite.get m x ≡ Some found
   pub line : found.line ≡ Some l
+  pub sum : found.sum ≡ line_count l
 
 line-among : (m : Records) (h : ℕ) → ((t : Tree h) → Holds m h t → (k : ℕ) (n : Named) → slice_get (lines h t) k ≡ Some n → HasLine m n.0 n.1)
     → (ts : List (Tree h)) → AllByRecursion (Holds m h) ts → (k : ℕ) (n : Named) → slice_get (lines_of h ts) k ≡ Some n → HasLine m n.0 n.1
@@ -46,11 +48,12 @@ line-among m h one (t ∷ ts) all k n at = elim (cases_lt k (length (lines h t))
 ]
 
 pub line-held : (m : Records) (h : ℕ) (t : Tree h) → Holds m h t → (k : ℕ) (n : Named) → slice_get (lines h t) k ≡ Some n → HasLine m n.0 n.1
-line-held m zero t holds k n at = one t.1 holds.line k at where
-  one : (o : Option LineContent) → holds.found.line ≡ o → (k : ℕ) → slice_get (lines zero (t.0, o)) k ≡ Some n → HasLine m n.0 n.1
-  one None is k at = absurd (none-some n at)
-  one (Some l) is zero at = let e = same_Some (t.0, l) n at in subst (λ (z : Named). HasLine m z.0 z.1) e (record { found = holds.found; is = holds.is; line = is })
-  one (Some l) is (suc k) at = absurd (none-some n at)
+line-held m zero t holds k n at = one t.1 holds.line holds.sum k at where
+  one : (o : Option LineContent) → holds.found.line ≡ o → holds.found.sum ≡ total (lines zero (t.0, o)) → (k : ℕ) → slice_get (lines zero (t.0, o)) k ≡ Some n → HasLine m n.0 n.1
+  one None is sum k at = absurd (none-some n at)
+  one (Some l) is sum zero at = let e = same_Some (t.0, l) n at in
+      subst (λ (z : Named). HasLine m z.0 z.1) e (record { found = holds.found; is = holds.is; line = is; sum = sum ∙ plus-no_text (line_count l) })
+  one (Some l) is sum (suc k) at = absurd (none-some n at)
 line-held m (suc h) t holds k n at = line-among m h (line-held m h) t.1 holds.2 k n at
 
 -- ---- a tree that stands can lose a line

@@ -34,7 +34,7 @@ use Rattle.line_tree.proofs.TreeLaws.{below-tree, child-tree, count-tree, line-f
 differ : (b : Bool) → b ≡ true → b ≡ false → ⊥
 differ b is isn't = false≢true (sym isn't ∙ is)
 
-next-is : (test : LineContent → Bool) (from : ℕ) (ls : List LineContent) (k : ℕ) → NextAt test from ls k → next_line test from ls ≡ Some k
+pub next-is : (test : LineContent → Bool) (from : ℕ) (ls : List LineContent) (k : ℕ) → NextAt test from ls k → next_line test from ls ≡ Some k
 next-is test from ls k at = which (next_line test from ls) refl where
   which : (o : Option ℕ) → next_line test from ls ≡ o → o ≡ Some k
   which None is = absurd (differ (test (line_at ls k)) at.passes (next-none test from ls is k at.above at.within))

@@ -44,7 +44,7 @@ pub record Through (m : Records) (h : ℕ) (cs : List NodePtr) (k : ℕ) (l : Na
   pub place : k ≡ sum_by (lines_at m) (take slot cs) + rest
   pub line : slice_get (lines_in m h child) rest ≡ Some l
 
-through : (m : Records) (h : ℕ) (cs : List NodePtr) (k : ℕ) (l : Named) → AllByRecursion (Holds m h) (map (tree_at m h) cs) → slice_get (flat_map (lines h) (map (tree_at m h) cs)) k ≡ Some l → Through m h cs k l
+pub through : (m : Records) (h : ℕ) (cs : List NodePtr) (k : ℕ) (l : Named) → AllByRecursion (Holds m h) (map (tree_at m h) cs) → slice_get (flat_map (lines h) (map (tree_at m h) cs)) k ≡ Some l → Through m h cs k l
 through m h [] k l all at = absurd (none-some l at)
 through m h (c ∷ cs) k l all at =
     let ls = lines_in m h c in let rest = flat_map (lines h) (map (tree_at m h) cs) in let n = count-tree m h c all.0 in

@@ -1,25 +1,26 @@
 -- One more child for a node, with room and without.
 use Rattle.std.proofs.Common.{◌≡◌, ℕ, zero, suc, ◌-◌, ◌≤◌, inl, inr, List, [], ◌∷◌, ◌++◌, length, take, drop, map, replicate, cond, refl, sym, ap, ◌∙◌, subst, arith, length-drop, length-take}
-use Rattle.std.specs.Prelude.{◌≢◌, IfSome, IsSome, is_some}
+use Rattle.std.specs.Prelude.{◌≢◌, IfSome, IsSome, is_some, slice_get}
 use Rattle.std.specs.FinMap as finite
 use Rattle.std.specs.List.{count_by, insert}
 use Rattle.std.specs.declared.option.Option.{Option}
 use Rattle.std.specs.declared.option.Option.TheVariants.{None, Some}
-use Rattle.std.proofs.lemmas.List.{take-append-drop}
+use Rattle.std.proofs.lemmas.List.{take-append-drop, take-append-le}
 use Rattle.std.proofs.lemmas.List.Sums.{sum_by-cons}
 use Rattle.std.proofs.lemmas.Option.{none-some}
 use Rattle.toggle_sums.specs.Counts.{plus}
 use Rattle.raw_nodes.specs.Records.{Records, blank}
-use Rattle.raw_nodes.specs.Rows.{kids, row}
+use Rattle.raw_nodes.specs.Rows.{kids, kids_of, row}
 use Rattle.raw_nodes.specs.declared.names.NodePtr.{NodePtr}
 use Rattle.raw_nodes.proofs.MapLaws.{at_some, get_inserted, get_other, kept_insert, some_of}
 use Rattle.raw_nodes.proofs.RowLaws.{length-row}
 use Rattle.line_tree.specs.Changes.{Among, CanFill, CanPut, FitsSum, Stay, refilled, relinked, sum_all}
 use Rattle.line_tree.specs.Finds.{HasRow}
-use Rattle.line_tree.specs.Shape.{sum_at, sum_of}
+use Rattle.line_tree.specs.Shape.{Links, sum_at, sum_of}
 use Rattle.line_tree.proofs.AmongLaws.{among-drop, among-get, among-insert, among-take}
 use Rattle.line_tree.proofs.FillLaws.{refilled-other, refilled-sum, sum_all-append, sum_all-same}
-use Rattle.line_tree.proofs.KeptLaws.{kept-row}
+use Rattle.line_tree.proofs.FrameLaws.{links-same}
+use Rattle.line_tree.proofs.KeptLaws.{kept-front, kept-row, take-short}
 use Rattle.line_tree.proofs.SumLaws.{fits-left, fits-right}
 use Rattle.line_tree.proofs.UpdateLaws.{named-refilled}
 
@@ -66,6 +67,9 @@ module _ (m : Records) (p : NodePtr) (at : ℕ) (x : NodePtr) (can : CanPut m p 
     p-not-new : p ≢ s
     p-not-new e = none-some can.row.found (sym fresh ∙ ap (finite.get m) (sym e) ∙ can.row.is)
 
+    named-kid : (q : NodePtr) → Among q (kids m p) → IsSome (finite.get m q)
+    named-kid q a = let i = among-get q (kids m p) a in can.row.each i.0 q i.1
+
     made : Records
     made = finite.insert m s (blank None)
 
@@ -90,6 +94,24 @@ module _ (m : Records) (p : NodePtr) (at : ℕ) (x : NodePtr) (can : CanPut m p 
           apart = λ a. can.apart (among-take p 6 all a);
           fits = subst FitsSum (sym same) (fits-left (sum_all m (take 6 all)) (sum_all m (drop 6 all)) both);
         }
+
+    -- of the first six those before the new one stay
+    pub kept-left : (n : ℕ) → n ≤ at → n ≤ 6 → Stay (finite.insert m s (blank None)) p n (row (take 6 (insert (kids m p) at x)))
+    unfolding made
+    kept-left n before few = let ks = kids m p in
+        let same : (q : NodePtr) → IsSome (finite.get m q) → finite.get made q ≡ finite.get m q = λ q named. get_other m s (blank None) q (not-new q named) in
+        let node = get_other m s (blank None) p p-not-new in let children = ap kids_of node in let place = can.place in let cut = length-take at ks in
+        let row_now : HasRow made p = record {
+          found = can.row.found;
+          is = node ∙ can.row.is;
+          children = can.row.children ∙ ap row (sym children);
+          few = subst (λ cs. length cs ≤ 12) (sym children) can.row.few;
+          inner = can.row.inner;
+          each = λ i c is. kept_insert m s (blank None) c (can.row.each i c (ap (λ cs. slice_get cs i) (sym children) ∙ is));
+        } in
+        let links : Links made p 0 (kids made p) = subst (Links made p 0) (sym children) (links-same m made p 0 ks can.links (λ q a. same q (named-kid q a))) in
+        kept-front made p row_now links n (take 6 (insert ks at x)) (subst (λ cs. n ≤ length cs) (sym children) (omega arith))
+        (take-short n 6 (insert ks at x) few ∙ take-append-le n (take at ks) (x ∷ drop at ks) (omega arith) ∙ take-short n at ks before ∙ ap (take n) (sym children))
 
     pub fill-right : length (insert (kids m p) at x) ≤ 13 → CanFill (refilled (finite.insert m s (blank None)) p (row (take 6 (insert (kids m p) at x)))) s (drop 6 (insert (kids m p) at x))
     unfolding made

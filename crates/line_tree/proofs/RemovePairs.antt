@@ -18,7 +18,8 @@ use Rattle.raw_nodes.proofs.PlaceLaws.{same_or_other}
 use Rattle.line_tree.specs.Changes.{Among, CanEven, CanFill, Distinct, FitsSum, Mends, Merges, Shares, refilled, sum_all}
 use Rattle.line_tree.specs.Finds.{Finds, HasRow}
 use Rattle.line_tree.specs.Growth.{IsWide, KeepsLink, lines_of, names_of}
-use Rattle.line_tree.specs.Shape.{Holds, Links, tree_at}
+use Rattle.toggle_sums.specs.Counts.{plus}
+use Rattle.line_tree.specs.Shape.{Holds, Links, sum_at, sum_of, tree_at}
 use Rattle.line_tree.specs.Shrinking.{CanMend, CanRemove, Cleans, Removes, Settles, Shrinks, Turns}
 use Rattle.line_tree.specs.Trees.{IsBalanced, Named, Tree, inner, lines, names, tops, total}
 use Rattle.line_tree.specs.declared.find.Found.{Found}
@@ -35,7 +36,8 @@ use Rattle.line_tree.proofs.RemoveLaws.{can-fill, drop-tree, finish, fits-part, 
 use Rattle.line_tree.proofs.RemoveSteps.{all-from, balanced-but, balanced-child, fits-now, has-now, in-drop, in-take, kids-same, links-now, node-same, now-lost, pair-place, pair-remove, pair-same, shrinks-now}
 use Rattle.line_tree.proofs.ShrinkLaws.{shrinks-turns, turns-wide}
 use Rattle.line_tree.proofs.StepLaws.{all-drop, all-take, keeps-after, keeps-refilled, keeps-same, keeps-then, links-kept}
-use Rattle.line_tree.proofs.TreeLaws.{child-tree, named-tree, row-tree, tops-tree_at}
+use Rattle.line_tree.proofs.LessLaws.{line-gone}
+use Rattle.line_tree.proofs.TreeLaws.{child-tree, named-tree, row-tree, sum-tree, tops-tree_at}
 use Rattle.line_tree.proofs.UpdateLaws.{InnerIn, inner-refilled, inner-row, named-refilled}
 
 -- the children that are left
@@ -131,6 +133,7 @@ module _ (m : Records) (g : ℕ) (p : NodePtr) (k : ℕ) (can : CanRemove m (suc
     pub can-even : CanEven l a b
     can-even = record {
       left = row-tree l g a hold_a;
+      links = subst (Links l a 0) (tops-tree_at l g (kids l a)) hold_a.1;
       right = row-tree l g b hold_b;
       two = facts.two;
       off_left = λ s. facts.off_left (tops-among g below a (subst (Among a) both s));
@@ -373,6 +376,14 @@ module _ (m : Records) (g : ℕ) (p : NodePtr) (k : ℕ) (can : CanRemove m (suc
     pub removes-ready : (u : Records) → u ≡ refilled n p (row (without (kids n p) o)) → Removes m u (suc (suc g)) p k x
     removes-ready u is = finish m n u (suc g) p k x is-ready.trees can is-ready.shrinks is-ready.same fill-trees is-ready.balanced long-ready.1
         (is ∙ ap (λ zs. refilled n p (row (without zs o))) kids-ready ∙ ap (λ zs. refilled n p (row zs)) (sym is-ready.tops))
+
+    -- so much less stands below the node
+    pub sum-ready : plus (sum_all n (without (kids n p) o)) (sum_at l x) ≡ sum_at n p
+    sum-ready =
+        let left = ap (λ zs. sum_all n (without zs o)) kids-ready ∙ ap (sum_all n) (sym is-ready.tops) ∙ sum-trees n (suc g) is-ready.trees is-ready.shrinks.holds ∙ ap total is-ready.shrinks.line in
+        let line = ap sum_of shrinks.left in
+        (λ i. plus (left i) (line i)) ∙ line-gone m (suc (suc g)) p k x can.tree shrinks.gone
+        ∙ sym (ap sum_of is-ready.same ∙ sum-tree m (suc (suc g)) p can.tree)
 
     -- a child is no line
     pub inner-ready : (s : ℕ) (b : NodePtr) → slice_get (kids n p) s ≡ Some b → InnerIn n b

@@ -1,6 +1,6 @@
 -- One level of a removal.
 use Rattle.std.proofs.Common.{◌≡◌, ℕ, zero, suc, ◌+◌, ◌<◌, ◌≤◌, inl, inr, List, [], ◌∷◌, ◌++◌, length, take, drop, map, refl, sym, ap, ◌∙◌, subst, arith, length-take}
-use Rattle.std.specs.Prelude.{◌≢◌, slice_get}
+use Rattle.std.specs.Prelude.{◌≢◌, IsSome, slice_get}
 use Rattle.std.specs.FinMap as finite
 use Rattle.std.specs.List.{AllByRecursion, remove}
 use Rattle.std.specs.declared.option.Option.{Option}
@@ -13,23 +13,23 @@ use Rattle.raw_nodes.specs.Records.{Records}
 use Rattle.raw_nodes.specs.Rows.{kids, kids_of, row}
 use Rattle.raw_nodes.specs.declared.names.NodePtr.{NodePtr}
 use Rattle.raw_nodes.proofs.PlaceLaws.{same_or_other}
-use Rattle.line_tree.specs.Changes.{Among, CanFill, Distinct, FitsSum, refilled}
+use Rattle.line_tree.specs.Changes.{Among, CanFill, Distinct, FitsSum, refilled, sum_all}
 use Rattle.line_tree.specs.Finds.{Finds, HasRow}
 use Rattle.line_tree.specs.Growth.{IsWide, KeepsLink, lines_of, names_of}
-use Rattle.line_tree.specs.Shape.{Holds, IsTree, Links, lines_in, tree_at}
+use Rattle.line_tree.specs.Shape.{Holds, IsTree, Links, lines_in, sum_at, tree_at}
 use Rattle.line_tree.specs.Shrinking.{CanRemove, Cleans, Removes, Shrinks}
 use Rattle.line_tree.specs.Trees.{IsBalanced, Tree, inner, lines, names, tops, total}
 use Rattle.line_tree.specs.declared.find.Found.{Found}
 use Rattle.line_tree.proofs.AmongLaws.{among-cases, among-get, among-left, among-right}
-use Rattle.line_tree.proofs.BuildLaws.{tree-is, trees-is}
+use Rattle.line_tree.proofs.BuildLaws.{sum-trees, tree-is, trees-is}
 use Rattle.line_tree.proofs.DistinctLaws.{distinct-left, distinct-right}
-use Rattle.line_tree.proofs.FrameLaws.{inner-no-top}
+use Rattle.line_tree.proofs.FrameLaws.{inner-no-top, names-all-held}
 use Rattle.line_tree.proofs.GrowLaws.{all-left, all-right, in-cases, in-left, in-right, names-append, of-one}
 use Rattle.line_tree.proofs.InsertLaws.{all-get, length-lines, lines-balanced}
 use Rattle.line_tree.proofs.RemoveLaws.{can-fill, finish, fits-part, fits-remove}
 use Rattle.line_tree.proofs.ShrinkLaws.{shrinks-line, shrinks-up, shrinks-wide}
 use Rattle.line_tree.proofs.StepLaws.{at-place, keeps-same, links-kept}
-use Rattle.line_tree.proofs.TreeLaws.{child-tree, count-tree, counted, named-tree, row-tree, top-tree_at, tops-tree_at}
+use Rattle.line_tree.proofs.TreeLaws.{child-tree, count-tree, counted, named-tree, row-tree, sum-tree, top-tree_at, tops-tree_at}
 
 -- ---- lists by index
 all-but : {X : Type 0} (P : X → Type 0) (ls : List X) (t : X) (rs : List X) → AllByRecursion P ls → AllByRecursion P rs → (j : ℕ) (u : X) → slice_get (ls ++ (t ∷ rs)) j ≡ Some u → j ≢ length ls → P u
@@ -82,6 +82,9 @@ module _ (m : Records) (p : NodePtr) (k : ℕ) (can : CanRemove m 1 p k) where
 
   pub low-slot : k < length (kids m p)
   low-slot = let a = length-lines m leaves can.tree.2 in let b = length-map (kids m p) (tree_at m 0) in let c = can.place in omega arith
+
+  pub node-sum : sum_all m (kids m p) ≡ sum_at m p
+  node-sum = ap (sum_all m) (sym (tops-tree_at m 0 (kids m p))) ∙ sum-trees m 0 leaves can.tree.2 ∙ sym (sum-tree m 1 p can.tree)
 
   low-tops : tops 0 (remove leaves k) ≡ remove (kids m p) k
   low-tops = map-append (λ (t : Tree 0). t.0) (take k leaves) (drop (suc k) leaves)
@@ -184,6 +187,10 @@ module _ (m : Records) (h : ℕ) (p : NodePtr) (k : ℕ) (can : CanRemove m (suc
 
     pub kids-same : kids l p ≡ kids m p
     kids-same = ap kids_of node-same
+
+    -- the line that goes has a record yet
+    pub line-named : IsSome (finite.get l x)
+    line-named = subst (λ o. IsSome o) (sym rem.shrinks.left) (names-all-held m h (tree_at m h f.child ∷ []) (tree-child, tt) x rem.shrinks.inside)
 
     tops-first : tops h (before ++ (tree_at l h f.child ∷ after)) ≡ kids m p
     tops-first = map-append (λ (t : Tree h). t.0) before (tree_at l h f.child ∷ after)

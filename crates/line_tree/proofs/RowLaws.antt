@@ -16,7 +16,7 @@ use Rattle.raw_nodes.proofs.MapLaws.{at_some, some_of}
 use Rattle.raw_nodes.proofs.RowLaws.{get_or-row, length-row}
 use Rattle.line_tree.specs.Changes.{sum_or_none, sums}
 use Rattle.line_tree.specs.Finds.{HasRow}
-use Rattle.line_tree.specs.Shape.{sum_at, sum_of}
+use Rattle.line_tree.specs.Shape.{lines_at, sum_at, sum_of}
 
 -- ---- what a call answers of a row
 pub child_is : (m : Records) (p : NodePtr) → HasRow m p → (o : Option NodePtr) (i : ℕ) → IfSome (finite.get m p) (λ r. o ≡ get_or r.children i None) → o ≡ slice_get (kids m p) i
@@ -26,6 +26,14 @@ child_is m p has o i says =
 pub sum_is : (m : Records) (q : NodePtr) (s : Count) → IsSome (finite.get m q) → IfSome (finite.get m q) (λ r. s ≡ r.sum) → s ≡ sum_at m q
 sum_is m q s named says = let r = some_of (finite.get m q) named in
     at_some (finite.get m q) (λ x. s ≡ x.sum) r.0 says r.1 ∙ ap sum_of (sym r.1)
+
+pub lines_is : (m : Records) (q : NodePtr) (n : ℕ) → IsSome (finite.get m q) → IfSome (finite.get m q) (λ r. n ≡ r.sum.lines) → n ≡ lines_at m q
+lines_is m q n named says = let r = some_of (finite.get m q) named in
+    at_some (finite.get m q) (λ x. n ≡ x.sum.lines) r.0 says r.1 ∙ ap (λ o. (sum_of o).lines) (sym r.1)
+
+pub size_is : (m : Records) (q : NodePtr) (size : ℕ × ℕ) → IsSome (finite.get m q) → IfSome (finite.get m q) (λ r. size ≡ (r.sum.lines, r.sum.characters)) → size ≡ (lines_at m q, (sum_at m q).characters)
+size_is m q size named says = let r = some_of (finite.get m q) named in
+    at_some (finite.get m q) (λ x. size ≡ (x.sum.lines, x.sum.characters)) r.0 says r.1 ∙ ap (λ o. ((sum_of o).lines, (sum_of o).characters)) (sym r.1)
 
 -- ---- a step over the children
 pub step_yes : (f : NodePtr → ℕ) (cs : List NodePtr) (i : ℕ) (c : NodePtr) → slice_get cs i ≡ Some c → sum_by f (take (i + 1) cs) ≡ sum_by f (take i cs) + f c

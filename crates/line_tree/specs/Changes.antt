@@ -100,6 +100,7 @@ Puts m n p all o = MatchOption o (Fills m n p all) (Splits m n p all)
 -- the children of two nodes can be shared out anew
 pub record CanEven (m : Records) (a b : NodePtr) : Type 0 where
   pub left : HasRow m a
+  pub links : Links m a 0 (kids m a)
   pub right : HasRow m b
   pub two : a ≢ b
   pub off_left : Among a (kids m a ++ kids m b) → ⊥

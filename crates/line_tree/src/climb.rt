@@ -1,4 +1,4 @@
-ghost use Rattle.std.specs.Prelude.{◌≡◌, ℕ, ◌+◌, ◌*◌, ◌^◌, ◌≤◌, ◌<◌, length};
+ghost use Rattle.std.specs.Prelude.{◌≡◌, ℕ, suc, ◌+◌, ◌*◌, ◌^◌, ◌≤◌, ◌<◌, length};
 ghost use Rattle.raw_nodes.specs.Names.{records};
 ghost use Rattle.line_tree.specs.Shape.{IsTree, lines_in};
 ghost use Rattle.raw_nodes.specs.Rows.{kids};
@@ -18,10 +18,32 @@ pub fn before<C: Ticks>(store: &NodeStore<C>, node: NodePtr, slot: usize, ticks:
     let mut lines = 0;
     for i in 0..slot {
         if let Some(child) = store.child(node, i, ticks) {
-            lines += store.sum(child, ticks).lines();
+            lines += store.lines(child, ticks);
         }
     }
     lines
+}
+
+/// How many lines the first `slot` children of a node have, where the children stand at this level. Those at level 0
+/// are lines, and aren't looked at.
+fn ahead<C: Ticks>(
+    store: &NodeStore<C>,
+    node: NodePtr,
+    level: usize,
+    slot: usize,
+    ticks: &mut C,
+) -> usize
+    requires tree { IsTree (records store.now) (suc level) node }
+    requires within { slot ≤ length (kids (records store.now) node) }
+    requires fits { lines_before (records store.now) node slot < 2 ^ 64 }
+    ensures value { result ≡ lines_before (records store.now) node slot }
+    ensures ticks { C.count ticks.new ≤ C.count ticks.old + 2 * slot }
+{
+    if level == 0 {
+        slot
+    } else {
+        before(store, node, slot, ticks)
+    }
 }
 
 /// The number of the line with a name.
@@ -40,12 +62,12 @@ pub fn rank<C: Ticks>(
 {
     let mut at = name;
     let mut rank = 0;
-    for _ in 0..height {
+    for level in 0..height {
         let Some(up) = store.parent(at, ticks) else {
             return rank;
         };
         let slot = store.slot(at);
-        rank += before(store, up, slot, ticks);
+        rank += ahead(store, up, level, slot, ticks);
         at = up;
     }
     rank

@@ -28,7 +28,7 @@ fn link<C: Ticks>(store: &mut NodeStore<C>, node: NodePtr, slot: usize, child: O
 }
 
 /// Gives a node these children, of which the first stay where they are.
-fn relink<C: Ticks>(
+pub fn relink<C: Ticks>(
     store: &mut NodeStore<C>,
     node: NodePtr,
     from: usize,
@@ -86,6 +86,26 @@ pub fn add<C: Ticks>(store: &mut NodeStore<C>, node: NodePtr, more: &Sums<WORDS>
 {
     let sum = store.sum(node, ticks);
     store.set_sum(node, sum.plus(more));
+}
+
+/// Makes a node's sum that of its children, below which stands so much less than before. Which slots are toggled is
+/// asked of the children, where some are in what went.
+pub fn lessen<C: Ticks>(store: &mut NodeStore<C>, node: NodePtr, gone: &Sums<WORDS>, ticks: &mut C)
+    requires row { HasRow (records store.old) node }
+    requires sum { plus (sums (records store.old) (row (kids (records store.old) node))) gone.now
+        ≡ sum_at (records store.old) node }
+    requires fits { FitsSum (sums (records store.old) (row (kids (records store.old) node))) }
+    ensures records { records store.new ≡ resummed (records store.old) node (row (kids (records store.old) node)) }
+    ensures spares { spares store.new ≡ spares store.old }
+    ensures rooms { rooms store.new ≡ rooms store.old }
+{
+    if gone.is_bare() {
+        let sum = store.sum(node, ticks);
+        let rest = sum.less(gone.lines(), gone.characters(), gone.marks());
+        store.set_sum(node, rest);
+    } else {
+        resum(store, node, ticks);
+    }
 }
 
 /// Makes these the children of a node, and its sum theirs. The first stay where they are.
@@ -210,7 +230,8 @@ pub fn put<C: Ticks>(
     requires put { CanPut (records store.old) node at extra }
     requires spare { 0 < spares store.old }
     requires room { 0 < rooms store.old }
-    ensures puts { Puts (records store.old) (records store.new) node (insert (kids (records store.old) node) at extra) result }
+    ensures puts { Puts (records store.old) (records store.new) node
+        (insert (kids (records store.old) node) at extra) result }
     ensures spares { spares store.new + length (option_to_list result) ≡ spares store.old }
     ensures rooms { rooms store.new + length (option_to_list result) ≡ rooms store.old }
 {
@@ -222,7 +243,7 @@ pub fn put<C: Ticks>(
         let left = part(store, node, at, extra, 0, 6, ticks);
         let right = part(store, node, at, extra, 6, 7, ticks);
         let sibling = store.make(None);
-        refill(store, node, 0, &left, ticks);
+        refill(store, node, at.min(6), &left, ticks);
         refill(store, sibling, 0, &right, ticks);
         Some(sibling)
     }

@@ -1,4 +1,4 @@
-ghost use Rattle.std.specs.Prelude.{◌≡◌, ◌+◌, ◌*◌, ◌≤◌, ◌<◌, length, slice_get, option_map};
+ghost use Rattle.std.specs.Prelude.{◌≡◌, suc, ◌+◌, ◌*◌, ◌≤◌, ◌<◌, length, slice_get, option_map};
 ghost use Rattle.raw_nodes.specs.Names.{records};
 ghost use Rattle.line_tree.specs.Shape.{IsTree, lines_in};
 ghost use Rattle.line_tree.specs.Finds.{Finds, HasRow, lines_below};
@@ -23,7 +23,7 @@ pub fn find<C: Ticks>(store: &NodeStore<C>, node: NodePtr, k: usize, ticks: &mut
     let mut rest = k;
     for slot in 0..12 {
         if let Some(child) = store.child(node, slot, ticks) {
-            let lines = store.sum(child, ticks).lines();
+            let lines = store.lines(child, ticks);
             if rest < lines {
                 return Found { child, slot, rest };
             }
@@ -34,6 +34,31 @@ pub fn find<C: Ticks>(store: &NodeStore<C>, node: NodePtr, k: usize, ticks: &mut
         child: node,
         slot: 12,
         rest,
+    }
+}
+
+/// The child that has line `k` of those below a node, where the children stand at this level. Those at level 0 are
+/// lines, which aren't looked at: line `k` is the child in slot `k`.
+pub fn find_at<C: Ticks>(
+    store: &NodeStore<C>,
+    node: NodePtr,
+    level: usize,
+    k: usize,
+    ticks: &mut C,
+) -> Found
+    requires tree { IsTree (records store.now) (suc level) node }
+    requires within { k < lines_below (records store.now) node }
+    ensures found { Finds (records store.now) node k result }
+    ensures ticks { C.count ticks.new ≤ C.count ticks.old + 24 }
+{
+    if level > 0 {
+        return find(store, node, k, ticks);
+    }
+    let child = store.child(node, k, ticks).unwrap();
+    Found {
+        child,
+        slot: k,
+        rest: 0,
     }
 }
 
@@ -54,7 +79,7 @@ pub fn select<C: Ticks>(
     let mut rest = k;
     let mut level = height;
     while level > 0 {
-        let found = find(store, at, rest, ticks);
+        let found = find_at(store, at, level - 1, rest, ticks);
         at = found.child;
         rest = found.rest;
         level -= 1;

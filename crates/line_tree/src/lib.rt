@@ -1,5 +1,6 @@
 //! A list of lines as a balanced tree: lines by number and by offset, their numbers, the sum of the first ones, the
-//! nearest with a toggle or a mark, lines put in and taken out.
+//! nearest with a toggle or a mark, from each line to the next, lines put in and taken out, a mark taken off a line.
+//! Over it a list of lines for a text store, with the line of each mark; and the store.
 #![tactic(auto)]
 
 mod climb;
@@ -7,11 +8,19 @@ mod fill;
 mod find;
 mod insert;
 mod locate;
+mod mark_names;
+mod marks;
 mod nearest;
 mod prefix;
 mod remove;
 mod shrink;
 mod splice;
+mod taking;
 mod tree;
+mod tree_lines;
+mod tree_store;
+mod walk;
 
 pub use tree::LineTree;
+pub use tree_lines::TreeLines;
+pub use tree_store::TreeStore;

@@ -27,13 +27,12 @@ fn find_char<C: Ticks>(store: &NodeStore<C>, node: NodePtr, offset: usize, ticks
     let mut lines = 0;
     for slot in 0..12 {
         if let Some(child) = store.child(node, slot, ticks) {
-            let sum = store.sum(child, ticks);
-            let characters = sum.characters();
+            let (count, characters) = store.size(child, ticks);
             if rest < characters {
                 return Spot { child, lines, rest };
             }
             rest -= characters;
-            lines += sum.lines();
+            lines += count;
         }
     }
     Spot {

@@ -45,9 +45,7 @@ pub fn next<C: Ticks>(
     requires known { IsKnown wanted }
     ensures { result ≡ next_line (passes wanted) from (contents (lines_in (records store.now) height node)) }
 {
-    let sum = store.sum(node, ticks);
-    let lines = sum.lines();
-    if from >= lines || !wanted.is_in(&sum) {
+    if from >= store.lines(node, ticks) || !wanted.is_in(&store.sum(node, ticks)) {
         return None;
     }
     if height == 0 {
@@ -60,7 +58,7 @@ pub fn next<C: Ticks>(
             if let Some(found) = next(store, child, height - 1, wanted, rest, ticks) {
                 return Some(before + found);
             }
-            before += store.sum(child, ticks).lines();
+            before += store.lines(child, ticks);
         }
     }
     None
@@ -80,19 +78,18 @@ pub fn previous<C: Ticks>(
     requires known { IsKnown wanted }
     ensures { result ≡ previous_line (passes wanted) to (contents (lines_in (records store.now) height node)) }
 {
-    let sum = store.sum(node, ticks);
-    if to == 0 || !wanted.is_in(&sum) {
+    if to == 0 || !wanted.is_in(&store.sum(node, ticks)) {
         return None;
     }
     if height == 0 {
         return Some(0);
     }
-    let mut before = sum.lines();
+    let mut before = store.lines(node, ticks);
     let mut slot = 12;
     while slot > 0 {
         slot -= 1;
         if let Some(child) = store.child(node, slot, ticks) {
-            let lines = store.sum(child, ticks).lines();
+            let lines = store.lines(child, ticks);
             before -= lines;
             let rest = to.saturating_sub(before).min(lines);
             if let Some(found) = previous(store, child, height - 1, wanted, rest, ticks) {

@@ -5,8 +5,9 @@ ghost use Rattle.raw_nodes.specs.Rows.{kids};
 ghost use Rattle.line_tree.specs.Finds.{HasRow};
 ghost use Rattle.line_tree.specs.Shrinking.{CanLower, CanMend, CanRemove, Cleans, Lowers, Removes, Settles};
 
+use crate::fill::lessen;
 use crate::find::find;
-use crate::shrink::{drop_child, kid, mend, refresh};
+use crate::shrink::{drop_child, kid, mend, sum_in};
 use raw_nodes::{NodePtr, NodeStore, Ticks};
 
 /// Where the child in a slot has less than six children, it shares with a neighbour.
@@ -51,18 +52,20 @@ pub fn remove_in<C: Ticks>(
         ≡ spares store.old + finite.len (records store.old) }
 {
     if height == 1 {
-        return drop_child(store, node, k, ticks);
+        let less = sum_in(store, node, k, ticks);
+        return drop_child(store, node, k, &less, ticks);
     }
     let found = find(store, node, k, ticks);
     let line = remove_in(store, found.child, height - 1, found.rest, ticks);
+    let less = store.sum(line, ticks);
     match settle(store, node, found.slot, found.child, ticks) {
         Some(slot) => {
-            let gone = drop_child(store, node, slot, ticks);
+            let gone = drop_child(store, node, slot, &less, ticks);
             let _ = store.give_back(gone);
             line
         }
         None => {
-            refresh(store, node, ticks);
+            lessen(store, node, &less, ticks);
             line
         }
     }

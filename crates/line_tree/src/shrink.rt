@@ -1,14 +1,17 @@
-ghost use Rattle.std.specs.Prelude.{◌≡◌, ◌+◌, ◌≤◌, ◌<◌, ◌++◌, length, slice_get, take, drop};
+ghost use Rattle.std.specs.Prelude.{◌≡◌, ◌+◌, ◌≤◌, ◌<◌, ◌++◌, length, slice_get, take, drop, Some};
 ghost use Rattle.std.specs.List.{remove};
 ghost use Rattle.raw_nodes.specs.Names.{records, rooms, spares};
 ghost use Rattle.raw_nodes.specs.Rows.{kids, row};
 ghost use Rattle.line_tree.specs.Finds.{HasRow};
-ghost use Rattle.line_tree.specs.Shape.{Links};
-ghost use Rattle.line_tree.specs.Changes.{CanEven, CanFill, Evens, Mends, refilled};
+ghost use Rattle.toggle_sums.specs.Counts.{plus};
+ghost use Rattle.line_tree.specs.Shape.{Links, sum_at};
+ghost use Rattle.line_tree.specs.Changes.{CanEven, CanFill, Evens, Mends, refilled, sum_all};
 ghost use Rattle.line_tree.specs.Shrinking.{CanMend};
 
-use crate::fill::refill;
+use crate::fill::{lessen, refill, relink};
 use raw_nodes::{NodePtr, NodeStore, Ticks};
+use text_model::WORDS;
+use toggle_sums::Sums;
 
 /// Number `i` of a node's children.
 pub fn kid<C: Ticks>(
@@ -119,16 +122,17 @@ fn even<C: Ticks>(store: &mut NodeStore<C>, left: NodePtr, right: NodePtr, ticks
     ensures spares { spares store.new ≡ spares store.old }
     ensures rooms { rooms store.new ≡ rooms store.old }
 {
-    let count = store.children(left) + store.children(right);
+    let first = store.children(left);
+    let count = first + store.children(right);
     if count <= 12 {
         let all = part_pair(store, left, right, 0, 12, ticks);
-        refill(store, left, 0, &all, ticks);
+        refill(store, left, first, &all, ticks);
         true
     } else {
         let half = count / 2;
         let front = part_pair(store, left, right, 0, half, ticks);
         let back = part_pair(store, left, right, half, count - half, ticks);
-        refill(store, left, 0, &front, ticks);
+        refill(store, left, first.min(half), &front, ticks);
         refill(store, right, 0, &back, ticks);
         false
     }
@@ -157,17 +161,36 @@ pub fn mend<C: Ticks>(
     if merged { Some(at + 1) } else { None }
 }
 
-/// Takes a child out of a node. Those before it stay where they are.
+/// The sum of the child in a slot.
+pub fn sum_in<C: Ticks>(
+    store: &NodeStore<C>,
+    node: NodePtr,
+    slot: usize,
+    ticks: &mut C,
+) -> Sums<WORDS>
+    requires row { HasRow (records store.now) node }
+    requires slot { slot < length (kids (records store.now) node) }
+    ensures { (c : _) → slice_get (kids (records store.now) node) slot ≡ Some c
+        → result ≡ sum_at (records store.now) c }
+{
+    let child = kid(store, node, slot, ticks).unwrap();
+    store.sum(child, ticks)
+}
+
+/// Takes a child out of a node, below which stands so much less then. Those before it stay where they are.
 pub fn drop_child<C: Ticks>(
     store: &mut NodeStore<C>,
     node: NodePtr,
     slot: usize,
+    less: &Sums<WORDS>,
     ticks: &mut C,
 ) -> NodePtr
     requires row { HasRow (records store.old) node }
     requires links { Links (records store.old) node 0 (kids (records store.old) node) }
     requires slot { slot < length (kids (records store.old) node) }
     requires fill { CanFill (records store.old) node (remove (kids (records store.old) node) slot) }
+    requires sum { plus (sum_all (records store.old) (remove (kids (records store.old) node) slot)) less.now
+        ≡ sum_at (records store.old) node }
     ensures child { slice_get (kids (records store.old) node) slot ≡ Some result }
     ensures records { records store.new
         ≡ refilled (records store.old) node (row (remove (kids (records store.old) node) slot)) }
@@ -176,32 +199,7 @@ pub fn drop_child<C: Ticks>(
 {
     let gone = kid(store, node, slot, ticks).unwrap();
     let others = part_without(store, node, slot, ticks);
-    refill(store, node, slot, &others, ticks);
+    relink(store, node, slot, &others);
+    lessen(store, node, less, ticks);
     gone
-}
-
-/// A node's children.
-fn row_of<C: Ticks>(store: &NodeStore<C>, node: NodePtr, ticks: &mut C) -> [Option<NodePtr>; 12]
-    requires row { HasRow (records store.now) node }
-    ensures { result ≡ row (kids (records store.now) node) }
-{
-    let mut part = [None; 12];
-    for i in 0..12 {
-        part[i] = kid(store, node, i, ticks);
-    }
-    part
-}
-
-/// Sums a node's children up, which stay where they are.
-pub fn refresh<C: Ticks>(store: &mut NodeStore<C>, node: NodePtr, ticks: &mut C)
-    requires row { HasRow (records store.old) node }
-    requires links { Links (records store.old) node 0 (kids (records store.old) node) }
-    requires fill { CanFill (records store.old) node (kids (records store.old) node) }
-    ensures records { records store.new ≡ refilled (records store.old) node (row (kids (records store.old) node)) }
-    ensures spares { spares store.new ≡ spares store.old }
-    ensures rooms { rooms store.new ≡ rooms store.old }
-{
-    let children = row_of(store, node, ticks);
-    let count = store.children(node);
-    refill(store, node, count, &children, ticks);
 }

@@ -6,17 +6,19 @@ use crate::locate::locate;
 use crate::nearest::{Wanted, next, previous};
 use crate::prefix::prefix;
 use crate::remove::{lower, remove_in};
+use crate::taking::take_in;
+use crate::walk::behind;
 use raw_nodes::{NodePtr, NodeStore, Ticks};
 use segments::Line;
 use std::alloc::{AllocError, Global};
 use std::marker::Model;
-use text_model::{TagSlot, WORDS};
+use text_model::{MarkNo, TagSlot, WORDS};
 use toggle_sums::Sums;
 
 /// A list of lines with names, as a balanced tree.
 #[derive(Drop)]
 pub struct LineTree<C: Ticks> {
-    store: NodeStore<C>,
+    pub(crate) store: NodeStore<C>,
     root: NodePtr,
     height: usize,
     count: usize,
@@ -48,17 +50,19 @@ impl<C: Ticks> Model for LineTree<C> {
 
 impl<C: Ticks> LineTree<C> {
     ghost use Rattle.std.specs.Prelude.{◌≡◌, ℕ, ◌+◌, ◌-◌, ◌*◌, ◌^◌, ◌≤◌, ◌<◌, OnOk, IfOk};
-    ghost use Rattle.std.specs.Prelude.{[], ◌∷◌, length, slice_get, take};
+    ghost use Rattle.std.specs.Prelude.{[], ◌∷◌, length, option_map, slice_get, take};
     ghost use Rattle.std.specs.List.{insert, remove};
     ghost use Rattle.toggle_sums.specs.Counts.{plus};
     ghost use Rattle.text_model.specs.TagBits.{slot_count};
+    ghost use Rattle.line_lists.specs.Edits.{without_mark};
     ghost use Rattle.line_lists.specs.Lists.{count_of, has_marks, has_toggle, next_line, previous_line};
-    ghost use Rattle.line_tree.specs.Trees.{contents, total};
+    ghost use Rattle.line_tree.specs.Trees.{Named, contents, total};
     ghost use Rattle.segments.specs.Columns.{line_count, plain_line};
     ghost use Rattle.line_tree.specs.Changes.{Distinct, FitsSum};
     ghost use Rattle.line_tree.specs.Places.{IsLineAt, line_names};
     ghost use Rattle.line_tree.specs.Locating.{IsPlaceAt};
     ghost use Rattle.line_tree.specs.Room.{line_room};
+    ghost use Rattle.line_tree.specs.Taking.{changed};
 
     /// A tree of one line, the lone newline. Fails for want of memory.
     pub fn new(alloc: Global) -> Result<LineTree<C>, AllocError>
@@ -106,6 +110,13 @@ impl<C: Ticks> LineTree<C> {
         self.store.reserve_lines(rooms + count)
     }
 
+    /// How many lines there are.
+    pub fn len(&self) -> usize
+        ensures { result ≡ length self.now.lines }
+    {
+        self.count
+    }
+
     /// How many levels of nodes there are.
     pub fn height(&self) -> usize
         ensures value { result ≡ self.now.height }
@@ -145,6 +156,16 @@ impl<C: Ticks> LineTree<C> {
         ensures ticks { C.count ticks.new ≤ C.count ticks.old + 23 * self.now.height }
     {
         rank(&self.store, self.root, self.height, name, ticks)
+    }
+
+    /// The name of the line behind one, if there is one. From line to line to the last it takes a few steps on average.
+    pub fn next_name(&self, name: NodePtr, ticks: &mut C) -> Option<NodePtr>
+        requires { (k : ℕ) × IsLineAt self.now.lines k name }
+        ensures value { (k : ℕ) → IsLineAt self.now.lines k name
+            → result ≡ option_map (λ (l : Named). l.0) (slice_get self.now.lines (k + 1)) }
+        ensures ticks { C.count ticks.new ≤ C.count ticks.old + 3 * self.now.height }
+    {
+        behind(&self.store, self.root, self.height, name, ticks)
     }
 
     /// The sum of the first `k` lines.
@@ -231,5 +252,14 @@ impl<C: Ticks> LineTree<C> {
         self.root = top.root;
         self.height = top.height;
         self.store.give_back(name).unwrap()
+    }
+
+    /// Takes the mark of a number off line `k`.
+    pub fn take_mark(&mut self, k: usize, number: MarkNo, ticks: &mut C)
+        requires { k < length self.old.lines }
+        ensures lines { self.new.lines ≡ changed k (without_mark number.0) self.old.lines }
+        ensures room { line_room self.new ≡ line_room self.old }
+    {
+        take_in(&mut self.store, self.root, self.height, k, number, ticks);
     }
 }

@@ -63,6 +63,8 @@ fn lines(rt: HostRuntime) -> Result<(), Fail> {
     store.reserve_lines(1)?;
     let name = store.make(Some(Line::new(rt.alloc(), "a line\n")?));
     assert!(rt; store.line(name).is_some());
+    let mut steps = Steps::new();
+    assert!(rt; store.lines(name, &mut steps) == 1 && store.size(name, &mut steps) == (1, 7));
     let given = store.give_back(name);
     assert!(rt; given.is_some_and(|line| line.len() == 7));
     Ok(())

@@ -108,6 +108,34 @@ impl<C: Ticks> NodeStore<C> {
         }
     }
 
+    /// How many lines stand below a node; a line is one.
+    pub fn lines(&self, name: NodePtr, ticks: &mut C) -> usize
+        requires { IsName self.now name }
+        ensures value { IfSome (entry self.now name) (λ r. result ≡ r.sum.lines) }
+        ensures tick { C.count ticks.new ≡ C.count ticks.old + 1 }
+    {
+        ticks.tick();
+        match &self.heap.node(name).held {
+            Held::Line(_) => 1,
+            Held::Inner(room) => room.sum.lines(),
+            Held::Spare => 0,
+        }
+    }
+
+    /// How many lines and how many characters stand below a node.
+    pub fn size(&self, name: NodePtr, ticks: &mut C) -> (usize, usize)
+        requires { IsName self.now name }
+        ensures value { IfSome (entry self.now name) (λ r. result ≡ (r.sum.lines, r.sum.characters)) }
+        ensures tick { C.count ticks.new ≡ C.count ticks.old + 1 }
+    {
+        ticks.tick();
+        match &self.heap.node(name).held {
+            Held::Line(line) => (1, line.len()),
+            Held::Inner(room) => (room.sum.lines(), room.sum.characters()),
+            Held::Spare => (0, 0),
+        }
+    }
+
     /// How many children there are.
     pub fn children(&self, name: NodePtr) -> usize
         requires { IsName self.now name }

@@ -1,19 +1,28 @@
 use crate::pieces::Pieces;
 use crate::row::{AMPLE, Row};
+use line_lists::{LineStore, LineVec};
+use line_tree::TreeStore;
 use script_cli::{Watched, outcome, run};
 use std::io;
 use std::io::Write;
 use text_model::{Limits, PlainStore, TextStore};
 
-/// Runs a row on every store, and says whether it went as wanted on each. A further store is a line here.
+/// A length of reads that hands out each worked script at once.
+const WHOLE: usize = 4096;
+
+/// Runs a row on every store, and says whether it went as wanted on each: on the plain store with reads of several
+/// lengths, and whole on the others, which see no reads. A further store is a line here.
 pub fn check_row<R: Print + AllocGlobal>(rt: &R, row: &Row) -> io::Result<bool> {
-    check_on::<R, PlainStore>(rt, row, "PlainStore")
+    Ok(check_on::<R, PlainStore>(rt, row, lengths(row), "PlainStore")?
+        && check_on::<R, LineStore<LineVec>>(rt, row, &[WHOLE], "LineStore<LineVec>")?
+        && check_on::<R, TreeStore>(rt, row, &[WHOLE], "TreeStore")?)
 }
 
-/// Runs a row on one store, with reads of several lengths, and says whether each run went as wanted.
+/// Runs a row on one store, with reads of some lengths, and says whether each run went as wanted.
 fn check_on<R: Print + AllocGlobal, S: TextStore>(
     rt: &R,
     row: &Row,
+    lengths: &[usize],
     store: &str,
 ) -> io::Result<bool> {
     let Some(limits) = limits_of(row) else {
@@ -21,7 +30,7 @@ fn check_on<R: Print + AllocGlobal, S: TextStore>(
         println!(rt; "{name}: its numbers are no limits")?;
         return Ok(false);
     };
-    for most in lengths(row) {
+    for most in lengths {
         if !check_run::<R, S>(rt, row, limits, *most)? {
             println!(rt; "on {store}, with reads of {most} bytes")?;
             return Ok(false);
@@ -45,9 +54,9 @@ fn limits_of(row: &Row) -> Option<Limits> {
 /// The lengths of reads that a row is run with: one that limits the reads is for a reader that hands out all at once.
 fn lengths(row: &Row) -> &'static [usize] {
     if row.numbers.reads == AMPLE.reads {
-        &[1, 2, 3, 7, 4096]
+        &[1, 2, 3, 7, WHOLE]
     } else {
-        &[4096]
+        &[WHOLE]
     }
 }
 

@@ -2,6 +2,7 @@ ghost use Rattle.std.specs.Prelude.{◌≡◌, length, OnOk};
 ghost use Rattle.text_cursor.specs.Cursors.{IsCursor};
 
 use line_lists::{LineStore, LineVec};
+use line_tree::TreeStore;
 use std::alloc::{AllocError, Global};
 use std::process::Abort;
 use std::test::Fail;
@@ -178,11 +179,13 @@ fn check_lines<S: TextStore>(rt: &impl Abort, alloc: Global) -> Result<(), Fail>
 #[test]
 fn a_cursor_looks_around(rt: HostRuntime) -> Result<(), Fail> {
     check_looks::<PlainStore>(&rt, rt.alloc())?;
-    check_looks::<LineStore<LineVec>>(&rt, rt.alloc())
+    check_looks::<LineStore<LineVec>>(&rt, rt.alloc())?;
+    check_looks::<TreeStore>(&rt, rt.alloc())
 }
 
 #[test]
 fn lines_begin(rt: HostRuntime) -> Result<(), Fail> {
     check_lines::<PlainStore>(&rt, rt.alloc())?;
-    check_lines::<LineStore<LineVec>>(&rt, rt.alloc())
+    check_lines::<LineStore<LineVec>>(&rt, rt.alloc())?;
+    check_lines::<TreeStore>(&rt, rt.alloc())
 }

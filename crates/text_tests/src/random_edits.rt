@@ -2,6 +2,7 @@ ghost use Rattle.std.specs.Prelude.{◌<◌};
 
 use crate::stores::{MARKS, PlainStep, SLOTS, length_after, make, step_of};
 use line_lists::{LineStore, LineVec};
+use line_tree::TreeStore;
 use std::alloc::{AllocError, Global};
 use std::process::Abort;
 use std::test::Fail;
@@ -264,5 +265,6 @@ fn check<S: TextStore>(rt: &impl Abort, alloc: Global) -> Result<(), AllocError>
 #[test]
 fn lines_are_like_plain_text(rt: HostRuntime) -> Result<(), Fail> {
     check::<LineStore<LineVec>>(&rt, rt.alloc())?;
+    check::<TreeStore>(&rt, rt.alloc())?;
     Ok(())
 }

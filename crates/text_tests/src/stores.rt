@@ -3,6 +3,7 @@ ghost use Rattle.text_model.specs.Steps.{length_after, FitsIn, StepFitsIn};
 
 use crate::random_edits::{Numbers, random_steps};
 use line_lists::{LineStore, LineVec};
+use line_tree::TreeStore;
 use std::alloc::{AllocError, Global};
 use std::process::Abort;
 use std::test::Fail;
@@ -616,6 +617,7 @@ fn check_random_edits<S: TextStore>(rt: &impl Abort, alloc: Global) -> Result<()
 fn stores_begin_with_a_newline(rt: HostRuntime) -> Result<(), Fail> {
     check_begin::<PlainStore>(&rt, rt.alloc())?;
     check_begin::<LineStore<LineVec>>(&rt, rt.alloc())?;
+    check_begin::<TreeStore>(&rt, rt.alloc())?;
     Ok(())
 }
 
@@ -623,6 +625,7 @@ fn stores_begin_with_a_newline(rt: HostRuntime) -> Result<(), Fail> {
 fn each_step_is_made(rt: HostRuntime) -> Result<(), Fail> {
     check_each_step::<PlainStore>(&rt, rt.alloc())?;
     check_each_step::<LineStore<LineVec>>(&rt, rt.alloc())?;
+    check_each_step::<TreeStore>(&rt, rt.alloc())?;
     Ok(())
 }
 
@@ -630,6 +633,7 @@ fn each_step_is_made(rt: HostRuntime) -> Result<(), Fail> {
 fn all_steps_are_made(rt: HostRuntime) -> Result<(), Fail> {
     check_all_steps::<PlainStore>(&rt, rt.alloc())?;
     check_all_steps::<LineStore<LineVec>>(&rt, rt.alloc())?;
+    check_all_steps::<TreeStore>(&rt, rt.alloc())?;
     Ok(())
 }
 
@@ -637,5 +641,18 @@ fn all_steps_are_made(rt: HostRuntime) -> Result<(), Fail> {
 fn random_edits_are_made(rt: HostRuntime) -> Result<(), Fail> {
     check_random_edits::<PlainStore>(&rt, rt.alloc())?;
     check_random_edits::<LineStore<LineVec>>(&rt, rt.alloc())?;
+    Ok(())
+}
+
+#[test]
+fn a_store_lends_its_tree(rt: HostRuntime) -> Result<(), Fail> {
+    let store = TreeStore::new(rt.alloc())?;
+    assert!(rt; store.tree().len() == 1 && store.lines() == 1);
+    Ok(())
+}
+
+#[test]
+fn random_edits_are_made_in_a_tree(rt: HostRuntime) -> Result<(), Fail> {
+    check_random_edits::<TreeStore>(&rt, rt.alloc())?;
     Ok(())
 }

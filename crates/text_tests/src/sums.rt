@@ -19,6 +19,17 @@ fn sums_add_up(rt: HostRuntime) {
 }
 
 #[test]
+fn sums_lose_numbers(rt: HostRuntime) {
+    let sums = joined();
+    assert!(rt; sums.lines() == 3 && sums.characters() == 12 && sums.marks() == 2);
+    let less = sums.less(1, 5, 2);
+    assert!(rt; less.lines() == 2 && less.characters() == 7 && less.marks() == 0);
+    assert!(rt; less.has(TagSlot(3)) && less.parity(TagSlot(64)) && !less.is_bare());
+    let bare: Sums<WORDS> = Sums::counting(1, 2, 3);
+    assert!(rt; bare.is_bare());
+}
+
+#[test]
 fn sets_differ(rt: HostRuntime) {
     let some = TagSet::empty().with(TagSlot(3)).with(TagSlot(64));
     let other = TagSet::empty().with(TagSlot(3)).with(TagSlot(255));

@@ -4,9 +4,10 @@
 ghost use Rattle.std.specs.Prelude.{◌≡◌};
 ghost use Rattle.text_model.specs.LimitTable.{most_chars, most_tags, most_marks, most_widgets};
 
+use line_tree::TreeStore;
 use script_cli::{Watched, outcome, run};
 use std::process::ExitCode;
-use text_model::{Limits, PlainStore};
+use text_model::Limits;
 
 /// How many reads of up to 4,096 bytes a script may take.
 const MOST_READS: u32 = 1_073_741_824;
@@ -34,7 +35,7 @@ fn limits() -> Limits
 fn main(rt: HostRuntime) -> ExitCode {
     let mut source = Watched::new(rt.stdin());
     let mut sink = Watched::new(rt.stdout());
-    let ended = run::<PlainStore, _, _>(rt.alloc(), &mut source, &mut sink, limits());
+    let ended = run::<TreeStore, _, _>(rt.alloc(), &mut source, &mut sink, limits());
     let (status, words) = outcome(&ended);
     if !words.is_empty() {
         let _ = rt.eprintln(words);

@@ -15,7 +15,8 @@ use Rattle.text_model.specs.TagBits.{has_bit}
 use Rattle.text_model.specs.TagBitLaws.{contains_inserted, contains-slots_below}
 use Rattle.text_model.proofs.TagSteps.{has_bit-with_word, with_word}
 use Rattle.toggle_sums.specs.CountLaws.{contains-differing, either, same_slots}
-use Rattle.toggle_sums.specs.SlotWords.{AreWords, slots_of}
+use Rattle.toggle_sums.specs.SlotWords.{AreWords, slots_of, words_of}
+use Rattle.toggle_sums.specs.SlotWordLaws.{words_of-slots_of}
 
 -- ---- zeros
 zeros_at : (count i : ℕ) → slice_index (replicate count 0) i ≡ 0
@@ -188,3 +189,10 @@ slots_of-or count words k are below =
     ∙ ap (λ b. nat_lt q n && b) (has_bit-with_word words k new true within (ap (λ x. x == 1) bit) (λ i small other. bit_at_set_other w64 old (k % 64) (omega arith) i other) q)
     ∙ set_in_reach n k q (has_bit words q) below
     ∙ sym (contains_inserted (slots_of count words) k q ∙ ap (λ b. q == k || b) (contains-slots_below n words q)))
+
+-- no bit is set where no slot is
+pub zeros_of-slots_of : (count : ℕ) (words : List ℕ) → AreWords count words → slots_of count words ≡ set.empty → words ≡ replicate count 0
+zeros_of-slots_of count words are none =
+    sym (words_of-slots_of count words are)
+    ∙ ap (words_of count) (none ∙ sym (slots_of-zeros count))
+    ∙ words_of-slots_of count (replicate count 0) (AreWords-zeros count)

@@ -1,5 +1,5 @@
 -- What is counted of some lines of text, and how it adds up.
-use Rattle.std.specs.Prelude.{ℕ, ◌+◌, ◌<◌, ◌^◌, refl}
+use Rattle.std.specs.Prelude.{◌≡◌, ℕ, ◌+◌, ◌-◌, ◌<◌, ◌^◌, refl}
 use Rattle.std.specs.Coded.{Coded, code_by, coded×, coded_ℕ}
 use Rattle.std.specs.FinSet as set
 use Rattle.text_model.specs.Content.{Slots}
@@ -46,6 +46,19 @@ pub record CountsFit (first second : Count) : Type 0 where
   pub lines : first.lines + second.lines < 2 ^ 64
   pub characters : first.characters + second.characters < 2 ^ 64
   pub marks : first.marks + second.marks < 2 ^ 64
+
+-- no slot is toggled
+pub record IsBare (count : Count) : Type 0 where
+  pub parity : count.parity ≡ set.empty
+  pub presence : count.presence ≡ set.empty
+
+-- so many lines, characters and marks less
+abbrev pub less : ℕ → ℕ → ℕ → Count → Count
+less lines characters marks count = record count {
+  lines = count.lines - lines;
+  characters = count.characters - characters;
+  marks = count.marks - marks;
+}
 
 -- one toggle of a slot more
 abbrev pub toggled : ℕ → Count → Count

@@ -1,6 +1,6 @@
-ghost use Rattle.std.specs.Prelude.{◌≡◌, ◌+◌, ◌*◌, ◌^◌, ◌<◌, slice_index, bit_or, bit_xor};
+ghost use Rattle.std.specs.Prelude.{◌≡◌, ◌+◌, ◌*◌, ◌^◌, ◌<◌, ◌≤◌, slice_index, bit_or, bit_xor, true};
 ghost use Rattle.std.specs.FinSet as set;
-ghost use Rattle.toggle_sums.specs.Counts.{counting, toggled, with_toggles};
+ghost use Rattle.toggle_sums.specs.Counts.{IsBare, counting, less, toggled, with_toggles};
 
 use crate::summary::Summary;
 use std::marker::Model;
@@ -124,6 +124,28 @@ impl<const K: usize> Sums<K> {
         ensures { result ≡ set.contains self.now.presence slot.0 }
     {
         self.presence[slot.0 as usize / 64] >> (slot.0 % 64) & 1 == 1
+    }
+
+    /// Whether no slot is toggled.
+    pub fn is_bare(&self) -> bool
+        ensures yes { result ≡ true → IsBare self.now }
+        ensures no { IsBare self.now → result ≡ true }
+    {
+        self.parity == [0; K] && self.presence == [0; K]
+    }
+
+    /// The sum with so many lines, characters and marks less.
+    pub fn less(&self, lines: usize, characters: usize, marks: usize) -> Sums<K>
+        requires lines { lines ≤ self.now.lines }
+        requires characters { characters ≤ self.now.characters }
+        requires marks { marks ≤ self.now.marks }
+        ensures { result ≡ less lines characters marks self.now }
+    {
+        let mut sums = *self;
+        sums.lines -= lines;
+        sums.characters -= characters;
+        sums.marks -= marks;
+        sums
     }
 
     /// The sum with one toggle of a slot more.

@@ -11,7 +11,7 @@ use Rattle.line_lists.proofs.pieces.place.Goals as goal
 pub splice-requires-clause-within : goal.splice-requires-clause-within
 splice-requires-clause-within g c =
     let lines = g.L.LineList.lines c.loop-piece.list in
-    (can-split c.pop.new.self.items c.in-Some.piece lines (subst (λ ps. CanPlace ps lines) c.in-Some.ensures.items c.loop-piece.invariant.0)).1
+    (can-split c.pop.new.self.items c.in-Some.piece lines (subst (λ ps. CanPlace ps lines) c.in-Some.ensures.items c.loop-piece.invariant.0)).1.within
 
 pub splice-requires-clause-room : goal.splice-requires-clause-room
 splice-requires-clause-room g c =
@@ -27,7 +27,12 @@ splice-requires-clause-numbers g c =
 pub splice-requires-clause-lines : goal.splice-requires-clause-lines
 splice-requires-clause-lines g c =
     let lines = g.L.LineList.lines c.loop-piece.list in
-    (can-split c.pop.new.self.items c.in-Some.piece lines (subst (λ ps. CanPlace ps lines) c.in-Some.ensures.items c.loop-piece.invariant.0)).2
+    (can-split c.pop.new.self.items c.in-Some.piece lines (subst (λ ps. CanPlace ps lines) c.in-Some.ensures.items c.loop-piece.invariant.0)).1.are
+
+pub splice-requires-clause-counted : goal.splice-requires-clause-counted
+splice-requires-clause-counted g c =
+    let lines = g.L.LineList.lines c.loop-piece.list in
+    (can-split c.pop.new.self.items c.in-Some.piece lines (subst (λ ps. CanPlace ps lines) c.in-Some.ensures.items c.loop-piece.invariant.0)).1.counted
 
 pub loop-piece-preserved : goal.loop-piece-preserved
 loop-piece-preserved g c =

@@ -1,7 +1,7 @@
 use Rattle.std.proofs.Common.{length, subst, sym, ◌∙◌, ℕ, ◌<◌, get_or}
 use Rattle.segments.specs.Columns.{LineContent}
 use Rattle.line_lists.specs.Lists.{NumbersBelow}
-use Rattle.line_tests.proofs.WorkedLaws.{numbers-worked, spliced-worked}
+use Rattle.line_tests.proofs.WorkedLaws.{counted-worked, numbers-worked, spliced-worked}
 use Rattle.line_tests.proofs.lists.worked_list.Goals as goal
 
 pub splice-requires-clause-numbers : goal.splice-requires-clause-numbers
@@ -12,3 +12,7 @@ splice-requires-clause-numbers g c =
 pub splice-requires-clause-lines : goal.splice-requires-clause-lines
 splice-requires-clause-lines g c =
     spliced-worked (g.L.LineList.lines c.reserve.new.self) c.in_ok-lines.lines.items (c.reserve.ensures.same ∙ c.in_ok-list.ensures) c.in_ok-lines.ensures
+
+pub splice-requires-clause-counted : goal.splice-requires-clause-counted
+splice-requires-clause-counted g c =
+    counted-worked (g.L.LineList.lines c.reserve.new.self) c.in_ok-lines.lines.items (c.reserve.ensures.same ∙ c.in_ok-list.ensures) c.in_ok-lines.ensures

@@ -7,8 +7,8 @@ use Rattle.raw_nodes.specs.Names.{records}
 use Rattle.raw_nodes.specs.Records.{blank}
 use Rattle.raw_nodes.specs.Rows.{kids, row}
 use Rattle.raw_nodes.specs.declared.names.NodePtr.{NodePtr}
-use Rattle.line_tree.specs.Changes.{CanFill, refilled, relinked}
-use Rattle.line_tree.proofs.PutLaws.{count-row, fill-left, fill-right, fill-room, kept-put}
+use Rattle.line_tree.specs.Changes.{CanFill, Stay, refilled, relinked}
+use Rattle.line_tree.proofs.PutLaws.{count-row, fill-left, fill-right, fill-room, kept-left, kept-put}
 use Rattle.line_tree.proofs.fill.put.Goals as goal
 
 short : (all : List NodePtr) → length all ≤ 12 → row (take 12 (drop 0 all)) ≡ row all
@@ -32,7 +32,13 @@ refill-requires g c = let m = records c.args.store.now in let p = c.args.node in
 
 pub refill-requires-else-children-lt12 : goal.refill-requires-else-children-lt12
 refill-requires-else-children-lt12 g c = let m = records c.args.store.now in let p = c.args.node in let all = insert (kids m p) c.args.at c.args.extra in
-    record { fill = (take 6 all, c.part-left.ensures, subst (λ n. CanFill n p (take 6 all)) (sym c.make-sibling.ensures.records) (fill-left m p c.args.at c.args.extra c.requires.put c.make-sibling.result c.make-sibling.ensures.fresh)); from = omega arith; kept = refl }
+    record {
+      fill = (take 6 all, c.part-left.ensures, subst (λ n. CanFill n p (take 6 all)) (sym c.make-sibling.ensures.records) (fill-left m p c.args.at c.args.extra c.requires.put c.make-sibling.result c.make-sibling.ensures.fresh));
+      from = omega (arith, c.min.ensures);
+      kept = subst (Stay (records c.make-sibling.new.self) p c.min.result) (sym c.part-left.ensures)
+          (subst (λ n. Stay n p c.min.result (row (take 6 all))) (sym c.make-sibling.ensures.records)
+          (kept-left m p c.args.at c.args.extra c.requires.put c.make-sibling.result c.make-sibling.ensures.fresh c.min.result (omega (arith, c.min.ensures)) (omega (arith, c.min.ensures))));
+    }
 
 pub refill-requires-else-children-lt12-2 : goal.refill-requires-else-children-lt12-2
 refill-requires-else-children-lt12-2 g c = let m = records c.args.store.now in let p = c.args.node in let all = insert (kids m p) c.args.at c.args.extra in let s = c.make-sibling.result in

@@ -7,51 +7,54 @@ use Rattle.line_tree.specs.Places.{lines_before}
 use Rattle.line_tree.specs.Shape.{lines_at, lines_in}
 use Rattle.line_tree.specs.Trees.{contents}
 use Rattle.line_tree.proofs.NearestLaws.{child-is, first-previous, last-before, line-previous, none-previous, previous-end, previous-hit, previous-missed, reaches}
-use Rattle.line_tree.proofs.RowLaws.{child_is, none_of, step_no, step_yes, sum_is}
+use Rattle.line_tree.proofs.RowLaws.{child_is, lines_is, none_of, step_no, step_yes, sum_is}
 use Rattle.line_tree.proofs.TreeLaws.{count-tree, named-tree, row-above, sum-tree}
 use Rattle.line_tree.proofs.nearest.+previous.Goals as goal
 use Rattle.line_tree.proofs.nearest.+previous.Goals.{then-to-eq0-via-then-to-eq0, then-to-eq0-via-else-to-eq0+then-not-is_in}
 
-pub sum-sum-requires : goal.sum-sum-requires
-sum-sum-requires g t c = named-tree (records c.args.store.now) c.args.height c.args.node c.requires.tree
+pub sum-requires : goal.sum-requires
+sum-requires g t c = named-tree (records c.args.store.now) c.args.height c.args.node c.requires.tree
 
 pub child-requires-clause-name : goal.child-requires-clause-name
 child-requires-clause-name g t c = named-tree (records c.args.store.now) c.args.height c.args.node c.requires.tree
 
 pub returns-then-to-eq0 : goal.returns-then-to-eq0
 returns-then-to-eq0 g t c = let m = records c.args.store.now in let h = c.args.height in let p = c.args.node in let ls = lines_in m h p in
-    let s = sum_is m p c.sum-sum.result (named-tree m h p c.requires.tree) c.sum-sum.ensures.value in
     elim c.then-to-eq0.branch [
       | then-to-eq0-via-then-to-eq0 w ↦ sym (first-previous c.args.wanted c.args.to ls w.if-to-eq0.true)
       | then-to-eq0-via-else-to-eq0+then-not-is_in w ↦
+          let s = sum_is m p w.sum.result (named-tree m h p c.requires.tree) w.sum.ensures.value in
           sym (none-previous c.args.wanted c.args.to ls c.requires.within (sym (w.is_in.ensures ∙ ap (shows c.args.wanted) (s ∙ sum-tree m h p c.requires.tree)) ∙ w.if-not-is_in.true))
     ]
 
 pub returns-then-height-eq0 : goal.returns-then-height-eq0
 returns-then-height-eq0 g t c = let m = records c.args.store.now in let h = c.args.height in let p = c.args.node in
-    let s = sum_is m p c.sum-sum.result (named-tree m h p c.requires.tree) c.sum-sum.ensures.value in
+    let s = sum_is m p c.sum.result (named-tree m h p c.requires.tree) c.sum.ensures.value in
     let not = c.if-to-eq0.false in
     sym (line-previous m h p c.args.wanted c.args.to c.if-height-eq0.true (omega arith) c.requires.within (sym (c.is_in.ensures ∙ ap (shows c.args.wanted) (s ∙ sum-tree m h p c.requires.tree)) ∙ c.if-not-is_in.false))
 
 pub loop-slot-init : goal.loop-slot-init
 loop-slot-init g t c = let m = records c.args.store.now in let h = c.args.height in let p = c.args.node in let n = h - 1 in let not = c.if-height-eq0.false in
     let e : h ≡ suc n = omega arith in
-    let s = c.lines-before.ensures ∙ ap (λ x. x.lines) (sum_is m p c.sum-sum.result (named-tree m h p c.requires.tree) c.sum-sum.ensures.value) in
+    let s = lines_is m p c.lines-before.result (named-tree m h p c.requires.tree) c.lines-before.ensures.value in
     let count = count-tree m h p c.requires.tree in let within = c.requires.within in
     record { few = omega arith; before = s ∙ last-before m h n p e c.requires.tree; free = λ j more less. absurd (omega arith) }
 
-pub sum-requires : goal.sum-requires
-sum-requires g t c = let m = records c.args.store.now in let h = c.args.height in let p = c.args.node in let n = h - 1 in let not = c.if-height-eq0.false in
+pub lines-lines-requires : goal.lines-lines-requires
+lines-lines-requires g t c = let m = records c.args.store.now in let h = c.args.height in let p = c.args.node in let n = h - 1 in let not = c.if-height-eq0.false in
     let e : h ≡ suc n = omega arith in
     let row = row-above m h n p e c.requires.tree in
     row.each (c.loop-slot.slot - 1) c.in-Some.child (sym (child_is m p row c.child.result (c.loop-slot.slot - 1) c.child.ensures.value) ∙ c.in-Some.is)
+
+pub lines-before-requires : goal.lines-before-requires
+lines-before-requires g t c = named-tree (records c.args.store.now) c.args.height c.args.node c.requires.tree
 
 pub overflow_sub-before : goal.overflow_sub-before
 overflow_sub-before g t c = let m = records c.args.store.now in let h = c.args.height in let p = c.args.node in let n = h - 1 in let not = c.if-height-eq0.false in
     let e : h ≡ suc n = omega arith in let i = c.loop-slot.slot - 1 in
     let row = row-above m h n p e c.requires.tree in
     let here = sym (child_is m p row c.child.result i c.child.ensures.value) ∙ c.in-Some.is in
-    let s = c.lines-lines.ensures ∙ ap (λ x. x.lines) (sum_is m c.in-Some.child c.sum.result (row.each i c.in-Some.child here) c.sum.ensures.value) in
+    let s = lines_is m c.in-Some.child c.lines-lines.result (row.each i c.in-Some.child here) c.lines-lines.ensures.value in
     let some : i + 1 ≡ c.loop-slot.slot = omega (arith, c.loop-slot-test.true) in
     let more = step_yes (lines_at m) (kids m p) i c.in-Some.child here in
     let before = c.loop-slot.invariant.before ∙ ap (lines_before m p) (sym some) in omega arith
@@ -61,7 +64,7 @@ previous-requires g t c κs inside = let m = records c.args.store.now in let h =
     let e : h ≡ suc n = omega arith in let i = c.loop-slot.slot - 1 in
     let row = row-above m h n p e c.requires.tree in
     let here = sym (child_is m p row c.child.result i c.child.ensures.value) ∙ c.in-Some.is in
-    let s = c.lines-lines.ensures ∙ ap (λ x. x.lines) (sum_is m c.in-Some.child c.sum.result (row.each i c.in-Some.child here) c.sum.ensures.value) in
+    let s = lines_is m c.in-Some.child c.lines-lines.result (row.each i c.in-Some.child here) c.lines-lines.ensures.value in
     let some : i + 1 ≡ c.loop-slot.slot = omega (arith, c.loop-slot-test.true) in
     let more = step_yes (lines_at m) (kids m p) i c.in-Some.child here in
     let old = c.loop-slot.invariant.before ∙ ap (lines_before m p) (sym some) in
@@ -76,7 +79,7 @@ returns-in-Some-previous g t c = let m = records c.args.store.now in let h = c.a
     let e : h ≡ suc n = omega arith in let i = c.loop-slot.slot - 1 in
     let row = row-above m h n p e c.requires.tree in
     let here = sym (child_is m p row c.child.result i c.child.ensures.value) ∙ c.in-Some.is in
-    let s = c.lines-lines.ensures ∙ ap (λ x. x.lines) (sum_is m c.in-Some.child c.sum.result (row.each i c.in-Some.child here) c.sum.ensures.value) in
+    let s = lines_is m c.in-Some.child c.lines-lines.result (row.each i c.in-Some.child here) c.lines-lines.ensures.value in
     let some : i + 1 ≡ c.loop-slot.slot = omega (arith, c.loop-slot-test.true) in
     let more = step_yes (lines_at m) (kids m p) i c.in-Some.child here in
     let old = c.loop-slot.invariant.before ∙ ap (lines_before m p) (sym some) in
@@ -92,7 +95,7 @@ loop-slot-preserved-in_default-previous g t c = let m = records c.args.store.now
     let e : h ≡ suc n = omega arith in let i = c.loop-slot.slot - 1 in
     let row = row-above m h n p e c.requires.tree in
     let here = sym (child_is m p row c.child.result i c.child.ensures.value) ∙ c.in-Some.is in
-    let s = c.lines-lines.ensures ∙ ap (λ x. x.lines) (sum_is m c.in-Some.child c.sum.result (row.each i c.in-Some.child here) c.sum.ensures.value) in
+    let s = lines_is m c.in-Some.child c.lines-lines.result (row.each i c.in-Some.child here) c.lines-lines.ensures.value in
     let some : i + 1 ≡ c.loop-slot.slot = omega (arith, c.loop-slot-test.true) in
     let more = step_yes (lines_at m) (kids m p) i c.in-Some.child here in
     let old = c.loop-slot.invariant.before ∙ ap (lines_before m p) (sym some) in

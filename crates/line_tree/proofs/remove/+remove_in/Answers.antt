@@ -6,11 +6,18 @@ use Rattle.raw_nodes.specs.Names.{records}
 use Rattle.raw_nodes.specs.Records.{Records}
 use Rattle.raw_nodes.specs.Rows.{kids, row}
 use Rattle.raw_nodes.specs.declared.names.NodePtr.{NodePtr}
+use Rattle.line_tree.specs.Changes.{FitsSum, resummed, sum_all}
 use Rattle.line_tree.specs.Shape.{Links}
+use Rattle.line_tree.proofs.FillLaws.{sums-row}
+use Rattle.line_tree.proofs.KeptLaws.{kept-whole}
+use Rattle.line_tree.proofs.LessLaws.{sum_all-remove}
+use Rattle.line_tree.proofs.RowLaws.{sum_is}
+use Rattle.std.proofs.lemmas.Option.{slice_get-get_or}
+use Rattle.toggle_sums.specs.Counts.{plus}
 use Rattle.line_tree.specs.Shrinking.{CanRemove, Cleans, Removes, Settles}
-use Rattle.line_tree.proofs.RemovePairs.{below-now, can-mend, cleans-gone, cleans-ready, fill-ready, has-ready, inner-ready, links-ready, removes-gone, removes-ready, slot-ready}
-use Rattle.line_tree.proofs.RemoveSteps.{can-below, child-now, cleans-low, has-now, low-fill, low-removes, low-slot, two-kids}
-use Rattle.line_tree.proofs.RoomLaws.{len-gone, len-refilled, len-settles}
+use Rattle.line_tree.proofs.RemovePairs.{sum-ready, below-now, can-mend, cleans-gone, cleans-ready, fill-ready, has-ready, inner-ready, links-ready, removes-gone, removes-ready, slot-ready}
+use Rattle.line_tree.proofs.RemoveSteps.{line-named, node-sum, can-below, child-now, cleans-low, has-now, low-fill, low-removes, low-slot, two-kids}
+use Rattle.line_tree.proofs.RoomLaws.{len-gone, len-refilled, len-resummed, len-settles}
 use Rattle.line_tree.proofs.TreeLaws.{below-tree, row-tree, tops-tree_at}
 use Rattle.line_tree.proofs.UpdateLaws.{InnerIn, inner-refilled, named-refilled, room-given}
 use Rattle.line_tree.proofs.remove.+remove_in.Goals as goal
@@ -107,17 +114,39 @@ give_back-requires g t c = let m = records c.args.store.now in let p = c.args.no
     subst (λ z. IsSome (finite.get z c.drop_child-gone.result)) (sym c.drop_child-gone.ensures.records)
     (named-refilled n p (row (remove (kids n p) c.in-Some.slot)) c.drop_child-gone.result (has.each c.in-Some.slot c.drop_child-gone.result c.drop_child-gone.ensures.child))
 
-pub refresh-requires-clause-row : goal.refresh-requires-clause-row
-refresh-requires-clause-row g t c = let m = records c.args.store.now in let p = c.args.node in let k = c.args.k in let g2 = c.args.height - 2 in let can = above m c.args.height p k c.requires.node c.if-height-eq1.false c.requires.remove in let f = c.find-found.result in let finds = c.find-found.ensures.found in let l = records c.remove_in-line.new.store in let x = c.remove_in-line.result in let rem = child m l c.args.height f.child f.rest x c.requires.node c.if-height-eq1.false c.remove_in-line.ensures.removes in let n = records c.settle.new.store in let settles = subst (λ o. Settles l n p f.slot f.child o) c.in-None.is c.settle.ensures.settles in
+pub lessen-requires-clause-row : goal.lessen-requires-clause-row
+lessen-requires-clause-row g t c = let m = records c.args.store.now in let p = c.args.node in let k = c.args.k in let g2 = c.args.height - 2 in let can = above m c.args.height p k c.requires.node c.if-height-eq1.false c.requires.remove in let f = c.find-found.result in let finds = c.find-found.ensures.found in let l = records c.remove_in-line.new.store in let x = c.remove_in-line.result in let rem = child m l c.args.height f.child f.rest x c.requires.node c.if-height-eq1.false c.remove_in-line.ensures.removes in let n = records c.settle.new.store in let settles = subst (λ o. Settles l n p f.slot f.child o) c.in-None.is c.settle.ensures.settles in
     has-ready m g2 p k can f finds l x rem n None settles
 
-pub refresh-requires-clause-links : goal.refresh-requires-clause-links
-refresh-requires-clause-links g t c = let m = records c.args.store.now in let p = c.args.node in let k = c.args.k in let g2 = c.args.height - 2 in let can = above m c.args.height p k c.requires.node c.if-height-eq1.false c.requires.remove in let f = c.find-found.result in let finds = c.find-found.ensures.found in let l = records c.remove_in-line.new.store in let x = c.remove_in-line.result in let rem = child m l c.args.height f.child f.rest x c.requires.node c.if-height-eq1.false c.remove_in-line.ensures.removes in let n = records c.settle.new.store in let settles = subst (λ o. Settles l n p f.slot f.child o) c.in-None.is c.settle.ensures.settles in
-    links-ready m g2 p k can f finds l x rem n None settles
+pub lessen-requires-clause-sum : goal.lessen-requires-clause-sum
+lessen-requires-clause-sum g t c = let m = records c.args.store.now in let p = c.args.node in let k = c.args.k in let g2 = c.args.height - 2 in let can = above m c.args.height p k c.requires.node c.if-height-eq1.false c.requires.remove in let f = c.find-found.result in let finds = c.find-found.ensures.found in let l = records c.remove_in-line.new.store in let x = c.remove_in-line.result in let rem = child m l c.args.height f.child f.rest x c.requires.node c.if-height-eq1.false c.remove_in-line.ensures.removes in let n = records c.settle.new.store in let settles = subst (λ o. Settles l n p f.slot f.child o) c.in-None.is c.settle.ensures.settles in
+    let less = sum_is l x c.sum-less.result (line-named m (suc g2) p k can f finds l x rem) c.sum-less.ensures.value in
+    (λ i. plus (sums-row n (kids n p) i) (less i)) ∙ sum-ready m g2 p k can f finds l x rem n None settles
 
-pub refresh-requires-clause-fill : goal.refresh-requires-clause-fill
-refresh-requires-clause-fill g t c = let m = records c.args.store.now in let p = c.args.node in let k = c.args.k in let g2 = c.args.height - 2 in let can = above m c.args.height p k c.requires.node c.if-height-eq1.false c.requires.remove in let f = c.find-found.result in let finds = c.find-found.ensures.found in let l = records c.remove_in-line.new.store in let x = c.remove_in-line.result in let rem = child m l c.args.height f.child f.rest x c.requires.node c.if-height-eq1.false c.remove_in-line.ensures.removes in let n = records c.settle.new.store in let settles = subst (λ o. Settles l n p f.slot f.child o) c.in-None.is c.settle.ensures.settles in
-    fill-ready m g2 p k can f finds l x rem n None settles
+pub lessen-requires-clause-fits : goal.lessen-requires-clause-fits
+lessen-requires-clause-fits g t c = let m = records c.args.store.now in let p = c.args.node in let k = c.args.k in let g2 = c.args.height - 2 in let can = above m c.args.height p k c.requires.node c.if-height-eq1.false c.requires.remove in let f = c.find-found.result in let finds = c.find-found.ensures.found in let l = records c.remove_in-line.new.store in let x = c.remove_in-line.result in let rem = child m l c.args.height f.child f.rest x c.requires.node c.if-height-eq1.false c.remove_in-line.ensures.removes in let n = records c.settle.new.store in let settles = subst (λ o. Settles l n p f.slot f.child o) c.in-None.is c.settle.ensures.settles in
+    subst FitsSum (sym (sums-row n (kids n p))) (fill-ready m g2 p k can f finds l x rem n None settles).fits
+
+pub drop_child-gone-requires-clause-sum : goal.drop_child-gone-requires-clause-sum
+drop_child-gone-requires-clause-sum g t c = let m = records c.args.store.now in let p = c.args.node in let k = c.args.k in let g2 = c.args.height - 2 in let can = above m c.args.height p k c.requires.node c.if-height-eq1.false c.requires.remove in let f = c.find-found.result in let finds = c.find-found.ensures.found in let l = records c.remove_in-line.new.store in let x = c.remove_in-line.result in let rem = child m l c.args.height f.child f.rest x c.requires.node c.if-height-eq1.false c.remove_in-line.ensures.removes in let n = records c.settle.new.store in let settles = subst (λ o. Settles l n p f.slot f.child o) c.in-Some.is c.settle.ensures.settles in
+    let less = sum_is l x c.sum-less.result (line-named m (suc g2) p k can f finds l x rem) c.sum-less.ensures.value in
+    ap (plus (sum_all n (remove (kids n p) c.in-Some.slot))) less ∙ sum-ready m g2 p k can f finds l x rem n (Some c.in-Some.slot) settles
+
+pub drop_child-requires-clause-sum : goal.drop_child-requires-clause-sum
+drop_child-requires-clause-sum g t c = let m = records c.args.store.now in let p = c.args.node in let can = low m c.args.height p c.args.k c.if-height-eq1.true c.requires.remove in
+    let has = row-tree m 0 p can.tree in let slot = low-slot m p c.args.k can in let at = slice_get-get_or (kids m p) c.args.k p slot in
+    ap (plus (sum_all m (remove (kids m p) c.args.k))) (c.sum_in-less.ensures _ at) ∙ sum_all-remove m (kids m p) c.args.k _ at
+    ∙ node-sum m p c.args.k can
+
+pub sum_in-less-requires-clause-row : goal.sum_in-less-requires-clause-row
+sum_in-less-requires-clause-row g t c = let m = records c.args.store.now in row-tree m 0 c.args.node (low m c.args.height c.args.node c.args.k c.if-height-eq1.true c.requires.remove).tree
+
+pub sum_in-less-requires-clause-slot : goal.sum_in-less-requires-clause-slot
+sum_in-less-requires-clause-slot g t c = let m = records c.args.store.now in low-slot m c.args.node c.args.k (low m c.args.height c.args.node c.args.k c.if-height-eq1.true c.requires.remove)
+
+pub sum-less-requires : goal.sum-less-requires
+sum-less-requires g t c = let m = records c.args.store.now in let p = c.args.node in let k = c.args.k in let g2 = c.args.height - 2 in let can = above m c.args.height p k c.requires.node c.if-height-eq1.false c.requires.remove in let f = c.find-found.result in let finds = c.find-found.ensures.found in let l = records c.remove_in-line.new.store in let x = c.remove_in-line.result in let rem = child m l c.args.height f.child f.rest x c.requires.node c.if-height-eq1.false c.remove_in-line.ensures.removes in
+    line-named m (suc g2) p k can f finds l x rem
 
 pub returns-in-Some-clause-removes : goal.returns-in-Some-clause-removes
 returns-in-Some-clause-removes g t c = let m = records c.args.store.now in let p = c.args.node in let k = c.args.k in let g2 = c.args.height - 2 in let can = above m c.args.height p k c.requires.node c.if-height-eq1.false c.requires.remove in let f = c.find-found.result in let finds = c.find-found.ensures.found in let l = records c.remove_in-line.new.store in let x = c.remove_in-line.result in let rem = child m l c.args.height f.child f.rest x c.requires.node c.if-height-eq1.false c.remove_in-line.ensures.removes in let n = records c.settle.new.store in let settles = subst (λ o. Settles l n p f.slot f.child o) c.in-Some.is c.settle.ensures.settles in
@@ -127,8 +156,8 @@ returns-in-Some-clause-removes g t c = let m = records c.args.store.now in let p
 
 pub returns-in-None-clause-removes : goal.returns-in-None-clause-removes
 returns-in-None-clause-removes g t c = let m = records c.args.store.now in let p = c.args.node in let k = c.args.k in let g2 = c.args.height - 2 in let can = above m c.args.height p k c.requires.node c.if-height-eq1.false c.requires.remove in let f = c.find-found.result in let finds = c.find-found.ensures.found in let l = records c.remove_in-line.new.store in let x = c.remove_in-line.result in let rem = child m l c.args.height f.child f.rest x c.requires.node c.if-height-eq1.false c.remove_in-line.ensures.removes in let n = records c.settle.new.store in let settles = subst (λ o. Settles l n p f.slot f.child o) c.in-None.is c.settle.ensures.settles in
-    back m (records c.refresh.new.store) c.args.height p k x c.requires.node c.if-height-eq1.false
-    (removes-ready m g2 p k can f finds l x rem n None settles (records c.refresh.new.store) c.refresh.ensures.records)
+    back m (records c.lessen.new.store) c.args.height p k x c.requires.node c.if-height-eq1.false
+    (removes-ready m g2 p k can f finds l x rem n None settles (records c.lessen.new.store) (c.lessen.ensures.records ∙ ap (λ z. resummed z p (row (kids n p))) (sym (kept-whole n p (has-ready m g2 p k can f finds l x rem n None settles) (links-ready m g2 p k can f finds l x rem n None settles)))))
 
 pub returns-then-height-eq1-clause-clean : goal.returns-then-height-eq1-clause-clean
 returns-then-height-eq1-clause-clean g t c = let m = records c.args.store.now in let n = records c.drop_child.new.store in
@@ -143,8 +172,8 @@ returns-in-Some-clause-clean g t c = let m = records c.args.store.now in let p =
 
 pub returns-in-None-clause-clean : goal.returns-in-None-clause-clean
 returns-in-None-clause-clean g t c = let m = records c.args.store.now in let p = c.args.node in let k = c.args.k in let g2 = c.args.height - 2 in let can = above m c.args.height p k c.requires.node c.if-height-eq1.false c.requires.remove in let f = c.find-found.result in let finds = c.find-found.ensures.found in let l = records c.remove_in-line.new.store in let x = c.remove_in-line.result in let rem = child m l c.args.height f.child f.rest x c.requires.node c.if-height-eq1.false c.remove_in-line.ensures.removes in let n = records c.settle.new.store in let settles = subst (λ o. Settles l n p f.slot f.child o) c.in-None.is c.settle.ensures.settles in let clean = clean-child m l c.args.height f.child x c.requires.node c.if-height-eq1.false c.remove_in-line.ensures.clean in
-    clean-back m (records c.refresh.new.store) c.args.height p x c.requires.node c.if-height-eq1.false
-    (cleans-ready m g2 p k can f finds l x rem n None settles clean (records c.refresh.new.store) c.refresh.ensures.records refl)
+    clean-back m (records c.lessen.new.store) c.args.height p x c.requires.node c.if-height-eq1.false
+    (cleans-ready m g2 p k can f finds l x rem n None settles clean (records c.lessen.new.store) (c.lessen.ensures.records ∙ ap (λ z. resummed z p (row (kids n p))) (sym (kept-whole n p (has-ready m g2 p k can f finds l x rem n None settles) (links-ready m g2 p k can f finds l x rem n None settles)))) refl)
 
 pub returns-then-height-eq1-clause-count : goal.returns-then-height-eq1-clause-count
 returns-then-height-eq1-clause-count g t c = let m = records c.args.store.now in
@@ -163,8 +192,8 @@ returns-in-Some-clause-count g t c = let m = records c.args.store.now in let p =
 pub returns-in-None-clause-count : goal.returns-in-None-clause-count
 returns-in-None-clause-count g t c = let l = records c.remove_in-line.new.store in let n = records c.settle.new.store in
     let a = len-settles l n c.args.node c.find-found.result.slot c.find-found.result.child c.settle.result c.settle.ensures.settles in
-    let d = ap finite.len c.refresh.ensures.records ∙ len-refilled n c.args.node (row (kids n c.args.node)) in
-    let s1 = c.remove_in-line.ensures.count in let s2 = c.settle.ensures.spares in let s3 = c.refresh.ensures.spares in omega arith
+    let d = ap finite.len c.lessen.ensures.records ∙ len-resummed n c.args.node (row (kids n c.args.node)) in
+    let s1 = c.remove_in-line.ensures.count in let s2 = c.settle.ensures.spares in let s3 = c.lessen.ensures.spares in omega arith
 
 pub returns-then-height-eq1-clause-rooms : goal.returns-then-height-eq1-clause-rooms
 returns-then-height-eq1-clause-rooms g t c = let s = c.drop_child.ensures.spares in let r = c.drop_child.ensures.rooms in omega arith
@@ -180,4 +209,4 @@ returns-in-Some-clause-rooms g t c = let m = records c.args.store.now in let p =
 
 pub returns-in-None-clause-rooms : goal.returns-in-None-clause-rooms
 returns-in-None-clause-rooms g t c =
-    let r1 = c.remove_in-line.ensures.rooms in let r2 = c.settle.ensures.rooms in let r3 = c.refresh.ensures.rooms in let s2 = c.settle.ensures.spares in let s3 = c.refresh.ensures.spares in omega arith
+    let r1 = c.remove_in-line.ensures.rooms in let r2 = c.settle.ensures.rooms in let r3 = c.lessen.ensures.rooms in let s2 = c.settle.ensures.spares in let s3 = c.lessen.ensures.spares in omega arith

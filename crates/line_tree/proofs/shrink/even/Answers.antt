@@ -1,10 +1,12 @@
-use Rattle.std.proofs.Common.{◌≡◌, ◌+◌, ◌-◌, ◌/◌, ◌≤◌, ◌++◌, ℕ, List, length, take, drop, refl, sym, ap, subst, ◌∙◌, arith, length-append, length-drop}
-use Rattle.std.proofs.lemmas.List.{take_all}
+use Rattle.std.proofs.Common.{◌≡◌, ◌+◌, ◌-◌, ◌/◌, ◌≤◌, ◌++◌, ℕ, List, Option, length, take, drop, refl, sym, ap, subst, ◌∙◌, arith, length-append, length-drop}
+use Rattle.std.proofs.lemmas.List.{take-append-le, take_all}
 use Rattle.raw_nodes.specs.Names.{records}
+use Rattle.raw_nodes.specs.Records.{Records}
 use Rattle.raw_nodes.specs.Rows.{kids, row}
 use Rattle.raw_nodes.specs.declared.names.NodePtr.{NodePtr}
-use Rattle.line_tree.specs.Changes.{CanFill, refilled}
+use Rattle.line_tree.specs.Changes.{CanFill, Stay, refilled}
 use Rattle.line_tree.proofs.EvenLaws.{fill-back, fill-front, fill-whole}
+use Rattle.line_tree.proofs.KeptLaws.{kept-front, take-short}
 use Rattle.line_tree.proofs.PutLaws.{count-row}
 use Rattle.line_tree.proofs.shrink.even.Goals as goal
 
@@ -14,36 +16,53 @@ whole all few = ap row (take_all 12 all few)
 rest : (all : List NodePtr) (half count : ℕ) → length all ≤ half + count → row (take count (drop half all)) ≡ row (drop half all)
 rest all half count few = let n = length-drop half all in let h : length (drop half all) ≤ count = omega arith in ap row (take_all count (drop half all) h)
 
+-- the children before a place are those of the node
+stays : (m : Records) (p : NodePtr) (n : ℕ) (all : List NodePtr) (os : List (Option NodePtr)) → os ≡ row all → Stay m p n (row all) → Stay m p n os
+stays m p n all os is kept = subst (Stay m p n) (sym is) kept
+
+front : (xs ys : List NodePtr) (n : ℕ) → n ≤ length xs → take n (xs ++ ys) ≡ take n xs
+front xs ys n within = take-append-le n xs ys within
+
 pub refill-requires : goal.refill-requires
 refill-requires g c = let m = records c.args.store.now in let a = c.args.left in let b = c.args.right in let all = kids m a ++ kids m b in let n = length-append (kids m a) (kids m b) in
-    let na = count-row m a c.children.result c.requires.left c.children.ensures in let nb = count-row m b c.children-2.result c.requires.right c.children-2.ensures in
+    let na = count-row m a c.children-first.result c.requires.left c.children-first.ensures in let nb = count-row m b c.children.result c.requires.right c.children.ensures in
     let few : length all ≤ 12 = omega (arith, c.if-count-le12.true) in
-    record { fill = (all, c.part_pair-all.ensures ∙ whole all few, fill-whole m a b c.requires few); from = omega arith; kept = refl }
+    record {
+      fill = (all, c.part_pair-all.ensures ∙ whole all few, fill-whole m a b c.requires few);
+      from = omega (arith, c.requires.left.few);
+      kept = stays m a c.children-first.result all c.part_pair-all.result (c.part_pair-all.ensures ∙ whole all few) (kept-front m a c.requires.left c.requires.links c.children-first.result all (omega arith) (front (kids m a) (kids m b) c.children-first.result (omega arith)));
+    }
 
 pub refill-requires-else-count-le12 : goal.refill-requires-else-count-le12
 refill-requires-else-count-le12 g c = let m = records c.args.store.now in let a = c.args.left in let b = c.args.right in let all = kids m a ++ kids m b in let n = length-append (kids m a) (kids m b) in
-    let na = count-row m a c.children.result c.requires.left c.children.ensures in let nb = count-row m b c.children-2.result c.requires.right c.children-2.ensures in
-    let half = (c.children.result + c.children-2.result) / 2 in let small : half ≤ 12 = omega (arith, c.requires.left.few, c.requires.right.few) in
-    record { fill = (take half all, c.part_pair-front.ensures, fill-front m a b c.requires half small); from = omega arith; kept = refl }
+    let na = count-row m a c.children-first.result c.requires.left c.children-first.ensures in let nb = count-row m b c.children.result c.requires.right c.children.ensures in
+    let half = (c.children-first.result + c.children.result) / 2 in let small : half ≤ 12 = omega (arith, c.requires.left.few, c.requires.right.few) in
+    record {
+      fill = (take half all, c.part_pair-front.ensures, fill-front m a b c.requires half small);
+      from = omega (arith, c.min.ensures);
+      kept = stays m a c.min.result (take half all) c.part_pair-front.result c.part_pair-front.ensures
+          (kept-front m a c.requires.left c.requires.links c.min.result (take half all) (omega (arith, c.min.ensures))
+          (take-short c.min.result half all (omega (arith, c.min.ensures)) ∙ front (kids m a) (kids m b) c.min.result (omega (arith, c.min.ensures))));
+    }
 
 pub refill-requires-else-count-le12-2 : goal.refill-requires-else-count-le12-2
 refill-requires-else-count-le12-2 g c = let m = records c.args.store.now in let a = c.args.left in let b = c.args.right in let all = kids m a ++ kids m b in let n = length-append (kids m a) (kids m b) in
-    let na = count-row m a c.children.result c.requires.left c.children.ensures in let nb = count-row m b c.children-2.result c.requires.right c.children-2.ensures in
-    let half = (c.children.result + c.children-2.result) / 2 in let count = (c.children.result + c.children-2.result) - half in
+    let na = count-row m a c.children-first.result c.requires.left c.children-first.ensures in let nb = count-row m b c.children.result c.requires.right c.children.ensures in
+    let half = (c.children-first.result + c.children.result) / 2 in let count = (c.children-first.result + c.children.result) - half in
     let few : length all ≤ half + 12 = omega (arith, c.requires.left.few, c.requires.right.few) in let end : length all ≤ half + count = omega arith in
     let now = c.refill-else-count-le12.ensures.records ∙ ap (refilled m a) c.part_pair-front.ensures in
     record { fill = (drop half all, c.part_pair-back.ensures ∙ rest all half count end, subst (λ x. CanFill x b (drop half all)) (sym now) (fill-back m a b c.requires half few)); from = omega arith; kept = refl }
 
 pub returns-then-count-le12-clause-evens : goal.returns-then-count-le12-clause-evens
 returns-then-count-le12-clause-evens g c = let m = records c.args.store.now in let a = c.args.left in let b = c.args.right in let all = kids m a ++ kids m b in let n = length-append (kids m a) (kids m b) in
-    let na = count-row m a c.children.result c.requires.left c.children.ensures in let nb = count-row m b c.children-2.result c.requires.right c.children-2.ensures in
+    let na = count-row m a c.children-first.result c.requires.left c.children-first.ensures in let nb = count-row m b c.children.result c.requires.right c.children.ensures in
     let few : length all ≤ 12 = omega (arith, c.if-count-le12.true) in
     record { few = few; same = c.refill.ensures.records ∙ ap (refilled m a) (c.part_pair-all.ensures ∙ whole all few) }
 
 pub returns-else-count-le12-clause-evens : goal.returns-else-count-le12-clause-evens
 returns-else-count-le12-clause-evens g c = let m = records c.args.store.now in let a = c.args.left in let b = c.args.right in let all = kids m a ++ kids m b in let n = length-append (kids m a) (kids m b) in
-    let na = count-row m a c.children.result c.requires.left c.children.ensures in let nb = count-row m b c.children-2.result c.requires.right c.children-2.ensures in
-    let half = (c.children.result + c.children-2.result) / 2 in let count = (c.children.result + c.children-2.result) - half in
+    let na = count-row m a c.children-first.result c.requires.left c.children-first.ensures in let nb = count-row m b c.children.result c.requires.right c.children.ensures in
+    let half = (c.children-first.result + c.children.result) / 2 in let count = (c.children-first.result + c.children.result) - half in
     let end : length all ≤ half + count = omega arith in
     record {
       half = half;

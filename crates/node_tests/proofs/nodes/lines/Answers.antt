@@ -6,3 +6,9 @@ line-requires g c = named-made _ _ _ _ c.make-name.ensures.records
 
 pub give_back-given-requires : goal.give_back-given-requires
 give_back-given-requires g c = named-made _ _ _ _ c.make-name.ensures.records
+
+pub lines-requires : goal.lines-requires
+lines-requires g c = named-made _ _ _ _ c.make-name.ensures.records
+
+pub size-requires : goal.size-requires
+size-requires g c = named-made _ _ _ _ c.make-name.ensures.records

@@ -1,0 +1,14 @@
+use Rattle.std.proofs.Common.{◌≡◌, ◌-◌, ◌≤◌, vec_len}
+use Rattle.line_tree.specs.MarkTable.{IsTable, lines_without}
+use Rattle.line_tree.proofs.mark_names.forget.Given as goal
+
+abbrev pub invariant-loop-index : goal.invariant-loop-index
+invariant-loop-index l = record {
+  above : l.from ≤ l.at;
+  below : l.at ≤ l.to;
+  table : IsTable l.names.items (lines_without l.from l.at l.tree.lines);
+  len : vec_len l.names ≡ vec_len l.initial.names;
+}
+
+abbrev pub decreases-loop-index : goal.decreases-loop-index
+decreases-loop-index l = l.to - l.at

@@ -1,0 +1,108 @@
+ghost use Rattle.std.specs.Prelude.{◌≡◌, length};
+ghost use Rattle.line_lists.specs.Lists.{AreLines};
+ghost use Rattle.line_lists.specs.RowLaws.{AreLines-prop};
+ghost use Rattle.line_tree.specs.MarkTable.{IsTable, IsTable-prop};
+ghost use Rattle.line_tree.specs.Room.{line_room};
+ghost use Rattle.line_tree.specs.Trees.{contents};
+
+use crate::mark_names::{forget, grow, name_of, note};
+use crate::tree::LineTree;
+use line_lists::LineList;
+use raw_nodes::{NodePtr, Steps};
+use segments::Line;
+use std::alloc::{AllocError, Global};
+use text_model::{MarkNo, TagSlot, WORDS};
+use toggle_sums::Sums;
+
+/// The lines of a text as a balanced tree, and for each mark the name of its line.
+#[derive(Drop)]
+pub struct TreeLines {
+    tree: LineTree<Steps>,
+    /// By the number of a mark.
+    names: Vec<Option<NodePtr>>,
+    ghost are_lines: { AreLines (contents tree.lines) } by { AreLines-prop (contents tree.lines) },
+    ghost table: { IsTable names.items tree.lines } by { IsTable-prop names.items tree.lines },
+}
+
+impl TreeLines {
+    /// The tree, lent.
+    pub fn tree(&self) -> &LineTree<Steps>
+        ensures lines { contents result.now.lines ≡ contents self.now.tree.lines }
+        ensures are { AreLines (contents result.now.lines) }
+    {
+        &self.tree
+    }
+}
+
+impl LineList for TreeLines {
+    ghost lines = { λ list. contents list.tree.lines };
+
+    ghost line_room = { λ list. line_room list.tree };
+
+    ghost mark_room = { λ list. length list.names.items };
+
+    ghost are_lines = { λ list. list.are_lines };
+
+    fn new(alloc: Global) -> Result<TreeLines, AllocError> {
+        Ok(TreeLines {
+            tree: LineTree::new(alloc)?,
+            names: Vec::new(alloc),
+        })
+    }
+
+    fn len(&self) -> usize {
+        self.tree.len()
+    }
+
+    fn line(&self, index: usize) -> &Line {
+        self.tree.line(self.tree.select(index, &mut Steps::new()))
+    }
+
+    fn locate(&self, offset: usize) -> (usize, usize) {
+        self.tree.locate(offset, &mut Steps::new())
+    }
+
+    fn prefix(&self, count: usize) -> Sums<WORDS> {
+        self.tree.prefix(count, &mut Steps::new())
+    }
+
+    fn next_with(&self, slot: TagSlot, from: usize) -> Option<usize> {
+        self.tree.next_with(slot, from, &mut Steps::new())
+    }
+
+    fn previous_with(&self, slot: TagSlot, to: usize) -> Option<usize> {
+        self.tree.previous_with(slot, to, &mut Steps::new())
+    }
+
+    fn next_marked(&self, from: usize) -> Option<usize> {
+        self.tree.next_marked(from, &mut Steps::new())
+    }
+
+    fn previous_marked(&self, to: usize) -> Option<usize> {
+        self.tree.previous_marked(to, &mut Steps::new())
+    }
+
+    fn mark_line(&self, number: MarkNo) -> Option<usize> {
+        let name = name_of(&self.names, number)?;
+        Some(self.tree.rank(name, &mut Steps::new()))
+    }
+
+    fn reserve(&mut self, count: usize, numbers: usize) -> Result<(), AllocError> {
+        self.tree.reserve_for(count)?;
+        grow(&mut self.names, numbers)
+    }
+
+    fn take_mark(&mut self, number: MarkNo) {
+        if let Some(line) = self.mark_line(number) {
+            self.tree.take_mark(line, number, &mut Steps::new());
+            self.names[number.0 as usize] = None;
+        }
+    }
+
+    fn splice(&mut self, from: usize, count: usize, new: Vec<Line>) {
+        let end = from + new.len();
+        forget(&self.tree, &mut self.names, from, from + count);
+        self.tree.splice(from, count, new, &mut Steps::new());
+        note(&self.tree, &mut self.names, from, end);
+    }
+}

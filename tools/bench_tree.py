@@ -1,0 +1,128 @@
+#!/usr/bin/env python3
+"""Times lines that are put into the tree of lines, taken out, and found, and weighs them.
+
+    python3 tools/bench_tree.py --program PATH --out FILE [--repeat 3]
+
+PATH is the program `tree_bench`. Prints a table and writes it to FILE. Each time is the processor's, the least of
+several runs, less that of a run that does the same without what is timed. The exit status is 1 if an aim is missed, if
+the tree isn't as a plain list says after random edits, or if it can't be dropped on a small stack.
+"""
+
+import argparse
+import os
+import resource
+import subprocess
+import sys
+
+COUNTS = (10_000, 100_000, 1_000_000)
+LENGTH = 40
+MOST_SECONDS = 2.0
+MOST_GROWTH = 1.5
+MOST_BYTES = 200
+SPLICES = 10_000
+STACK = 64 * 1024
+
+# What is timed, the run that it is part of, the run that is taken off, and how often the work is done in a run.
+WORKS = (
+    ("put in, in one call", "fill", "lines", 1),
+    ("put in one by one, anywhere", "insert", "lines", 1),
+    ("taken out one by one, anywhere", "remove", "fill", 1),
+    ("found by number, one after the other", "walk", "fill", 10),
+)
+
+# Which lines stand in memory at most.
+WEIGHTS = (
+    ("the tree, put in a thousand in a call", "load", True),
+    ("the tree, put in one by one, anywhere", "insert", True),
+    ("the tree and the lines of the one call", "fill", False),
+)
+
+
+def small_stack():
+    """Lets what runs next have a stack of 64 KiB."""
+    resource.setrlimit(resource.RLIMIT_STACK, (STACK, STACK))
+
+
+def run_once(program, work, count, before=None):
+    """The seconds of processor and the bytes that one run takes, and what it prints: two numbers."""
+    process = subprocess.Popen([program, work, str(count), str(LENGTH)], stdout=subprocess.PIPE, env={}, preexec_fn=before)
+    output = process.stdout.read()
+    _, status, usage = os.wait4(process.pid, 0)
+    process.returncode = os.waitstatus_to_exitcode(status)
+    if process.returncode != 0:
+        sys.exit(f"{work} of {count} lines ends with status {process.returncode}")
+    lines, done = map(int, output.split())
+    return usage.ru_utime + usage.ru_stime, usage.ru_maxrss * 1024, lines, done
+
+
+def seconds(options, work, count):
+    """The least seconds of several runs, which have to leave as many lines as they should."""
+    runs = [run_once(options.program, work, count) for _ in range(options.repeat)]
+    left = {"lines": count, "remove": 1}.get(work, count + 1)
+    if any(run[2] != left for run in runs):
+        sys.exit(f"{work} of {count} lines leaves {runs[0][2]}: this isn't timed")
+    return min(run[0] for run in runs)
+
+
+def times(options):
+    """The table of times, and whether each aim is met."""
+    least = {(work, count): seconds(options, work, count) for work in ("lines", "fill", "insert", "remove", "walk") for count in COUNTS}
+    head = "".join(f"{count:>12,}" for count in COUNTS)
+    lines = [f"{'nanoseconds a line, of so many':<42}{head}{'growth':>10}{'seconds':>10}"]
+    aims = []
+    for name, work, idle, times_done in WORKS:
+        each = [(least[work, count] - least[idle, count]) / times_done / count * 1e9 for count in COUNTS]
+        if min(each) <= 0:
+            sys.exit(f"{name}: less than nothing, so the machine isn't quiet enough")
+        growth = each[-1] / each[0]
+        total = each[-1] * COUNTS[-1] / 1e9
+        lines.append(f"{name:<42}" + "".join(f"{took:>12.0f}" for took in each) + f"{growth:>10.2f}{total:>10.2f}")
+        aims.append((growth <= MOST_GROWTH, f"{name}: a growth of at most {MOST_GROWTH}"))
+        aims.append((total <= MOST_SECONDS, f"{name}: at most {MOST_SECONDS:.0f} s for the most lines"))
+    return lines, aims
+
+
+def weights(options):
+    """The table of memory, and whether each aim is met."""
+    count = COUNTS[-1]
+    lines = [f"{f'bytes a line, of {count:,} of {LENGTH} characters':<52}{'bytes':>10}"]
+    aims = []
+    for name, work, is_aim in WEIGHTS:
+        idle, full = run_once(options.program, work, 0)[1], run_once(options.program, work, count)[1]
+        each = (full - idle) / count
+        lines.append(f"{name:<52}{each:>10.0f}")
+        if is_aim:
+            aims.append((each <= MOST_BYTES, f"{name}: at most {MOST_BYTES} bytes a line"))
+    return lines, aims
+
+
+def checks(options):
+    """What is looked at besides."""
+    differences = run_once(options.program, "mixed", SPLICES)[3]
+    _, _, left, _ = run_once(options.program, "fill", COUNTS[-1], small_stack)
+    return [
+        (differences == 0, f"{SPLICES:,} random splices, with {differences} differences from a plain list"),
+        (left == COUNTS[-1] + 1, f"{left:,} lines are dropped on a stack of {STACK // 1024} KiB"),
+    ]
+
+
+def main():
+    parser = argparse.ArgumentParser(description="times and weighs the tree of lines")
+    parser.add_argument("--program", required=True)
+    parser.add_argument("--out", required=True)
+    parser.add_argument("--repeat", type=int, default=3)
+    options = parser.parse_args()
+    took, time_aims = times(options)
+    weigh, weight_aims = weights(options)
+    aims = time_aims + weight_aims + checks(options)
+    lines = [f"What is done with lines of {LENGTH} characters in the tree of lines.", ""] + took + [""] + weigh + [""]
+    lines += [("met     " if is_met else "MISSED  ") + words for is_met, words in aims]
+    text = "".join(line + "\n" for line in lines)
+    print(text, end="")
+    with open(options.out, "w", encoding="utf-8") as file:
+        file.write(text)
+    return 0 if all(is_met for is_met, _ in aims) else 1
+
+
+if __name__ == "__main__":
+    sys.exit(main())
