@@ -62,10 +62,6 @@ pub freed-count_marks : (numbers : List ℕ) (lines : List LineContent) → (cou
 freed-count_marks [] lines = omega arith
 freed-count_marks (number ∷ numbers) lines = omega (arith, freed-count_marks numbers (map (without_mark number) lines), marks-without number lines)
 
-pub freed-append : (first second : List ℕ) (lines : List LineContent) → freed (first ++ second) lines ≡ freed second (freed first lines)
-freed-append [] second lines = refl
-freed-append (number ∷ first) second lines = freed-append first second (map (without_mark number) lines)
-
 -- ---- a number that is among those that go
 abbrev pub Names : ℕ → List ℕ → Type 0
 Names number [] = ⊥

@@ -1,12 +1,15 @@
 -- Copies that become pieces, one by one.
-use Rattle.std.proofs.Common.{◌≡◌, ℕ, ◌+◌, ◌-◌, ◌<◌, ◌≤◌, List, [], ◌∷◌, ◌++◌, Option, None, Some, length, get_or, map, take, drop, refl, sym, ap, ap₂, subst, subst₂, ◌∙◌, arith, append_assoc, length-append}
+use Rattle.std.proofs.Common.{◌≡◌, ℕ, ◌+◌, ◌-◌, ◌<◌, ◌≤◌, Bool, true, false, cond, List, [], ◌∷◌, ◌++◌, Option, None, Some, length, get_or, map, take, drop, refl, sym, ap, ap₂, subst, subst₂, ◌∙◌, arith, append_assoc, length-append}
+use Rattle.std.specs.Cmp.{nat_cmp_total}
 use Rattle.std.specs.FinMap as finite
 use Rattle.std.specs.List.{All}
-use Rattle.std.proofs.lemmas.List.{append-nil, map-append, take_more}
+use Rattle.std.specs.Ordering.{eq_by_cmp, nat_cmp}
+use Rattle.std.proofs.lemmas.List.{append-nil, at_drop_more, map-append, take_more}
 use Rattle.std.proofs.lemmas.List.Elements.{All-drop, All-push, All-take, All-weaker}
 use Rattle.std.proofs.Math.Seq.{drop-append_seam, take-append_seam}
 use Rattle.text_model.specs.declared.places.MarkNo.{MarkNo}
 use Rattle.text_model.specs.declared.places.Place.{Place}
+use Rattle.text_model.proofs.PlaceLaws.{same_marks}
 use Rattle.toggle_sums.specs.CountLaws.{plus-associative, plus-no_text}
 use Rattle.toggle_sums.specs.Counts.{Count, plus}
 use Rattle.segments.specs.Columns.{LineContent, line_count}
@@ -20,7 +23,7 @@ use Rattle.line_lists.specs.Pieces.{CanPlace, Covers, copied_lines, freed, named
 use Rattle.line_lists.specs.Texts.{whole}
 use Rattle.line_lists.proofs.CountRows.{count-append}
 use Rattle.line_lists.proofs.DraftLaws.{copies-snoc, made-snoc, used-append}
-use Rattle.line_lists.proofs.FreedLaws.{freed-apart, freed-append, freed-count_characters, freed-count_lines, freed-count_marks, freed-drafted, freed-length, freed-lines, in_names}
+use Rattle.line_lists.proofs.FreedLaws.{freed-apart, freed-count_characters, freed-count_lines, freed-count_marks, freed-drafted, freed-length, freed-lines, in_names}
 use Rattle.line_lists.proofs.PieceLaws.{covers-all, covers-more, covers-new, covers-none}
 
 pub no_items : {A : Type 0} (xs : List A) → length xs ≡ 0 → xs ≡ []
@@ -35,10 +38,37 @@ none_popped {A = A} (x ∷ xs) n popped long none is = let no : ◌≡◌ {A = O
 named-more : (numbers : List MarkNo) (i : ℕ) (number : MarkNo) → i < length numbers → named (take (i + 1) numbers) ≡ named (take i numbers) ++ (get_or numbers i number).0 ∷ []
 named-more numbers i number within = ap named (take_more numbers i number within) ∙ map-append (λ (n : MarkNo). n.0) (take i numbers) (get_or numbers i number ∷ [])
 
-pub freed-more : (numbers : List MarkNo) (i : ℕ) (number : MarkNo) (lines : List LineContent) → i < length numbers
-    → map (without_mark (get_or numbers i number).0) (freed (named (take i numbers)) lines) ≡ freed (named (take (i + 1) numbers)) lines
-freed-more numbers i number lines within =
-    sym (ap (λ ns. freed ns lines) (named-more numbers i number within) ∙ freed-append (named (take i numbers)) ((get_or numbers i number).0 ∷ []) lines)
+-- the marks of two numbers go in either order
+without_both : (one other : Bool) (found : Option Place) → cond one None (cond other None found) ≡ cond other None (cond one None found)
+without_both true true found = refl
+without_both true false found = refl
+without_both false other found = refl
+
+turned-line : (n m : ℕ) (line : LineContent) → without_mark m (without_mark n line) ≡ without_mark n (without_mark m line)
+turned-line n m line =
+    let marks = same_marks (finite.remove (finite.remove line.marks n) m) (finite.remove (finite.remove line.marks m) n) (λ q.
+    let one = eq_by_cmp nat_cmp q m in
+    let other = eq_by_cmp nat_cmp q n in
+    finite.get-remove nat_cmp_total (finite.remove line.marks n) m q ∙ ap (cond one None) (finite.get-remove nat_cmp_total line.marks n q)
+    ∙ without_both one other (finite.get line.marks q)
+    ∙ sym (finite.get-remove nat_cmp_total (finite.remove line.marks m) n q ∙ ap (cond other None) (finite.get-remove nat_cmp_total line.marks m q))) in
+    λ i. record { columns = line.columns; marks = marks i }
+
+turned-lines : (n m : ℕ) (lines : List LineContent) → map (without_mark m) (map (without_mark n) lines) ≡ map (without_mark n) (map (without_mark m) lines)
+turned-lines n m [] = refl
+turned-lines n m (line ∷ lines) = ap₂ (λ x xs. x ∷ xs) (turned-line n m line) (turned-lines n m lines)
+
+freed-first : (number : ℕ) (numbers : List ℕ) (lines : List LineContent) → freed numbers (map (without_mark number) lines) ≡ map (without_mark number) (freed numbers lines)
+freed-first number [] lines = refl
+freed-first number (first ∷ numbers) lines = ap (freed numbers) (turned-lines number first lines) ∙ freed-first number numbers (map (without_mark first) lines)
+
+pub freed-before : (numbers : List MarkNo) (i : ℕ) (number : MarkNo) (lines : List LineContent) → 0 < i → i ≤ length numbers
+    → map (without_mark (get_or numbers (i - 1) number).0) (freed (named (drop i numbers)) lines) ≡ freed (named (drop (i - 1) numbers)) lines
+freed-before numbers i number lines some within =
+    let first = (get_or numbers (i - 1) number).0 in
+    let here : i ≡ (i - 1) + 1 = omega (arith, some) in
+    ap (λ n. map (without_mark first) (freed (named (drop n numbers)) lines)) here
+    ∙ sym (at_drop_more (λ ns. freed (named ns) lines) numbers (i - 1) number (omega (arith, some, within)) ∙ freed-first first (named (drop ((i - 1) + 1) numbers)) lines)
 
 pub bound-more : (numbers : List MarkNo) (i bound new : ℕ) (number : MarkNo) → i < length numbers → bound ≤ new → (get_or numbers i number).0 < new
     → All (λ n. n < bound) (named (take i numbers)) → All (λ n. n < new) (named (take (i + 1) numbers))

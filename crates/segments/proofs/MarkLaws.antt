@@ -9,6 +9,7 @@ use Rattle.std.specs.FinMap as finite
 use Rattle.std.specs.FinMap.{find, is_sorted, nat_cmp-IsAntisymmetric, put}
 use Rattle.std.specs.FinMap.Entries.{below_all, by_order, find-where_key, is_sorted-put, is_sorted-where_key, where_key}
 use Rattle.std.specs.List.{All, insert, remove}
+use Rattle.std.specs.List.Sorted.{IsNonDecreasingBy}
 use Rattle.std.specs.Ordering.{eq_by_cmp, is_eq, is_lt, nat_cmp}
 use Rattle.std.specs.declared.cmp.Ordering.TheVariants.{Less, Equal, Greater}
 use Rattle.std.specs.Prelude.{◌==◌, option_map, slice_get}
@@ -66,6 +67,32 @@ first_part false rest both = absurd both
 second_part : (first rest : Bool) → T (first && rest) → T rest
 second_part true rest both = both
 second_part false rest both = absurd both
+
+-- ---- how many have a lower number
+behind_low : (low : ℕ) (marks : List Mark) → T (below_all nat_cmp low (entries_of marks)) → (j : ℕ) (d : Mark) → j < length marks → low < (get_or marks j d).number.0
+behind_low low [] all j d within = absurd (omega arith)
+behind_low low (m ∷ marks) all zero d within = rising low m.number.0 (first_part _ _ all)
+behind_low low (m ∷ marks) all (suc j) d within = behind_low low marks (second_part _ _ all) j d (omega arith)
+
+pub numbers_rise : (marks : List Mark) → Rise marks → IsNonDecreasingBy (λ (m : Mark). m.number.0) marks
+numbers_rise [] rise i j d order within = absurd (omega arith)
+numbers_rise (m ∷ marks) rise zero zero d order within = omega arith
+numbers_rise (m ∷ marks) rise zero (suc j) d order within = omega (arith, behind_low m.number.0 marks (first_part _ _ rise) j d (omega arith))
+numbers_rise (m ∷ marks) rise (suc i) zero d order within = absurd (omega (arith, order))
+numbers_rise (m ∷ marks) rise (suc i) (suc j) d order within = numbers_rise marks (second_part _ _ rise) i j d (omega (arith, order)) (omega arith)
+
+pub all_below : (marks : List Mark) (i number : ℕ) → i ≤ length marks → ((k : ℕ) (d : Mark) → k < i → (get_or marks k d).number.0 < number) → All (Below number) (take i marks)
+all_below marks zero number within below = All-nil (Below number)
+all_below [] (suc i) number within below = absurd (omega arith)
+all_below (m ∷ marks) (suc i) number within below =
+    All-cons (Below number) m (take i marks) (below 0 m (omega arith)) (all_below marks i number (omega arith) (λ k d less. below (suc k) d (omega (arith, less))))
+
+pub next_above : (marks : List Mark) (i number : ℕ) → ((k : ℕ) (d : Mark) → i ≤ k → k < length marks → number ≤ (get_or marks k d).number.0)
+    → All (λ (m : Mark). number ≤ m.number.0) (take 1 (drop i marks))
+next_above [] zero number above = All-nil (λ (m : Mark). number ≤ m.number.0)
+next_above [] (suc i) number above = All-nil (λ (m : Mark). number ≤ m.number.0)
+next_above (m ∷ marks) zero number above = All-cons (λ (m : Mark). number ≤ m.number.0) m [] (above 0 m (omega arith) (omega arith)) (All-nil (λ (m : Mark). number ≤ m.number.0))
+next_above (m ∷ marks) (suc i) number above = next_above marks i number (λ k d order within. above (suc k) d (omega (arith, order)) (omega (arith, within)))
 
 -- the mark behind those with a lower number has a higher one, where it hasn't this number
 pub above_other : (marks : List Mark) (k number : ℕ) (mark : Mark) → mark ≡ get_or marks k mark → mark.number.0 ≢ number → All (λ (m : Mark). number ≤ m.number.0) (take 1 (drop k marks))
@@ -196,6 +223,31 @@ none_behind q low [] few all = refl
 none_behind q low (e ∷ es) few all =
     let behind : low < e.0 = rising low e.0 (first_part _ _ all) in
     ap (λ b. cond b (Some e.1) (find nat_cmp q es)) (apart q e.0 (λ same. omega (arith, same))) ∙ none_behind q low es few (second_part _ _ all)
+
+-- the place of a mark with the number, behind those with a lower number
+pub find_here : (marks : List Mark) (k : ℕ) (mark : Mark) (number : ℕ) → k < length marks → All (Below number) (take k marks) → mark ≡ get_or marks k mark → mark.number.0 ≡ number
+    → find nat_cmp number (entries_of marks) ≡ Some mark.place
+find_here [] k mark number within below is same = absurd (omega arith)
+find_here (m ∷ marks) zero mark number within below is same =
+    ap (λ b. cond b (Some m.place) (find nat_cmp number (entries_of marks))) (tied number m.number.0 (sym same ∙ ap (λ (x : Mark). x.number.0) is))
+    ∙ ap (λ (x : Mark). Some x.place) (sym is)
+find_here (m ∷ marks) (suc k) mark number within below is same =
+    let lower = All-head (Below number) m (take k marks) below in
+    ap (λ b. cond b (Some m.place) (find nat_cmp number (entries_of marks))) (apart number m.number.0 (λ here. omega (arith, here, lower)))
+    ∙ find_here marks k mark number (omega arith) (All-tail (Below number) m (take k marks) below) is same
+
+pub find_none : (marks : List Mark) (k number : ℕ) → Rise marks → All (Below number) (take k marks) → All (λ (m : Mark). number < m.number.0) (take 1 (drop k marks))
+    → find nat_cmp number (entries_of marks) ≡ None
+find_none [] k number rise below above = refl
+find_none (m ∷ marks) zero number rise below above =
+    let higher = All-head (λ (m : Mark). number < m.number.0) m [] above in
+    let low : number ≤ m.number.0 = omega (arith, higher) in
+    ap (λ b. cond b (Some m.place) (find nat_cmp number (entries_of marks))) (apart number m.number.0 (λ here. omega (arith, here, higher)))
+    ∙ none_behind number m.number.0 (entries_of marks) low (first_part _ _ rise)
+find_none (m ∷ marks) (suc k) number rise below above =
+    let lower = All-head (Below number) m (take k marks) below in
+    ap (λ b. cond b (Some m.place) (find nat_cmp number (entries_of marks))) (apart number m.number.0 (λ here. omega (arith, here, lower)))
+    ∙ find_none marks k number (second_part _ _ rise) (All-tail (Below number) m (take k marks) below) above
 
 put_one : (tie : Bool) (place : Place) (len : ℕ) (found old : Option Place) → (tie ≡ true → found ≡ None)
     → or_else (option_map (later len) found) (cond tie (Some (later len place)) old) ≡ or_else (option_map (later len) (cond tie (Some place) found)) old

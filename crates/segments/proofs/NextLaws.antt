@@ -7,14 +7,12 @@ use Rattle.std.proofs.lemmas.List.Sums.{suffix_len-take_no, suffix_len-take_yes}
 use Rattle.std.specs.FinSet as finset
 use Rattle.std.specs.List.{position, prefix_len}
 use Rattle.std.specs.Ordering.{nat_cmp}
-use Rattle.text_model.specs.SlotSets.{differing}
-use Rattle.toggle_sums.specs.CountLaws.{differing-empty}
 use Rattle.segments.specs.declared.toggles.Toggled.{Toggled}
 use Rattle.segments.specs.Columns.{Column, free_behind, next_toggle, previous_toggle}
 use Rattle.segments.specs.Entries.{LieIn, later_of, next_entry, previous_entry, toggled_at}
 use Rattle.segments.specs.Kept.{columns_from}
 use Rattle.segments.proofs.ColumnLaws.{drop-columns, length-columns}
-use Rattle.segments.proofs.EntryLaws.{met, none_before, own_slots, passed}
+use Rattle.segments.proofs.EntryLaws.{none_before, own_slots, passed}
 use Rattle.segments.proofs.PreviousLaws.{behind_none, own}
 
 none_has : (slot from to at : ℕ) (entries : List Toggled) → LieIn from to entries → at < from → finset.contains (toggled_at entries at) slot ≡ false

@@ -20,16 +20,12 @@ pub struct Mark {
 
 /// How many of the marks have a lower number.
 pub fn count_below(marks: &[Mark], number: MarkNo) -> usize
+    requires { Rise marks.now }
     ensures bound { result ≤ length marks.now }
     ensures below { All (Below number.0) (take result marks.now) }
     ensures above { All (λ (mark : Mark). number.0 ≤ mark.number.0) (take 1 (drop result marks.now)) }
 {
-    for (count, mark) in marks.iter().enumerate() {
-        if number.0 <= mark.number.0 {
-            return count;
-        }
-    }
-    marks.len()
+    marks.partition_point(|mark| mark.number.0 < number.0)
 }
 
 /// Where the mark of a number stands.
@@ -37,10 +33,9 @@ pub fn find_mark(marks: &[Mark], number: MarkNo) -> Option<Place>
     requires { Rise marks.now }
     ensures { result ≡ finite.get (marks_of marks.now) number.0 }
 {
-    for mark in marks {
-        if mark.number.0 == number.0 {
-            return Some(mark.place);
-        }
+    let index = count_below(marks, number);
+    if index < marks.len() && marks[index].number.0 == number.0 {
+        return Some(marks[index].place);
     }
     None
 }
