@@ -1,8 +1,8 @@
 -- The marks of a line by their numbers.
-use Rattle.std.proofs.Common.{◌≡◌, ◌≢◌, ℕ, zero, suc, ◌+◌, ◌<◌, ◌≤◌, Bool, true, false, cond, ◌&&◌, not, T, List, [], ◌∷◌, ◌++◌, Option, None, Some, length, get_or, set, take, drop, refl, sym, ap, ap₂, subst, ◌∙◌, arith}
+use Rattle.std.proofs.Common.{◌≡◌, ◌≢◌, ℕ, zero, suc, ◌+◌, ◌<◌, ◌≤◌, Bool, true, false, cond, ◌&&◌, not, T, List, [], ◌∷◌, ◌++◌, Option, None, Some, length, get_or, set, take, drop, refl, sym, ap, ap₂, subst, subst₂, ◌∙◌, append_assoc, arith}
 use Rattle.std.proofs.lemmas.Bool.Decides.{nat_tests}
-use Rattle.std.proofs.lemmas.List.{at_drop_more, drop_all}
-use Rattle.std.proofs.lemmas.List.Elements.{All-cons, All-head, All-nil, All-tail}
+use Rattle.std.proofs.lemmas.List.{append-nil, drop_all, drop_more}
+use Rattle.std.proofs.lemmas.List.Elements.{All-cons, All-head, All-nil, All-push, All-tail, All-weaker}
 use Rattle.std.proofs.lemmas.Option.{slice_get-map}
 use Rattle.std.specs.Cmp.{eq_by_cmp_equiv, nat_cmp_is, nat_cmp_total, unsigned_tied}
 use Rattle.std.specs.FinMap as finite
@@ -12,7 +12,7 @@ use Rattle.std.specs.List.{All, insert, remove}
 use Rattle.std.specs.List.Sorted.{IsNonDecreasingBy}
 use Rattle.std.specs.Ordering.{eq_by_cmp, is_eq, is_lt, nat_cmp}
 use Rattle.std.specs.declared.cmp.Ordering.TheVariants.{Less, Equal, Greater}
-use Rattle.std.specs.Prelude.{◌==◌, option_map, slice_get}
+use Rattle.std.specs.Prelude.{◌==◌, ⊤, option_map, slice_get}
 use Rattle.text_model.specs.declared.places.Place.{Place}
 use Rattle.text_model.specs.Content.{Marks, map_marks}
 use Rattle.text_model.proofs.PlaceLaws.{get-map_marks, same_marks}
@@ -203,17 +203,6 @@ take_marks old new number rise is =
     ∙ ap (cond (eq_by_cmp nat_cmp q number) None) (sym (get-marks_of old q rise))
     ∙ sym (finite.get-remove nat_cmp_total (marks_of old) number q))
 
--- the marks, and then those of a list, each so many columns on
-abbrev pub put_all : List Mark → ℕ → Marks → Marks
-put_all [] len marks = marks
-put_all (mark ∷ rest) len marks = put_all rest len (finite.insert marks mark.number.0 (later len mark.place))
-
--- one mark on
-pub put_all_more : (list : List Mark) (i : ℕ) (mark : Mark) (len : ℕ) (old new : Marks) → i < length list
-    → new ≡ finite.insert old (get_or list i mark).number.0 (later len (get_or list i mark).place) → put_all (drop (i + 1) list) len new ≡ put_all (drop i list) len old
-put_all_more list i mark len old new within is =
-    ap (put_all (drop (i + 1) list) len) is ∙ sym (at_drop_more (λ rest. put_all rest len old) list i mark within)
-
 abbrev pub or_else : Option Place → Option Place → Option Place
 or_else None other = other
 or_else (Some place) other = Some place
@@ -249,21 +238,6 @@ find_none (m ∷ marks) (suc k) number rise below above =
     ap (λ b. cond b (Some m.place) (find nat_cmp number (entries_of marks))) (apart number m.number.0 (λ here. omega (arith, here, lower)))
     ∙ find_none marks k number (second_part _ _ rise) (All-tail (Below number) m (take k marks) below) above
 
-put_one : (tie : Bool) (place : Place) (len : ℕ) (found old : Option Place) → (tie ≡ true → found ≡ None)
-    → or_else (option_map (later len) found) (cond tie (Some (later len place)) old) ≡ or_else (option_map (later len) (cond tie (Some place) found)) old
-put_one true place len found old none = ap (λ found. or_else (option_map (later len) found) (Some (later len place))) (none refl)
-put_one false place len found old none = refl
-
-get-put_all : (list : List Mark) (len : ℕ) (marks : Marks) (q : ℕ) → Rise list
-    → finite.get (put_all list len marks) q ≡ or_else (option_map (later len) (find nat_cmp q (entries_of list))) (finite.get marks q)
-get-put_all [] len marks q rise = refl
-get-put_all (mark ∷ rest) len marks q rise =
-    let found = find nat_cmp q (entries_of rest) in
-    get-put_all rest len (finite.insert marks mark.number.0 (later len mark.place)) q (second_part _ _ rise)
-    ∙ ap (or_else (option_map (later len) found)) (finite.get-insert nat_cmp_total marks mark.number.0 (later len mark.place) q)
-    ∙ put_one (eq_by_cmp nat_cmp q mark.number.0) mark.place len found (finite.get marks q)
-    (λ tie. let few : q ≤ mark.number.0 = omega (arith, tied_same q mark.number.0 tie) in none_behind q mark.number.0 (entries_of rest) few (first_part _ _ rise))
-
 find_both : (q : ℕ) (es fs : List (ℕ × Place)) → find nat_cmp q (es ++ fs) ≡ or_else (find nat_cmp q es) (find nat_cmp q fs)
 find_both q [] fs = refl
 find_both q (e ∷ es) fs =
@@ -279,8 +253,203 @@ get-joined_marks len first second q =
     finite.get-from_entries nat_cmp_total (entries ++ finite.entries first) q ∙ find_both q entries (finite.entries first)
     ∙ ap₂ or_else (sym (finite.get-entries (map_marks (later len) second) q) ∙ get-map_marks (later len) second q) (sym (finite.get-entries first q))
 
-pub put_all-joined : (list : List Mark) (len : ℕ) (marks : Marks) → Rise list → put_all list len marks ≡ joined_marks len marks (marks_of list)
-put_all-joined list len marks rise =
+-- ---- the marks of two texts, in one pass
+-- marks before one that has a higher number
+push_put : (marks : List Mark) (mark : Mark) → All (Below mark.number.0) marks → entries_of (marks ++ mark ∷ []) ≡ put nat_cmp mark.number.0 mark.place (entries_of marks)
+push_put [] mark below = refl
+push_put (m ∷ marks) mark below =
+    ap (λ es. entry_of m ∷ es) (push_put marks mark (All-tail (Below mark.number.0) m marks below))
+    ∙ sym (ap (λ order. by_order order (entry_of mark ∷ entry_of m ∷ entries_of marks) ((m.number.0, mark.place) ∷ entries_of marks) (entry_of m ∷ put nat_cmp mark.number.0 mark.place (entries_of marks)))
+    (is_greater mark.number.0 m.number.0 (All-head (Below mark.number.0) m marks below)))
+
+-- each of some marks has a lower number than the first of others
+abbrev pub Before : List Mark → List Mark → Type 0
+Before marks [] = ⊤
+Before marks (mark ∷ others) = All (Below mark.number.0) marks
+
+abbrev place_in : List Mark → ℕ → Option Place
+place_in marks q = find nat_cmp q (entries_of marks)
+
+abbrev place_joined : ℕ → Option Place → Option Place → Option Place
+place_joined len second first = or_else (option_map (later len) second) first
+
+-- some marks, and those that are left of two texts
+pub record Merges (len : ℕ) (first second marks one two : List Mark) : Type 0 where
+  pub rise : Rise marks
+  pub rise_one : Rise one
+  pub rise_two : Rise two
+  pub before_one : Before marks one
+  pub before_two : Before marks two
+  pub found : (q : ℕ) → place_joined len (place_in two q) (or_else (place_in one q) (finite.get (marks_of marks) q)) ≡ place_joined len (place_in second q) (place_in first q)
+
+all_before : (marks : List Mark) (mark other : Mark) → All (Below mark.number.0) marks → mark.number.0 ≤ other.number.0 → All (Below other.number.0) marks
+all_before marks mark other below less = All-weaker (Below mark.number.0) (Below other.number.0) (λ m under. omega (arith, under, less)) marks below
+
+push_before : (marks others : List Mark) (mark : Mark) → All (Below mark.number.0) marks → Before (mark ∷ []) others → Before (marks ++ mark ∷ []) others
+push_before marks [] mark below before = tt
+push_before marks (other ∷ others) mark below before =
+    let less = All-head (Below other.number.0) mark [] before in
+    All-push (Below other.number.0) marks mark (all_before marks mark other below (omega (arith, less))) less
+
+still_before : (mark new : Mark) (others : List Mark) → mark.number.0 ≡ new.number.0 → Before (mark ∷ []) others → Before (new ∷ []) others
+still_before mark new [] same before = tt
+still_before mark new (other ∷ others) same before =
+    All-cons (Below other.number.0) new [] (subst (λ n. n < other.number.0) same (All-head (Below other.number.0) mark [] before)) (All-nil (Below other.number.0))
+
+next_before : (mark : Mark) (marks : List Mark) → Rise (mark ∷ marks) → Before (mark ∷ []) marks
+next_before mark [] rise = tt
+next_before mark (m ∷ marks) rise =
+    All-cons (Below m.number.0) mark [] (rising mark.number.0 m.number.0 (first_part _ _ (first_part _ _ rise))) (All-nil (Below m.number.0))
+
+get-push : (marks : List Mark) (mark : Mark) (q : ℕ) → Rise marks → All (Below mark.number.0) marks
+    → finite.get (marks_of (marks ++ mark ∷ [])) q ≡ cond (eq_by_cmp nat_cmp q mark.number.0) (Some mark.place) (finite.get (marks_of marks) q)
+get-push marks mark q rise below =
+    ap (λ all. finite.get all q) (put_marks marks (marks ++ mark ∷ []) mark.number.0 mark.place rise (push_put marks mark below))
+    ∙ finite.get-insert nat_cmp_total (marks_of marks) mark.number.0 mark.place q
+
+push_rise : (marks : List Mark) (mark : Mark) → Rise marks → All (Below mark.number.0) marks → Rise (marks ++ mark ∷ [])
+push_rise marks mark rise below = put_rise marks (marks ++ mark ∷ []) mark.number.0 mark.place rise (push_put marks mark below)
+
+-- a number that stands first stands nowhere behind
+none_later : (mark : Mark) (marks : List Mark) (q : ℕ) → Rise (mark ∷ marks) → eq_by_cmp nat_cmp q mark.number.0 ≡ true → place_in marks q ≡ None
+none_later mark marks q rise tie = let few : q ≤ mark.number.0 = omega (arith, tied_same q mark.number.0 tie) in none_behind q mark.number.0 (entries_of marks) few (first_part _ _ rise)
+
+-- nor where all numbers are higher
+none_higher : (marks : List Mark) (mark : Mark) (q : ℕ) → Rise marks → Before (mark ∷ []) marks → eq_by_cmp nat_cmp q mark.number.0 ≡ true → place_in marks q ≡ None
+none_higher [] mark q rise before tie = refl
+none_higher (m ∷ marks) mark q rise before tie =
+    let same = tied_same q mark.number.0 tie in
+    let less = All-head (Below m.number.0) mark [] before in
+    let low : q ≤ m.number.0 = omega (arith, same, less) in
+    ap (λ b. cond b (Some m.place) (place_in marks q)) (apart q m.number.0 (λ here. omega (arith, here, same, less)))
+    ∙ none_behind q m.number.0 (entries_of marks) low (first_part _ _ rise)
+
+first_goes : (tie : Bool) (place : Place) (found old : Option Place) → (tie ≡ true → found ≡ None) → or_else found (cond tie (Some place) old) ≡ or_else (cond tie (Some place) found) old
+first_goes true place found old none = ap (λ found. or_else found (Some place)) (none refl)
+first_goes false place found old none = refl
+
+second_goes : (tie : Bool) (len : ℕ) (place : Place) (found other old : Option Place) → (tie ≡ true → found ≡ None) → (tie ≡ true → other ≡ None)
+    → place_joined len found (or_else other (cond tie (Some (later len place)) old)) ≡ place_joined len (cond tie (Some place) found) (or_else other old)
+second_goes true len place found other old none free = ap₂ (λ one two. place_joined len one (or_else two (Some (later len place)))) (none refl) (free refl)
+second_goes false len place found other old none free = refl
+
+both_go : (tie : Bool) (len : ℕ) (place first : Place) (found other old : Option Place) → (tie ≡ true → found ≡ None) → (tie ≡ true → other ≡ None)
+    → place_joined len found (or_else other (cond tie (Some (later len place)) old)) ≡ place_joined len (cond tie (Some place) found) (or_else (cond tie (Some first) other) old)
+both_go true len place first found other old none free = ap₂ (λ one two. place_joined len one (or_else two (Some (later len place)))) (none refl) (free refl)
+both_go false len place first found other old none free = refl
+
+abbrev pub moved_mark : ℕ → Mark → Mark
+moved_mark len mark = record mark { place = later len mark.place }
+
+merge_first : (len : ℕ) (first second marks one two : List Mark) (mark : Mark) → Merges len first second marks (mark ∷ one) two → Before (mark ∷ []) two → Merges len first second (marks ++ mark ∷ []) one two
+merge_first len first second marks one two mark merges before = record {
+  rise = push_rise marks mark merges.rise merges.before_one;
+  rise_one = second_part _ _ merges.rise_one;
+  rise_two = merges.rise_two;
+  before_one = push_before marks one mark merges.before_one (next_before mark one merges.rise_one);
+  before_two = push_before marks two mark merges.before_one before;
+  found = λ q.
+      ap (λ old. place_joined len (place_in two q) (or_else (place_in one q) old)) (get-push marks mark q merges.rise merges.before_one)
+      ∙ ap (place_joined len (place_in two q))
+      (first_goes (eq_by_cmp nat_cmp q mark.number.0) mark.place (place_in one q) (finite.get (marks_of marks) q) (none_later mark one q merges.rise_one))
+      ∙ merges.found q;
+}
+
+merge_second : (len : ℕ) (first second marks one two : List Mark) (mark : Mark) → Merges len first second marks one (mark ∷ two) → Before (mark ∷ []) one
+    → Merges len first second (marks ++ moved_mark len mark ∷ []) one two
+merge_second len first second marks one two mark merges before = record {
+  rise = push_rise marks (moved_mark len mark) merges.rise merges.before_two;
+  rise_one = merges.rise_one;
+  rise_two = second_part _ _ merges.rise_two;
+  before_one = push_before marks one (moved_mark len mark) merges.before_two (still_before mark (moved_mark len mark) one refl before);
+  before_two = push_before marks two (moved_mark len mark) merges.before_two (still_before mark (moved_mark len mark) two refl (next_before mark two merges.rise_two));
+  found = λ q.
+      ap (λ old. place_joined len (place_in two q) (or_else (place_in one q) old)) (get-push marks (moved_mark len mark) q merges.rise merges.before_two)
+      ∙ second_goes (eq_by_cmp nat_cmp q mark.number.0) len mark.place (place_in two q) (place_in one q) (finite.get (marks_of marks) q) (none_later mark two q merges.rise_two)
+      (none_higher one mark q merges.rise_one before)
+      ∙ merges.found q;
+}
+
+merge_both : (len : ℕ) (first second marks one two : List Mark) (gone mark : Mark) → Merges len first second marks (gone ∷ one) (mark ∷ two) → gone.number.0 ≡ mark.number.0
+    → Merges len first second (marks ++ moved_mark len mark ∷ []) one two
+merge_both len first second marks one two gone mark merges same =
+    let before = still_before gone (moved_mark len mark) one same (next_before gone one merges.rise_one) in
+    record {
+      rise = push_rise marks (moved_mark len mark) merges.rise merges.before_two;
+      rise_one = second_part _ _ merges.rise_one;
+      rise_two = second_part _ _ merges.rise_two;
+      before_one = push_before marks one (moved_mark len mark) merges.before_two before;
+      before_two = push_before marks two (moved_mark len mark) merges.before_two (still_before mark (moved_mark len mark) two refl (next_before mark two merges.rise_two));
+      found = λ q.
+          ap (λ old. place_joined len (place_in two q) (or_else (place_in one q) old)) (get-push marks (moved_mark len mark) q merges.rise merges.before_two)
+          ∙ both_go (eq_by_cmp nat_cmp q mark.number.0) len mark.place gone.place (place_in two q) (place_in one q) (finite.get (marks_of marks) q) (none_later mark two q merges.rise_two)
+          (none_higher one (moved_mark len mark) q (second_part _ _ merges.rise_one) before)
+          ∙ ap (λ n. place_joined len (place_in (mark ∷ two) q) (or_else (cond (eq_by_cmp nat_cmp q n) (Some gone.place) (place_in one q)) (finite.get (marks_of marks) q))) (sym same)
+          ∙ merges.found q;
+    }
+
+none_else : (found : Option Place) → or_else found None ≡ found
+none_else None = refl
+none_else (Some place) = refl
+
+nothing_before : (marks : List Mark) → Before [] marks
+nothing_before [] = tt
+nothing_before (mark ∷ marks) = All-nil (Below mark.number.0)
+
+-- so far two texts are merged, of each so many marks
+abbrev pub MergesAt : ℕ → List Mark → List Mark → ℕ → ℕ → List Mark → Type 0
+MergesAt len first second i j marks = Merges len first second marks (drop i first) (drop j second)
+
+pub merge_start : (len : ℕ) (first second : List Mark) → Rise first → Rise second → MergesAt len first second 0 0 []
+merge_start len first second rise_one rise_two = record {
+  rise = tt;
+  rise_one = rise_one;
+  rise_two = rise_two;
+  before_one = nothing_before first;
+  before_two = nothing_before second;
+  found = λ q. ap (place_joined len (place_in second q)) (ap (or_else (place_in first q)) (get-marks_of [] q tt) ∙ none_else (place_in first q));
+}
+
+-- what is left of the first goes behind them
+merge_rest : (len : ℕ) (first second marks one : List Mark) → Merges len first second marks one [] → Merges len first second (marks ++ one) [] []
+merge_rest len first second marks [] merges = subst (λ all. Merges len first second all [] []) (sym (append-nil marks)) merges
+merge_rest len first second marks (mark ∷ one) merges =
+    subst (λ all. Merges len first second all [] []) (append_assoc marks (mark ∷ []) one)
+    (merge_rest len first second (marks ++ mark ∷ []) one (merge_first len first second marks one [] mark merges tt))
+
+pub merge_end : (len : ℕ) (first second marks : List Mark) (i j : ℕ) → length second ≤ j → MergesAt len first second i j marks → Merges len first second (marks ++ drop i first) [] []
+merge_end len first second marks i j all merges =
+    merge_rest len first second marks (drop i first) (subst (Merges len first second marks (drop i first)) (drop_all j second all) merges)
+
+pub merged : (len : ℕ) (first second marks : List Mark) → Rise first → Rise second → Merges len first second marks [] [] → marks_of marks ≡ joined_marks len (marks_of first) (marks_of second)
+merged len first second marks rise_one rise_two merges =
     same_marks _ _ (λ q.
-    get-put_all list len marks q rise ∙ ap (λ found. or_else (option_map (later len) found) (finite.get marks q)) (sym (get-marks_of list q rise))
-    ∙ sym (get-joined_marks len marks (marks_of list) q))
+    merges.found q
+    ∙ ap₂ (place_joined len) (sym (get-marks_of second q rise_two)) (sym (get-marks_of first q rise_one))
+    ∙ sym (get-joined_marks len (marks_of first) (marks_of second) q))
+
+before_at : (others : List Mark) (j : ℕ) (mark d : Mark) → (j < length others → mark.number.0 < (get_or others j d).number.0) → Before (mark ∷ []) (drop j others)
+before_at [] zero mark d less = tt
+before_at [] (suc j) mark d less = tt
+before_at (other ∷ others) zero mark d less = All-cons (Below other.number.0) mark [] (less (omega arith)) (All-nil (Below other.number.0))
+before_at (other ∷ others) (suc j) mark d less = before_at others j mark d (λ within. less (omega (arith, within)))
+
+pub merge_first_at : (len : ℕ) (first second marks : List Mark) (i j : ℕ) (d : Mark) → i < length first → (j < length second → (get_or first i d).number.0 < (get_or second j d).number.0)
+    → MergesAt len first second i j marks → MergesAt len first second (i + 1) j (marks ++ get_or first i d ∷ [])
+merge_first_at len first second marks i j d within less merges =
+    let mark = get_or first i d in
+    merge_first len first second marks (drop (i + 1) first) (drop j second) mark
+    (subst (λ one. Merges len first second marks one (drop j second)) (drop_more first i d within) merges) (before_at second j mark d less)
+
+pub merge_second_at : (len : ℕ) (first second marks : List Mark) (i j : ℕ) (d : Mark) → j < length second → (i < length first → (get_or second j d).number.0 < (get_or first i d).number.0)
+    → MergesAt len first second i j marks → MergesAt len first second i (j + 1) (marks ++ moved_mark len (get_or second j d) ∷ [])
+merge_second_at len first second marks i j d within less merges =
+    let mark = get_or second j d in
+    merge_second len first second marks (drop i first) (drop (j + 1) second) mark
+    (subst (λ two. Merges len first second marks (drop i first) two) (drop_more second j d within) merges) (before_at first i mark d less)
+
+pub merge_both_at : (len : ℕ) (first second marks : List Mark) (i j : ℕ) (d : Mark) → i < length first → j < length second → (get_or first i d).number.0 ≡ (get_or second j d).number.0
+    → MergesAt len first second i j marks → MergesAt len first second (i + 1) (j + 1) (marks ++ moved_mark len (get_or second j d) ∷ [])
+merge_both_at len first second marks i j d within there same merges =
+    merge_both len first second marks (drop (i + 1) first) (drop (j + 1) second) (get_or first i d) (get_or second j d)
+    (subst₂ (λ one two. Merges len first second marks one two) (drop_more first i d within) (drop_more second j d there) merges) same

@@ -133,14 +133,29 @@ pub fn joined_marks(
     ensures marks { IfOk result (λ marks. marks_of marks.items
         ≡ joined_marks len (marks_of first.now) (marks_of second.now)) }
 {
-    let mut marks = Vec::from_slice(alloc, first)?;
-    for mark in second {
-        let place = Place {
-            offset: mark.place.offset + len,
-            gravity: mark.place.gravity,
-        };
-        put_mark(&mut marks, mark.number, place)?;
+    let mut marks = Vec::with_capacity(alloc, first.len())?;
+    let (mut one, mut two) = (0, 0);
+    while two < second.len() {
+        let mark = second[two];
+        if one < first.len() && first[one].number.0 < mark.number.0 {
+            marks.push(first[one])?;
+            one += 1;
+            continue;
+        }
+        // Of two marks of a number that of the second stays.
+        if one < first.len() && first[one].number.0 == mark.number.0 {
+            one += 1;
+        }
+        marks.push(Mark {
+            number: mark.number,
+            place: Place {
+                offset: mark.place.offset + len,
+                gravity: mark.place.gravity,
+            },
+        })?;
+        two += 1;
     }
+    marks.extend_from_slice(&first[one..])?;
     Ok(marks)
 }
 

@@ -1,11 +1,14 @@
-use Rattle.std.proofs.Common.{◌≡◌, ℕ, ◌+◌, drop}
-use Rattle.segments.specs.Marks.{Rise, StandIn, marks_of}
-use Rattle.segments.proofs.MarkLaws.{put_all}
+use Rattle.std.proofs.Common.{ℕ, ◌+◌, ◌-◌, ◌≤◌, length}
+use Rattle.segments.specs.Marks.{StandIn}
+use Rattle.segments.proofs.MarkLaws.{MergesAt}
 use Rattle.segments.proofs.marks.joined_marks.Given as goal
 
-abbrev pub invariant-loop-mark : goal.invariant-loop-mark
-invariant-loop-mark l = record {
-  rise : Rise l.marks.items;
+abbrev pub invariant-loop-two : goal.invariant-loop-two
+invariant-loop-two l = record {
+  within : l.one ≤ length l.fn.first;
+  merges : MergesAt l.fn.len l.fn.first l.fn.second l.one l.two l.marks.items;
   stand : (more : ℕ) → StandIn l.fn.len l.fn.first → StandIn more l.fn.second → StandIn (l.fn.len + more) l.marks.items;
-  put : put_all (drop l.mark-index l.fn.second) l.fn.len (marks_of l.marks.items) ≡ put_all l.fn.second l.fn.len (marks_of l.fn.first);
 }
+
+abbrev pub decreases-loop-two : goal.decreases-loop-two
+decreases-loop-two l = (length l.first - l.one) + (length l.second - l.two)
