@@ -94,7 +94,7 @@ pub fn take_marks<L: LineList>(list: &mut L, numbers: &[MarkNo])
     ensures room { L.line_room list.old ≤ L.line_room list.new }
     ensures numbers { L.mark_room list.old ≤ L.mark_room list.new }
 {
-    // of a line's marks the last go first, so that none moves
+    // Of a line's marks the last goes first: so none stands behind it, and none moves.
     for index in (0..numbers.len()).rev() {
         list.take_mark(numbers[index]);
     }
