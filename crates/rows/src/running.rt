@@ -13,9 +13,11 @@ const WHOLE: usize = 4096;
 /// Runs a row on every store, and says whether it went as wanted on each: on the plain store with reads of several
 /// lengths, and whole on the others, which see no reads. A further store is a line here.
 pub fn check_row<R: Print + AllocGlobal>(rt: &R, row: &Row) -> io::Result<bool> {
-    Ok(check_on::<R, PlainStore>(rt, row, lengths(row), "PlainStore")?
-        && check_on::<R, LineStore<LineVec>>(rt, row, &[WHOLE], "LineStore<LineVec>")?
-        && check_on::<R, TreeStore>(rt, row, &[WHOLE], "TreeStore")?)
+    Ok(
+        check_on::<R, PlainStore>(rt, row, lengths(row), "PlainStore")?
+            && check_on::<R, LineStore<LineVec>>(rt, row, &[WHOLE], "LineStore<LineVec>")?
+            && check_on::<R, TreeStore>(rt, row, &[WHOLE], "TreeStore")?,
+    )
 }
 
 /// Runs a row on one store, with reads of some lengths, and says whether each run went as wanted.
