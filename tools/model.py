@@ -478,7 +478,7 @@ class Document:
 
 @dataclass(frozen=True)
 class World:
-    """Everything that a later command can see.  There is at most one document in this stage."""
+    """Everything that a later command can see.  The documents stand in the order of their creation."""
 
     limits: Limits = PROGRAM_LIMITS
     documents: tuple = ()
@@ -584,10 +584,6 @@ def invalid_command_name(word):
 
 def window_exists(word):
     return Fault(f'window name "{word}" already exists')
-
-
-def document_exists():
-    return Fault("a document exists")
 
 
 def too_many_widgets():
@@ -1655,8 +1651,6 @@ def text_command(world, words):
     document = with_new_widget(Document(), Widget(name), settings_of(arguments[1:]))
     if find_widget(world, name) is not None:
         raise window_exists(name)
-    if world.documents:
-        raise document_exists()
     if count_widgets(world) >= world.limits.widgets:
         raise too_many_widgets()
     return replace(world, documents=world.documents + (document,)), name

@@ -17,9 +17,14 @@ import model
 
 
 class Chance(random.Random):
-    """Where all that is random comes from, and the widgets of the script that is made."""
+    """Where all that is random comes from, and the documents of the script that is made: of each the names of its widgets."""
 
-    widgets = (".t",)
+    documents = ((".t",),)
+
+    @property
+    def widgets(self):
+        """The names of all widgets that the script makes."""
+        return tuple(name for names in self.documents for name in names)
 
 
 # ---------------------------------------------------------------------------------------------------
@@ -285,7 +290,7 @@ def own_widget(chance):
 
 
 def text_command(chance):
-    """`text W`: mostly one widget name, so that a name can be taken."""
+    """`text W`: mostly one widget name, so that a name can be taken; with another one it makes a document more."""
     return ["text", chance.choice([".t", ".t", ".t", *WIDGETS])]
 
 
@@ -374,7 +379,7 @@ def peer_alone(chance):
 
 def destroy_command(chance):
     """`destroy` of some widgets, of names of none, and of all of them now and then."""
-    names = [".p", ".q", ".r", ".p", ".q", ".r", ".t", chance.choice(WIDGETS + NO_WINDOW_NAMES)]
+    names = [".p", ".q", ".r", *chance.widgets, chance.choice(WIDGETS + NO_WINDOW_NAMES)]
     return ["destroy"] + chance.choices(names, k=chance.choice([0, 1, 1, 1, 2, 3, 4]))
 
 
@@ -1114,9 +1119,28 @@ def stretched(chance, script_bytes):
 # Whole scripts
 
 
+# The widgets of the documents behind the first, and how many of each may be made.
+MORE_WIDGETS = ((".u", ".ua", ".ub", ".uc"), (".v", ".va", ".vb", ".vc"), (".w", ".wa", ".wb", ".wc"))
+
+
+def some_documents(chance):
+    """The widgets of a script's documents: mostly of one, and of four at most."""
+    first = chance.choice([(".t",), (".t",), (".t", ".p"), (".t", ".p"), (".t", ".p", ".q"), (".t", ".p", ".q", ".r")])
+    count = chance.choices([0, 1, 2, 3], [6, 3, 1, 1])[0]
+    return (first, *(names[: chance.choice([1, 1, 2, 4])] for names in MORE_WIDGETS[:count]))
+
+
 def first_peers(chance):
-    """The commands that make the script's further widgets."""
-    return [[".t", "peer", "create", name] + shown_lines(chance) for name in chance.widgets[1:]]
+    """The commands that make the further widgets of the script's documents."""
+    return [
+        [names[0], "peer", "create", name] + shown_lines(chance) for names in chance.documents for name in names[1:]
+    ]
+
+
+def first_text(chance):
+    """A text of a few lines."""
+    letters = chance.choice([CHARACTERS + "é€ ", "aabbAB", "ab"])
+    return "\n".join("".join(chance.choices(letters, k=chance.randrange(0, 9))) for _ in range(chance.randrange(1, 6)))
 
 
 def most_peers(chance):
@@ -1125,12 +1149,12 @@ def most_peers(chance):
 
 
 def first_commands(chance):
-    """The characters of the first commands: the widget that the others name is made, and mostly has a text of a few lines."""
-    words = [["text", ".t"] + (["-undo", "1"] if chance.random() < 0.5 else [])]
-    if chance.random() < 0.6:
-        letters = chance.choice([CHARACTERS + "é€ ", "aabbAB", "ab"])
-        first_lines = ["".join(chance.choices(letters, k=chance.randrange(0, 9))) for _ in range(chance.randrange(1, 6))]
-        words.append([".t", "insert", "end", "\n".join(first_lines)])
+    """The characters of the first commands: the widgets that the others name are made, and mostly have a text of a few lines."""
+    words = []
+    for name, *_ in chance.documents:
+        words.append(["text", name] + (["-undo", "1"] if chance.random() < 0.5 else []))
+        if chance.random() < 0.6:
+            words.append([name, "insert", "end", first_text(chance)])
     words += most_peers(chance) if chance.random() < 0.03 else first_peers(chance)
     return "".join(" ".join(spelled(chance, word) for word in each) + command_end(chance) for each in words)
 
@@ -1150,7 +1174,8 @@ def commands(chance):
 
 def valid_commands(chance):
     """The characters of a script in which no command is refused."""
-    words = [["text", ".t"], [".t", "insert", "1.0", lines_text(chance)]] + first_peers(chance)
+    words = [["text", names[0]] for names in chance.documents]
+    words += [[names[0], "insert", "1.0", lines_text(chance)] for names in chance.documents] + first_peers(chance)
     for _ in range(chance.randrange(0, 40)):
         words.append(chance.choice([
             lambda: [own_widget(chance), "insert", index(chance), text(chance)],
@@ -1270,10 +1295,13 @@ LONG_QUERIES = [
 def long_script(seed):
     """The script of a seed on a text of thousands of lines, as bytes: whatever list the lines are kept in, it grows and shrinks under every command."""
     chance = Chance(seed)
-    chance.widgets = chance.choice([(".t",), (".t", ".p"), (".t", ".p")])
+    chance.documents = chance.choice([((".t",),), ((".t", ".p"),), ((".t", ".p"), (".u",))])
     chance.lines = chance.choice([300, 1_000, 2_000, 4_000])
-    words = [["text", ".t"] + (["-undo", "1"] if chance.random() < 0.7 else []), [".t", "insert", "end", line_texts(chance, chance.lines)]]
-    words += [[".t", "peer", "create", name] for name in chance.widgets[1:]]
+    words = []
+    for name, *others in chance.documents:
+        words.append(["text", name] + (["-undo", "1"] if chance.random() < 0.7 else []))
+        words.append([name, "insert", "end", line_texts(chance, chance.lines)])
+        words += [[name, "peer", "create", other] for other in others]
     for _ in range(chance.choice([10, 20, 40])):
         words.append([own_widget(chance)] + pick(chance, LONG_EDITS))
         words.append([own_widget(chance)] + pick(chance, LONG_QUERIES))
@@ -1283,7 +1311,7 @@ def long_script(seed):
 def script(seed):
     """The script of a seed, as bytes."""
     chance = Chance(seed)
-    chance.widgets = chance.choice([(".t",), (".t",), (".t", ".p"), (".t", ".p"), (".t", ".p", ".q"), (".t", ".p", ".q", ".r")])
+    chance.documents = some_documents(chance)
     if chance.random() < 0.15:
         return valid_commands(chance).encode("utf-8")
     if chance.random() < 0.1:

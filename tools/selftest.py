@@ -39,7 +39,6 @@ REACHED_FAULTS = [
     b"error: too many widgets",
     b"error: nothing to undo",
     b"error: nothing to redo",
-    b"error: a document exists",
     b"error: missing close-brace",
     b'error: missing "',
     b"error: extra characters after close-brace",
@@ -323,7 +322,7 @@ def check_undo_runs(tally):
     """After random commands of three widgets undo, until nothing is left, gives the text before them, and redo the one behind."""
     for seed in range(UNDO_SEEDS):
         chance = scripts.Chance(seed)
-        chance.widgets = (".t", ".p", ".q")
+        chance.documents = ((".t", ".p", ".q"),)
         given = [
             ["text", ".t"],
             [".t", "insert", "end", scripts.lines_text(chance)],

@@ -77,9 +77,6 @@ pub enum Fault {
     /// No group of edits was undone last.
     #[error("nothing to redo")]
     NothingToRedo,
-    /// There is a document.
-    #[error("a document exists")]
-    DocumentExists,
     /// There are as many widgets as there may be.
     #[error("too many widgets")]
     TooManyWidgets,

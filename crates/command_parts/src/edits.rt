@@ -108,16 +108,18 @@ pub fn new_store<S: TextStore>(alloc: Global) -> Result<S, AllocError>
     Ok(store)
 }
 
-/// Takes what widgets have of their own out of a store: the slot of the `sel` of each off all characters, and its two marks; all
-/// in one edit. Where memory is refused nothing changes.
-pub fn drop_widgets<S: TextStore>(
+/// Prepares to take what widgets have of their own out of a store: the slot of the `sel` of each off all characters, and its
+/// two marks; all in one edit.
+pub fn prepare_drop<S: TextStore>(
     alloc: Global,
     store: &mut S,
     widgets: &[TagSlot],
-) -> Result<(), AllocError>
+) -> Result<S::Prepared, AllocError>
     requires { All (λ (widget : TagSlot). widget.0 < MOST_WIDGETS) widgets.now }
-    ensures ok { OnOk result (S.content store.new ≡ without_widgets (map (λ widget. widget.0) widgets.now) (S.content store.old)) }
-    ensures err { OnErr result (S.content store.new ≡ S.content store.old) }
+    ensures same { S.content store.new ≡ S.content store.old }
+    ensures ready { IfOk result (λ change. S.ready store.new change) }
+    ensures outcome { IfOk result (λ change. S.outcome store.new change
+        ≡ without_widgets (map (λ widget. widget.0) widgets.now) (S.content store.old)) }
 {
     let mut steps = StepList::new(alloc);
     for widget in widgets {
@@ -125,7 +127,7 @@ pub fn drop_widgets<S: TextStore>(
         steps.push(Step::TakeMark(MarkNo(2 * widget.0)))?;
         steps.push(Step::TakeMark(MarkNo(2 * widget.0 + 1)))?;
     }
-    make(store, Edit { steps })
+    store.prepare(&Edit { steps })
 }
 
 /// Puts texts in before the character at an offset of a store, each behind the one before it.

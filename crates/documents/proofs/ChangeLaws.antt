@@ -13,9 +13,10 @@ use Rattle.command_parts.specs.Tagging.{IsFront}
 use Rattle.documents.specs.Documents.{Document, Parts, document_of}
 use Rattle.documents.specs.Kept.{IsSound, Stands}
 use Rattle.documents.specs.Promise.{Change, Does, answered, refused}
-use Rattle.documents.specs.WellFormed.{IsWellFormedDocument}
-use Rattle.documents.proofs.PartsLaws.{marks-kept, tags-kept, widgets-kept}
-use Rattle.documents.proofs.WellFormedLaws.{IsWellFormedDocument-kept, fits-kept}
+use Rattle.documents.specs.WellFormed.{IsWellFormedDocument, window_names}
+use Rattle.documents.proofs.PartsLaws.{marks-kept, tags-kept}
+use Rattle.documents.proofs.WellFormedLaws.{IsWellFormedDocument-kept, fits-kept, windows-kept}
+use Rattle.name_list.specs.Names.{names_of}
 
 -- ---- what is refused
 
@@ -32,8 +33,7 @@ does-left limits old new fault change same is = record {
   document = λ other. same ∙ ap (λ (c : Change). c.document) (sym (is (λ memory. other (ap failed memory))));
   refused = same;
   well_formed = λ formed. subst (IsWellFormedDocument limits) (sym same) formed;
-  shown = λ some. subst (λ (d : Document). 0 < length d.widgets) (sym same) some;
-  few = λ few. subst (λ (d : Document). length d.widgets ≤ limits.widgets) (sym same) few;
+  windows = ap window_names same;
 }
 
 -- the tags that were made are taken back
@@ -44,14 +44,13 @@ table-back old new back front here is made =
 -- ---- what is answered
 
 pub does-answered : (limits : LimitTable) (old new made : Document) (change : Change) → new ≡ made → change ≡ answered made Empty
-    → (IsWellFormedDocument limits old → IsWellFormedDocument limits new) → length new.widgets ≡ length old.widgets → Does limits old new (Ok Empty) change
-does-answered limits old new made change is same formed widgets = record {
+    → (IsWellFormedDocument limits old → IsWellFormedDocument limits new) → window_names new ≡ window_names old → Does limits old new (Ok Empty) change
+does-answered limits old new made change is same formed windows = record {
   reply = λ _. ap (λ (c : Change). c.reply) (sym same);
   document = λ _. is ∙ ap (λ (c : Change). c.document) (sym same);
   refused = tt;
   well_formed = formed;
-  shown = λ some. omega (arith, some, widgets);
-  few = λ few. omega (arith, few, widgets);
+  windows = windows;
 }
 
 -- a document that goes on as it is
@@ -65,7 +64,7 @@ pub record IsChanged (limits : LimitTable) (old new : Parts) (document : Documen
   pub fits : FitsText limits.chars (model.characters old.content.cells) old.journal.log.history → FitsText limits.chars (model.characters new.content.cells) new.journal.log.history
   pub tags : length old.tags.tags ≤ limits.tags + 1 → length new.tags.tags ≤ limits.tags + 1
   pub marks : length old.marks.marks ≤ limits.marks → length new.marks.marks ≤ limits.marks
-  pub seats : length new.seats.entries ≡ length old.seats.entries
+  pub seats : new.seats.entries ≡ old.seats.entries
 
 -- what a change leaves is sound, and it does what the definition says
 pub record Leaves (limits : LimitTable) (new : Parts) (document : Document) (result : Result Answer Fault) (change : Change) : Type 0 where
@@ -75,9 +74,6 @@ pub record Leaves (limits : LimitTable) (new : Parts) (document : Document) (res
 pub does-changed : (limits : LimitTable) (old new : Parts) (document : Document) (change : Change) → Stands old document → IsChanged limits old new document change
     → Leaves limits new document (Ok Empty) change
 does-changed limits old new document change stands changed =
-    let before = widgets-kept old document stands.is in
-    let after = widgets-kept new (document_of new) refl in
-    let count = changed.seats in
     record {
       sound = changed.sound;
       does = does-answered limits document (document_of new) (document_of new) change refl changed.is
@@ -87,5 +83,5 @@ does-changed limits old new document change stands changed =
           let tags = tags-kept old document stands.is in
           let marks = marks-kept old document stands.is in
           IsWellFormedDocument-kept limits new changed.sound (changed.fits (fits-kept limits old document stands.is formed)) (changed.tags (omega (arith, few, tags))) (changed.marks (omega (arith, many, marks))))
-          (omega (arith, before, after, count));
+          (windows-kept new ∙ ap names_of changed.seats ∙ sym (windows-kept old) ∙ ap window_names stands.is);
     }

@@ -1,12 +1,12 @@
 -- What every command promises.
-use Rattle.std.specs.Prelude.{◌≡◌, ◌≢◌, ◌<◌, ◌≤◌, length, Result, Ok, Err, IfErr, if◌then◌else◌}
+use Rattle.std.specs.Prelude.{◌≡◌, ◌≢◌, Result, Ok, Err, IfErr, if◌then◌else◌}
 use Rattle.text_model.specs.LimitTable.{LimitTable}
 use Rattle.command_parts.specs.declared.answers.Answer.{Answer}
 use Rattle.command_parts.specs.declared.answers.Fault.{Fault}
 use Rattle.command_parts.specs.declared.answers.Fault.TheVariants.{Memory}
 use Rattle.documents.specs.Documents.{Document, Widget}
 use Rattle.documents.specs.View.{is_idle}
-use Rattle.documents.specs.WellFormed.{IsWellFormedDocument}
+use Rattle.documents.specs.WellFormed.{IsWellFormedDocument, window_names}
 use Rattle.command_parts.specs.declared.answers.Answer.TheVariants.{Empty}
 
 -- the answer or the fault, and the document after the command
@@ -38,12 +38,10 @@ abbrev pub Gives : {A : Type 0} → Result A Fault → Result A Fault → Type 0
 Gives result defined = result ≢ Err Memory → result ≡ defined
 
 -- A command of a widget gives and leaves what its definition says, unless memory is wanted. Where it is refused, it leaves the
--- document as it was, and in any case a well-formed one well formed, with a
--- widget and no more than there may be.
+-- document as it was, and in any case a well-formed one well formed, with the same widgets by their names.
 pub record Does (limits : LimitTable) (old new : Document) (result : Result Answer Fault) (change : Change) : Type 0 where
   pub reply : Gives result change.reply
   pub document : result ≢ Err Memory → new ≡ change.document
   pub refused : IfErr result (λ _. new ≡ old)
   pub well_formed : IsWellFormedDocument limits old → IsWellFormedDocument limits new
-  pub shown : 0 < length old.widgets → 0 < length new.widgets
-  pub few : length old.widgets ≤ limits.widgets → length new.widgets ≤ limits.widgets
+  pub windows : window_names new ≡ window_names old

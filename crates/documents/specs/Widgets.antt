@@ -1,5 +1,5 @@
 -- Widgets that a document gets, and loses.
-use Rattle.std.specs.Prelude.{ℕ, Bool, true, false, not, List, [], ◌∷◌, ◌++◌, filter, find, map, option_map, pos, unwrap_or, Option}
+use Rattle.std.specs.Prelude.{ℕ, Bool, true, false, not, nat_lt, length, if◌then◌else◌, List, [], ◌∷◌, ◌++◌, filter, find, map, option_map, pos, unwrap_or, Option}
 use Rattle.std.specs.FinSet as set
 use Rattle.text_model.specs.declared.places.Gravity.TheVariants.{Right}
 use Rattle.text_model.specs.declared.places.Place.{Place}
@@ -66,3 +66,11 @@ without_widgets names document = record document {
   widgets = filter (is_kept names) document.widgets;
   cells = map (without_selections names) document.cells;
 }
+
+-- whether some widget of the document isn't of these names
+abbrev pub keeps_some : List (List ℕ) → Document → Bool
+keeps_some names document = nat_lt 0 (length (without_widgets names document).widgets)
+
+-- the same of a document that keeps one at least; one that keeps none stays as it is
+abbrev pub thinned : List (List ℕ) → Document → Document
+thinned names document = if keeps_some names document then without_widgets names document else document

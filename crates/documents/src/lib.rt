@@ -13,3 +13,4 @@ mod views;
 mod widgets;
 
 pub use documents::Document;
+pub use widgets::drop_widgets;

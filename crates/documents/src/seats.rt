@@ -6,13 +6,13 @@ ghost use Rattle.text_model.specs.declared.limits.TheConstants.Limits.{MOST_WIDG
 ghost use Rattle.name_list.specs.Names.{AreNames, IsLeastFree, names_of, numbers_of, place_of};
 ghost use Rattle.tcl_words.specs.Unread.{texts_of};
 ghost use Rattle.command_parts.specs.Edits.{new_mark, with_own_marks};
-ghost use Rattle.command_parts.specs.Words.{is_among, is_same};
+ghost use Rattle.command_parts.specs.Words.{is_same};
 ghost use Rattle.tcl_words.specs.ListGrowth.{Goes};
 ghost use Rattle.documents.specs.Documents.{whole};
 ghost use Rattle.documents.specs.Keys.{numbers_gone, seats_left};
 ghost use Rattle.documents.specs.Seats.{IsLonger};
 
-use command_parts::{is_word, put_widget_marks};
+use command_parts::{is_among, is_word, put_widget_marks};
 use edit_ops::Anchors;
 use name_list::NameList;
 use std::alloc::{AllocError, Global};
@@ -71,18 +71,6 @@ pub fn make_seat<S: TextStore>(
     // Where the names are counted, they are known to be those of a list.
     let _count = seats.len();
     Ok(slot as usize)
-}
-
-/// Whether a name is one of these.
-fn is_among(name: &str, names: &[String]) -> bool
-    ensures { result ≡ is_among (chars name.now) (texts_of names.now) }
-{
-    for other in names {
-        if is_word(name, other.as_str()) {
-            return true;
-        }
-    }
-    false
 }
 
 /// The slots of the widgets of these names.

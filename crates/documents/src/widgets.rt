@@ -1,8 +1,9 @@
-ghost use Rattle.std.specs.Prelude.{◌≡◌, true, Some, ◌+◌, ◌-◌, ◌<◌, ◌≤◌, length, chars, option_map, nat_lt, Ok, Err, IfOk, OnOk, OnErr, IfSome};
+ghost use Rattle.std.specs.Prelude.{◌≡◌, true, Some, ◌+◌, ◌-◌, ◌<◌, ◌≤◌, length, chars, map, option_map, Ok, Err, IfOk, OnOk, OnErr, IfSome};
+ghost use Rattle.std.specs.List.{AllByRecursion};
 ghost use Rattle.text_model.specs.LimitTable.{LimitTable};
 ghost use Rattle.documents.specs.Documents.{widget_at};
 ghost use Rattle.documents.specs.View.{shown};
-ghost use Rattle.documents.specs.Widgets.{with_peer, without_widgets};
+ghost use Rattle.documents.specs.Widgets.{keeps_some, thinned, with_peer};
 ghost use Rattle.documents.specs.Kept.{is_window_name};
 ghost use Rattle.documents.specs.WellFormed.{IsWellFormedDocument, window_names};
 ghost use Rattle.documents.specs.Promise.{Gives, Does, answered};
@@ -22,7 +23,7 @@ ghost use Rattle.std.specs.Prelude.{false, filter, not};
 
 use crate::documents::Document;
 use crate::seats::{make_seat, push_other_seats, remove_seats, slots_named, some_left};
-use command_parts::{Answer, Settings, drop_widgets};
+use command_parts::{Answer, Settings, prepare_drop};
 use edit_ops::Anchors;
 use std::alloc::AllocError;
 use text_model::{Limits, Text, TextStore};
@@ -137,20 +138,51 @@ impl<S: TextStore> Document<S> {
 
     /// Whether some widget isn't of these names.
     pub fn keeps_some(&self, names: &[String]) -> bool
-        ensures { result ≡ nat_lt 0 (length (without_widgets (texts_of names.now) self.now).widgets) }
+        ensures { result ≡ keeps_some (texts_of names.now) self.now }
     {
         some_left(&self.seats, names)
     }
 
-    /// Takes the widgets of these names out, with their own marks and their selections. Unknown names are skipped.
-    pub fn drop_widgets(&mut self, names: &[String]) -> Result<(), AllocError>
-        ensures ok { OnOk result (self.new ≡ without_widgets (texts_of names.now) self.old) }
-        ensures err { OnErr result (self.new ≡ self.old) }
+    /// Takes the widgets of these names out of the document and of others, as `drop_widgets` does.
+    #[cycle(drop)]
+    fn drop_with(
+        &mut self,
+        others: &mut [Document<S>],
+        names: &[String],
+    ) -> Result<(), AllocError>
+        ensures ok { OnOk result (self.new ≡ thinned (texts_of names.now) self.old) }
+        ensures others { OnOk result (others.new ≡ map (thinned (texts_of names.now)) others.old) }
+        ensures err { OnErr result ((self.new ≡ self.old) × (others.new ≡ others.old)) }
         ensures well_formed { (limits : LimitTable) → IsWellFormedDocument limits self.old → IsWellFormedDocument limits self.new }
+        ensures all { (limits : LimitTable) → AllByRecursion (IsWellFormedDocument limits) others.old
+            → AllByRecursion (IsWellFormedDocument limits) others.new }
     {
+        if !self.keeps_some(names) {
+            return drop_widgets(others, names);
+        }
         let slots = slots_named(self.alloc, &self.seats, names)?;
-        drop_widgets(self.alloc, &mut self.store, &slots)?;
+        let change = prepare_drop(self.alloc, &mut self.store, &slots)?;
+        drop_widgets(others, names)?;
+        self.store.commit(change);
         remove_seats(&mut self.seats, names);
         Ok(())
+    }
+}
+
+/// Takes the widgets of these names out of each document that has others too, with their own marks and their selections.
+/// Unknown names are skipped. What this changes in all documents is prepared before any of them changes.
+#[cycle(drop)]
+pub fn drop_widgets<S: TextStore>(
+    documents: &mut [Document<S>],
+    names: &[String],
+) -> Result<(), AllocError>
+    ensures ok { OnOk result (documents.new ≡ map (thinned (texts_of names.now)) documents.old) }
+    ensures err { OnErr result (documents.new ≡ documents.old) }
+    ensures well_formed { (limits : LimitTable) → AllByRecursion (IsWellFormedDocument limits) documents.old
+        → AllByRecursion (IsWellFormedDocument limits) documents.new }
+{
+    match documents.split_first_mut() {
+        None => Ok(()),
+        Some((first, others)) => first.drop_with(others, names),
     }
 }

@@ -1,8 +1,10 @@
 pub mod ArgumentLaws
 pub mod GotLaws
+pub mod HomeLaws
 pub mod NameLaws
 pub mod OptionLaws
 pub mod PlaceLaws
 pub mod PromiseLaws
 pub mod SwitchLaws
+pub mod WindowLaws
 pub mod WorldLaws

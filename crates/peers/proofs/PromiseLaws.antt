@@ -54,8 +54,7 @@ does-same limits old new result one other same does = record {
   document = λ not. does.document not ∙ ap (λ (c : Change). c.document) (same not);
   refused = does.refused;
   well_formed = does.well_formed;
-  shown = does.shown;
-  few = does.few;
+  windows = does.windows;
 }
 
 pub does-through : {A : Type 0} (limits : LimitTable) (old new : Document) (result : Result Answer Fault) (found defined : Result A Fault) (next : A → Change) → Gives found defined
@@ -77,7 +76,7 @@ does-both limits old new result (Ok value) defined also known next first second 
 -- a command that only reads leaves the document
 pub does-nothing : (limits : LimitTable) (document : Document) (result defined : Result Answer Fault) → Gives result defined → IfErr result (λ _. document ≡ document)
     → Does limits document document result (record { reply = defined; document = document })
-does-nothing limits document result defined gives same = record { reply = gives; document = λ _. refl; refused = same; well_formed = λ is. is; shown = λ some. some; few = λ few. few }
+does-nothing limits document result defined gives same = record { reply = gives; document = λ _. refl; refused = same; well_formed = λ is. is; windows = refl }
 
 pub does-found : {A : Type 0} (limits : LimitTable) (old new : Document) (result : Result Answer Fault) (defined : Result A Fault) (value : A) (next : A → Change)
     → defined ≡ Ok value → Does limits old new result (next value) → Does limits old new result (change_with old defined next)
@@ -91,8 +90,7 @@ does-refused limits old defined fault next is = record {
   document = λ other. ap (λ found. (change_with old found next).document) (sym (is (λ memory. other (ap (λ f. refusal Answer f) memory))));
   refused = refl;
   well_formed = λ formed. formed;
-  shown = λ some. some;
-  few = λ few. few;
+  windows = refl;
 }
 
 -- the fault that was found is the one that is defined

@@ -11,4 +11,5 @@ pub mod Step
 pub mod Tags
 pub mod Texts
 pub mod WellFormed
+pub mod Windows
 pub mod World

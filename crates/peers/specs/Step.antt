@@ -1,9 +1,9 @@
 -- One command of a script: the new world and an answer, or the first fault and the same world.
-use Rattle.std.specs.Prelude.{ℕ, Bool, false, nat_lt, List, [], ◌∷◌, filter, length, map, Option, None, Some, Result, Ok, Err, if◌then◌else◌}
+use Rattle.std.specs.Prelude.{ℕ, Bool, false, nat_le, nat_lt, List, [], ◌∷◌, ◌++◌, filter, length, map, slice_set, Option, None, Some, Result, Ok, Err, if◌then◌else◌}
 use Rattle.command_parts.specs.declared.answers.Answer.{Answer}
 use Rattle.command_parts.specs.declared.answers.Answer.TheVariants.{Empty, Word}
 use Rattle.command_parts.specs.declared.answers.Fault.{Fault}
-use Rattle.command_parts.specs.declared.answers.Fault.TheVariants.{WrongArguments, InvalidCommandName, WindowExists, DocumentExists, TooManyWidgets}
+use Rattle.command_parts.specs.declared.answers.Fault.TheVariants.{WrongArguments, InvalidCommandName, WindowExists, TooManyWidgets}
 use Rattle.command_parts.specs.Faults.{shape_fault}
 use Rattle.command_parts.specs.Settings.{first_settings}
 use Rattle.command_parts.specs.declared.settings.Settings.{Settings}
@@ -15,7 +15,7 @@ use Rattle.documents.specs.Documents.{Document, Widget}
 use Rattle.documents.specs.Kept.{is_window_name}
 use Rattle.documents.specs.Promise.{Change}
 use Rattle.documents.specs.Widgets.{bare_document, new_document, widget_named, without_widgets}
-use Rattle.peers.specs.World.{World, all_windows}
+use Rattle.peers.specs.World.{World, all_windows, document_at, home}
 use Rattle.peers.specs.Command.{command, arguments_of, is_frugal_reading}
 use Rattle.peers.specs.Options.{settings_given}
 
@@ -29,20 +29,15 @@ refuses world fault = record { reply = Err fault; world = world }
 
 -- ---- text
 
--- the world with one document, where there may be a widget
-abbrev pub create_first : World → List ℕ → Settings → Outcome
-create_first world name settings =
-    if nat_lt 0 world.limits.widgets then record { reply = Ok (Word 1); world = record world { documents = new_document name settings ∷ [] } }
-    else refuses world TooManyWidgets
-
--- where no document is there
-abbrev pub create_alone : World → List ℕ → Settings → List Document → Outcome
-create_alone world name settings [] = create_first world name settings
-create_alone world name settings (document ∷ others) = refuses world DocumentExists
+-- the world with one document more, of a widget of its own, unless there are too many widgets
+abbrev pub create_new : World → List ℕ → Settings → Outcome
+create_new world name settings =
+    if nat_le world.limits.widgets (length (all_windows world)) then refuses world TooManyWidgets
+    else record { reply = Ok (Word 1); world = record world { documents = world.documents ++ new_document name settings ∷ [] } }
 
 abbrev pub create_named : World → List ℕ → Settings → Outcome
 create_named world name settings =
-    if is_among name (all_windows world) then refuses world (WindowExists 1) else create_alone world name settings world.documents
+    if is_among name (all_windows world) then refuses world (WindowExists 1) else create_new world name settings
 
 abbrev pub create_with : World → List ℕ → Result Settings Fault → Outcome
 create_with world name (Err fault) = refuses world fault
@@ -73,18 +68,24 @@ destroy_shaped world words (Ok shape) = destroy world (arguments_of shape words)
 
 -- ---- a widget's command
 
--- the world with a document changed
-abbrev pub changed : World → List Document → Change → Outcome
-changed world others change = record { reply = change.reply; world = record world { documents = change.document ∷ others } }
+-- the world with the document at a place changed
+abbrev pub changed : World → ℕ → Change → Outcome
+changed world place change =
+    record { reply = change.reply; world = record world { documents = slice_set world.documents place change.document } }
 
-abbrev pub on_found : World → Document → List Document → List (List ℕ) → Option Widget → Outcome
-on_found world document others words None = refuses world (InvalidCommandName 0)
-on_found world document others words (Some widget) = changed world others (command world.limits (all_windows world) document widget words)
+abbrev pub on_found : World → ℕ → Document → List (List ℕ) → Option Widget → Outcome
+on_found world place document words None = refuses world (InvalidCommandName 0)
+on_found world place document words (Some widget) =
+    changed world place (command world.limits (all_windows world) document widget words)
 
--- a command of the widget of that name
-abbrev pub on_widget : World → List ℕ → List (List ℕ) → List Document → Outcome
-on_widget world name words [] = refuses world (InvalidCommandName 0)
-on_widget world name words (document ∷ others) = on_found world document others words (widget_named name document)
+abbrev pub on_home : World → List ℕ → List (List ℕ) → Option ℕ → Outcome
+on_home world name words None = refuses world (InvalidCommandName 0)
+on_home world name words (Some place) =
+    let document = document_at world.documents place in on_found world place document words (widget_named name document)
+
+-- a command of the widget of that name, which changes its own document alone
+abbrev pub on_widget : World → List ℕ → List (List ℕ) → Outcome
+on_widget world name words = on_home world name words (home name world.documents)
 
 -- ---- any command
 
@@ -102,4 +103,4 @@ step world [] = refuses world WrongArguments
 step world (name ∷ others) =
     if is_same name (literal "text") then create_shaped world (name ∷ others) (reading (name ∷ others))
     else (if is_same name (literal "destroy") then destroy_shaped world (name ∷ others) (reading (name ∷ others))
-    else on_widget world name (name ∷ others) world.documents)
+    else on_widget world name (name ∷ others))

@@ -1,29 +1,30 @@
-ghost use Rattle.std.specs.Prelude.{◌≡◌, ◌≢◌, ◌+◌, ◌<◌, ◌≤◌, true, length, Err};
+ghost use Rattle.std.specs.Prelude.{◌≡◌, ◌≢◌, ◌+◌, ◌<◌, ◌≤◌, ℕ, true, List, length, Ok, Err};
 ghost use Rattle.tcl_words.specs.Unread.{texts_of};
 ghost use Rattle.documents.specs.Documents.{widget_at};
 ghost use Rattle.documents.specs.Promise.{Does};
-ghost use Rattle.peers.specs.Command.{done, command, is_frugal, is_frugal_reading};
+ghost use Rattle.peers.specs.Command.{done, command, is_frugal};
 ghost use Rattle.command_table.specs.Reading.{reading};
+ghost use Rattle.command_table.specs.declared.commands.Command.TheVariants.{PeerCreate};
 ghost use Rattle.command_parts.specs.declared.answers.Fault.TheVariants.{Memory};
-ghost use Rattle.documents.specs.WellFormed.{IsWellFormedDocument, window_names};
+ghost use Rattle.documents.specs.WellFormed.{IsWellFormedDocument};
 
 use crate::deletions::{delete, replace};
 use crate::history::edit_modified;
 use crate::indices::{compare, index};
 use crate::marks::{mark_gravity, mark_names, mark_next, mark_previous, mark_set};
 use crate::options::{cget, configure};
-use crate::peers::{peer_create, peer_names};
+use crate::peers::peer_names;
 use crate::queries::{count, dump, search};
 use crate::tags::{
     tag_add, tag_lower, tag_names, tag_nextrange, tag_prevrange, tag_raise, tag_ranges, tag_remove,
 };
 use crate::texts::{get, insert};
 use command_parts::{Answer, Fault};
-use command_table::{Command, shape};
+use command_table::{Command, Shape};
 use documents::Document;
 use text_model::{Limits, TextStore};
 
-/// A command of a widget with its switches, and its arguments and options, which stand from a position on.
+/// A command of a widget but `peer create`, with its switches, and its arguments and options, which stand from a position on.
 fn carry_out<S: TextStore>(
     document: &mut Document<S>,
     limits: &Limits,
@@ -37,7 +38,9 @@ fn carry_out<S: TextStore>(
     requires formed { IsWellFormedDocument limits.now document.old }
     requires near { at + 2 ≤ usize.MAX }
     requires all { at + length arguments.now ≤ usize.MAX }
-    ensures does { Does limits.now document.old document.new result (done command limits.now (window_names document.old) document.old (widget_at document.old widget) (texts_of switches.now) at (texts_of arguments.now)) }
+    requires own { command ≢ PeerCreate }
+    ensures does { (windows : List (List ℕ)) → Does limits.now document.old document.new result
+        (done command limits.now windows document.old (widget_at document.old widget) (texts_of switches.now) at (texts_of arguments.now)) }
     ensures sure { is_frugal command ≡ true → result ≢ Err Memory }
 {
     match command {
@@ -72,35 +75,37 @@ fn carry_out<S: TextStore>(
         Command::Search => search(document, widget, switches, at, arguments),
         Command::Count => count(document, widget, switches, at, arguments),
         Command::Dump => dump(document, widget, switches, at, arguments),
-        Command::PeerCreate => peer_create(document, limits, widget, at, arguments),
+        Command::PeerCreate => unreachable!(),
         Command::PeerNames => peer_names(document, widget),
         Command::Text | Command::Destroy => Err(Fault::BadOption(1)),
     }
 }
 
-/// A command of a widget, of all its words.
+/// A command of a widget but `peer create`, of all its words, which have this shape.
 pub fn command<S: TextStore>(
     document: &mut Document<S>,
     limits: &Limits,
     widget: usize,
+    shape: Shape,
     words: &[String],
 ) -> Result<Answer, Fault>
     requires shown { widget < length document.old.widgets }
     requires formed { IsWellFormedDocument limits.now document.old }
-    requires some { 0 < length words.now }
-    ensures does { Does limits.now document.old document.new result (command limits.now (window_names document.old) document.old (widget_at document.old widget) (texts_of words.now)) }
-    ensures sure { is_frugal_reading (reading (texts_of words.now)) ≡ true → result ≢ Err Memory }
+    requires shape { reading (texts_of words.now) ≡ Ok shape }
+    requires within { shape.arguments + shape.count ≤ length words.now }
+    requires ordered { shape.switches ≤ shape.arguments }
+    requires own { shape.command ≢ PeerCreate }
+    ensures does { (windows : List (List ℕ)) → Does limits.now document.old document.new result
+        (command limits.now windows document.old (widget_at document.old widget) (texts_of words.now)) }
+    ensures sure { is_frugal shape.command ≡ true → result ≢ Err Memory }
 {
-    match shape(words) {
-        Err(fault) => Err(Fault::of_shape(fault)),
-        Ok(shape) => carry_out(
-            document,
-            limits,
-            widget,
-            shape.command,
-            &words[shape.switches..shape.arguments],
-            shape.arguments,
-            &words[shape.arguments..],
-        ),
-    }
+    carry_out(
+        document,
+        limits,
+        widget,
+        shape.command,
+        &words[shape.switches..shape.arguments],
+        shape.arguments,
+        &words[shape.arguments..],
+    )
 }

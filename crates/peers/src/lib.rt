@@ -3,6 +3,7 @@
 
 mod commands;
 mod deletions;
+mod documents;
 mod history;
 mod indices;
 mod marks;
@@ -12,6 +13,7 @@ mod queries;
 mod ranges;
 mod tags;
 mod texts;
+mod windows;
 mod words;
 mod world;
 

@@ -1,37 +1,42 @@
-ghost use Rattle.std.specs.Prelude.{◌≡◌, ◌≢◌, ◌<◌, [], false, true, length, chars, IfErr, ◌+◌, ◌≤◌, option_to_list};
+ghost use Rattle.std.specs.Prelude.{◌≡◌, ◌≢◌, ◌<◌, Some, Ok, [], false, true, length, chars, IfErr, ◌+◌, ◌≤◌};
+ghost use Rattle.text_model.specs.Lines.{lines};
 ghost use Rattle.tcl_words.specs.Unread.{texts_of};
 ghost use Rattle.command_table.specs.Reading.{reading};
 ghost use Rattle.command_parts.specs.Settings.{is_behind};
+ghost use Rattle.documents.specs.Documents.{characters, widget_at};
 ghost use Rattle.documents.specs.Kept.{is_window_name};
-ghost use Rattle.peers.specs.Step.{create_first, create_named, create, create_shaped, destroy, destroy_shaped, on_widget, step, takes_none};
-ghost use Rattle.peers.specs.Command.{is_frugal_reading};
+ghost use Rattle.peers.specs.Step.{changed, create_named, create, create_shaped, destroy, destroy_shaped, on_home, on_widget, step, takes_none};
+ghost use Rattle.peers.specs.Command.{is_frugal, is_frugal_reading};
+ghost use Rattle.peers.specs.Peers.{peer_create, peer_with, peer_words};
 ghost use Rattle.peers.specs.WellFormed.{IsWellFormed};
+ghost use Rattle.peers.specs.World.{all_windows, document_at, home};
 ghost use Rattle.documents.specs.Options.{AreLines};
 
 use crate::commands::command;
+use crate::documents::Documents;
 use crate::options::settings_given;
+use crate::peers::peer_settings;
 use crate::words::is_window_name;
-use command_parts::{Answer, Fault, Settings, is_word};
-use command_table::shape;
-use documents::Document;
+use command_parts::{Answer, Fault, Settings, first, is_word};
+use command_table::{Command, Shape, shape};
 use std::alloc::Global;
 use std::marker::Model;
 use text_model::{Limits, TextStore};
 
-/// All that a session of commands can see later: the limits, and the document with its widgets, if there is one.
+/// All that a session of commands can see later: the limits, and the documents with their widgets.
 #[derive(Drop)]
 pub struct World<S: TextStore> {
-    alloc: Global,
     limits: Limits,
-    document: Option<Document<S>>,
+    documents: Documents<S>,
 }
 
 impl<S: TextStore> Model for World<S> {
-    ghost use Rattle.std.specs.Prelude.{option_to_list};
+    ghost use Rattle.std.specs.Prelude.{◌≡◌};
     ghost use Rattle.std.specs.Coded.{codes};
     ghost use Rattle.std.specs.FinSet as set;
     ghost use Rattle.text_model.specs.contracts.places.Place as place;
     ghost use Rattle.documents.specs.Keys.{key_cmp, key_code};
+    ghost use Rattle.peers.specs.Windows.{homes_of};
     ghost use Rattle.peers.specs.World.{World as WorldState};
     ghost use Rattle.peers.specs.WellFormed.{IsWellFormed};
 
@@ -39,9 +44,10 @@ impl<S: TextStore> Model for World<S> {
 
     ghost coded = { Prim.hlevel (codes, place.the_row.coded, set.code {R = key_cmp} key_code) };
 
-    ghost view = { λ w. record { limits = w.limits; documents = option_to_list w.document } };
+    ghost view = { λ w. record { limits = w.limits; documents = w.documents.list.items } };
 
-    ghost invariant = { λ w. IsWellFormed (record { limits = w.limits; documents = option_to_list w.document }) };
+    ghost invariant = { λ w. IsWellFormed (record { limits = w.limits; documents = w.documents.list.items })
+        × (w.documents.windows ≡ homes_of w.documents.list.items) };
 }
 
 impl<S: TextStore> World<S> {
@@ -50,30 +56,12 @@ impl<S: TextStore> World<S> {
         ensures start { result ≡ record { limits = limits; documents = [] } }
         ensures well_formed { IsWellFormed result }
     {
+        // Where one of the limits is read, all are known to be in their bounds.
+        let _chars = limits.chars();
         World {
-            alloc,
             limits,
-            document: None,
+            documents: Documents::new(alloc),
         }
-    }
-
-    /// Makes the first document, with a widget of a name, and options.
-    fn create_first(&mut self, name: &str, settings: Settings) -> Result<Answer, Fault>
-        requires named { is_window_name (chars name.now) ≡ true }
-        requires empty { self.old.documents ≡ [] }
-        requires lines { AreLines 1 settings }
-        requires ordered { is_behind settings.start settings.end ≡ false }
-        ensures reply { result ≢ Err Fault.Memory → result ≡ (create_first self.old (chars name.now) settings).reply }
-        ensures world { result ≢ Err Fault.Memory → self.new ≡ (create_first self.old (chars name.now) settings).world }
-        ensures refused { IfErr result (λ _. self.new ≡ self.old) }
-        ensures well_formed { IsWellFormed self.new }
-    {
-        if self.limits.widgets() == 0 {
-            return Err(Fault::TooManyWidgets);
-        }
-        let document = Document::new(self.alloc, name, settings)?;
-        self.document = Some(document);
-        Ok(Answer::Word(1))
     }
 
     /// Makes a widget of a name on a document of its own, with options.
@@ -86,12 +74,14 @@ impl<S: TextStore> World<S> {
         ensures refused { IfErr result (λ _. self.new ≡ self.old) }
         ensures well_formed { IsWellFormed self.new }
     {
-        // Read first, so that every return knows that the world is well formed.
-        match &self.document {
-            None => self.create_first(name, settings),
-            Some(document) if document.find_widget(name).is_some() => Err(Fault::WindowExists(1)),
-            Some(_) => Err(Fault::DocumentExists),
+        if self.documents.windows.home(name).is_some() {
+            return Err(Fault::WindowExists(1));
         }
+        if self.documents.windows.len() >= self.limits.widgets() as usize {
+            return Err(Fault::TooManyWidgets);
+        }
+        self.documents.add(name, settings)?;
+        Ok(Answer::Word(1))
     }
 
     /// `text W ?option value ..?` (text(n), "text").
@@ -103,7 +93,7 @@ impl<S: TextStore> World<S> {
         ensures well_formed { IsWellFormed self.new }
     {
         // Read first, so that every return knows that the world is well formed.
-        let _document = &self.document;
+        let _documents = &self.documents;
         let [name, options @ ..] = arguments else {
             return Err(Fault::WrongArguments);
         };
@@ -125,7 +115,7 @@ impl<S: TextStore> World<S> {
         ensures well_formed { IsWellFormed self.new }
     {
         // Read first, so that every return knows that the world is well formed.
-        let _document = &self.document;
+        let _documents = &self.documents;
         match shape(words) {
             Err(fault) => Err(Fault::of_shape(fault)),
             Ok(shape) => self.create(&words[shape.arguments..]),
@@ -139,14 +129,7 @@ impl<S: TextStore> World<S> {
         ensures refused { IfErr result (λ _. self.new ≡ self.old) }
         ensures well_formed { IsWellFormed self.new }
     {
-        let Some(document) = &mut self.document else {
-            return Ok(Answer::Empty);
-        };
-        if !document.keeps_some(names) {
-            self.document = None;
-            return Ok(Answer::Empty);
-        }
-        document.drop_widgets(names)?;
+        self.documents.drop_widgets(names)?;
         Ok(Answer::Empty)
     }
 
@@ -159,10 +142,92 @@ impl<S: TextStore> World<S> {
         ensures well_formed { IsWellFormed self.new }
     {
         // Read first, so that every return knows that the world is well formed.
-        let _document = &self.document;
+        let _documents = &self.documents;
         match shape(words) {
             Err(fault) => Err(Fault::of_shape(fault)),
             Ok(shape) => self.destroy(&words[shape.arguments..]),
+        }
+    }
+
+    /// Makes a further widget of the document at a place, of the name that is the word at a position, with options.
+    fn add_peer(&mut self, place: usize, at: usize, name: &str, settings: Settings) -> Result<Answer, Fault>
+        requires place { place < length self.old.documents }
+        requires named { is_window_name (chars name.now) ≡ true }
+        requires lines { AreLines (lines (characters (document_at self.old.documents place).cells)) settings }
+        requires ordered { is_behind settings.start settings.end ≡ false }
+        ensures reply { result ≢ Err Fault.Memory → result ≡ (changed self.old place (peer_with self.old.limits
+            (all_windows self.old) (document_at self.old.documents place) at (chars name.now) settings)).reply }
+        ensures world { result ≢ Err Fault.Memory → self.new ≡ (changed self.old place (peer_with self.old.limits
+            (all_windows self.old) (document_at self.old.documents place) at (chars name.now) settings)).world }
+        ensures refused { IfErr result (λ _. self.new ≡ self.old) }
+        ensures well_formed { IsWellFormed self.new }
+    {
+        if self.documents.windows.home(name).is_some() {
+            return Err(Fault::WindowExists(at));
+        }
+        if self.documents.windows.len() >= self.limits.widgets() as usize {
+            return Err(Fault::TooManyWidgets);
+        }
+        self.documents.add_peer(place, name, settings)?;
+        Ok(Answer::Word(at))
+    }
+
+    /// `W peer create V ?option value ..?` (text(n), "PEER WIDGETS"), of a widget of the document at a place. The arguments
+    /// stand from a position on.
+    fn create_peer(&mut self, place: usize, widget: usize, at: usize, arguments: &[String]) -> Result<Answer, Fault>
+        requires place { place < length self.old.documents }
+        requires shown { widget < length (document_at self.old.documents place).widgets }
+        requires near { at + length arguments.now ≤ usize.MAX }
+        ensures reply { result ≢ Err Fault.Memory → result ≡ (changed self.old place (peer_create self.old.limits
+            (all_windows self.old) (document_at self.old.documents place)
+            (widget_at (document_at self.old.documents place) widget) at (texts_of arguments.now))).reply }
+        ensures world { result ≢ Err Fault.Memory → self.new ≡ (changed self.old place (peer_create self.old.limits
+            (all_windows self.old) (document_at self.old.documents place)
+            (widget_at (document_at self.old.documents place) widget) at (texts_of arguments.now))).world }
+        ensures refused { IfErr result (λ _. self.new ≡ self.old) }
+        ensures well_formed { IsWellFormed self.new }
+    {
+        // Read first, so that every return knows that the world is well formed.
+        let document = &self.documents.list[place];
+        let (name, words) = match first(arguments) {
+            Err(fault) => return Err(fault),
+            Ok(parts) => parts,
+        };
+        if !is_window_name(name) {
+            return Err(Fault::InvalidCommandName(at));
+        }
+        match peer_settings(document, widget, at + 1, words) {
+            Err(fault) => Err(fault),
+            Ok(settings) => self.add_peer(place, at, name, settings),
+        }
+    }
+
+    /// A command of the widget of a name, which shows the document at a place, of all its words, which have this shape.
+    fn on_document(&mut self, place: usize, name: &str, shape: Shape, words: &[String]) -> Result<Answer, Fault>
+        requires home { home (chars name.now) self.old.documents ≡ Some place }
+        requires shape { reading (texts_of words.now) ≡ Ok shape }
+        requires within { shape.arguments + shape.count ≤ length words.now }
+        requires ordered { shape.switches ≤ shape.arguments }
+        ensures reply { result ≢ Err Fault.Memory →
+            result ≡ (on_home self.old (chars name.now) (texts_of words.now) (Some place)).reply }
+        ensures world { result ≢ Err Fault.Memory →
+            self.new ≡ (on_home self.old (chars name.now) (texts_of words.now) (Some place)).world }
+        ensures refused { IfErr result (λ _. self.new ≡ self.old) }
+        ensures sure { is_frugal shape.command ≡ true → result ≢ Err Fault.Memory }
+        ensures well_formed { IsWellFormed self.new }
+    {
+        let document = &mut self.documents.list[place];
+        let Some(widget) = document.find_widget(name) else {
+            unreachable!()
+        };
+        match shape.command {
+            Command::PeerCreate => self.create_peer(
+                place,
+                widget,
+                shape.arguments,
+                &words[shape.arguments..],
+            ),
+            _ => command(document, &self.limits, widget, shape, words),
         }
     }
 
@@ -170,19 +235,19 @@ impl<S: TextStore> World<S> {
     fn on_widget(&mut self, name: &str, words: &[String]) -> Result<Answer, Fault>
         requires { 0 < length words.now }
         ensures reply { result ≢ Err Fault.Memory →
-            result ≡ (on_widget self.old (chars name.now) (texts_of words.now) self.old.documents).reply }
+            result ≡ (on_widget self.old (chars name.now) (texts_of words.now)).reply }
         ensures world { result ≢ Err Fault.Memory →
-            self.new ≡ (on_widget self.old (chars name.now) (texts_of words.now) self.old.documents).world }
+            self.new ≡ (on_widget self.old (chars name.now) (texts_of words.now)).world }
         ensures refused { IfErr result (λ _. self.new ≡ self.old) }
         ensures sure { is_frugal_reading (reading (texts_of words.now)) ≡ true → result ≢ Err Fault.Memory }
         ensures well_formed { IsWellFormed self.new }
     {
-        let Some(document) = &mut self.document else {
+        let Some(place) = self.documents.windows.home(name) else {
             return Err(Fault::InvalidCommandName(0));
         };
-        match document.find_widget(name) {
-            None => Err(Fault::InvalidCommandName(0)),
-            Some(widget) => command(document, &self.limits, widget, words),
+        match shape(words) {
+            Err(fault) => Err(Fault::of_shape(fault)),
+            Ok(shape) => self.on_document(place, name, shape, words),
         }
     }
 

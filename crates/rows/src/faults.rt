@@ -3,7 +3,7 @@ use std::io;
 use tcl_words::{ListFault, ScriptFault};
 
 /// A fault of each kind.
-const FAULTS: [Fault; 23] = [
+const FAULTS: [Fault; 22] = [
     Fault::BadIndex(2),
     Fault::NoTaggedCharacters(2, 3),
     Fault::NoSuchMark(3),
@@ -21,7 +21,6 @@ const FAULTS: [Fault; 23] = [
     Fault::InvalidCommandName(0),
     Fault::WindowExists(1),
     Fault::IndexOrder(3),
-    Fault::DocumentExists,
     Fault::TooManyWidgets,
     Fault::TooManyTags,
     Fault::TooManyMarks,

@@ -3,7 +3,7 @@ use Rattle.std.specs.Prelude.{ℕ, ◌-◌, Bool, true, false, ◌&&◌, ◌||�
 use Rattle.command_parts.specs.declared.answers.Answer.{Answer}
 use Rattle.command_parts.specs.declared.answers.Answer.TheVariants.{Empty, Word, Flag, Text}
 use Rattle.command_parts.specs.declared.answers.Fault.{Fault}
-use Rattle.command_parts.specs.declared.answers.Fault.TheVariants.{BadIndex, NoTaggedCharacters, NoSuchMark, NoSuchTag, BadOption, WrongArguments, InvalidCommandName, WindowExists, BadComparison, BadGravity, BadList, IndexOrder, BadBoolean, BadInteger, StartLineAfterEndLine, NothingToUndo, NothingToRedo, DocumentExists, TooManyWidgets, TooManyTags, TooManyMarks, TextTooLong, Memory}
+use Rattle.command_parts.specs.declared.answers.Fault.TheVariants.{BadIndex, NoTaggedCharacters, NoSuchMark, NoSuchTag, BadOption, WrongArguments, InvalidCommandName, WindowExists, BadComparison, BadGravity, BadList, IndexOrder, BadBoolean, BadInteger, StartLineAfterEndLine, NothingToUndo, NothingToRedo, TooManyWidgets, TooManyTags, TooManyMarks, TextTooLong, Memory}
 use Rattle.tcl_words.specs.declared.fault.ScriptFault.{ScriptFault}
 use Rattle.tcl_words.specs.declared.fault.ScriptFault.TheVariants as script
 use Prim.Native.String.{String}
@@ -75,7 +75,6 @@ fault_line words (BadInteger position) = around "error: expected integer but got
 fault_line words StartLineAfterEndLine = alone "error: -startline must be less than or equal to -endline\n"
 fault_line words NothingToUndo = alone "error: nothing to undo\n"
 fault_line words NothingToRedo = alone "error: nothing to redo\n"
-fault_line words DocumentExists = alone "error: a document exists\n"
 fault_line words TooManyWidgets = alone "error: too many widgets\n"
 fault_line words TooManyTags = alone "error: too many tags\n"
 fault_line words TooManyMarks = alone "error: too many marks\n"

@@ -152,7 +152,6 @@ impl<'a> Line<'a> {
             }
             Fault::NothingToUndo => Line::alone("error: nothing to undo\n"),
             Fault::NothingToRedo => Line::alone("error: nothing to redo\n"),
-            Fault::DocumentExists => Line::alone("error: a document exists\n"),
             Fault::TooManyWidgets => Line::alone("error: too many widgets\n"),
             Fault::TooManyTags => Line::alone("error: too many tags\n"),
             Fault::TooManyMarks => Line::alone("error: too many marks\n"),

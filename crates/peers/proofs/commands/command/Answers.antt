@@ -2,15 +2,14 @@ use Rattle.std.proofs.Common.{sym, ap, ap₂, ◌∙◌}
 use Rattle.tcl_words.specs.Unread.{texts_of}
 use Rattle.peers.specs.Command.{done, shaped}
 use Rattle.documents.specs.Documents.{widget_at}
-use Rattle.documents.specs.WellFormed.{window_names}
 use Rattle.peers.proofs.ArgumentLaws.{arguments-part, switches-part}
 use Rattle.peers.proofs.PromiseLaws.{does-same}
 use Rattle.peers.proofs.commands.command.Goals as goal
 
-pub returns-in-Ok-clause-does : goal.returns-in-Ok-clause-does
-returns-in-Ok-clause-does g c =
-    let document = c.args.document.now in let limits = c.args.limits.now in let widget = widget_at document c.args.widget in let shape = c.in-Ok.shape in
+pub returns-clause-does : goal.returns-clause-does
+returns-clause-does g c = λ windows.
+    let document = c.args.document.now in let limits = c.args.limits.now in let widget = widget_at document c.args.widget in let shape = c.args.shape in
     does-same limits document c.carry_out.new.document c.carry_out.result _ _
-    (λ _. ap₂ (λ switches arguments. done shape.command limits (window_names document) document widget switches shape.arguments arguments) (switches-part c.args.words.now shape) (arguments-part c.args.words.now shape)
-    ∙ ap (shaped limits (window_names document) document widget (texts_of c.args.words.now)) (sym c.in-Ok.is ∙ c.shape.ensures.value))
-    c.carry_out.ensures.does
+    (λ _. ap₂ (λ switches arguments. done shape.command limits windows document widget switches shape.arguments arguments) (switches-part c.args.words.now shape) (arguments-part c.args.words.now shape)
+    ∙ ap (shaped limits windows document widget (texts_of c.args.words.now)) (sym c.requires.shape))
+    (c.carry_out.ensures.does windows)

@@ -1,22 +1,23 @@
 use Rattle.std.proofs.Common.{◌≡◌, sym, ap, subst, ◌∙◌}
-use Rattle.std.specs.Prelude.{OnOk, get_or, ◌+◌, ◌*◌, ◌++◌, ◌∷◌, []}
+use Rattle.std.specs.Prelude.{IfOk, get_or, ◌+◌, ◌*◌, ◌++◌, ◌∷◌, []}
 use Rattle.text_model.specs.declared.edits.Step.TheVariants.{TakeMark}
 use Rattle.std.proofs.lemmas.List.{take_all}
 use Rattle.text_model.specs.Steps.{Fits, after}
 use Rattle.command_parts.proofs.TakeLaws.{drops, drops-fit, drops-after, drops-more}
-use Rattle.command_parts.proofs.edits.drop_widgets.Goals as goal
+use Rattle.command_parts.proofs.edits.prepare_drop.Goals as goal
 
-pub make-requires : goal.make-requires
-make-requires g c =
+pub prepare-requires : goal.prepare-requires
+prepare-requires g c =
     let content = g.S.TextStore.content c.args.store.now in
     let steps : c.loop-widget.steps ≡ drops c.args.widgets.now = c.loop-widget.invariant ∙ ap drops (take_all c.loop-widget.widget-index c.args.widgets.now c.loop-widget-test.false) in
     subst (λ ss. Fits ss content) (sym steps) (drops-fit c.args.widgets.now content c.requires)
 
-pub returns-clause-ok : goal.returns-clause-ok
-returns-clause-ok g c =
+pub returns-clause-outcome : goal.returns-clause-outcome
+returns-clause-outcome g c =
     let content = g.S.TextStore.content c.args.store.now in
     let steps : c.loop-widget.steps ≡ drops c.args.widgets.now = c.loop-widget.invariant ∙ ap drops (take_all c.loop-widget.widget-index c.args.widgets.now c.loop-widget-test.false) in
-    subst (λ made. OnOk c.make.result (g.S.TextStore.content c.make.new.store ≡ made)) (ap (λ ss. after ss content) steps ∙ drops-after c.args.widgets.now content) c.make.ensures.ok
+    subst (λ made. IfOk c.prepare.result (λ change. g.S.TextStore.outcome c.prepare.new.self change ≡ made))
+    (ap (λ ss. after ss content) steps ∙ drops-after c.args.widgets.now content) c.prepare.ensures.outcome
 
 pub loop-widget-preserved : goal.loop-widget-preserved
 loop-widget-preserved g c =

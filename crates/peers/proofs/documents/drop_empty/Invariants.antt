@@ -1,0 +1,12 @@
+use Rattle.std.proofs.Common.{◌≡◌, ◌-◌, filter, length}
+use Rattle.tcl_words.specs.Unread.{texts_of}
+use Rattle.documents.specs.Widgets.{keeps_some}
+use Rattle.peers.proofs.WindowLaws.{kept_from}
+use Rattle.peers.proofs.documents.drop_empty.Given as goal
+
+abbrev pub invariant-loop-place : goal.invariant-loop-place
+invariant-loop-place g l =
+    kept_from (keeps_some (texts_of l.names)) l.place l.documents.items ≡ filter (keeps_some (texts_of l.names)) l.fn.documents.items
+
+abbrev pub decreases-loop-place : goal.decreases-loop-place
+decreases-loop-place g l = length l.documents.items - l.place

@@ -1,0 +1,8 @@
+use Rattle.std.proofs.Common.{sym, ap, ◌∙◌}
+use Rattle.std.specs.Prelude.{chars}
+use Rattle.peers.specs.Windows.{home_in}
+use Rattle.peers.proofs.WindowLaws.{home-seen}
+use Rattle.peers.proofs.windows.Windows.home.Goals as goal
+
+pub returns : goal.returns
+returns c = c.copied.ensures ∙ c.get.ensures.value ∙ sym (home-seen c.args.name.now c.utf8.name c.self.inside.homes.entries) ∙ ap (home_in (chars c.args.name.now)) c.self.view_is
