@@ -3,7 +3,7 @@
 
 mod commands;
 mod deletions;
-mod documents;
+mod document_list;
 mod history;
 mod indices;
 mod marks;

@@ -13,7 +13,7 @@ ghost use Rattle.peers.specs.World.{all_windows, document_at, home};
 ghost use Rattle.documents.specs.Options.{AreLines};
 
 use crate::commands::command;
-use crate::documents::Documents;
+use crate::document_list::Documents;
 use crate::options::settings_given;
 use crate::peers::peer_settings;
 use crate::words::is_window_name;

@@ -9,7 +9,7 @@ use Rattle.documents.specs.Widgets.{with_peer}
 use Rattle.peers.specs.Windows.{Homes, homes_of, names_in}
 use Rattle.peers.specs.World.{document_at, windows_of}
 use Rattle.peers.proofs.WorldLaws.{absent-home, all-at, all-changed, front-windows, homes-windows, own-absent, own-count, peer-homes, read-is, remove-insert, same-homes, windows-count}
-use Rattle.peers.proofs.documents.Documents.add_peer.Goals as goal
+use Rattle.peers.proofs.document_list.Documents.add_peer.Goals as goal
 
 pub put-requires-clause-new : goal.put-requires-clause-new
 put-requires-clause-new g c = absent-home (chars c.args.name.now) c.args.self.now.list.items c.args.self.now.windows c.requires.found c.requires.new

@@ -9,7 +9,7 @@ use Rattle.documents.specs.Widgets.{keeps_some, thinned}
 use Rattle.peers.specs.Windows.{names_in}
 use Rattle.peers.specs.World.{windows_of}
 use Rattle.peers.proofs.WorldLaws.{all-kept, homes-windows, left-documents, left-homes}
-use Rattle.peers.proofs.documents.Documents.drop_widgets.Goals as goal
+use Rattle.peers.proofs.document_list.Documents.drop_widgets.Goals as goal
 
 pub note_places-requires : goal.note_places-requires
 note_places-requires g c =

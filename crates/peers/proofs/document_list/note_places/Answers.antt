@@ -6,7 +6,7 @@ use Rattle.documents.specs.Widgets.{bare_document}
 use Rattle.peers.specs.World.{document_at}
 use Rattle.peers.proofs.HomeLaws.{noted-all, noted-more, noted-within}
 use Rattle.peers.proofs.WorldLaws.{read-count}
-use Rattle.peers.proofs.documents.note_places.Goals as goal
+use Rattle.peers.proofs.document_list.note_places.Goals as goal
 
 pub set_homes-requires-clause-within : goal.set_homes-requires-clause-within
 set_homes-requires-clause-within g c =

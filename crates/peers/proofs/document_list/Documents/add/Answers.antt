@@ -6,7 +6,7 @@ use Rattle.documents.specs.Documents.{Document}
 use Rattle.documents.specs.WellFormed.{IsWellFormedDocument}
 use Rattle.peers.specs.Windows.{homes_of, names_in}
 use Rattle.peers.proofs.WorldLaws.{absent-home, added-homes, all-added, homes-windows}
-use Rattle.peers.proofs.documents.Documents.add.Goals as goal
+use Rattle.peers.proofs.document_list.Documents.add.Goals as goal
 
 pub put-requires-clause-new : goal.put-requires-clause-new
 put-requires-clause-new g c = absent-home (chars c.args.name.now) c.args.self.now.list.items c.args.self.now.windows c.requires.found c.requires.new

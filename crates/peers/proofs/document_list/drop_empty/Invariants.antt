@@ -2,7 +2,7 @@ use Rattle.std.proofs.Common.{◌≡◌, ◌-◌, filter, length}
 use Rattle.tcl_words.specs.Unread.{texts_of}
 use Rattle.documents.specs.Widgets.{keeps_some}
 use Rattle.peers.proofs.WindowLaws.{kept_from}
-use Rattle.peers.proofs.documents.drop_empty.Given as goal
+use Rattle.peers.proofs.document_list.drop_empty.Given as goal
 
 abbrev pub invariant-loop-place : goal.invariant-loop-place
 invariant-loop-place g l =

@@ -4,7 +4,7 @@ use Rattle.documents.specs.Documents.{Document, Widget}
 use Rattle.documents.specs.Widgets.{bare_document}
 use Rattle.peers.specs.World.{document_at}
 use Rattle.peers.proofs.WorldLaws.{front-windows, next-windows, read-count}
-use Rattle.peers.proofs.documents.count_to.Goals as goal
+use Rattle.peers.proofs.document_list.count_to.Goals as goal
 
 pub overflow_add-count : goal.overflow_add-count
 overflow_add-count g c =

@@ -1,6 +1,6 @@
 use Rattle.std.proofs.Common.{◌≡◌, length, take}
 use Rattle.peers.specs.World.{windows_of}
-use Rattle.peers.proofs.documents.count_to.Given as goal
+use Rattle.peers.proofs.document_list.count_to.Given as goal
 
 abbrev pub invariant-loop-at : goal.invariant-loop-at
 invariant-loop-at g l = l.count ≡ length (windows_of (take l.at l.documents))
