@@ -1,8 +1,10 @@
 pub mod ArgumentLaws
 pub mod GotLaws
 pub mod HomeLaws
+pub mod HomeStepLaws
 pub mod NameLaws
 pub mod OptionLaws
+pub mod PeerLaws
 pub mod PlaceLaws
 pub mod PromiseLaws
 pub mod SwitchLaws

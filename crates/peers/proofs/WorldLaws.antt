@@ -324,7 +324,7 @@ formed-left limits names documents new (Err error) formed made kept distinct all
 
 -- ---- a widget more of a document
 
-set-same : (documents : List Document) (place : ℕ) → slice_set documents place (document_at documents place) ≡ documents
+pub set-same : (documents : List Document) (place : ℕ) → slice_set documents place (document_at documents place) ≡ documents
 set-same [] place = refl
 set-same (document ∷ documents) zero = refl
 set-same (document ∷ documents) (suc place) = ap (λ ds. document ∷ ds) (set-same documents place)

@@ -1,8 +1,9 @@
-ghost use Rattle.std.specs.Prelude.{◌≡◌, ◌≢◌, ◌<◌, Some, Ok, [], false, true, length, chars, IfErr, ◌+◌, ◌≤◌};
+ghost use Rattle.std.specs.Prelude.{◌≡◌, ◌≢◌, ◌<◌, Some, Ok, [], false, true, nat_le, length, chars, IfErr, ◌+◌, ◌≤◌};
 ghost use Rattle.text_model.specs.Lines.{lines};
 ghost use Rattle.tcl_words.specs.Unread.{texts_of};
 ghost use Rattle.command_table.specs.Reading.{reading};
 ghost use Rattle.command_parts.specs.Settings.{is_behind};
+ghost use Rattle.command_parts.specs.Words.{is_among};
 ghost use Rattle.documents.specs.Documents.{characters, widget_at};
 ghost use Rattle.documents.specs.Kept.{is_window_name};
 ghost use Rattle.peers.specs.Step.{changed, create_named, create, create_shaped, destroy, destroy_shaped, on_home, on_widget, step, takes_none};
@@ -64,6 +65,20 @@ impl<S: TextStore> World<S> {
         }
     }
 
+    /// Whether a widget of any document has this name.
+    fn has_widget(&self, name: &str) -> bool
+        ensures { result ≡ is_among (chars name.now) (all_windows self.now) }
+    {
+        self.documents.windows.home(name).is_some()
+    }
+
+    /// Whether there are as many widgets, of all documents, as there may be.
+    fn is_full(&self) -> bool
+        ensures { result ≡ nat_le self.now.limits.widgets (length (all_windows self.now)) }
+    {
+        self.documents.windows.len() >= self.limits.widgets() as usize
+    }
+
     /// Makes a widget of a name on a document of its own, with options.
     fn create_named(&mut self, name: &str, settings: Settings) -> Result<Answer, Fault>
         requires named { is_window_name (chars name.now) ≡ true }
@@ -74,10 +89,10 @@ impl<S: TextStore> World<S> {
         ensures refused { IfErr result (λ _. self.new ≡ self.old) }
         ensures well_formed { IsWellFormed self.new }
     {
-        if self.documents.windows.home(name).is_some() {
+        if self.has_widget(name) {
             return Err(Fault::WindowExists(1));
         }
-        if self.documents.windows.len() >= self.limits.widgets() as usize {
+        if self.is_full() {
             return Err(Fault::TooManyWidgets);
         }
         self.documents.add(name, settings)?;
@@ -162,10 +177,10 @@ impl<S: TextStore> World<S> {
         ensures refused { IfErr result (λ _. self.new ≡ self.old) }
         ensures well_formed { IsWellFormed self.new }
     {
-        if self.documents.windows.home(name).is_some() {
+        if self.has_widget(name) {
             return Err(Fault::WindowExists(at));
         }
-        if self.documents.windows.len() >= self.limits.widgets() as usize {
+        if self.is_full() {
             return Err(Fault::TooManyWidgets);
         }
         self.documents.add_peer(place, name, settings)?;

@@ -1,0 +1,79 @@
+-- What a change of one document makes of a world.
+use Rattle.std.proofs.Common.{◌≡◌, ◌≢◌, ℕ, zero, suc, ◌<◌, Bool, true, false, cond, List, [], ◌∷◌, length, slice_set, option_map, Option, Some, None, refl, sym, ap, subst, ◌∙◌, arith}
+use Rattle.std.specs.Prelude.{Ok, Err, Result, IfErr, if◌then◌else◌}
+use Rattle.std.specs.List.{AllByRecursion, IsDistinct}
+use Rattle.std.proofs.lemmas.List.{length-map}
+use Rattle.text_model.specs.LimitTable.{LimitTable}
+use Rattle.command_parts.specs.Words.{is_among, is_same}
+use Rattle.command_parts.specs.declared.answers.Answer.{Answer}
+use Rattle.command_parts.specs.declared.answers.Fault.{Fault}
+use Rattle.command_parts.specs.declared.answers.Fault.TheVariants.{Memory}
+use Rattle.documents.specs.Documents.{Document, Widget}
+use Rattle.documents.specs.Promise.{Change, Does}
+use Rattle.documents.specs.WellFormed.{IsWellFormedDocument, window_names}
+use Rattle.peers.specs.Step.{changed}
+use Rattle.peers.specs.WellFormed.{IsWellFormed}
+use Rattle.peers.specs.Windows.{Homes, homes_of, names_in}
+use Rattle.peers.specs.World.{document_at, home, windows_of}
+use Rattle.peers.proofs.WorldLaws.{all-at, all-changed, homes-windows, same-homes, set-same, with_all}
+
+-- ---- where a widget is found
+
+pub home-is : (name : List ℕ) (documents : List Document) (place : ℕ) → home name documents ≡ Some place
+    → (place < length documents) × (is_among name (window_names (document_at documents place)) ≡ true)
+home-is name [] place found = absurd (let none : None ≡ Some place = found in cc)
+home-is name (document ∷ documents) place found =
+    elim (is_among name (window_names document)) as (λ b. is_among name (window_names document) ≡ b
+        → cond b (Some 0) (option_map suc (home name documents)) ≡ Some place
+        → (place < length (document ∷ documents)) × (is_among name (window_names (document_at (document ∷ documents) place)) ≡ true)) [
+      | true ↦ λ among here.
+          let first : 0 ≡ place = let same : Some 0 ≡ Some place = here in cc in
+          subst (λ at. (at < length (document ∷ documents)) × (is_among name (window_names (document_at (document ∷ documents) at)) ≡ true)) first (omega arith, among)
+      | false ↦ λ _ there. later (home name documents) refl there
+    ] refl found
+  where
+    later : (other : Option ℕ) → home name documents ≡ other → option_map suc other ≡ Some place
+        → (place < length (document ∷ documents)) × (is_among name (window_names (document_at (document ∷ documents) place)) ≡ true)
+    later None is there = absurd (let none : None ≡ Some place = there in cc)
+    later (Some at) is there =
+        let next : suc at ≡ place = let same : Some (suc at) ≡ Some place = there in cc in
+        let rest = home-is name documents at is in
+        subst (λ at. (at < length (document ∷ documents)) × (is_among name (window_names (document_at (document ∷ documents) at)) ≡ true)) next (omega (arith, rest.0), rest.1)
+
+-- ---- a command of one document
+
+module _ (limits : LimitTable) (documents : List Document) (place : ℕ) (new : Document) (result : Result Answer Fault) (change : Change)
+    (does : Does limits (document_at documents place) new result change) where
+
+  pub does-world : result ≢ Err Memory → with_all limits (slice_set documents place new) ≡ (changed (with_all limits documents) place change).world
+  does-world not = ap (λ document. with_all limits (slice_set documents place document)) (does.document not)
+
+  pub does-refuse : IfErr result (λ _. with_all limits (slice_set documents place new) ≡ with_all limits documents)
+  does-refuse = refuse result does.refused
+    where
+      refuse : (found : Result Answer Fault) → IfErr found (λ _. new ≡ document_at documents place)
+          → IfErr found (λ _. with_all limits (slice_set documents place new) ≡ with_all limits documents)
+      refuse (Ok answer) same = tt
+      refuse (Err fault) same = ap (with_all limits) (ap (slice_set documents place) same ∙ set-same documents place)
+
+  pub does-homes : homes_of (slice_set documents place new) ≡ homes_of documents
+  does-homes = same-homes documents place new does.windows
+
+  does-windows : windows_of (slice_set documents place new) ≡ windows_of documents
+  does-windows = sym (homes-windows (slice_set documents place new)) ∙ ap names_in does-homes ∙ homes-windows documents
+
+  pub does-form : IsWellFormed (with_all limits documents) → place < length documents → IsWellFormed (with_all limits (slice_set documents place new))
+  does-form formed within =
+      let old = document_at documents place in
+      let shown = all-at (λ (d : Document). 0 < length d.widgets) documents place formed.shown within in
+      let few = ap length does.windows in
+      let here = length-map new.widgets (λ (widget : Widget). widget.name) in
+      let there = length-map old.widgets (λ (widget : Widget). widget.name) in
+      record {
+        limits = formed.limits;
+        shown = all-changed (λ (d : Document). 0 < length d.widgets) documents place new formed.shown (omega (arith, shown, few, here, there));
+        documents = all-changed (IsWellFormedDocument limits) documents place new formed.documents
+          (does.well_formed (all-at (IsWellFormedDocument limits) documents place formed.documents within));
+        widget_names = subst (IsDistinct is_same) (sym does-windows) formed.widget_names;
+        widget_count = let count = ap length does-windows in omega (arith, count, formed.widget_count);
+      }
