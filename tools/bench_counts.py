@@ -107,7 +107,7 @@ KINDS = [
     Kind("look up a mark", marks, of_marks(".t index {mark}")),
     Kind("next and previous mark", marks, of_marks(".t mark next {mark}", ".t mark previous {mark}")),
     Kind("tag a word", nothing, each_line(".t tag add y {line}.2 {line}.6")),
-    Kind("tag, and take it off", tags, each_line(".t tag add y {line}.2 {line}.6", ".t tag remove y {line}.2 {line}.6")),
+    Kind("tag and take it off", tags, each_line(".t tag add y {line}.0 {line}.6", ".t tag remove y {line}.0 {line}.6")),
     Kind("next and previous range", tags, each_line(".t tag nextrange x {line}.0", ".t tag prevrange x {line}.0")),
     Kind("tags of a character", tags, each_line(".t tag names {line}.3")),
     Kind("insert by a peer", peer, each_line(".p insert {line}.3 x")),
