@@ -29,15 +29,16 @@ home-is name (document ∷ documents) place found =
       | true ↦ λ among here.
           let first : 0 ≡ place = let same : Some 0 ≡ Some place = here in cc in
           subst (λ at. (at < length (document ∷ documents)) × (is_among name (window_names (document_at (document ∷ documents) at)) ≡ true)) first (omega arith, among)
-      | false ↦ λ _ there. later (home name documents) refl there
+      | false ↦ λ _ there. later (home name documents) refl there (home-is name documents)
     ] refl found
   where
     later : (other : Option ℕ) → home name documents ≡ other → option_map suc other ≡ Some place
+        → ((at : ℕ) → home name documents ≡ Some at → (at < length documents) × (is_among name (window_names (document_at documents at)) ≡ true))
         → (place < length (document ∷ documents)) × (is_among name (window_names (document_at (document ∷ documents) place)) ≡ true)
-    later None is there = absurd (let none : None ≡ Some place = there in cc)
-    later (Some at) is there =
+    later None is there further = absurd (let none : None ≡ Some place = there in cc)
+    later (Some at) is there further =
         let next : suc at ≡ place = let same : Some (suc at) ≡ Some place = there in cc in
-        let rest = home-is name documents at is in
+        let rest = further at is in
         subst (λ at. (at < length (document ∷ documents)) × (is_among name (window_names (document_at (document ∷ documents) at)) ≡ true)) next (omega (arith, rest.0), rest.1)
 
 -- ---- a command of one document

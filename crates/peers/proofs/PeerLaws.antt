@@ -22,13 +22,13 @@ no-peer limits windows document widget at words fault none =
 module _ (limits : LimitTable) (windows : List (List ℕ)) (document : Document) (widget : Widget) (at : ℕ)
     (words : List (List ℕ)) (name : List ℕ) (options : List (List ℕ)) (first : first_of words ≡ Ok (name, options)) where
 
-  with_options : Result Settings Fault → Change
+  abbrev with_options : Result Settings Fault → Change
   with_options found = change_with document found (peer_with limits windows document at name)
 
-  given : Result Settings Fault
+  abbrev given : Result Settings Fault
   given = settings_given document (at + 1) options (peer_settings document widget)
 
-  worded : Bool → Change
+  abbrev worded : Bool → Change
   worded named = if named then with_options given else refused document (InvalidCommandName at)
 
   read : peer_create limits windows document widget at words ≡ worded (is_window_name name)

@@ -89,6 +89,8 @@ impl<S: TextStore> World<S> {
         ensures refused { IfErr result (λ _. self.new ≡ self.old) }
         ensures well_formed { IsWellFormed self.new }
     {
+        // Read first, so that every return knows that the world is well formed.
+        let _documents = &self.documents;
         if self.has_widget(name) {
             return Err(Fault::WindowExists(1));
         }
@@ -177,6 +179,8 @@ impl<S: TextStore> World<S> {
         ensures refused { IfErr result (λ _. self.new ≡ self.old) }
         ensures well_formed { IsWellFormed self.new }
     {
+        // Read first, so that every return knows that the world is well formed.
+        let _documents = &self.documents;
         if self.has_widget(name) {
             return Err(Fault::WindowExists(at));
         }
@@ -231,8 +235,7 @@ impl<S: TextStore> World<S> {
         ensures sure { is_frugal shape.command ≡ true → result ≢ Err Fault.Memory }
         ensures well_formed { IsWellFormed self.new }
     {
-        let document = &mut self.documents.list[place];
-        let Some(widget) = document.find_widget(name) else {
+        let Some(widget) = self.documents.list[place].find_widget(name) else {
             unreachable!()
         };
         match shape.command {
@@ -242,7 +245,13 @@ impl<S: TextStore> World<S> {
                 shape.arguments,
                 &words[shape.arguments..],
             ),
-            _ => command(document, &self.limits, widget, shape, words),
+            _ => command(
+                &mut self.documents.list[place],
+                &self.limits,
+                widget,
+                shape,
+                words,
+            ),
         }
     }
 
