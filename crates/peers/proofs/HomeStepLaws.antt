@@ -1,6 +1,6 @@
 -- What a change of one document makes of a world.
 use Rattle.std.proofs.Common.{◌≡◌, ◌≢◌, ℕ, zero, suc, ◌<◌, Bool, true, false, cond, List, [], ◌∷◌, length, slice_set, option_map, Option, Some, None, refl, sym, ap, subst, ◌∙◌, arith}
-use Rattle.std.specs.Prelude.{Ok, Err, Result, IfErr, if◌then◌else◌}
+use Rattle.std.specs.Prelude.{Ok, Err, Result, IfErr, find, map, ◌||◌, if◌then◌else◌}
 use Rattle.std.specs.List.{AllByRecursion, IsDistinct}
 use Rattle.std.proofs.lemmas.List.{length-map}
 use Rattle.text_model.specs.LimitTable.{LimitTable}
@@ -9,12 +9,21 @@ use Rattle.command_parts.specs.declared.answers.Answer.{Answer}
 use Rattle.command_parts.specs.declared.answers.Fault.{Fault}
 use Rattle.command_parts.specs.declared.answers.Fault.TheVariants.{Memory}
 use Rattle.documents.specs.Documents.{Document, Widget}
-use Rattle.documents.specs.Promise.{Change, Does}
+use Rattle.documents.specs.Promise.{Change, Does, refused}
+use Rattle.documents.specs.Widgets.{widget_named}
+use Rattle.documents.proofs.FindLaws.{bytes_eq-turned}
+use Rattle.command_parts.specs.Faults.{shape_fault}
+use Rattle.command_table.specs.Reading.{reading}
+use Rattle.command_table.specs.declared.commands.Command.TheVariants.{PeerCreate}
+use Rattle.command_table.specs.declared.shapes.Shape.{Shape}
+use Rattle.command_table.specs.declared.shapes.ShapeFault.{ShapeFault}
+use Rattle.peers.specs.Command.{arguments_of, command, done, shaped, switches_of}
+use Rattle.peers.specs.Peers.{peer_create}
 use Rattle.documents.specs.WellFormed.{IsWellFormedDocument, window_names}
-use Rattle.peers.specs.Step.{changed}
+use Rattle.peers.specs.Step.{changed, on_found}
 use Rattle.peers.specs.WellFormed.{IsWellFormed}
 use Rattle.peers.specs.Windows.{Homes, homes_of, names_in}
-use Rattle.peers.specs.World.{document_at, home, windows_of}
+use Rattle.peers.specs.World.{World, all_windows, document_at, home, windows_of}
 use Rattle.peers.proofs.WorldLaws.{all-at, all-changed, homes-windows, same-homes, set-same, with_all}
 
 -- ---- where a widget is found
@@ -40,6 +49,40 @@ home-is name (document ∷ documents) place found =
         let next : suc at ≡ place = let same : Some (suc at) ≡ Some place = there in cc in
         let rest = further at is in
         subst (λ at. (at < length (document ∷ documents)) × (is_among name (window_names (document_at (document ∷ documents) at)) ≡ true)) next (omega (arith, rest.0), rest.1)
+
+-- a name of a document is that of one of its widgets
+pub some-widget : (name : List ℕ) (document : Document) → is_among name (window_names document) ≡ true → (widget : Widget) × (widget_named name document ≡ Some widget)
+some-widget name document among = all document.widgets among
+  where
+    all : (widgets : List Widget) → is_among name (map (λ (widget : Widget). widget.name) widgets) ≡ true
+        → (found : Widget) × (find (λ (widget : Widget). is_same widget.name name) widgets ≡ Some found)
+    all [] none = absurd (let no : false ≡ true = none in cc)
+    all (widget ∷ widgets) is =
+        elim (is_same name widget.name) as (λ b. is_same name widget.name ≡ b → (b || is_among name (map (λ (w : Widget). w.name) widgets)) ≡ true
+            → (found : Widget) × (find (λ (w : Widget). is_same w.name name) (widget ∷ widgets) ≡ Some found)) [
+          | true ↦ λ same _. (widget, ap (λ b. cond b (Some widget) (find (λ (w : Widget). is_same w.name name) widgets)) (bytes_eq-turned widget.name name ∙ same))
+          | false ↦ λ other rest.
+              let found = all widgets rest in
+              (found.0, ap (λ b. cond b (Some widget) (find (λ (w : Widget). is_same w.name name) widgets)) (bytes_eq-turned widget.name name ∙ other) ∙ found.1)
+        ] refl is
+
+-- a command of a widget that is found changes its document
+pub found-change : (world : World) (place : ℕ) (document : Document) (words : List (List ℕ)) (found : Option Widget) (widget : Widget) → found ≡ Some widget
+    → on_found world place document words found ≡ changed world place (command world.limits (all_windows world) document widget words)
+found-change world place document words found widget is = ap (on_found world place document words) is
+
+-- words that are `peer create`
+pub peer-command : (limits : LimitTable) (windows : List (List ℕ)) (document : Document) (widget : Widget) (words : List (List ℕ)) (shape : Shape)
+    → reading words ≡ Ok shape → shape.command ≡ PeerCreate
+    → command limits windows document widget words ≡ peer_create limits windows document widget shape.arguments (arguments_of shape words)
+peer-command limits windows document widget words shape is peer =
+    ap (shaped limits windows document widget words) is
+    ∙ ap (λ which. done which limits windows document widget (switches_of shape words) shape.arguments (arguments_of shape words)) peer
+
+-- words that are no command
+pub bad-command : (limits : LimitTable) (windows : List (List ℕ)) (document : Document) (widget : Widget) (words : List (List ℕ)) (fault : ShapeFault)
+    → reading words ≡ Err fault → command limits windows document widget words ≡ refused document (shape_fault fault)
+bad-command limits windows document widget words fault is = ap (shaped limits windows document widget words) is
 
 -- ---- a command of one document
 
