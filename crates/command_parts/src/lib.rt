@@ -6,6 +6,7 @@ mod answers;
 mod arguments;
 mod comparisons;
 mod edits;
+mod excess;
 mod listing;
 mod lists;
 mod marking;

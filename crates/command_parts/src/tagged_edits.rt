@@ -17,6 +17,7 @@ ghost use Rattle.command_parts.specs.Tagging.{IsFront, piece_of};
 
 use crate::answers::Fault;
 use crate::edits::{put_texts, replace_texts, set_slot};
+use crate::excess::{excess_of, is_one_too_many};
 use crate::lists::Pair;
 use crate::tagging::{make_listed, make_tag, own_slot, pieces_of};
 use edit_ops::{Anchors, Piece, Recording, Span};
@@ -99,6 +100,9 @@ pub fn put_pairs<S: TextStore>(
     ensures fault { IfErr result (λ fault. fault ≢ Memory → excess limits.now (length (with_names (names_of tags.old.tags) (all_names pairs.items)))
         (length (S.content store.old).cells + total pairs.items) ≡ Some fault) }
 {
+    if let Some(fault) = excess_of(limits, tags, &pairs, store.len()) {
+        return Err(fault);
+    }
     let pieces = match make_pieces(alloc, limits, tags, widget, pairs) {
         Err(fault) => return Err(fault),
         Ok(pieces) => pieces,
@@ -144,6 +148,10 @@ pub fn replace_pairs<S: TextStore>(
     ensures fault { IfErr result (λ fault. fault ≢ Memory → excess limits.now (length (with_names (names_of tags.old.tags) (all_names pairs.items)))
         (length_replaced (length (S.content store.old).cells) last from to + total pairs.items) ≡ Some fault) }
 {
+    let left = store.len() - (to.min(last) - from.min(last));
+    if let Some(fault) = excess_of(limits, tags, &pairs, left) {
+        return Err(fault);
+    }
     let pieces = match make_pieces(alloc, limits, tags, widget, pairs) {
         Err(fault) => return Err(fault),
         Ok(pieces) => pieces,
@@ -180,6 +188,9 @@ pub fn tag_spans<S: TextStore>(
 {
     // Where one of the limits is read, all are known to be in their bounds.
     let _chars = limits.chars();
+    if is_one_too_many(limits, tags, name) {
+        return Err(Fault::TooManyTags);
+    }
     match make_tag(alloc, tags, name) {
         Err(fault) => Err(fault),
         Ok(slot) => {
