@@ -1,8 +1,10 @@
 //! Whether a command's texts and tag lists go past the limits, decided before anything is made. It takes no memory.
 ghost use Rattle.std.specs.Prelude.{◌≡◌, ◌+◌, ◌<◌, ◌≤◌, ◌++◌, ◌^◌, ◌-◌, nat_lt, not, true, None, length, chars, min, IfSome};
+ghost use Rattle.std.specs.Char.{IsScalar};
+ghost use Rattle.std.specs.List.{All};
 ghost use Rattle.tag_table.specs.Tags.{names_of};
 ghost use Rattle.tcl_words.specs.Unread.{texts_of};
-ghost use Rattle.text_model.specs.declared.limits.TheConstants.Limits.{MOST_TAGS};
+ghost use Rattle.text_model.specs.LimitTable.{AreLimits};
 ghost use Rattle.command_parts.specs.Edits.{excess};
 ghost use Rattle.command_parts.specs.Lists.{all_names, total, with_name, with_names};
 ghost use Rattle.command_parts.specs.Words.{is_among};
@@ -12,7 +14,7 @@ use crate::lists::Pair;
 use crate::tagging::listed_names;
 use crate::words::is_word;
 use tag_table::TagTable;
-use text_model::Limits;
+use text_model::{Limits, Text};
 
 /// Whether a name is one of these. The last are looked at first, so that a name which comes again and again is found
 /// soon.
@@ -48,7 +50,13 @@ fn is_new(tags: &TagTable, before: &[Pair], names: &[String], name: &str) -> boo
     ensures { result ≡ not (is_among (chars name.now)
         (with_names (with_names (names_of tags.now.tags) (all_names before.now)) (texts_of names.now))) }
 {
-    tags.find(name).is_none() && !is_repeated(name, names) && !is_listed(name, before)
+    if tags.find(name).is_some() {
+        return false;
+    }
+    if is_repeated(name, names) {
+        return false;
+    }
+    !is_listed(name, before)
 }
 
 /// How many tags there are with those of a list, where so many are there with those of the lists before it; none where
@@ -60,7 +68,6 @@ fn count_with(
     names: &[String],
     count: usize,
 ) -> Option<usize>
-    requires most { most ≤ MOST_TAGS + 1 }
     requires few { count ≤ most }
     requires count { count ≡ length (with_names (names_of tags.now.tags) (all_names before.now)) }
     ensures few { IfSome result (λ count. count ≤ most) }
@@ -106,27 +113,48 @@ fn has_too_many_tags(limits: &Limits, tags: &TagTable, pairs: &[Pair]) -> bool
     false
 }
 
+/// How many characters a text has.
+fn count_of(text: &Text) -> usize
+    ensures { result ≡ length text.now }
+{
+    text.as_str().chars().count()
+}
+
 /// How many characters the texts of pairs have, or the greatest number where that is more.
 fn total_of(pairs: &[Pair]) -> usize
     ensures { result ≡ min (total pairs.now) (2 ^ 64 - 1) }
 {
     let mut most = 0usize;
     for pair in pairs {
-        most = most.saturating_add(pair.text.as_str().chars().count());
+        most = most.saturating_add(count_of(&pair.text));
     }
     most
+}
+
+/// The texts of pairs are of Unicode scalar values, as the bytes of each show.
+fn read_texts(pairs: &[Pair])
+    ensures { All (λ pair. All IsScalar pair.text) pairs.now }
+{
+    for pair in pairs {
+        let _text = pair.text.as_str();
+    }
 }
 
 /// The fault of these pairs where their lists bring more tags, or their texts more characters, than there may be beside
 /// so many characters.
 pub fn excess_of(limits: &Limits, tags: &TagTable, pairs: &[Pair], len: usize) -> Option<Fault>
-    ensures { result ≡ excess limits.now
+    ensures value { result ≡ excess limits.now
         (length (with_names (names_of tags.now.tags) (all_names pairs.now))) (len + total pairs.now) }
+    ensures bounds { AreLimits limits.now }
+    ensures scalars { All (λ pair. All IsScalar pair.text) pairs.now }
 {
+    // Where one of the limits is read, all are known to be in their bounds.
+    let most = limits.chars();
+    read_texts(pairs);
     if has_too_many_tags(limits, tags, pairs) {
         return Some(Fault::TooManyTags);
     }
-    if len.saturating_add(total_of(pairs)) > limits.chars() {
+    if len.saturating_add(total_of(pairs)) > most {
         return Some(Fault::TextTooLong);
     }
     None
@@ -134,8 +162,12 @@ pub fn excess_of(limits: &Limits, tags: &TagTable, pairs: &[Pair], len: usize) -
 
 /// Whether a tag of this name is one too many.
 pub fn is_one_too_many(limits: &Limits, tags: &TagTable, name: &str) -> bool
-    ensures { result ≡ nat_lt (limits.now.tags + 1) (length (with_name (names_of tags.now.tags) (chars name.now))) }
+    ensures value { result
+        ≡ nat_lt (limits.now.tags + 1) (length (with_name (names_of tags.now.tags) (chars name.now))) }
+    ensures bounds { AreLimits limits.now }
 {
+    // Where one of the limits is read, all are known to be in their bounds.
+    let _chars = limits.chars();
     let most = limits.tags() as usize + 1;
     if tags.find(name).is_some() {
         tags.len() > most
