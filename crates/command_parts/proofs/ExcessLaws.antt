@@ -1,5 +1,6 @@
 -- Whether there are more tags or characters than there may be.
-use Rattle.std.proofs.Common.{◌≡◌, ℕ, ◌+◌, ◌<◌, ◌≤◌, List, [], ◌∷◌, None, Some, length, map, refl, sym, ap, ap₂, ◌∙◌}
+use Rattle.std.proofs.Common.{◌≡◌, ℕ, ◌+◌, ◌<◌, ◌≤◌, true, false, List, [], ◌∷◌, None, Some, length, map, refl, sym, ap, ap₂, ◌∙◌, arith}
+use Rattle.std.proofs.lemmas.Bool.Decides.{nat_tests}
 use Rattle.std.specs.Prelude.{nat_lt, if◌then◌else◌}
 use Rattle.std.proofs.lemmas.Bool.{le-ltb, lt-ltb}
 use Rattle.std.proofs.lemmas.List.Sums.{sum_by-cons}
@@ -32,3 +33,11 @@ total-pieces tags widget [] = refl
 total-pieces tags widget (pair ∷ pairs) =
     sum_by-cons (λ (piece : Piece). length piece.text) (piece_of tags widget pair) (map (piece_of tags widget) pairs) ∙ ap (λ n. length pair.text + n) (total-pieces tags widget pairs)
     ∙ sym (sum_by-cons (λ (p : Pair). length p.text) pair pairs)
+
+-- where there is no fault, there is room for the tags
+pub excess-few : (limits : LimitTable) (tags chars : ℕ) → excess limits tags chars ≡ None → tags ≤ limits.tags + 1
+excess-few limits tags chars none =
+    elim (nat_lt (limits.tags + 1) tags) as (λ b. nat_lt (limits.tags + 1) tags ≡ b → (if b then Some TooManyTags else (if nat_lt limits.chars chars then Some TextTooLong else None)) ≡ None → tags ≤ limits.tags + 1) [
+      | true ↦ λ _ is. absurd (let h : Some TooManyTags ≡ None = is in cc)
+      | false ↦ λ few _. grind (arith, nat_tests, few)
+    ] refl none

@@ -1,3 +1,4 @@
+pub mod CountLaws
 pub mod ExcessLaws
 pub mod LeftLaws
 pub mod ListingLaws

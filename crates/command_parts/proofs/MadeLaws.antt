@@ -147,7 +147,7 @@ too_many {Z} names words at limit many =
     ∙ with_names-append names (texts_of (take at words)) (texts_of (drop at words)) in
     omega (arith, ap length split, with_names-longer (with_names names (texts_of (take at words))) (texts_of (drop at words)), many)
 
-all_names-append : (pairs more : List Pair) → all_names (pairs ++ more) ≡ all_names pairs ++ all_names more
+pub all_names-append : (pairs more : List Pair) → all_names (pairs ++ more) ≡ all_names pairs ++ all_names more
 all_names-append [] more = refl
 all_names-append (pair ∷ pairs) more = ap (λ ns. listed_names pair.names ++ ns) (all_names-append pairs more) ∙ sym (append_assoc (listed_names pair.names) (all_names pairs) (all_names more))
 

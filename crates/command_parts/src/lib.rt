@@ -6,6 +6,7 @@ mod answers;
 mod arguments;
 mod comparisons;
 mod edits;
+mod excess;
 mod listing;
 mod lists;
 mod marking;
@@ -23,6 +24,7 @@ pub use edits::{
     clear_slots, delete_spans, new_store, prepare_drop, put_mark, put_widget_marks, set_slot,
     take_marks,
 };
+pub use excess::is_one_too_many;
 pub use listing::{
     push_filled, push_mark_names, push_names, push_names_in, push_next, push_previous, push_ranges,
 };

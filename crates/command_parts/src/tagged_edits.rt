@@ -17,55 +17,40 @@ ghost use Rattle.command_parts.specs.Tagging.{IsFront, piece_of};
 
 use crate::answers::Fault;
 use crate::edits::{put_texts, replace_texts, set_slot};
+use crate::excess::excess_of;
 use crate::lists::Pair;
 use crate::tagging::{make_listed, make_tag, own_slot, pieces_of};
 use edit_ops::{Anchors, Piece, Recording, Span};
-use std::alloc::Global;
+use std::alloc::{AllocError, Global};
 use tag_table::TagTable;
 use text_model::{Limits, MarkNo, TagSlot, TextStore};
 use undo_stack::{EditKind, UndoStack};
 
-/// The texts of pairs are of Unicode scalar values, as the bytes of each show.
-fn read_texts(pairs: &[Pair])
-    ensures { All (λ pair. All IsScalar pair.text) pairs.now }
-{
-    for pair in pairs {
-        let _text = pair.text.as_str();
-    }
-}
-
-/// Makes the tags of pairs that are new, unless there are too many then, and gives the texts with the slots of their lists. Where
-/// that is refused, new tags may stand behind the others.
+/// Makes the tags of pairs that are new, of which there is room, and gives the texts with the slots of their lists. Where
+/// memory is refused, new tags may stand behind the others.
 fn make_pieces(
     alloc: Global,
-    limits: &Limits,
     tags: &mut TagTable,
     widget: TagSlot,
     pairs: Vec<Pair>,
-) -> Result<Vec<Piece>, Fault>
+) -> Result<Vec<Piece>, AllocError>
     requires roomy { tags.old.limit ≡ MOST_TAGS }
+    requires few { length (with_names (names_of tags.old.tags) (all_names pairs.items)) ≤ MOST_TAGS + 1 }
     requires known { widget.0 < MOST_WIDGETS }
-    ensures bounds { AreLimits limits.now }
     ensures front { IsFront tags.old tags.new }
     ensures sound { OnOk result (AreTags tags.new) }
-    ensures scalars { All (λ pair. All IsScalar pair.text) pairs.items }
     ensures made { OnOk result (names_of tags.new.tags ≡ with_names (names_of tags.old.tags) (all_names pairs.items)) }
     ensures pieces { IfOk result (λ pieces. pieces.items ≡ map (piece_of tags.new.tags widget.0) pairs.items) }
-    ensures few { OnOk result (length (with_names (names_of tags.old.tags) (all_names pairs.items)) ≤ limits.now.tags + 1) }
-    ensures fault { IfErr result (λ fault. fault ≢ Memory →
-        (fault ≡ TooManyTags) × (limits.now.tags + 1 < length (with_names (names_of tags.old.tags) (all_names pairs.items)))) }
 {
-    // Where one of the limits is read, all are known to be in their bounds.
-    let _chars = limits.chars();
-    read_texts(&pairs);
-    match make_listed(alloc, tags, &pairs) {
-        Err(fault) => return Err(fault),
-        Ok(()) => {}
+    match make_listed(alloc, tags, pairs.as_slice()) {
+        Err(Fault::Memory) => Err(AllocError),
+        Err(_) => unreachable!(),
+        Ok(()) => {
+            // Where the tags are counted, they are known to be those of a table.
+            let _count = tags.len();
+            pieces_of(alloc, tags, widget, pairs)
+        }
     }
-    if tags.len() > limits.tags() as usize + 1 {
-        return Err(Fault::TooManyTags);
-    }
-    Ok(pieces_of(alloc, tags, widget, pairs)?)
 }
 
 /// Makes the tags of pairs that are new, and puts their texts in. Where that is refused, new tags may stand behind the others.
@@ -99,10 +84,10 @@ pub fn put_pairs<S: TextStore>(
     ensures fault { IfErr result (λ fault. fault ≢ Memory → excess limits.now (length (with_names (names_of tags.old.tags) (all_names pairs.items)))
         (length (S.content store.old).cells + total pairs.items) ≡ Some fault) }
 {
-    let pieces = match make_pieces(alloc, limits, tags, widget, pairs) {
-        Err(fault) => return Err(fault),
-        Ok(pieces) => pieces,
-    };
+    if let Some(fault) = excess_of(limits, tags, pairs.as_slice(), store.len()) {
+        return Err(fault);
+    }
+    let pieces = make_pieces(alloc, tags, widget, pairs)?;
     put_texts(
         alloc, limits, store, history, anchors, at, &pieces, recording,
     )
@@ -144,49 +129,49 @@ pub fn replace_pairs<S: TextStore>(
     ensures fault { IfErr result (λ fault. fault ≢ Memory → excess limits.now (length (with_names (names_of tags.old.tags) (all_names pairs.items)))
         (length_replaced (length (S.content store.old).cells) last from to + total pairs.items) ≡ Some fault) }
 {
-    let pieces = match make_pieces(alloc, limits, tags, widget, pairs) {
-        Err(fault) => return Err(fault),
-        Ok(pieces) => pieces,
-    };
+    let left = store.len() - (to.min(last) - from.min(last));
+    if let Some(fault) = excess_of(limits, tags, pairs.as_slice(), left) {
+        return Err(fault);
+    }
+    let pieces = make_pieces(alloc, tags, widget, pairs)?;
     replace_texts(
         alloc, limits, store, history, anchors, last, from, to, &pieces, mark, recording,
     )
 }
 
-/// Makes a tag if it is new, and sets it on spans. Where that is refused, the new tag may stand behind the others.
+/// Makes a tag if it is new, of which there is room, and sets it on spans. Where memory is refused, the new tag may stand
+/// behind the others.
 pub fn tag_spans<S: TextStore>(
     alloc: Global,
-    limits: &Limits,
     tags: &mut TagTable,
     widget: TagSlot,
     store: &mut S,
     history: &mut UndoStack,
     name: &str,
     spans: &[Span],
-) -> Result<(), Fault>
+) -> Result<(), AllocError>
     requires spans { All (SpanFits (length (S.content store.old).cells)) spans.now }
     requires roomy { tags.old.limit ≡ MOST_TAGS }
+    requires few { length (with_name (names_of tags.old.tags) (chars name.now)) ≤ MOST_TAGS + 1 }
     requires known { widget.0 < MOST_WIDGETS }
     ensures front { IsFront tags.old tags.new }
     ensures sound { OnOk result (AreTags tags.new) }
     ensures made { OnOk result (names_of tags.new.tags ≡ with_name (names_of tags.old.tags) (chars name.now)) }
     ensures ok { OnOk result (option_map (λ slot. tagged slot true spans.now (S.content store.old)) (known_tags tags.new.tags widget.0 (chars name.now))
         ≡ Some (S.content store.new)) }
-    ensures room { OnOk result (length (with_name (names_of tags.old.tags) (chars name.now)) ≤ limits.now.tags + 1) }
     ensures err { OnErr result (S.content store.new ≡ S.content store.old) }
     ensures log { log_of history.new ≡ log_of history.old }
-    ensures fault { IfErr result (λ fault. fault ≢ Memory →
-        (fault ≡ TooManyTags) × (limits.now.tags + 1 < length (with_name (names_of tags.old.tags) (chars name.now)))) }
 {
-    // Where one of the limits is read, all are known to be in their bounds.
-    let _chars = limits.chars();
     match make_tag(alloc, tags, name) {
-        Err(fault) => Err(fault),
+        Err(Fault::Memory) => Err(AllocError),
+        Err(_) => unreachable!(),
         Ok(slot) => {
-            if tags.len() > limits.tags() as usize + 1 {
-                return Err(Fault::TooManyTags);
+            // Where the tags are counted, they are known to be those of a table.
+            let _count = tags.len();
+            match set_slot(alloc, store, history, spans, own_slot(slot, widget), true) {
+                Err(_) => Err(AllocError),
+                Ok(()) => Ok(()),
             }
-            set_slot(alloc, store, history, spans, own_slot(slot, widget), true)
         }
     }
 }

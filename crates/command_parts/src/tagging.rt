@@ -52,7 +52,7 @@ fn make_tags(alloc: Global, tags: &mut TagTable, names: &[String]) -> Result<(),
 }
 
 /// The names of the list of a pair, if it has one.
-fn listed_names(pair: &Pair) -> &[String]
+pub fn listed_names(pair: &Pair) -> &[String]
     ensures { texts_of result.now ≡ listed_names pair.now.names }
 {
     match &pair.names {

@@ -16,7 +16,7 @@ ghost use Rattle.command_parts.specs.declared.answers.Answer.TheVariants.{Empty}
 use crate::documents::Document;
 use crate::views::view_of;
 use command_parts::{
-    Answer, Fault, clear_slots, delete_names, deleted_slots, find_tag, push_names, push_names_in,
+    Answer, Fault, clear_slots, delete_names, deleted_slots, find_tag, is_one_too_many, push_names, push_names_in,
     push_next, push_previous, push_ranges, set_slot, spans_of, tag_spans,
 };
 use edit_ops::Span;
@@ -143,12 +143,14 @@ impl<S: TextStore> Document<S> {
         requires within { All (λ place. place ≤ length (shown self.old (widget_at self.old widget))) places.now }
         ensures { Does limits.now self.old self.new result (add_spans limits.now self.old (widget_at self.old widget) (chars name.now) places.now) }
     {
+        if is_one_too_many(limits, &self.tags, name) {
+            return Err(Fault::TooManyTags);
+        }
         let number = self.seats.number(widget);
         let spans = self.spans_at(widget, places)?;
         let front = self.tags.len();
         let tagged = tag_spans(
             self.alloc,
-            limits,
             &mut self.tags,
             TagSlot(number),
             &mut self.store,
@@ -158,9 +160,9 @@ impl<S: TextStore> Document<S> {
         );
         match tagged {
             Ok(()) => Ok(Answer::Empty),
-            Err(fault) => {
+            Err(_) => {
                 self.tags.truncate(front);
-                Err(fault)
+                Err(Fault::Memory)
             }
         }
     }

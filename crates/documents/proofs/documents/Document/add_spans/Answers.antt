@@ -1,13 +1,15 @@
-use Rattle.std.proofs.Common.{◌≡◌, ℕ, true, length, sym, subst, ap, ◌∙◌}
+use Rattle.std.proofs.Common.{◌≡◌, ℕ, ◌+◌, ◌<◌, ◌≤◌, true, false, length, refl, sym, subst, ap, ◌∙◌, arith}
+use Rattle.std.proofs.lemmas.Bool.Decides.{nat_tests}
+use Rattle.command_parts.specs.Lists.{with_name}
+use Rattle.command_parts.specs.declared.answers.Fault.TheVariants.{Memory, TooManyTags}
 use Rattle.std.specs.Prelude.{chars, take}
 use Rattle.std.specs.List.{All}
 use Rattle.index_grammar.specs.Names.{known_tags}
-use Rattle.tag_table.specs.Tags.{sel, slot_of}
+use Rattle.tag_table.specs.Tags.{names_of, sel, slot_of}
 use Rattle.edit_ops.specs.States.{log_of}
 use Rattle.edit_ops.specs.Tagging.{SpanFits, tagged}
 use Rattle.documents.specs.Documents.{document_of, parts_of, widget_at}
 use Rattle.documents.specs.Kept.{Stands}
-use Rattle.documents.specs.Promise.{refused}
 use Rattle.documents.specs.Tags.{add_spans}
 use Rattle.documents.proofs.ChangeLaws.{does-left, stands-same, table-back}
 use Rattle.documents.proofs.PartsLaws.{cells-kept, sits}
@@ -43,8 +45,10 @@ invariant_of-self g c =
     let fit = subst (λ (n : ℕ). All (SpanFits n) given) (cells-kept parts document stands.is) (subst (All (SpanFits (length document.cells))) (sym spans) c.in_ok-spans.ensures.fit) in
     let found = found_by (λ slot. tagged slot true given parts.content) (known_tags new.tags.tags widget word) content c.in-Ok.ensures.ok in
     let made : IsTagged parts new.tags content widget word true given = record { slot = found.0; front = c.in-Ok.ensures.front; sound = c.in-Ok.ensures.sound; is = found.1; fit = fit; content_is = found.2 } in
+    let few = sym c.is_one_too_many.ensures.value ∙ c.if-is_one_too_many.false in
+    let room : length (with_name (names_of parts.tags.tags) word) ≤ c.args.limits.now.tags + 1 = grind (arith, nat_tests, few) in
     let leaves = leaves-added c.args.limits.now parts new.tags content (log_of new.history) document c.args.widget widget word c.args.places.now given c.in_ok-spans.spans.items stands seat made c.in-Ok.ensures.log
-    spans c.in_ok-spans.ensures.value c.in-Ok.ensures.made c.in-Ok.ensures.room in
+    spans c.in_ok-spans.ensures.value c.in-Ok.ensures.made room in
     leaves.sound
 
 pub returns-in-Ok : goal.returns-in-Ok
@@ -63,8 +67,10 @@ returns-in-Ok g c =
     let fit = subst (λ (n : ℕ). All (SpanFits n) given) (cells-kept parts document stands.is) (subst (All (SpanFits (length document.cells))) (sym spans) c.in_ok-spans.ensures.fit) in
     let found = found_by (λ slot. tagged slot true given parts.content) (known_tags new.tags.tags widget word) content c.in-Ok.ensures.ok in
     let made : IsTagged parts new.tags content widget word true given = record { slot = found.0; front = c.in-Ok.ensures.front; sound = c.in-Ok.ensures.sound; is = found.1; fit = fit; content_is = found.2 } in
+    let few = sym c.is_one_too_many.ensures.value ∙ c.if-is_one_too_many.false in
+    let room : length (with_name (names_of parts.tags.tags) word) ≤ c.args.limits.now.tags + 1 = grind (arith, nat_tests, few) in
     let leaves = leaves-added c.args.limits.now parts new.tags content (log_of new.history) document c.args.widget widget word c.args.places.now given c.in_ok-spans.spans.items stands seat made c.in-Ok.ensures.log
-    spans c.in_ok-spans.ensures.value c.in-Ok.ensures.made c.in-Ok.ensures.room in
+    spans c.in_ok-spans.ensures.value c.in-Ok.ensures.made room in
     leaves.does
 
 pub invariant_of-self-in-Err : goal.invariant_of-self-in-Err
@@ -91,8 +97,23 @@ returns g c =
     let tags = table-back old.tags new.tags c.truncate.new.self c.len-front.result c.len-front.ensures.value c.in-Err.ensures.front c.truncate.ensures in
     let same : relogged (retagged parts c.truncate.new.self content) (log_of new.history) ≡ parts = λ i. relogged (retagged parts (tags i) (c.in-Err.ensures.err i)) (c.in-Err.ensures.log i) in
     let left = stands-same parts (relogged (retagged parts c.truncate.new.self content) (log_of new.history)) document stands same in
-    does-left c.args.limits.now document (document_of (relogged (retagged parts c.truncate.new.self content) (log_of new.history))) c.in-Err.fault
-    (add_spans c.args.limits.now document (widget_at document c.args.widget) (chars c.args.name.now) c.args.places.now) left.is
-    (λ other.
-    let fault = c.in-Err.ensures.fault other in
-    added-left c.args.limits.now parts document c.args.widget (chars c.args.name.now) c.args.places.now stands fault.1 ∙ ap (refused document) (sym fault.0))
+    does-left c.args.limits.now document (document_of (relogged (retagged parts c.truncate.new.self content) (log_of new.history))) Memory
+    (add_spans c.args.limits.now document (widget_at document c.args.widget) (chars c.args.name.now) c.args.places.now) left.is (λ other. absurd (other refl))
+
+pub returns-then-is_one_too_many : goal.returns-then-is_one_too_many
+returns-then-is_one_too_many g c =
+    let old = c.self.inside in
+    let document = c.args.self.now in
+    let parts = parts_of old.seats old.tags old.marks old.settings old.disabled.items old.anchors.items old.history (g.S.TextStore.content old.store) in
+    let stands : Stands parts document = record { sound = c.self.invariant; is = c.self.view_is } in
+    let full = sym c.is_one_too_many.ensures.value ∙ c.if-is_one_too_many.true in
+    let many : c.args.limits.now.tags + 1 < length (with_name (names_of parts.tags.tags) (chars c.args.name.now)) = grind (arith, nat_tests, full) in
+    does-left c.args.limits.now document document TooManyTags
+    (add_spans c.args.limits.now document (widget_at document c.args.widget) (chars c.args.name.now) c.args.places.now) refl
+    (λ _. added-left c.args.limits.now parts document c.args.widget (chars c.args.name.now) c.args.places.now stands many)
+
+pub tag_spans-tagged-requires-clause-few : goal.tag_spans-tagged-requires-clause-few
+tag_spans-tagged-requires-clause-few g c =
+    let few = sym c.is_one_too_many.ensures.value ∙ c.if-is_one_too_many.false in
+    let room : length (with_name (names_of c.self.inside.tags.tags) (chars c.args.name.now)) ≤ c.args.limits.now.tags + 1 = grind (arith, nat_tests, few) in
+    omega (arith, room, c.is_one_too_many.ensures.bounds.tags)

@@ -4,7 +4,7 @@ use Rattle.std.specs.List.{All}
 use Rattle.std.proofs.lemmas.List.Elements.{All-more}
 use Rattle.text_model.proofs.TextLaws.{chars-scalars}
 use Rattle.command_parts.specs.Lists.{Pair}
-use Rattle.command_parts.proofs.tagged_edits.read_texts.Goals as goal
+use Rattle.command_parts.proofs.excess.read_texts.Goals as goal
 
 pub loop-pair-preserved : goal.loop-pair-preserved
 loop-pair-preserved c =
