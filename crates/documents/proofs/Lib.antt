@@ -1,6 +1,7 @@
 pub mod BridgeLaws
 pub mod ChangeLaws
 pub mod ClearedLaws
+pub mod EditLeadLaws
 pub mod FindLaws
 pub mod FirstLaws
 pub mod InsertionLaws
@@ -8,6 +9,7 @@ pub mod JournalLaws
 pub mod KeyLaws
 pub mod KeyedLaws
 pub mod KnownLaws
+pub mod LeadLaws
 pub mod ListedLaws
 pub mod LookupLaws
 pub mod MarkLaws
@@ -29,9 +31,12 @@ pub mod SeenLaws
 pub mod SlotLaws
 pub mod SpanLaws
 pub mod StateLaws
+pub mod StillLeadLaws
 pub mod TableLaws
 pub mod TagLaws
 pub mod TaggedLaws
+pub mod UndoLaws
+pub mod UndoRunLaws
 pub mod UnseatedLaws
 pub mod ViewLaws
 pub mod WellFormedLaws

@@ -6,5 +6,7 @@ pub mod OptionLaws
 pub mod PlaceLaws
 pub mod PromiseLaws
 pub mod SwitchLaws
+pub mod UndoBackLaws
+pub mod UndoStepLaws
 pub mod WindowLaws
 pub mod WorldLaws

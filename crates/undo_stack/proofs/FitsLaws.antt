@@ -108,7 +108,7 @@ revert-back limit action text found short is =
 
 -- ---- a group
 
-after-none : {A B : Type 0} (f : A → Option B) (o : Option A) (x : A) → o ≡ Some x → option_and_then f o ≡ f x
+pub after-none : {A B : Type 0} (f : A → Option B) (o : Option A) (x : A) → o ≡ Some x → option_and_then f o ≡ f x
 after-none f o x is = ap (option_and_then f) is
 
 pub repeat-group-back : (limit : ℕ) (actions : List Action) (text found : List ℕ) → length text ≤ limit → repeated_group limit actions text ≡ Some found
@@ -167,12 +167,12 @@ reverted-onto_last limit action (group ∷ next ∷ groups) text =
     ap (option_and_then (reverted_group limit group)) (reverted-onto_last limit action (next ∷ groups) text)
     ∙ and-then-chain (reverted_group limit group) (reverted_groups limit (next ∷ groups)) (reverted limit action text)
 
-reverted-joined : (limit : ℕ) (joins : Bool) (action : Action) (groups : List (List Action)) (text : List ℕ)
+pub reverted-joined : (limit : ℕ) (joins : Bool) (action : Action) (groups : List (List Action)) (text : List ℕ)
     → reverted_groups limit (joined joins action groups) text ≡ option_and_then (reverted_groups limit groups) (reverted limit action text)
 reverted-joined limit true action groups text = reverted-onto_last limit action groups text
 reverted-joined limit false action groups text = reverted_groups-append limit groups ((action ∷ []) ∷ []) text
 
-some-first : {A B : Type 0} (f : A → Option B) (o : Option A) → IsSome (option_and_then f o) → IsSome o
+pub some-first : {A B : Type 0} (f : A → Option B) (o : Option A) → IsSome (option_and_then f o) → IsSome o
 some-first f None is = is
 some-first f (Some x) is = refl
 
@@ -274,13 +274,13 @@ some-at : (groups : List (List Action)) (k : ℕ) (group : List Action) → slic
 some-at [] k group is = absurd (let h : None ≡ Some group = is in cc)
 some-at (first ∷ groups) k group is = omega arith
 
-last-apart : (groups : List (List Action)) (group : List Action) → slice_get groups (length groups - 1) ≡ Some group
+pub last-apart : (groups : List (List Action)) (group : List Action) → slice_get groups (length groups - 1) ≡ Some group
     → take (length groups - 1) groups ++ group ∷ [] ≡ groups
 last-apart groups group is =
     let some = some-at groups (length groups - 1) group is in
     last-at groups (length groups - 1) group (omega (arith, some)) is
 
-some-is : {A : Type 0} (o : Option A) → IsSome o → (x : A) × (o ≡ Some x)
+pub some-is : {A : Type 0} (o : Option A) → IsSome o → (x : A) × (o ≡ Some x)
 some-is None is = absurd (false≢true is)
 some-is (Some x) is = (x, refl)
 
@@ -310,7 +310,7 @@ undo-fits limit history text found group fits is made =
       repeats = rw (after-none (repeated_groups limit history.undone) (repeated_group limit group found) text back.0) fits.repeats;
     }
 
-first-apart : (groups : List (List Action)) (group : List Action) → slice_get groups 0 ≡ Some group → group ∷ drop 1 groups ≡ groups
+pub first-apart : (groups : List (List Action)) (group : List Action) → slice_get groups 0 ≡ Some group → group ∷ drop 1 groups ≡ groups
 first-apart [] group is = absurd (let h : None ≡ Some group = is in cc)
 first-apart (first ∷ groups) group is = let same : first ≡ group = cc in ap (λ g. g ∷ groups) (sym same)
 
