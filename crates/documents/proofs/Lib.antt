@@ -1,9 +1,11 @@
 pub mod BridgeLaws
+pub mod CarriedLaws
 pub mod ChangeLaws
 pub mod ClearedLaws
 pub mod EditLeadLaws
 pub mod FindLaws
 pub mod FirstLaws
+pub mod IndexPlaceLaws
 pub mod InsertionLaws
 pub mod JournalLaws
 pub mod KeyLaws
@@ -17,6 +19,9 @@ pub mod MarkOrderLaws
 pub mod MarkQueryLaws
 pub mod MeaningLaws
 pub mod NamedLaws
+pub mod NamesKeptLaws
+pub mod NewNameLaws
+pub mod OptionLeadLaws
 pub mod OrderLaws
 pub mod PartsLaws
 pub mod PlacedLaws
@@ -41,3 +46,4 @@ pub mod UnseatedLaws
 pub mod ViewLaws
 pub mod WellFormedLaws
 pub mod WidgetLaws
+pub mod WidgetLeadLaws
