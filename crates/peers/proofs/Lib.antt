@@ -1,6 +1,10 @@
 pub mod ArgumentLaws
+pub mod DoneLaws
+pub mod FollowLaws
+pub mod FrontLaws
 pub mod GotLaws
 pub mod HomeLaws
+pub mod KeepingLaws
 pub mod NameLaws
 pub mod OptionLaws
 pub mod PlaceLaws
