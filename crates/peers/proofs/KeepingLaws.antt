@@ -104,27 +104,31 @@ pub record AreGiven (document : Document) (words : List (List ℕ)) (old new : S
   pub before : is_behind new.start new.end ≡ false
   pub keeps : sets_keeping words ≡ false → Keeps old new
 
-checked : (found : Result Settings Fault) (made : Settings) → with_value found settings_checked ≡ Ok made → (found ≡ Ok made) × (is_behind made.start made.end ≡ false)
-checked (Err fault) made is = absurd (let h : Err fault ≡ Ok made = is in cc)
-checked (Ok settings) made is =
-    elim (is_behind settings.start settings.end) as (λ b. is_behind settings.start settings.end ≡ b → (if b then Err StartLineAfterEndLine else Ok settings) ≡ Ok made
-        → (Ok settings ≡ Ok made) × (is_behind made.start made.end ≡ false)) [
+checked : (settings made : Settings) → settings_checked settings ≡ Ok made → (settings ≡ made) × (is_behind settings.start settings.end ≡ false)
+checked settings made is =
+    let tested : Bool → Result Settings Fault = λ b. if b then Err StartLineAfterEndLine else Ok settings in
+    elim (is_behind settings.start settings.end) as (λ b. is_behind settings.start settings.end ≡ b → tested b ≡ Ok made
+        → (settings ≡ made) × (is_behind settings.start settings.end ≡ false)) [
       | true ↦ λ _ none. absurd (let h : Err StartLineAfterEndLine ≡ Ok made = none in cc)
-      | false ↦ λ before there.
-          let same : settings ≡ made = cc in
-          (there, subst (λ (s : Settings). is_behind s.start s.end ≡ false) same before)
+      | false ↦ λ before there. (let same : settings ≡ made = cc in (same, before))
     ] refl is
+
+given-of : (document : Document) (words : List (List ℕ)) (old made : Settings) (found : Result Settings Fault) → IfOk (with_value found settings_checked) (AreLines (lines (characters document.cells)))
+    → (sets_keeping words ≡ false → IfOk found (Keeps old)) → with_value found settings_checked ≡ Ok made → AreGiven document words old made
+given-of document words old made (Err fault) are keeps is = absurd (let h : Err fault ≡ Ok made = is in cc)
+given-of document words old made (Ok settings) are keeps is =
+    let parts = checked settings made is in
+    record {
+      lines = subst (λ r. IfOk r (AreLines (lines (characters document.cells)))) is are;
+      before = subst (λ (s : Settings). is_behind s.start s.end ≡ false) parts.0 parts.1;
+      keeps = λ none. subst (Keeps old) parts.0 (keeps none);
+    }
 
 given : (document : Document) (at : ℕ) (words : List (List ℕ)) (settings made : Settings) → AreLines (lines (characters document.cells)) settings
     → settings_given document at words settings ≡ Ok made → AreGiven document words settings made
 given document at words settings made are is =
     let count = lines (characters document.cells) in
-    let parts = checked (settings_read count at words settings) made is in
-    record {
-      lines = subst (λ r. IfOk r (AreLines count)) is (given-lines count at words settings are);
-      before = parts.1;
-      keeps = λ none. subst (λ r. IfOk r (Keeps settings)) parts.0 (all-keep count at words settings none);
-    }
+    given-of document words settings made (settings_read count at words settings) (given-lines count at words settings are) (λ none. all-keep count at words settings none) is
 
 -- ---- `configure`
 
