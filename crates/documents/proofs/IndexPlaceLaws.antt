@@ -17,7 +17,8 @@ use Rattle.documents.specs.Names.{key_of, mark_place, meanings, place_of}
 use Rattle.documents.specs.View.{shown, view_end, view_start}
 use Rattle.documents.proofs.ViewLaws.{part-length}
 
-mark-within : (document : Document) (widget : Widget) (number place : ℕ) → mark_place document widget number ≡ Some place → place ≤ view_end document widget - view_start widget
+mark-within : (document : Document) (widget : Widget) (number place : ℕ) → mark_place document widget number ≡ Some place
+    → place ≤ view_end document widget - view_start widget
 mark-within document widget zero place is =
     let start = view_start widget in
     let end = view_end document widget in
@@ -34,7 +35,8 @@ mark-within document widget (suc (suc k)) place is =
     option_and_then_some (λ (mark : SharedMark). shared_place start end mark.place) (slice_get document.marks k) place is
     (λ mark there one. shared-within start end mark.place place one)
 
-meant-within : (document : Document) (widget : Widget) → view_end document widget ≤ length document.cells → AreWithin (meanings document widget) (shown document widget)
+meant-within : (document : Document) (widget : Widget) → view_end document widget ≤ length document.cells
+    → AreWithin (meanings document widget) (shown document widget)
 meant-within document widget within =
     let start = view_start widget in
     let end = view_end document widget in

@@ -81,7 +81,8 @@ widget-changed : (document : Document) (widget : Widget) (change : Widget → Wi
     → HasNamesOf document (with_widget document widget change)
 widget-changed document widget change keeps =
     along (λ other. if is_same widget.name other.name then change other else other)
-    (λ other. elim (is_same widget.name other.name) as (λ b. (if b then change other else other).name ≡ other.name) [ | true ↦ keeps other | false ↦ refl ]) document.widgets
+    (λ other. elim (is_same widget.name other.name) as
+    (λ b. (if b then change other else other).name ≡ other.name) [ true ↦ keeps other | false ↦ refl ]) document.widgets
 
 clipped-kept : (widget : Widget) (place : Option Place) (document : Document) → HasNamesOf document (with_clipped widget place document)
 clipped-kept widget None document = refl
@@ -90,12 +91,13 @@ clipped-kept widget (Some place) document = widget-changed document widget (λ (
 pub mark-kept : (document : Document) (widget : Widget) (name : List ℕ) (place : Place) → HasNamesOf document (with_mark document widget name place)
 mark-kept document widget name place =
     elim (is_same name (literal "insert")) as (λ b. HasNamesOf document (if b then with_insert document widget place
-        else (if is_same name (literal "current") then with_current document widget place else with_shared document name place))) [
+    else (if is_same name (literal "current") then with_current document widget place else with_shared document name place))) [
       | true ↦ widget-changed document widget (λ (other : Widget). record other { insert = place }) (λ other. refl)
-      | false ↦ elim (is_same name (literal "current")) as (λ b. HasNamesOf document (if b then with_current document widget place else with_shared document name place)) [
-        | true ↦ widget-changed document widget (λ (other : Widget). record other { current = place }) (λ other. refl)
-        | false ↦ refl
-      ]
+      | false ↦ elim (is_same name (literal "current")) as
+          (λ b. HasNamesOf document (if b then with_current document widget place else with_shared document name place)) [
+            | true ↦ widget-changed document widget (λ (other : Widget). record other { current = place }) (λ other. refl)
+            | false ↦ refl
+          ]
     ]
 
 pub settings-kept : (widget : Widget) (settings : Settings) (document : Document) → HasNamesOf document (with_settings widget settings document)
@@ -103,21 +105,25 @@ settings-kept widget settings document = widget-changed document widget (widget_
 
 -- ---- edits
 
-pub insert-kept : (limits : LimitTable) (document : Document) (widget : Widget) (at : ℕ) (pairs : List Pair) → HasNamesOf document (insert_at limits document widget at pairs).document
+pub insert-kept : (limits : LimitTable) (document : Document) (widget : Widget) (at : ℕ) (pairs : List Pair)
+    → HasNamesOf document (insert_at limits document widget at pairs).document
 insert-kept limits document widget at pairs =
     carried-limited (HasNamesOf document) limits document (length (tags_with document pairs)) (length document.cells + total pairs) _ refl
     (λ _. texts-put kind.Insert at (map (keyed_text widget) pairs) (record document { tags = tags_with document pairs }))
 
-pub replace-kept : (limits : LimitTable) (document : Document) (widget : Widget) (from to : ℕ) (pairs : List Pair) → HasNamesOf document (replace_span limits document widget from to pairs).document
+pub replace-kept : (limits : LimitTable) (document : Document) (widget : Widget) (from to : ℕ) (pairs : List Pair)
+    → HasNamesOf document (replace_span limits document widget from to pairs).document
 replace-kept limits document widget from to pairs =
     let tagged : Document = record document { tags = tags_with document pairs } in
     carried-limited (HasNamesOf document) limits document (length (tags_with document pairs)) (length document.cells - (to - from) + total pairs) _ refl
-    (λ _. clipped-kept widget (clipped from to (total pairs) widget.insert) _ ∙ texts-put kind.Replace from (map (keyed_text widget) pairs) _ ∙ span-out kind.Replace from to tagged)
+    (λ _. clipped-kept widget (clipped from to (total pairs) widget.insert) _ ∙ texts-put kind.Replace from (map (keyed_text widget) pairs) _
+    ∙ span-out kind.Replace from to tagged)
 
 pub delete-kept : (document : Document) (widget : Widget) (spans : List Span) → HasNamesOf document (delete_spans document widget spans).document
 delete-kept document widget spans =
     spans-out kind.Delete (deleted_runs document widget spans) (last_bare widget spans document)
-    ∙ elim (in_spans spans (view_end document widget - 1)) as (λ b. HasNamesOf document (if b then with_bare (view_end document widget - 1) document else document)) [
+    ∙ elim (in_spans spans (view_end document widget - 1)) as
+    (λ b. HasNamesOf document (if b then with_bare (view_end document widget - 1) document else document)) [
       | true ↦ refl
       | false ↦ refl
     ]
@@ -127,12 +133,14 @@ pub set-kept : (limits : LimitTable) (document : Document) (widget : Widget) (na
 set-kept limits document widget name offset (Some old) = mark-kept document widget name (record old { offset = offset })
 set-kept limits document widget name offset None =
     let made : Document = record document { marks = document.marks ++ record { name = name; place = record { offset = offset; gravity = Right } } ∷ [] } in
-    elim (nat_le limits.marks (length document.marks)) as (λ b. HasNamesOf document (if b then refused document TooManyMarks else answered made Empty).document) [
+    elim (nat_le limits.marks (length document.marks)) as
+    (λ b. HasNamesOf document (if b then refused document TooManyMarks else answered made Empty).document) [
       | true ↦ refl
       | false ↦ refl
     ]
 
-pub add-kept : (limits : LimitTable) (document : Document) (widget : Widget) (name places : List ℕ) → HasNamesOf document (add_spans limits document widget name places).document
+pub add-kept : (limits : LimitTable) (document : Document) (widget : Widget) (name places : List ℕ)
+    → HasNamesOf document (add_spans limits document widget name places).document
 add-kept limits document widget name places =
     let tags = with_name document.tags name in
     let made : Document = record document { tags = tags; cells = with_tag (key_of widget name) true (spans_shown document widget places) document.cells } in
@@ -156,14 +164,16 @@ text-back at text document = cells-put at _ document
 
 back-kept : (action : Action) (document : Document) → HasNamesOf document (action_back action document)
 back-kept action document =
-    elim action.inserts as (λ b. HasNamesOf document (if b then without_cells action.at (action.at + length action.text) document else text_back action.at action.text document)) [
+    elim action.inserts as
+    (λ b. HasNamesOf document (if b then without_cells action.at (action.at + length action.text) document else text_back action.at action.text document)) [
       | true ↦ cells-out action.at (action.at + length action.text) document
       | false ↦ text-back action.at action.text document
     ]
 
 again-kept : (action : Action) (document : Document) → HasNamesOf document (action_again action document)
 again-kept action document =
-    elim action.inserts as (λ b. HasNamesOf document (if b then text_back action.at action.text document else without_cells action.at (action.at + length action.text) document)) [
+    elim action.inserts as
+    (λ b. HasNamesOf document (if b then text_back action.at action.text document else without_cells action.at (action.at + length action.text) document)) [
       | true ↦ text-back action.at action.text document
       | false ↦ cells-out action.at (action.at + length action.text) document
     ]
@@ -182,26 +192,30 @@ end-kept widget (Some at) document = clipped-kept widget (Some (record widget.in
 
 undo-found-kept : (document : Document) (widget : Widget) (group : Option (List Action)) → HasNamesOf document (undo_found document widget group).document
 undo-found-kept document widget None = refl
-undo-found-kept document widget (Some group) = elim (is_idle document widget) as (λ b. HasNamesOf document (if b then document else undone widget group document)) [
-  | true ↦ refl
-  | false ↦ end-kept widget (undo_end group) (group_back group document) ∙ group-back-kept group document
-]
+undo-found-kept document widget (Some group) =
+    elim (is_idle document widget) as (λ b. HasNamesOf document (if b then document else undone widget group document)) [
+      | true ↦ refl
+      | false ↦ end-kept widget (undo_end group) (group_back group document) ∙ group-back-kept group document
+    ]
 
 pub undo-kept : (document : Document) (widget : Widget) → HasNamesOf document (edit_undo document widget).document
-undo-kept document widget = elim document.undo as (λ b. HasNamesOf document (if b then undo_found document widget (next_undo document.history) else answered document Empty).document) [
-  | true ↦ undo-found-kept document widget (next_undo document.history)
-  | false ↦ refl
-]
+undo-kept document widget =
+    elim document.undo as (λ b. HasNamesOf document (if b then undo_found document widget (next_undo document.history) else answered document Empty).document) [
+      | true ↦ undo-found-kept document widget (next_undo document.history)
+      | false ↦ refl
+    ]
 
 redo-found-kept : (document : Document) (widget : Widget) (group : Option (List Action)) → HasNamesOf document (redo_found document widget group).document
 redo-found-kept document widget None = refl
-redo-found-kept document widget (Some group) = elim (is_idle document widget) as (λ b. HasNamesOf document (if b then document else redone widget group document)) [
-  | true ↦ refl
-  | false ↦ end-kept widget (redo_end group) (group_again group document) ∙ group-again-kept group document
-]
+redo-found-kept document widget (Some group) =
+    elim (is_idle document widget) as (λ b. HasNamesOf document (if b then document else redone widget group document)) [
+      | true ↦ refl
+      | false ↦ end-kept widget (redo_end group) (group_again group document) ∙ group-again-kept group document
+    ]
 
 pub redo-kept : (document : Document) (widget : Widget) → HasNamesOf document (edit_redo document widget).document
-redo-kept document widget = elim document.undo as (λ b. HasNamesOf document (if b then redo_found document widget (next_redo document.history) else answered document Empty).document) [
-  | true ↦ redo-found-kept document widget (next_redo document.history)
-  | false ↦ refl
-]
+redo-kept document widget =
+    elim document.undo as (λ b. HasNamesOf document (if b then redo_found document widget (next_redo document.history) else answered document Empty).document) [
+      | true ↦ redo-found-kept document widget (next_redo document.history)
+      | false ↦ refl
+    ]

@@ -32,13 +32,15 @@ named-same windows old new same = record {
       omega (arith, some, count, olds, news);
 }
 
-pub named-carried : (limits : LimitTable) (windows : List (List ℕ)) (document : Document) (widget : Widget) → IsCarried limits document widget (AreNamed windows document)
+pub named-carried : (limits : LimitTable) (windows : List (List ℕ)) (document : Document) (widget : Widget)
+    → IsCarried limits document widget (AreNamed windows document)
 named-carried limits windows document widget =
     let kept : (new : Document) → HasNamesOf document new → AreNamed windows document new = named-same windows document in
     record {
       same = kept document refl;
       inserted = λ place pairs _. kept _ (insert-kept limits document widget (insertion_offset document widget place) pairs);
-      replaced = λ from to pairs _ _. kept _ (replace-kept limits document widget (insertion_offset document widget from) (insertion_offset document widget to) pairs);
+      replaced = λ from to pairs _ _.
+          kept _ (replace-kept limits document widget (insertion_offset document widget from) (insertion_offset document widget to) pairs);
       deleted = λ places _ _. kept _ (delete-kept document widget (spans_shown document widget places));
       set = λ name offset found. kept _ (set-kept limits document widget name offset found);
       turned = λ name place. kept _ (mark-kept document widget name place);
@@ -48,14 +50,15 @@ named-carried limits windows document widget =
       untagged = λ names. kept _ refl;
       ordered = λ at order words. carried-reordered (AreNamed windows document) document at order words (kept document refl) (λ tags. kept _ refl);
       modified = λ flag. kept _ refl;
-      separated = kept _ (elim document.undo as (λ b. HasNamesOf document (if b then record document { history = separated document.history } else document)) [ | true ↦ refl | false ↦ refl ]);
+      separated = kept _ (elim document.undo as
+          (λ b. HasNamesOf document (if b then record document { history = separated document.history } else document)) [ true ↦ refl | false ↦ refl ]);
       undone = kept _ (undo-kept document widget);
       redone = kept _ (redo-kept document widget);
     }
 
 -- ---- one widget more
 
-among-append : (name : List ℕ) (names others : List (List ℕ)) → is_among name (names ++ others) ≡ (is_among name names || is_among name others)
+pub among-append : (name : List ℕ) (names others : List (List ℕ)) → is_among name (names ++ others) ≡ (is_among name names || is_among name others)
 among-append name [] others = refl
 among-append name (first ∷ names) others =
     elim (is_same name first) as (λ b. (b || is_among name (names ++ others)) ≡ ((b || is_among name names) || is_among name others)) [
@@ -68,17 +71,21 @@ either true c is = inl refl
 either false true is = inr refl
 either false false is = absurd (let h : false ≡ true = is in cc)
 
-pub named-peer : (windows : List (List ℕ)) (document : Document) (name : List ℕ) (settings : Settings) → is_window_name name ≡ true → is_among name windows ≡ false
+pub named-peer : (windows : List (List ℕ)) (document : Document) (name : List ℕ) (settings : Settings) → is_window_name name ≡ true
+    → is_among name windows ≡ false
     → AreNamed windows document (with_peer name settings document)
 named-peer windows document name settings is new =
     let widget = new_widget document name settings in
-    let names : window_names (with_peer name settings document) ≡ window_names document ++ name ∷ [] = map-append (λ (w : Widget). w.name) document.widgets (widget ∷ []) in
+    let names : window_names (with_peer name settings document) ≡ window_names document ++ name ∷ [] =
+    map-append (λ (w : Widget). w.name) document.widgets (widget ∷ []) in
     record {
-      known = λ other there. elim (either (is_among other (window_names document)) (is_same other name) (sym (among-append other (window_names document) (name ∷ [])) ∙ ap (is_among other) (sym names) ∙ there)) [
-        | inl was ↦ inl was
-        | inr same ↦
-            let be : other ≡ name = (bytes_eq-Decides other name).0 same in
-            inr (ap is_window_name be ∙ is, ap (λ n. is_among n windows) be ∙ new)
-      ];
+      known = λ other there.
+          elim (either (is_among other (window_names document)) (is_same other name) (sym (among-append other (window_names document) (name ∷ []))
+          ∙ ap (is_among other) (sym names) ∙ there)) [
+            | inl was ↦ inl was
+            | inr same ↦
+                let be : other ≡ name = (bytes_eq-Decides other name).0 same in
+                inr (ap is_window_name be ∙ is, ap (λ n. is_among n windows) be ∙ new)
+          ];
       some = λ some. omega (arith, length-append document.widgets (widget ∷ []));
     }

@@ -26,14 +26,16 @@ use Rattle.documents.proofs.WidgetLaws.{anchor-line, lines-anchored}
 -- ---- options
 
 -- all is kept of a history
-history-kept : (settings : DocumentSettings) (history : History) → settings.undo ≡ true → limit_of settings.most_undo ≡ 0 → history_under settings history ≡ history
+history-kept : (settings : DocumentSettings) (history : History) → settings.undo ≡ true → limit_of settings.most_undo ≡ 0
+    → history_under settings history ≡ history
 history-kept settings history undo most = ap₂ (λ n b. limited n (if b then history else no_history)) most undo
 
 -- the options of a widget name lines of its text
 pub own-lines : (document : Document) (widget : Widget) → AreLines (lines (characters document.cells)) (settings_of document widget)
 own-lines document widget = record { start = anchor-line (characters document.cells) widget.start; end = anchor-line (characters document.cells) widget.end }
 
-all-changed : (text : List ℕ) (change : Widget → Widget) → ((widget : Widget) → AreAnchored text (anchors_of widget) → AreAnchored text (anchors_of (change widget)))
+all-changed : (text : List ℕ) (change : Widget → Widget)
+    → ((widget : Widget) → AreAnchored text (anchors_of widget) → AreAnchored text (anchors_of (change widget)))
     → (widgets : List Widget) → All (AreAnchored text) (map anchors_of widgets) → All (AreAnchored text) (map anchors_of (map change widgets))
 all-changed text change keeps [] all = All-nil (AreAnchored text)
 all-changed text change keeps (widget ∷ widgets) all =
@@ -41,7 +43,8 @@ all-changed text change keeps (widget ∷ widgets) all =
     (all-changed text change keeps widgets (All-tail (AreAnchored text) (anchors_of widget) (map anchors_of widgets) all))
 
 pub leads-settings : (limit : ℕ) (start : List ℕ) (document : Document) (widget : Widget) (settings : Settings) → Leads limit start document
-    → AreLines (lines (characters document.cells)) settings → is_behind settings.start settings.end ≡ false → settings.document.undo ≡ true → limit_of settings.document.most_undo ≡ 0
+    → AreLines (lines (characters document.cells)) settings → is_behind settings.start settings.end ≡ false → settings.document.undo ≡ true
+    → limit_of settings.document.most_undo ≡ 0
     → Leads limit start (with_settings widget settings document)
 leads-settings limit start document widget settings leads are before undo most =
     let text = characters document.cells in
@@ -54,7 +57,8 @@ leads-settings limit start document widget settings leads are before undo most =
         some = page.some;
         ends = page.ends;
         anchored = all-changed text (λ other. if is_same widget.name other.name then widget_set document settings other else other)
-            (λ other anchored. elim (is_same widget.name other.name) as (λ b. AreAnchored text (anchors_of (if b then widget_set document settings other else other))) [
+            (λ other anchored. elim (is_same widget.name other.name) as
+            (λ b. AreAnchored text (anchors_of (if b then widget_set document settings other else other))) [
               | true ↦ lines-anchored text settings are before
               | false ↦ anchored
             ]) document.widgets page.anchored;
@@ -66,7 +70,8 @@ leads-settings limit start document widget settings leads are before undo most =
 -- ---- widgets
 
 pub leads-peer : (limit : ℕ) (start : List ℕ) (document : Document) (name : List ℕ) (settings : Settings) → Leads limit start document
-    → AreLines (lines (characters document.cells)) settings → is_behind settings.start settings.end ≡ false → settings.document.undo ≡ true → limit_of settings.document.most_undo ≡ 0
+    → AreLines (lines (characters document.cells)) settings → is_behind settings.start settings.end ≡ false → settings.document.undo ≡ true
+    → limit_of settings.document.most_undo ≡ 0
     → Leads limit start (with_peer name settings document)
 leads-peer limit start document name settings leads are before undo most =
     let text = characters document.cells in
@@ -91,7 +96,8 @@ text-left : (names : List (List ℕ)) (cells : List KeyedCell) → characters (m
 text-left names [] = refl
 text-left names (cell ∷ cells) = ap (λ text. cell.character ∷ text) (text-left names cells)
 
-all-left : (text : List ℕ) (keeps : Widget → Bool) (widgets : List Widget) → All (AreAnchored text) (map anchors_of widgets) → All (AreAnchored text) (map anchors_of (filter keeps widgets))
+all-left : (text : List ℕ) (keeps : Widget → Bool) (widgets : List Widget) → All (AreAnchored text) (map anchors_of widgets)
+    → All (AreAnchored text) (map anchors_of (filter keeps widgets))
 all-left text keeps [] all = All-nil (AreAnchored text)
 all-left text keeps (widget ∷ widgets) all =
     let rest = all-left text keeps widgets (All-tail (AreAnchored text) (anchors_of widget) (map anchors_of widgets) all) in
@@ -100,7 +106,8 @@ all-left text keeps (widget ∷ widgets) all =
       | false ↦ rest
     ]
 
-pub leads-left : (limit : ℕ) (start : List ℕ) (document : Document) (names : List (List ℕ)) → Leads limit start document → Leads limit start (without_widgets names document)
+pub leads-left : (limit : ℕ) (start : List ℕ) (document : Document) (names : List (List ℕ)) → Leads limit start document
+    → Leads limit start (without_widgets names document)
 leads-left limit start document names leads =
     let same = text-left names document.cells in
     let page = leads.page in
@@ -122,7 +129,8 @@ some-text : (text : List ℕ) → ends_in_newline text ≡ true → 0 < length t
 some-text [] is = absurd (true≢false (sym is))
 some-text (c ∷ text) is = omega arith
 
-all-placed : (document : Document) (widgets : List Widget) → AllByRecursion (IsPlaced document) widgets → All (AreAnchored (characters document.cells)) (map anchors_of widgets)
+all-placed : (document : Document) (widgets : List Widget) → AllByRecursion (IsPlaced document) widgets
+    → All (AreAnchored (characters document.cells)) (map anchors_of widgets)
 all-placed document [] placed = All-nil (AreAnchored (characters document.cells))
 all-placed document (widget ∷ widgets) placed =
     let text = characters document.cells in
@@ -133,7 +141,8 @@ all-placed document (widget ∷ widgets) placed =
     (all-placed document widgets placed.1)
 
 -- a document that keeps all its actions, and has none yet
-pub leads-first : (limits : LimitTable) (document : Document) → IsWellFormedDocument limits document → document.undo ≡ true → limit_of document.most_undo ≡ 0 → document.history.groups ≡ []
+pub leads-first : (limits : LimitTable) (document : Document) → IsWellFormedDocument limits document → document.undo ≡ true → limit_of document.most_undo ≡ 0
+    → document.history.groups ≡ []
     → Leads limits.chars (characters document.cells) document
 leads-first limits document formed undo most none =
     let text = characters document.cells in

@@ -36,7 +36,8 @@ ordered-spans start len (from ∷ []) = (omega arith, tt)
 ordered-spans start len (from ∷ to ∷ places) = (omega arith, ordered-spans start len places)
 
 spans-inside : (document : Document) (widget : Widget) (places : List ℕ) → IsActive document widget
-    → All (λ place. place ≤ length (shown document widget)) places → All (λ (span : Span). span.to ≤ view_end document widget) (spans_shown document widget places)
+    → All (λ place. place ≤ length (shown document widget)) places → All (λ (span : Span). span.to ≤ view_end document widget)
+    (spans_shown document widget places)
 spans-inside document widget places active within =
     let start = view_start widget in
     let end = view_end document widget in
@@ -46,11 +47,12 @@ spans-inside document widget places active within =
     let long : length text ≡ length document.cells = length-map document.cells (λ (cell : KeyedCell). cell.character) in
     let seen : length (shown document widget) ≡ end - start = part-length text start end (omega (arith, inside, long)) in
     λ k d before.
-        let fits : SpanFits (start + length (shown document widget)) _ = spans_of-fit start (length (shown document widget)) places within k d before in
-        let last = fits.within in
-        omega (arith, last, seen, some)
+    let fits : SpanFits (start + length (shown document widget)) _ = spans_of-fit start (length (shown document widget)) places within k d before in
+    let last = fits.within in
+    omega (arith, last, seen, some)
 
-leads-set : (limits : LimitTable) (limit : ℕ) (start : List ℕ) (document : Document) (widget : Widget) (name : List ℕ) (offset : ℕ) (found : Option Place) → Leads limit start document
+leads-set : (limits : LimitTable) (limit : ℕ) (start : List ℕ) (document : Document) (widget : Widget) (name : List ℕ) (offset : ℕ) (found : Option Place)
+    → Leads limit start document
     → Leads limit start (set_found limits document widget name offset found).document
 leads-set limits limit start document widget name offset (Some old) leads = leads-mark limit start document widget name (record old { offset = offset }) leads
 leads-set limits limit start document widget name offset None leads =
@@ -68,15 +70,18 @@ leads-added limits limit start document widget name places leads =
     let made : Document = record document { tags = tags; cells = with_tag (key_of widget name) true spans document.cells } in
     elim (nat_lt (limits.tags + 1) (length tags)) as (λ b. Leads limit start (if b then refused document TooManyTags else answered made Empty).document) [
       | true ↦ leads
-      | false ↦ leads-tagged limit start document tags (key_of widget name) true spans leads (ordered-spans (view_start widget) (length (shown document widget)) places)
+      | false ↦ leads-tagged limit start document tags (key_of widget name) true spans leads
+          (ordered-spans (view_start widget) (length (shown document widget)) places)
     ]
 
 leads-removed : (limit : ℕ) (start : List ℕ) (document : Document) (widget : Widget) (name places : List ℕ) → Leads limit start document
     → Leads limit start (remove_spans document widget name places).document
 leads-removed limit start document widget name places leads =
     let spans = spans_shown document widget places in
-    elim (is_among name document.tags) as (λ b. Leads limit start (if b then record document { cells = with_tag (key_of widget name) false spans document.cells } else document)) [
-      | true ↦ leads-tagged limit start document document.tags (key_of widget name) false spans leads (ordered-spans (view_start widget) (length (shown document widget)) places)
+    elim (is_among name document.tags) as
+    (λ b. Leads limit start (if b then record document { cells = with_tag (key_of widget name) false spans document.cells } else document)) [
+      | true ↦ leads-tagged limit start document document.tags (key_of widget name) false spans leads
+          (ordered-spans (view_start widget) (length (shown document widget)) places)
       | false ↦ leads
     ]
 
@@ -86,11 +91,13 @@ leads-carried limits start document widget leads anchored = record {
   same = leads;
   inserted = λ place pairs busy. leads-inserted limits start document widget (insertion_offset document widget place) pairs leads
       (offset-inside document widget place (active document widget anchored busy));
-  replaced = λ from to pairs busy ordered. leads-replaced limits start document widget (insertion_offset document widget from) (insertion_offset document widget to) pairs leads
+  replaced = λ from to pairs busy ordered. leads-replaced limits start document widget (insertion_offset document widget from)
+      (insertion_offset document widget to) pairs leads
       (omega (arith, ordered)) (offset-inside document widget to (active document widget anchored busy));
   deleted = λ places busy within.
       let is = active document widget anchored busy in
-      leads-deleted limits.chars start document widget (spans_shown document widget places) leads is (spans-inside document widget places is (within is.within));
+      leads-deleted limits.chars start document widget (spans_shown document widget places) leads is
+      (spans-inside document widget places is (within is.within));
   set = λ name offset found. leads-set limits limits.chars start document widget name offset found leads;
   turned = λ name place. leads-mark limits.chars start document widget name place leads;
   unset = λ names. leads-unset limits.chars start document names leads;

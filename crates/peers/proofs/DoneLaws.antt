@@ -37,7 +37,8 @@ use Rattle.peers.specs.Texts.{insert, insert_pairs, insert_words}
 
 -- ---- places of indices
 
-value-there : {A B : Type 0} (found : Result A Fault) (next : A → Result B Fault) (made : B) → with_value found next ≡ Ok made → (value : A) × (found ≡ Ok value) × (next value ≡ Ok made)
+value-there : {A B : Type 0} (found : Result A Fault) (next : A → Result B Fault) (made : B) → with_value found next ≡ Ok made
+    → (value : A) × (found ≡ Ok value) × (next value ≡ Ok made)
 value-there (Ok value) next made is = (value, refl, is)
 value-there (Err fault) next made is = absurd (let h : Err fault ≡ Ok made = is in cc)
 
@@ -46,13 +47,15 @@ places-within : (document : Document) (widget : Widget) (at : ℕ) (words : List
 places-within document widget at [] [] within is = All-nil (λ place. place ≤ length (shown document widget))
 places-within document widget at [] (place ∷ places) within is = absurd (let h : Ok [] ≡ Ok (place ∷ places) = is in let e : [] ≡ place ∷ places = cc in cc)
 places-within document widget at (word ∷ words) [] within is =
-    let one = value-there (place_at document widget at word) (λ place. with_value (places_at document widget (suc at) words) (λ places. Ok (place ∷ places))) [] is in
+    let one = value-there (place_at document widget at word)
+    (λ place. with_value (places_at document widget (suc at) words) (λ places. Ok (place ∷ places))) [] is in
     let place = one.0 in
     let rest = value-there (places_at document widget (suc at) words) (λ places. Ok (place ∷ places)) [] one.2 in
     let others = rest.0 in
     absurd (let h : Ok (place ∷ others) ≡ Ok [] = rest.2 in let e : place ∷ others ≡ [] = cc in cc)
 places-within document widget at (word ∷ words) (first ∷ places) within is =
-    let one = value-there (place_at document widget at word) (λ place. with_value (places_at document widget (suc at) words) (λ places. Ok (place ∷ places))) (first ∷ places) is in
+    let one = value-there (place_at document widget at word) (λ place. with_value (places_at document widget (suc at) words) (λ places. Ok (place ∷ places)))
+    (first ∷ places) is in
     let place = one.0 in
     let rest = value-there (places_at document widget (suc at) words) (λ places. Ok (place ∷ places)) (first ∷ places) one.2 in
     let others = rest.0 in
@@ -78,8 +81,10 @@ module _ (limits : LimitTable) (document : Document) (widget : Widget) (P : Docu
   inserts at words =
       carried-with P document (first_of words) (insert_words limits document widget at) carried.same (λ given _.
       carried-with P document (place_at document widget at given.0) (insert_pairs limits document widget (pairs_at (at + 1) given.1)) carried.same (λ place _.
-      carried-with P document (pairs_at (at + 1) given.1) (λ pairs. unless_idle widget document (insert_at limits document widget (insertion_offset document widget place) pairs)) carried.same (λ pairs _.
-      carried-active P document widget (insert_at limits document widget (insertion_offset document widget place) pairs) carried.same (carried.inserted place pairs))))
+      carried-with P document (pairs_at (at + 1) given.1)
+      (λ pairs. unless_idle widget document (insert_at limits document widget (insertion_offset document widget place) pairs)) carried.same (λ pairs _.
+      carried-active P document widget (insert_at limits document widget (insertion_offset document widget place) pairs) carried.same
+      (carried.inserted place pairs))))
 
   replaces-places : (second from to : ℕ) (pairs : List Pair) → P (replace_places limits document widget second from to pairs).document
   replaces-places second from to pairs =
@@ -93,16 +98,17 @@ module _ (limits : LimitTable) (document : Document) (widget : Widget) (P : Docu
   replaces at words =
       carried-with P document (first_two_of words) (replace_words limits document widget at) carried.same (λ given _.
       carried-with P document (place_at document widget at given.0) (λ from.
-          change_with document (place_at document widget (at + 1) given.1) (λ to.
-          change_with document (pairs_at (at + 2) given.2) (replace_places limits document widget (at + 1) from to))) carried.same (λ from _.
+      change_with document (place_at document widget (at + 1) given.1) (λ to.
+      change_with document (pairs_at (at + 2) given.2) (replace_places limits document widget (at + 1) from to))) carried.same (λ from _.
       carried-with P document (place_at document widget (at + 1) given.1) (λ to.
-          change_with document (pairs_at (at + 2) given.2) (replace_places limits document widget (at + 1) from to)) carried.same (λ to _.
+      change_with document (pairs_at (at + 2) given.2) (replace_places limits document widget (at + 1) from to)) carried.same (λ to _.
       carried-with P document (pairs_at (at + 2) given.2) (replace_places limits document widget (at + 1) from to) carried.same (λ pairs _.
       replaces-places (at + 1) from to pairs))))
 
   deletes : (at : ℕ) (words : List (List ℕ)) → P (delete document widget at words).document
   deletes at words =
-      carried-with P document (places_at document widget at words) (λ places. unless_idle widget document (delete_places document widget places)) carried.same (λ places is.
+      carried-with P document (places_at document widget at words) (λ places. unless_idle widget document (delete_places document widget places)) carried.same
+      (λ places is.
       carried-active P document widget (delete_places document widget places) carried.same (λ busy.
       carried.deleted places busy (λ within. places-within document widget at words places within is)))
 
@@ -157,7 +163,8 @@ module _ (limits : LimitTable) (document : Document) (widget : Widget) (P : Docu
   -- ---- any command but three
 
   pub carried-done : (command : Command) (windows switches : List (List ℕ)) (at : ℕ) (arguments : List (List ℕ))
-      → (IsOther command → P (done command limits windows document widget switches at arguments).document) → P (done command limits windows document widget switches at arguments).document
+      → (IsOther command → P (done command limits windows document widget switches at arguments).document)
+      → P (done command limits windows document widget switches at arguments).document
   carried-done Insert windows switches at arguments other = inserts at arguments
   carried-done Delete windows switches at arguments other = deletes at arguments
   carried-done Replace windows switches at arguments other = replaces at arguments

@@ -28,7 +28,7 @@ use Rattle.documents.specs.WellFormed.{IsPlaced, IsWellFormedDocument, window_na
 use Rattle.documents.specs.Widgets.{bare_document, keeps_some, new_document, widget_named, without_widgets}
 use Rattle.documents.proofs.EditLeadLaws.{found-anchored}
 use Rattle.documents.proofs.LeadLaws.{Leads}
-use Rattle.documents.proofs.NewNameLaws.{AreNamed, named-carried, named-same}
+use Rattle.documents.proofs.NewNameLaws.{AreNamed, among-append, named-carried, named-same}
 use Rattle.documents.proofs.OptionLeadLaws.{leads-first, leads-left}
 use Rattle.documents.proofs.WidgetLeadLaws.{leads-carried}
 use Rattle.peers.specs.Command.{arguments_of, command, done, shaped, switches_of}
@@ -38,7 +38,7 @@ use Rattle.peers.specs.Undoing.{AreSpared, BeginsToKeep, after_all, forgets, for
 use Rattle.peers.specs.WellFormed.{IsWellFormed}
 use Rattle.peers.specs.World.{World, all_windows, document_at, home, windows_of}
 use Rattle.peers.proofs.DoneLaws.{IsOther, carried-done}
-use Rattle.peers.proofs.FrontLaws.{IsBefore, among-append, before-grown, front-changed, front-stays, home-at, left-among, left-at, left-front, neither, set-at, set-length, set-other}
+use Rattle.peers.proofs.FrontLaws.{IsBefore, before-grown, front-changed, front-stays, home-at, left-among, left-at, left-front, neither, set-at, set-length, set-other}
 use Rattle.peers.proofs.KeepingLaws.{leads-configured, leads-peered, named-configured, named-peered}
 use Rattle.peers.proofs.WorldLaws.{all-at, own-absent}
 
@@ -57,7 +57,8 @@ module _ (limits : LimitTable) (windows : List (List ℕ)) (document : Document)
       → Leads limits.chars start (done given limits windows document widget switches at arguments).document
   leads-other start switches at arguments Configure leads spared other = leads-configured limits.chars start document widget at arguments leads spared
   leads-other start switches at arguments EditReset leads spared other = absurd (true≢false spared)
-  leads-other start switches at arguments PeerCreate leads spared other = leads-peered limits windows document widget at limits.chars start arguments leads spared
+  leads-other start switches at arguments PeerCreate leads spared other =
+      leads-peered limits windows document widget at limits.chars start arguments leads spared
   leads-other start switches at arguments given leads spared other = absurd other
 
   named-other : (switches : List (List ℕ)) (at : ℕ) (arguments : List (List ℕ)) (given : Command) → IsOther given
@@ -67,19 +68,24 @@ module _ (limits : LimitTable) (windows : List (List ℕ)) (document : Document)
   named-other switches at arguments PeerCreate other = named-peered limits windows document widget at arguments
   named-other switches at arguments given other = absurd other
 
-  leads-shaped : (start name : List ℕ) (words : List (List ℕ)) (read : Result Shape ShapeFault) → Leads limits.chars start document → widget_named name document ≡ Some widget
+  leads-shaped : (start name : List ℕ) (words : List (List ℕ)) (read : Result Shape ShapeFault) → Leads limits.chars start document
+      → widget_named name document ≡ Some widget
       → (is_ok (shaped limits windows document widget words read).reply && forgets_read words read) ≡ false
       → Leads limits.chars start (shaped limits windows document widget words read).document
   leads-shaped start name words (Err fault) leads is spared = leads
   leads-shaped start name words (Ok shape) leads is spared =
       let anchored = found-anchored name (characters document.cells) document.widgets widget leads.page.anchored is in
-      carried-done limits document widget (Leads limits.chars start) (leads-carried limits start document widget leads anchored) shape.command windows (switches_of shape words)
-      shape.arguments (arguments_of shape words) (leads-other start (switches_of shape words) shape.arguments (arguments_of shape words) shape.command leads spared)
+      carried-done limits document widget (Leads limits.chars start) (leads-carried limits start document widget leads anchored) shape.command windows
+      (switches_of shape words)
+      shape.arguments (arguments_of shape words)
+      (leads-other start (switches_of shape words) shape.arguments (arguments_of shape words) shape.command leads spared)
 
-  named-shaped : (words : List (List ℕ)) (read : Result Shape ShapeFault) → AreNamed windows document (shaped limits windows document widget words read).document
+  named-shaped : (words : List (List ℕ)) (read : Result Shape ShapeFault)
+      → AreNamed windows document (shaped limits windows document widget words read).document
   named-shaped words (Err fault) = named-same windows document document refl
   named-shaped words (Ok shape) =
-      carried-done limits document widget (AreNamed windows document) (named-carried limits windows document widget) shape.command windows (switches_of shape words)
+      carried-done limits document widget (AreNamed windows document) (named-carried limits windows document widget) shape.command windows
+      (switches_of shape words)
       shape.arguments (arguments_of shape words) (named-other (switches_of shape words) shape.arguments (arguments_of shape words) shape.command)
 
 -- ---- a document that changes, is added, or ends
@@ -91,7 +97,8 @@ module _ (start : List ℕ) (world : World) (place : ℕ) (follows : Follows sta
   abbrev document : Document
   document = document_at documents place
 
-  follows-own : (change : Change) → AreNamed (all_windows world) document change.document → Leads world.limits.chars start change.document → Follows start (changed world place change).world place
+  follows-own : (change : Change) → AreNamed (all_windows world) document change.document → Leads world.limits.chars start change.document
+      → Follows start (changed world place change).world place
   follows-own change named leads =
       let new = change.document in
       let within = follows.within in
@@ -111,7 +118,8 @@ module _ (start : List ℕ) (world : World) (place : ℕ) (follows : Follows sta
             ]) follows.before) (λ less _. absurd (omega (arith, less))));
       }
 
-  follows-beside : (at : ℕ) (change : Change) → (at ≡ place → ⊥) → AreNamed (all_windows world) (document_at documents at) change.document → Follows start (changed world at change).world place
+  follows-beside : (at : ℕ) (change : Change) → (at ≡ place → ⊥) → AreNamed (all_windows world) (document_at documents at) change.document
+      → Follows start (changed world at change).world place
   follows-beside at change apart named =
       let new = change.document in
       let within = follows.within in
@@ -131,7 +139,8 @@ module _ (start : List ℕ) (world : World) (place : ℕ) (follows : Follows sta
             }));
       }
 
-  follows-changed : (at : ℕ) (change : Change) → AreNamed (all_windows world) (document_at documents at) change.document → (at ≡ place → Leads world.limits.chars start change.document)
+  follows-changed : (at : ℕ) (change : Change) → AreNamed (all_windows world) (document_at documents at) change.document
+      → (at ≡ place → Leads world.limits.chars start change.document)
       → Follows start (changed world at change).world place
   follows-changed at change named leads =
       elim (at == place) as (λ b. (at == place) ≡ b → Follows start (changed world at change).world place) [
@@ -160,7 +169,8 @@ module _ (start : List ℕ) (world : World) (place : ℕ) (follows : Follows sta
             (subst (AllByRecursion (IsBefore document)) (sym front) follows.before);
       }
 
-  follows-left : (names : List (List ℕ)) → keeps_some names document ≡ true → Follows start (destroy world names).world (length (filter (keeps_some names) (take place documents)))
+  follows-left : (names : List (List ℕ)) → keeps_some names document ≡ true
+      → Follows start (destroy world names).world (length (filter (keeps_some names) (take place documents)))
   follows-left names keeps =
       let there = left-at names documents place follows.within keeps in
       let count = length (filter (keeps_some names) (take place documents)) in
@@ -168,14 +178,16 @@ module _ (start : List ℕ) (world : World) (place : ℕ) (follows : Follows sta
         within = there.0;
         leads = subst (Leads world.limits.chars start) (sym there.1) (leads-left world.limits.chars start document names follows.leads);
         windows = λ name is. follows.windows name (left-among names name document (ap (λ (d : Document). is_among name (window_names d)) (sym there.1) ∙ is));
-        before = subst (λ (d : Document). AllByRecursion (IsBefore d) (take count (destroy world names).world.documents)) (sym there.1) (left-front names document documents place follows.before);
+        before = subst (λ (d : Document). AllByRecursion (IsBefore d) (take count (destroy world names).world.documents)) (sym there.1)
+            (left-front names document documents place follows.before);
       }
 
   -- ---- any command
 
   -- a command that drops no widget leaves the place
   stays : (new : World) → Follows start new place → Follows start new (length (filter (keeps_some []) (take place documents)))
-  stays new goes = (let within = follows.within in subst (Follows start new) (sym (front-stays document documents place (omega (arith, within)) follows.before)) goes)
+  stays new goes = (let within = follows.within in
+      subst (Follows start new) (sym (front-stays document documents place (omega (arith, within)) follows.before)) goes)
 
   follows-create : (words : List (List ℕ)) → Follows start (create world words).world place
   follows-create [] = follows
@@ -190,12 +202,14 @@ module _ (start : List ℕ) (world : World) (place : ℕ) (follows : Follows sta
       with-settings (Err fault) = follows
       with-settings (Ok settings) =
           let made : Outcome = record { reply = Ok (Word 1); world = record world { documents = documents ++ new_document name settings ∷ [] } } in
-          elim (is_among name (all_windows world)) as (λ b. Follows start (if b then refuses world (WindowExists 1) else create_new world name settings).world place) [
+          elim (is_among name (all_windows world)) as
+          (λ b. Follows start (if b then refuses world (WindowExists 1) else create_new world name settings).world place) [
             | true ↦ follows
-            | false ↦ elim (nat_le world.limits.widgets (length (all_windows world))) as (λ b. Follows start (if b then refuses world TooManyWidgets else made).world place) [
-              | true ↦ follows
-              | false ↦ follows-added (new_document name settings)
-            ]
+            | false ↦ elim (nat_le world.limits.widgets (length (all_windows world))) as
+                (λ b. Follows start (if b then refuses world TooManyWidgets else made).world place) [
+                  | true ↦ follows
+                  | false ↦ follows-added (new_document name settings)
+                ]
           ]
 
   follows-created : (words : List (List ℕ)) (read : Result Shape ShapeFault) → Follows start (create_shaped world words read).world place
@@ -208,7 +222,8 @@ module _ (start : List ℕ) (world : World) (place : ℕ) (follows : Follows sta
   follows-destroyed words (Ok shape) keeps = follows-left (arguments_of shape words) keeps
 
   follows-found : (at : ℕ) (name : List ℕ) (words : List (List ℕ)) (found : Option Widget) → widget_named name (document_at documents at) ≡ found
-      → (is_some (widget_named name document) && is_ok (on_found world at (document_at documents at) words found).reply && forgets_read words (reading words)) ≡ false
+      → (is_some (widget_named name document) && is_ok (on_found world at (document_at documents at) words found).reply && forgets_read words
+      (reading words)) ≡ false
       → Follows start (on_found world at (document_at documents at) words found).world place
   follows-found at name words None is spared = follows
   follows-found at name words (Some widget) is spared =
@@ -216,7 +231,8 @@ module _ (start : List ℕ) (world : World) (place : ℕ) (follows : Follows sta
       let change = command world.limits (all_windows world) own widget words in
       follows-changed at change (named-shaped world.limits (all_windows world) own widget words (reading words)) (λ same.
       let some : is_some (widget_named name document) ≡ true = ap (λ n. is_some (widget_named name (document_at documents n))) (sym same) ∙ ap is_some is in
-      leads-shaped world.limits (all_windows world) own widget start name words (reading words) (subst (λ n. Leads world.limits.chars start (document_at documents n)) (sym same) follows.leads) is
+      leads-shaped world.limits (all_windows world) own widget start name words (reading words)
+      (subst (λ n. Leads world.limits.chars start (document_at documents n)) (sym same) follows.leads) is
       (sym (ap (λ b. b && is_ok change.reply && forgets_read words (reading words)) some) ∙ spared))
 
   follows-home : (name : List ℕ) (words : List (List ℕ)) (found : Option ℕ)
@@ -233,7 +249,8 @@ text-apart : (name : List ℕ) → is_same name (literal "text") ≡ true → is
 unfolding chars
 text-apart name is = ap (λ n. is_same n (literal "destroy")) ((bytes_eq-Decides name (literal "text")).0 is)
 
-by-cases : (M : Outcome → List (List ℕ) → Type 0) (text destroys : Bool) (made left done : Outcome) (names : List (List ℕ)) → (text ≡ true → destroys ≡ false) → M made [] → M left names → M done []
+by-cases : (M : Outcome → List (List ℕ) → Type 0) (text destroys : Bool) (made left done : Outcome) (names : List (List ℕ)) → (text ≡ true → destroys ≡ false)
+    → M made [] → M left names → M done []
     → M (if text then made else (if destroys then left else done)) (if destroys then names else [])
 by-cases M true true made left done names apart one two three = absurd (true≢false (apart refl))
 by-cases M true false made left done names apart one two three = one
@@ -248,12 +265,15 @@ follows-step start world place (name ∷ others) follows spared =
     let read = reading words in
     let there = document_at world.documents place in
     let parts = and_parts (not (is_forgotten world place words)) (keeps_some (names_dropped words) there) spared in
-    by-cases (λ (outcome : Outcome) names. keeps_some names there ≡ true → (is_some (widget_named name there) && is_ok outcome.reply && forgets_read words read) ≡ false
-        → Follows start outcome.world (length (filter (keeps_some names) (take place world.documents))))
-    (is_same name (literal "text")) (is_same name (literal "destroy")) (create_shaped world words read) (destroy_shaped world words read) (on_widget world name words) (names_read words read) (text-apart name)
+    by-cases (λ (outcome : Outcome) names. keeps_some names there ≡ true
+    → (is_some (widget_named name there) && is_ok outcome.reply && forgets_read words read) ≡ false
+    → Follows start outcome.world (length (filter (keeps_some names) (take place world.documents))))
+    (is_same name (literal "text")) (is_same name (literal "destroy")) (create_shaped world words read) (destroy_shaped world words read)
+    (on_widget world name words) (names_read words read) (text-apart name)
     (λ _ _. stays start world place follows (create_shaped world words read).world (follows-created start world place follows words read))
     (λ keeps _. follows-destroyed start world place follows words read keeps)
-    (λ _ none. stays start world place follows (on_widget world name words).world (follows-home start world place follows name words (home name world.documents) none))
+    (λ _ none. stays start world place follows (on_widget world name words).world
+    (follows-home start world place follows name words (home name world.documents) none))
     parts.1 (not-true (is_forgotten world place words) parts.0)
 
 pub follows-all : (start : List ℕ) (commands : List (List (List ℕ))) (world : World) (place : ℕ) → Follows start world place → AreSpared world place commands
@@ -264,10 +284,12 @@ follows-all start (words ∷ commands) world place follows spared =
 
 -- ---- the start
 
-placed-window : (document : Document) (name : List ℕ) (widgets : List Widget) → AllByRecursion (IsPlaced document) widgets → is_among name (map (λ (w : Widget). w.name) widgets) ≡ true → is_window_name name ≡ true
+placed-window : (document : Document) (name : List ℕ) (widgets : List Widget) → AllByRecursion (IsPlaced document) widgets
+    → is_among name (map (λ (w : Widget). w.name) widgets) ≡ true → is_window_name name ≡ true
 placed-window document name [] placed there = absurd (true≢false (sym there))
 placed-window document name (widget ∷ widgets) placed there =
-    elim (is_same name widget.name) as (λ b. is_same name widget.name ≡ b → (b || is_among name (map (λ (w : Widget). w.name) widgets)) ≡ true → is_window_name name ≡ true) [
+    elim (is_same name widget.name) as (λ b. is_same name widget.name ≡ b → (b || is_among name (map (λ (w : Widget). w.name) widgets)) ≡ true
+    → is_window_name name ≡ true) [
       | true ↦ λ same _. ap is_window_name ((bytes_eq-Decides name widget.name).0 same) ∙ placed.0.name
       | false ↦ λ _ later. placed-window document name widgets placed.1 later
     ] refl there
@@ -281,7 +303,8 @@ distinct-behind [] others distinct = distinct
 distinct-behind (name ∷ names) others distinct = distinct-behind names others (IsDistinct-tail is_same name (names ++ others) distinct)
 
 -- distinct names stand once
-distinct-apart : (name : List ℕ) (names others : List (List ℕ)) → IsDistinct is_same (names ++ others) → is_among name others ≡ true → is_among name names ≡ false
+distinct-apart : (name : List ℕ) (names others : List (List ℕ)) → IsDistinct is_same (names ++ others) → is_among name others ≡ true
+    → is_among name names ≡ false
 distinct-apart name [] others distinct there = refl
 distinct-apart name (first ∷ names) others distinct there =
     elim (is_same name first) as (λ b. is_same name first ≡ b → (b || is_among name names) ≡ false) [
@@ -293,7 +316,8 @@ distinct-apart name (first ∷ names) others distinct there =
       | false ↦ λ _. distinct-apart name names others (IsDistinct-tail is_same first (names ++ others) distinct) there
     ] refl
 
-first-before : (documents : List Document) (place : ℕ) → place < length documents → AllByRecursion (λ (document : Document). 0 < length document.widgets) documents
+first-before : (documents : List Document) (place : ℕ) → place < length documents
+    → AllByRecursion (λ (document : Document). 0 < length document.widgets) documents
     → IsDistinct is_same (windows_of documents) → AllByRecursion (IsBefore (document_at documents place)) (take place documents)
 first-before documents zero within shown distinct = tt
 first-before [] (suc place) within shown distinct = tt
@@ -301,15 +325,17 @@ first-before (document ∷ documents) (suc place) within shown distinct =
     let inside : place < length documents = omega (arith, within) in (
       record {
         shown = shown.0;
-        apart = λ name there. elim (is_among name (windows_of documents)) as (λ b. is_among name (windows_of documents) ≡ b → is_among name (window_names document) ≡ false) [
-          | true ↦ λ among. distinct-apart name (window_names document) (windows_of documents) distinct among
-          | false ↦ λ none. absurd (true≢false (sym there ∙ own-absent name documents place inside none))
-        ] refl;
+        apart = λ name there.
+            elim (is_among name (windows_of documents)) as (λ b. is_among name (windows_of documents) ≡ b → is_among name (window_names document) ≡ false) [
+              | true ↦ λ among. distinct-apart name (window_names document) (windows_of documents) distinct among
+              | false ↦ λ none. absurd (true≢false (sym there ∙ own-absent name documents place inside none))
+            ] refl;
       },
       first-before documents place inside shown.1 (distinct-behind (window_names document) (windows_of documents) distinct),
     )
 
-pub follows-first : (world : World) (place : ℕ) → IsWellFormed world → place < length world.documents → BeginsToKeep (document_at world.documents place) → Follows (text_at world place) world place
+pub follows-first : (world : World) (place : ℕ) → IsWellFormed world → place < length world.documents → BeginsToKeep (document_at world.documents place)
+    → Follows (text_at world place) world place
 follows-first world place formed within begins =
     let documents = world.documents in
     let document = document_at documents place in

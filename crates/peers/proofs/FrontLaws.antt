@@ -10,7 +10,7 @@ use Rattle.documents.specs.Documents.{Document, Widget}
 use Rattle.documents.specs.Kept.{is_window_name}
 use Rattle.documents.specs.WellFormed.{window_names}
 use Rattle.documents.specs.Widgets.{is_kept, keeps_some, widget_named, without_widgets}
-use Rattle.documents.proofs.NewNameLaws.{AreNamed}
+use Rattle.documents.proofs.NewNameLaws.{among-append}
 use Rattle.peers.specs.Step.{has_widgets}
 use Rattle.peers.specs.World.{document_at, home, windows_of}
 use Rattle.peers.proofs.WorldLaws.{all-changed, left-names}
@@ -27,7 +27,8 @@ set-at [] place new within = absurd (omega (arith, within))
 set-at (document ∷ documents) zero new within = refl
 set-at (document ∷ documents) (suc place) new within = set-at documents place new (omega (arith, within))
 
-pub set-other : (documents : List Document) (at place : ℕ) (new : Document) → (at ≡ place → ⊥) → document_at (slice_set documents at new) place ≡ document_at documents place
+pub set-other : (documents : List Document) (at place : ℕ) (new : Document) → (at ≡ place → ⊥)
+    → document_at (slice_set documents at new) place ≡ document_at documents place
 set-other [] at place new apart = refl
 set-other (document ∷ documents) zero zero new apart = absurd (apart refl)
 set-other (document ∷ documents) zero (suc place) new apart = refl
@@ -39,7 +40,8 @@ set-same [] place = refl
 set-same (document ∷ documents) zero = refl
 set-same (document ∷ documents) (suc place) = ap (λ ds. document ∷ ds) (set-same documents place)
 
-pub set-twice : (documents : List Document) (place : ℕ) (one other : Document) → slice_set (slice_set documents place one) place other ≡ slice_set documents place other
+pub set-twice : (documents : List Document) (place : ℕ) (one other : Document)
+    → slice_set (slice_set documents place one) place other ≡ slice_set documents place other
 set-twice [] place one other = refl
 set-twice (document ∷ documents) zero one other = refl
 set-twice (document ∷ documents) (suc place) one other = ap (λ ds. document ∷ ds) (set-twice documents place one other)
@@ -59,23 +61,27 @@ pub home-at : (name : List ℕ) (documents : List Document) (place : ℕ) → ho
     → (place < length documents) × (is_among name (window_names (document_at documents place)) ≡ true)
 home-at name [] place is = absurd (let h : None ≡ Some place = is in cc)
 home-at name (document ∷ documents) place is =
-    elim (is_among name (window_names document)) as (λ b. is_among name (window_names document) ≡ b → (if b then Some 0 else option_map suc (home name documents)) ≡ Some place
-        → (place < length (document ∷ documents)) × (is_among name (window_names (document_at (document ∷ documents) place)) ≡ true)) [
+    elim (is_among name (window_names document)) as
+    (λ b. is_among name (window_names document) ≡ b → (if b then Some 0 else option_map suc (home name documents)) ≡ Some place
+    → (place < length (document ∷ documents)) × (is_among name (window_names (document_at (document ∷ documents) place)) ≡ true)) [
       | true ↦ λ there one.
           let same : 0 ≡ place = cc in
-          subst (λ n. (n < length (document ∷ documents)) × (is_among name (window_names (document_at (document ∷ documents) n)) ≡ true)) same (omega arith, there)
+          subst (λ n. (n < length (document ∷ documents)) × (is_among name (window_names (document_at (document ∷ documents) n)) ≡ true)) same
+          (omega arith, there)
       | false ↦ λ _ later. elim (home name documents) as (λ o. home name documents ≡ o → option_map suc o ≡ Some place
           → (place < length (document ∷ documents)) × (is_among name (window_names (document_at (document ∷ documents) place)) ≡ true)) [
-        | None ↦ λ _ none. absurd (let h : None ≡ Some place = none in cc)
-        | Some k ↦ λ found one.
-            let rest = home-at name documents k found in
-            let within : k < length documents = rest.0 in
-            let same : suc k ≡ place = cc in
-            subst (λ n. (n < length (document ∷ documents)) × (is_among name (window_names (document_at (document ∷ documents) n)) ≡ true)) same (omega (arith, within), rest.1)
-      ] refl later
+            | None ↦ λ _ none. absurd (let h : None ≡ Some place = none in cc)
+            | Some k ↦ λ found one.
+                let rest = home-at name documents k found in
+                let within : k < length documents = rest.0 in
+                let same : suc k ≡ place = cc in
+                subst (λ n. (n < length (document ∷ documents)) × (is_among name (window_names (document_at (document ∷ documents) n)) ≡ true)) same
+                (omega (arith, within), rest.1)
+          ] refl later
     ] refl is
 
-pub home-first : (name : List ℕ) (documents : List Document) (place : ℕ) → place < length documents → AllByRecursion (λ (d : Document). is_among name (window_names d) ≡ false) (take place documents)
+pub home-first : (name : List ℕ) (documents : List Document) (place : ℕ) → place < length documents
+    → AllByRecursion (λ (d : Document). is_among name (window_names d) ≡ false) (take place documents)
     → is_among name (window_names (document_at documents place)) ≡ true → home name documents ≡ Some place
 home-first name [] place within none there = absurd (omega (arith, within))
 home-first name (document ∷ documents) zero within none there = ap (λ b. if b then Some 0 else option_map suc (home name documents)) there
@@ -94,14 +100,17 @@ same-flipped : (one other : List ℕ) → is_same one other ≡ true → is_same
 same-flipped one other same = (bytes_eq-Decides other one).1 (sym ((bytes_eq-Decides one other).0 same))
 
 -- the name of a widget that is found is one of the names
-pub found-among : (name : List ℕ) (document : Document) (widget : Widget) → widget_named name document ≡ Some widget → is_among name (window_names document) ≡ true
+pub found-among : (name : List ℕ) (document : Document) (widget : Widget) → widget_named name document ≡ Some widget
+    → is_among name (window_names document) ≡ true
 found-among name document widget is = by document.widgets is
   where
-    by : (widgets : List Widget) → find (λ (w : Widget). is_same w.name name) widgets ≡ Some widget → is_among name (map (λ (w : Widget). w.name) widgets) ≡ true
+    by : (widgets : List Widget) → find (λ (w : Widget). is_same w.name name) widgets ≡ Some widget
+        → is_among name (map (λ (w : Widget). w.name) widgets) ≡ true
     by [] none = absurd (let h : None ≡ Some widget = none in cc)
     by (first ∷ widgets) there =
-        elim (is_same first.name name) as (λ b. is_same first.name name ≡ b → cond b (Some first) (find (λ (w : Widget). is_same w.name name) widgets) ≡ Some widget
-            → (is_same name first.name || is_among name (map (λ (w : Widget). w.name) widgets)) ≡ true) [
+        elim (is_same first.name name) as
+        (λ b. is_same first.name name ≡ b → cond b (Some first) (find (λ (w : Widget). is_same w.name name) widgets) ≡ Some widget
+        → (is_same name first.name || is_among name (map (λ (w : Widget). w.name) widgets)) ≡ true) [
           | true ↦ λ same _. ap (λ b. b || is_among name (map (λ (w : Widget). w.name) widgets)) (same-flipped first.name name same)
           | false ↦ λ _ later. or-true (is_same name first.name) (is_among name (map (λ (w : Widget). w.name) widgets)) (by widgets later)
         ] refl there
@@ -117,14 +126,6 @@ pub record IsBefore (document before : Document) : Type 0 where
   pub shown : 0 < length before.widgets
   pub apart : (name : List ℕ) → is_among name (window_names document) ≡ true → is_among name (window_names before) ≡ false
 
-pub among-append : (name : List ℕ) (names others : List (List ℕ)) → is_among name (names ++ others) ≡ (is_among name names || is_among name others)
-among-append name [] others = refl
-among-append name (first ∷ names) others =
-    elim (is_same name first) as (λ b. (b || is_among name (names ++ others)) ≡ ((b || is_among name names) || is_among name others)) [
-      | false ↦ among-append name names others
-      | true ↦ refl
-    ]
-
 pub neither : (b c : Bool) → (b || c) ≡ false → (b ≡ false) × (c ≡ false)
 neither false c none = (refl, none)
 neither true c none = absurd (true≢false none)
@@ -136,9 +137,10 @@ pub before-grown : (documents : List Document) (place : ℕ) (old new : Document
 before-grown documents zero old new known all = tt
 before-grown [] (suc place) old new known all = tt
 before-grown (document ∷ documents) (suc place) old new known all =
-    let split : (name : List ℕ) → is_among name (windows_of (document ∷ documents)) ≡ false → (is_among name (window_names document) ≡ false) × (is_among name (windows_of documents) ≡ false) = λ name none.
-        neither (is_among name (window_names document)) (is_among name (windows_of documents)) (sym (among-append name (window_names document) (windows_of documents)) ∙ none) in
-    (
+    let split : (name : List ℕ) → is_among name (windows_of (document ∷ documents)) ≡ false
+    → (is_among name (window_names document) ≡ false) × (is_among name (windows_of documents) ≡ false) = λ name none.
+    neither (is_among name (window_names document)) (is_among name (windows_of documents))
+    (sym (among-append name (window_names document) (windows_of documents)) ∙ none) in (
       record {
         shown = all.0.shown;
         apart = λ name there. elim (known name there) [
@@ -160,12 +162,14 @@ all-kept (widget ∷ widgets) = ap (λ ws. widget ∷ ws) (all-kept widgets)
 keeps-shown : (document : Document) → 0 < length document.widgets → keeps_some [] document ≡ true
 keeps-shown document shown = ap (λ (ws : List Widget). nat_lt 0 (length ws)) (all-kept document.widgets) ∙ lt-ltb 0 (length document.widgets) shown
 
-pub front-stays : (document : Document) (documents : List Document) (place : ℕ) → place ≤ length documents → AllByRecursion (IsBefore document) (take place documents)
+pub front-stays : (document : Document) (documents : List Document) (place : ℕ) → place ≤ length documents
+    → AllByRecursion (IsBefore document) (take place documents)
     → length (filter (keeps_some []) (take place documents)) ≡ place
 front-stays document documents zero within all = refl
 front-stays document [] (suc place) within all = absurd (omega (arith, within))
 front-stays document (first ∷ documents) (suc place) within all =
-    ap (λ b. length (cond b (first ∷ filter (keeps_some []) (take place documents)) (filter (keeps_some []) (take place documents)))) (keeps-shown first all.0.shown)
+    ap (λ b. length (cond b (first ∷ filter (keeps_some []) (take place documents)) (filter (keeps_some []) (take place documents))))
+    (keeps-shown first all.0.shown)
     ∙ ap suc (front-stays document documents place (omega (arith, within)) all.1)
 
 -- ---- documents that end
@@ -182,19 +186,20 @@ module _ (names : List (List ℕ)) where
       → (length (filter (keeps_some names) (take place documents)) < length (left documents))
       × (document_at (left documents) (length (filter (keeps_some names) (take place documents))) ≡ without_widgets names (document_at documents place))
   left-at [] place within keeps = absurd (omega (arith, within))
-  left-at (document ∷ documents) zero within keeps =
-      (
-        subst (λ b. 0 < length (cond b (thin document ∷ left documents) (left documents))) (sym keeps) (omega arith),
-        ap (λ b. document_at (cond b (thin document ∷ left documents) (left documents)) 0) keeps,
-      )
+  left-at (document ∷ documents) zero within keeps = (
+    subst (λ b. 0 < length (cond b (thin document ∷ left documents) (left documents))) (sym keeps) (omega arith),
+    ap (λ b. document_at (cond b (thin document ∷ left documents) (left documents)) 0) keeps,
+  )
   left-at (document ∷ documents) (suc place) within keeps =
       let rest = left-at documents place (omega (arith, within)) keeps in
       let count = length (filter (keeps_some names) (take place documents)) in
       let less : count < length (left documents) = rest.0 in
       elim (has_widgets (thin document)) as (λ b.
-          (length (cond b (document ∷ filter (keeps_some names) (take place documents)) (filter (keeps_some names) (take place documents))) < length (cond b (thin document ∷ left documents) (left documents)))
-          × (document_at (cond b (thin document ∷ left documents) (left documents)) (length (cond b (document ∷ filter (keeps_some names) (take place documents)) (filter (keeps_some names) (take place documents))))
-            ≡ without_widgets names (document_at documents place))) [
+      (length (cond b (document ∷ filter (keeps_some names) (take place documents)) (filter (keeps_some names) (take place documents))) < length
+      (cond b (thin document ∷ left documents) (left documents)))
+      × (document_at (cond b (thin document ∷ left documents) (left documents))
+      (length (cond b (document ∷ filter (keeps_some names) (take place documents)) (filter (keeps_some names) (take place documents))))
+      ≡ without_widgets names (document_at documents place))) [
         | true ↦ (omega (arith, less), rest.1)
         | false ↦ rest
       ]
@@ -230,7 +235,8 @@ module _ (names : List (List ℕ)) where
   left-front document (first ∷ documents) (suc place) all =
       let rest = left-front document documents place all.1 in
       elim (has_widgets (thin first)) as (λ b. has_widgets (thin first) ≡ b → AllByRecursion (IsBefore (thin document))
-          (take (length (cond b (first ∷ filter (keeps_some names) (take place documents)) (filter (keeps_some names) (take place documents)))) (cond b (thin first ∷ left documents) (left documents)))) [
+      (take (length (cond b (first ∷ filter (keeps_some names) (take place documents)) (filter (keeps_some names) (take place documents))))
+      (cond b (thin first ∷ left documents) (left documents)))) [
         | true ↦ λ stays. (left-before document first all.0 stays, rest)
         | false ↦ λ _. rest
       ] refl
