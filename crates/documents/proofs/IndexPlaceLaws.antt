@@ -1,11 +1,10 @@
 -- An index stands for a place of what a widget shows.
-use Rattle.std.proofs.Common.{◌≡◌, ℕ, zero, suc, ◌+◌, ◌-◌, ◌≤◌, Bool, List, [], Option, Some, Ok, Err, length, map, ap, arith}
-use Rattle.std.specs.Prelude.{Result, slice_get, slice_index_or}
+use Rattle.std.proofs.Common.{◌≡◌, ℕ, zero, suc, ◌-◌, ◌≤◌, Bool, List, [], Some, Ok, Err, length, map, ap, arith}
+use Rattle.std.specs.Prelude.{slice_get, slice_index_or}
 use Rattle.std.specs.FinSet as set
 use Rattle.std.proofs.lemmas.List.{length-map}
 use Rattle.std.proofs.lemmas.Option.{option_and_then_some}
 use Rattle.index_grammar.specs.Grammar.{index_of}
-use Rattle.index_grammar.specs.declared.faults.IndexFault.{IndexFault}
 use Rattle.text_index.specs.Meanings.{AreWithin}
 use Rattle.text_index.specs.Views.{own_place, shared_place}
 use Rattle.text_index.specs.Words.{is_word}

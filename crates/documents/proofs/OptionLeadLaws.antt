@@ -1,6 +1,6 @@
 -- Options that still keep all actions, and widgets that come and go, leave what a document leads back to; and so it begins.
-use Rattle.std.proofs.Common.{◌≡◌, ℕ, ◌+◌, ◌<◌, ◌≤◌, ◌==◌, Bool, true, false, cond, List, [], ◌∷◌, ◌++◌, Option, Some, None, map, length, refl, sym, ap, ap₂, ◌∙◌, arith, subst, true≢false}
-use Rattle.std.specs.Prelude.{filter, option_map, unwrap_or, if◌then◌else◌}
+use Rattle.std.proofs.Common.{◌≡◌, ℕ, ◌<◌, ◌≤◌, Bool, true, false, cond, List, [], ◌∷◌, map, length, refl, sym, ap, ap₂, ◌∙◌, arith, subst, true≢false}
+use Rattle.std.specs.Prelude.{filter, unwrap_or, if◌then◌else◌}
 use Rattle.std.specs.List.{All, AllByRecursion}
 use Rattle.std.proofs.lemmas.List.{length-map, map-append}
 use Rattle.std.proofs.lemmas.List.Elements.{All-append, All-cons, All-nil, All-tail}
@@ -10,7 +10,6 @@ use Rattle.text_model.specs.Lines.{lines}
 use Rattle.undo_stack.specs.Fits.{FitsText, reverted_groups}
 use Rattle.undo_stack.specs.History.{History, limit_of, limited, no_history}
 use Rattle.edit_ops.specs.Anchors.{AreAnchored}
-use Rattle.edit_ops.specs.declared.anchors.Anchors.{Anchors}
 use Rattle.edit_ops.proofs.StartLaws.{text-end-begins}
 use Rattle.command_parts.specs.declared.settings.DocumentSettings.{DocumentSettings}
 use Rattle.command_parts.specs.declared.settings.Settings.{Settings}

@@ -1,6 +1,6 @@
 -- Each edit that a command of a widget may make leaves what the document leads back to.
-use Rattle.std.proofs.Common.{◌≡◌, ℕ, suc, ◌+◌, ◌-◌, ◌<◌, ◌≤◌, Bool, true, false, List, [], ◌∷◌, ◌++◌, Option, Some, None, Ok, length, map, refl, sym, arith}
-use Rattle.std.specs.Prelude.{min, nat_le, nat_lt, if◌then◌else◌}
+use Rattle.std.proofs.Common.{◌≡◌, ℕ, ◌+◌, ◌-◌, ◌≤◌, true, false, List, [], ◌∷◌, ◌++◌, Option, Some, None, length, refl, arith}
+use Rattle.std.specs.Prelude.{nat_le, nat_lt, if◌then◌else◌}
 use Rattle.std.specs.List.{All, AllByRecursion}
 use Rattle.std.proofs.lemmas.List.{length-map}
 use Rattle.text_model.specs.LimitTable.{LimitTable}
@@ -15,7 +15,7 @@ use Rattle.command_parts.specs.Lists.{with_name}
 use Rattle.command_parts.specs.Ranges.{spans_of}
 use Rattle.command_parts.specs.Words.{is_among}
 use Rattle.command_parts.proofs.PairLaws.{spans_of-fit}
-use Rattle.documents.specs.Documents.{Document, Widget, SharedMark, KeyedCell, characters}
+use Rattle.documents.specs.Documents.{Document, Widget, KeyedCell, characters}
 use Rattle.documents.specs.Edits.{with_tag}
 use Rattle.documents.specs.Marks.{set_found}
 use Rattle.documents.specs.Names.{key_of}

@@ -1,5 +1,5 @@
 -- A widget that shows a whole document, whose text it can change.
-use Rattle.std.specs.Prelude.{◌≡◌, ℕ, false, List, Option, None, Some}
+use Rattle.std.specs.Prelude.{◌≡◌, ℕ, false, List, None, Some}
 use Rattle.documents.specs.Documents.{Document, Widget}
 use Rattle.documents.specs.Widgets.{widget_named}
 

@@ -1,5 +1,5 @@
 -- What holds of a document before a command of a widget, and after each edit of it, holds after the command.
-use Rattle.std.proofs.Common.{◌≡◌, ℕ, suc, ◌+◌, ◌≤◌, Bool, true, false, List, [], ◌∷◌, Option, Some, None, Ok, Err, length, refl, ap, ◌∙◌}
+use Rattle.std.proofs.Common.{◌≡◌, ℕ, suc, ◌+◌, ◌≤◌, true, false, List, [], ◌∷◌, Option, Some, None, Ok, Err, length, refl, ap, ◌∙◌}
 use Rattle.std.specs.Prelude.{Result, nat_lt, ok_or, ⊤, if◌then◌else◌}
 use Rattle.std.specs.List.{All}
 use Rattle.std.proofs.lemmas.Bool.{ltb-false}
@@ -31,7 +31,7 @@ use Rattle.peers.specs.Command.{done}
 use Rattle.peers.specs.Deletions.{delete, replace, replace_places, replace_words}
 use Rattle.peers.specs.History.{edit_modified, modified_word}
 use Rattle.peers.specs.Marks.{gravity_asked, gravity_given, gravity_words, mark_gravity, mark_set, set_at, set_words}
-use Rattle.peers.specs.Ranges.{and_place, places_at}
+use Rattle.peers.specs.Ranges.{places_at}
 use Rattle.peers.specs.Tags.{add_words, remove_words, tag_add, tag_lower, tag_raise, tag_remove}
 use Rattle.peers.specs.Texts.{insert, insert_pairs, insert_words}
 

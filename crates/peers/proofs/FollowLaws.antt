@@ -1,5 +1,5 @@
 -- A document that keeps all its actions leads back to the text from the start, through commands that spare it.
-use Rattle.std.proofs.Common.{◌≡◌, ℕ, zero, suc, ◌<◌, ◌≤◌, ◌==◌, ◌||◌, Bool, true, false, not, List, [], ◌∷◌, ◌++◌, Option, Some, None, Ok, Err, filter, length, map, take, refl, sym, ap, ◌∙◌, arith, subst, true≢false, inl, inr}
+use Rattle.std.proofs.Common.{◌≡◌, ℕ, zero, suc, ◌<◌, ◌==◌, ◌||◌, Bool, true, false, not, List, [], ◌∷◌, ◌++◌, Option, Some, None, Ok, Err, filter, length, map, take, refl, sym, ap, ◌∙◌, arith, subst, true≢false, inl, inr}
 use Rattle.std.specs.Prelude.{Result, ◌&&◌, is_ok, is_some, nat_le, slice_set, if◌then◌else◌}
 use Rattle.std.specs.List.{AllByRecursion, IsDistinct}
 use Rattle.std.specs.Str.{chars}
@@ -25,7 +25,7 @@ use Rattle.documents.specs.History.{edit_reset}
 use Rattle.documents.specs.Kept.{is_window_name}
 use Rattle.documents.specs.Promise.{Change}
 use Rattle.documents.specs.WellFormed.{IsPlaced, IsWellFormedDocument, window_names}
-use Rattle.documents.specs.Widgets.{bare_document, keeps_some, new_document, widget_named, without_widgets}
+use Rattle.documents.specs.Widgets.{bare_document, keeps_some, new_document, widget_named}
 use Rattle.documents.proofs.EditLeadLaws.{found-anchored}
 use Rattle.documents.proofs.LeadLaws.{Leads}
 use Rattle.documents.proofs.NewNameLaws.{AreNamed, among-append, named-carried, named-same}
@@ -33,12 +33,12 @@ use Rattle.documents.proofs.OptionLeadLaws.{leads-first, leads-left}
 use Rattle.documents.proofs.WidgetLeadLaws.{leads-carried}
 use Rattle.peers.specs.Command.{arguments_of, command, done, shaped, switches_of}
 use Rattle.peers.specs.Options.{settings_given}
-use Rattle.peers.specs.Step.{Outcome, changed, create, create_named, create_new, create_shaped, create_with, destroy, destroy_shaped, on_found, on_home, on_widget, refuses, step}
+use Rattle.peers.specs.Step.{Outcome, changed, create, create_new, create_shaped, create_with, destroy, destroy_shaped, on_found, on_home, on_widget, refuses, step}
 use Rattle.peers.specs.Undoing.{AreSpared, BeginsToKeep, after_all, forgets, forgets_read, is_forgotten, is_spared, names_dropped, names_read, place_after, place_after_all, text_at}
 use Rattle.peers.specs.WellFormed.{IsWellFormed}
 use Rattle.peers.specs.World.{World, all_windows, document_at, home, windows_of}
 use Rattle.peers.proofs.DoneLaws.{IsOther, carried-done}
-use Rattle.peers.proofs.FrontLaws.{IsBefore, before-grown, front-changed, front-stays, home-at, left-among, left-at, left-front, neither, set-at, set-length, set-other}
+use Rattle.peers.proofs.FrontLaws.{IsBefore, before-grown, front-changed, front-stays, left-among, left-at, left-front, neither, set-at, set-length, set-other}
 use Rattle.peers.proofs.KeepingLaws.{leads-configured, leads-peered, named-configured, named-peered}
 use Rattle.peers.proofs.WorldLaws.{all-at, own-absent}
 

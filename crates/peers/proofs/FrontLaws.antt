@@ -1,19 +1,17 @@
 -- A document among others, by those before it: as one of them changes, one is added, and some end.
-use Rattle.std.proofs.Common.{◌≡◌, ℕ, zero, suc, ◌<◌, ◌≤◌, ◌||◌, Bool, true, false, cond, not, List, [], ◌∷◌, ◌++◌, Option, Some, None, filter, length, map, take, get_or, option_map, refl, sym, ap, ◌∙◌, arith, subst, true≢false, ◌⊎◌, inl, inr}
+use Rattle.std.proofs.Common.{◌≡◌, ℕ, zero, suc, ◌<◌, ◌≤◌, ◌||◌, Bool, true, false, cond, not, List, [], ◌∷◌, Some, None, filter, length, map, take, option_map, refl, sym, ap, ◌∙◌, arith, subst, true≢false, ◌⊎◌, inl, inr}
 use Rattle.std.specs.Prelude.{find, nat_lt, slice_set, if◌then◌else◌}
 use Rattle.std.specs.List.{AllByRecursion}
 use Rattle.std.proofs.lemmas.Bool.{lt-ltb, ltb-true}
-use Rattle.std.proofs.lemmas.List.{length-map}
 use Rattle.std.proofs.lemmas.Slice.Eq.{bytes_eq-Decides}
 use Rattle.command_parts.specs.Words.{is_among, is_same}
 use Rattle.documents.specs.Documents.{Document, Widget}
-use Rattle.documents.specs.Kept.{is_window_name}
 use Rattle.documents.specs.WellFormed.{window_names}
 use Rattle.documents.specs.Widgets.{is_kept, keeps_some, widget_named, without_widgets}
 use Rattle.documents.proofs.NewNameLaws.{among-append}
 use Rattle.peers.specs.Step.{has_widgets}
 use Rattle.peers.specs.World.{document_at, home, windows_of}
-use Rattle.peers.proofs.WorldLaws.{all-changed, left-names}
+use Rattle.peers.proofs.WorldLaws.{left-names}
 
 -- ---- a document is set
 

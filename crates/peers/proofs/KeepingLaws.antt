@@ -1,11 +1,10 @@
 -- Options of which none says what is kept leave that, and so do the commands that take options.
-use Rattle.std.proofs.Common.{◌≡◌, ℕ, ◌+◌, Bool, true, false, List, [], ◌∷◌, Option, Some, None, Ok, Err, refl, sym, ap, ◌∙◌, subst, true≢false}
-use Rattle.std.specs.Prelude.{ℤ, ◌&&◌, ◌||◌, IfOk, Result, drop, is_ok, nat_le, ok_or, length, if◌then◌else◌}
+use Rattle.std.proofs.Common.{◌≡◌, ℕ, ◌+◌, Bool, true, false, List, [], ◌∷◌, Ok, Err, refl, sym, ap, ◌∙◌, subst, true≢false}
+use Rattle.std.specs.Prelude.{◌&&◌, ◌||◌, IfOk, Result, drop, is_ok, nat_le, ok_or, length, if◌then◌else◌}
 use Rattle.text_model.specs.Lines.{lines}
 use Rattle.text_model.specs.LimitTable.{LimitTable}
 use Rattle.undo_stack.specs.History.{limit_of}
 use Rattle.command_table.specs.Numbers.{boolean_of, integer_of}
-use Rattle.command_parts.specs.Arguments.{first_of}
 use Rattle.command_parts.specs.declared.answers.Answer.TheVariants.{Empty, Word}
 use Rattle.command_parts.specs.declared.answers.Fault.{Fault}
 use Rattle.command_parts.specs.declared.answers.Fault.TheVariants.{BadBoolean, BadInteger, BadOption, InvalidCommandName, StartLineAfterEndLine, TooManyWidgets, WindowExists}
@@ -23,7 +22,7 @@ use Rattle.documents.proofs.NamesKeptLaws.{settings-kept}
 use Rattle.documents.proofs.NewNameLaws.{AreNamed, named-peer, named-same}
 use Rattle.documents.proofs.OptionLeadLaws.{leads-peer, leads-settings, own-lines}
 use Rattle.peers.specs.Options.{configure, settings_given}
-use Rattle.peers.specs.Peers.{peer_create, peer_settings, peer_with, peer_words}
+use Rattle.peers.specs.Peers.{peer_create, peer_settings, peer_with}
 use Rattle.peers.specs.Undoing.{sets_keeping}
 use Rattle.peers.proofs.OptionLaws.{given-lines}
 
