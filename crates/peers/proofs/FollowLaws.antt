@@ -257,7 +257,7 @@ by-cases M true false made left done names apart one two three = one
 by-cases M false true made left done names apart one two three = two
 by-cases M false false made left done names apart one two three = three
 
-pub follows-step : (start : List ℕ) (world : World) (place : ℕ) (words : List (List ℕ)) → Follows start world place → is_spared world place words ≡ true
+follows-step : (start : List ℕ) (world : World) (place : ℕ) (words : List (List ℕ)) → Follows start world place → is_spared world place words ≡ true
     → Follows start (step world words).world (place_after world words place)
 follows-step start world place [] follows spared = stays start world place follows world follows
 follows-step start world place (name ∷ others) follows spared =

@@ -28,7 +28,7 @@ use Rattle.peers.proofs.OptionLaws.{given-lines}
 
 -- ---- options
 
-pub record Keeps (old new : Settings) : Type 0 where
+record Keeps (old new : Settings) : Type 0 where
   pub undo : new.document.undo ≡ old.document.undo
   pub most : new.document.most_undo ≡ old.document.most_undo
 
@@ -113,7 +113,7 @@ all-keep lines at (option ∷ value ∷ words) settings none =
     (λ next. all-keep lines (at + 2) words next parts.2)
 
 -- what is given of options: lines of the text, the start not behind the end, and what is kept
-pub record AreGiven (document : Document) (words : List (List ℕ)) (old new : Settings) : Type 0 where
+record AreGiven (document : Document) (words : List (List ℕ)) (old new : Settings) : Type 0 where
   pub lines : AreLines (lines (characters document.cells)) new
   pub before : is_behind new.start new.end ≡ false
   pub keeps : sets_keeping words ≡ false → Keeps old new

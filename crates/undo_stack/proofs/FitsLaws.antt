@@ -172,7 +172,7 @@ pub reverted-joined : (limit : ℕ) (joins : Bool) (action : Action) (groups : L
 reverted-joined limit true action groups text = reverted-onto_last limit action groups text
 reverted-joined limit false action groups text = reverted_groups-append limit groups ((action ∷ []) ∷ []) text
 
-pub some-first : {A B : Type 0} (f : A → Option B) (o : Option A) → IsSome (option_and_then f o) → IsSome o
+some-first : {A B : Type 0} (f : A → Option B) (o : Option A) → IsSome (option_and_then f o) → IsSome o
 some-first f None is = is
 some-first f (Some x) is = refl
 
@@ -280,7 +280,7 @@ last-apart groups group is =
     let some = some-at groups (length groups - 1) group is in
     last-at groups (length groups - 1) group (omega (arith, some)) is
 
-pub some-is : {A : Type 0} (o : Option A) → IsSome o → (x : A) × (o ≡ Some x)
+some-is : {A : Type 0} (o : Option A) → IsSome o → (x : A) × (o ≡ Some x)
 some-is None is = absurd (false≢true is)
 some-is (Some x) is = (x, refl)
 
@@ -310,7 +310,7 @@ undo-fits limit history text found group fits is made =
       repeats = rw (after-none (repeated_groups limit history.undone) (repeated_group limit group found) text back.0) fits.repeats;
     }
 
-pub first-apart : (groups : List (List Action)) (group : List Action) → slice_get groups 0 ≡ Some group → group ∷ drop 1 groups ≡ groups
+first-apart : (groups : List (List Action)) (group : List Action) → slice_get groups 0 ≡ Some group → group ∷ drop 1 groups ≡ groups
 first-apart [] group is = absurd (let h : None ≡ Some group = is in cc)
 first-apart (first ∷ groups) group is = let same : first ≡ group = cc in ap (λ g. g ∷ groups) (sym same)
 
