@@ -7,6 +7,7 @@ pub mod Kept
 pub mod Keys
 pub mod Marks
 pub mod Names
+pub mod Opened
 pub mod Options
 pub mod Origins
 pub mod Promise

@@ -5,6 +5,7 @@ use Rattle.std.proofs.lemmas.List.{append_assoc, append-nil, length-append}
 use Rattle.std.specs.Prelude.{◌||◌, remove}
 use Rattle.std.proofs.lemmas.Bool.Decides.{nat_tests}
 use Rattle.std.proofs.lemmas.List.{get_or_read, length-map, map-append}
+use Rattle.command_parts.proofs.CountLaws.{among-append}
 use Rattle.command_parts.specs.Words.{is_among, is_same}
 use Rattle.command_parts.specs.declared.settings.Settings.{Settings}
 use Rattle.documents.specs.Documents.{Document, Widget}
@@ -179,14 +180,6 @@ read-count documents place document within is =
     ∙ sym (length-map (document_at documents place).widgets (λ (widget : Widget). widget.name))
 
 -- ---- a document among others
-
-among-append : (name : List ℕ) (names others : List (List ℕ)) → is_among name (names ++ others) ≡ (is_among name names || is_among name others)
-among-append name [] others = refl
-among-append name (first ∷ names) others =
-    elim (is_same name first) as (λ b. (b || is_among name (names ++ others)) ≡ ((b || is_among name names) || is_among name others)) [
-      | false ↦ among-append name names others
-      | true ↦ refl
-    ]
 
 -- a name that no widget has isn't that of one of a document's
 pub own-absent : (name : List ℕ) (documents : List Document) (place : ℕ) → place < length documents → is_among name (windows_of documents) ≡ false

@@ -10,6 +10,7 @@ pub mod Ranges
 pub mod Step
 pub mod Tags
 pub mod Texts
+pub mod Undoing
 pub mod WellFormed
 pub mod Windows
 pub mod World

@@ -6,6 +6,7 @@ mod deletions;
 mod document_list;
 mod history;
 mod indices;
+pub mod laws;
 mod marks;
 mod options;
 mod peers;

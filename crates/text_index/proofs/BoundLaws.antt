@@ -233,10 +233,10 @@ value_of-le is_word meanings text (Some index) within place is =
 
 -- ---- what a view shows
 
-own-within : (start end : ℕ) (place : Place) → own_place start end place ≤ end - start
+pub own-within : (start end : ℕ) (place : Place) → own_place start end place ≤ end - start
 own-within start end place = omega arith
 
-shared-within : (start end : ℕ) (place : Place) (found : ℕ) → shared_place start end place ≡ Some found → found ≤ end - start
+pub shared-within : (start end : ℕ) (place : Place) (found : ℕ) → shared_place start end place ≡ Some found → found ≤ end - start
 shared-within start end place found is =
     elim (nat_le start place.offset) as (λ b. (if b && nat_le place.offset end then Some (place.offset - start) else None) ≡ Some found → found ≤ end - start) [
       | false ↦ λ none. absurd (let h : None ≡ Some found = none in cc)

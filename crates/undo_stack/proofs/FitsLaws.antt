@@ -108,7 +108,7 @@ revert-back limit action text found short is =
 
 -- ---- a group
 
-after-none : {A B : Type 0} (f : A → Option B) (o : Option A) (x : A) → o ≡ Some x → option_and_then f o ≡ f x
+pub after-none : {A B : Type 0} (f : A → Option B) (o : Option A) (x : A) → o ≡ Some x → option_and_then f o ≡ f x
 after-none f o x is = ap (option_and_then f) is
 
 pub repeat-group-back : (limit : ℕ) (actions : List Action) (text found : List ℕ) → length text ≤ limit → repeated_group limit actions text ≡ Some found
@@ -167,7 +167,7 @@ reverted-onto_last limit action (group ∷ next ∷ groups) text =
     ap (option_and_then (reverted_group limit group)) (reverted-onto_last limit action (next ∷ groups) text)
     ∙ and-then-chain (reverted_group limit group) (reverted_groups limit (next ∷ groups)) (reverted limit action text)
 
-reverted-joined : (limit : ℕ) (joins : Bool) (action : Action) (groups : List (List Action)) (text : List ℕ)
+pub reverted-joined : (limit : ℕ) (joins : Bool) (action : Action) (groups : List (List Action)) (text : List ℕ)
     → reverted_groups limit (joined joins action groups) text ≡ option_and_then (reverted_groups limit groups) (reverted limit action text)
 reverted-joined limit true action groups text = reverted-onto_last limit action groups text
 reverted-joined limit false action groups text = reverted_groups-append limit groups ((action ∷ []) ∷ []) text
@@ -274,7 +274,7 @@ some-at : (groups : List (List Action)) (k : ℕ) (group : List Action) → slic
 some-at [] k group is = absurd (let h : None ≡ Some group = is in cc)
 some-at (first ∷ groups) k group is = omega arith
 
-last-apart : (groups : List (List Action)) (group : List Action) → slice_get groups (length groups - 1) ≡ Some group
+pub last-apart : (groups : List (List Action)) (group : List Action) → slice_get groups (length groups - 1) ≡ Some group
     → take (length groups - 1) groups ++ group ∷ [] ≡ groups
 last-apart groups group is =
     let some = some-at groups (length groups - 1) group is in

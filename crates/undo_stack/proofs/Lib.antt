@@ -3,4 +3,5 @@ pub mod CountLaws
 pub mod CountRows
 pub mod FitsLaws
 pub mod GroupLaws
+pub mod OriginLaws
 pub mod RingLaws

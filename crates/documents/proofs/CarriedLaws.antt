@@ -1,0 +1,92 @@
+-- What holds of a document before a command, and after each edit that a command may make, holds after the command.
+use Rattle.std.proofs.Common.{◌≡◌, ℕ, ◌+◌, ◌≤◌, Bool, true, false, List, Option, Some, None, Ok, Err, length, refl}
+use Rattle.std.specs.Prelude.{Result, nat_lt, if◌then◌else◌}
+use Rattle.std.specs.List.{All}
+use Rattle.std.proofs.lemmas.Bool.{ltb-false}
+use Rattle.text_model.specs.declared.places.Place.{Place}
+use Rattle.text_model.specs.LimitTable.{LimitTable}
+use Rattle.command_parts.specs.declared.answers.Answer.TheVariants.{Empty}
+use Rattle.command_parts.specs.declared.answers.Fault.{Fault}
+use Rattle.command_parts.specs.declared.answers.Fault.TheVariants.{NoSuchTag, TooManyTags, TextTooLong}
+use Rattle.command_parts.specs.Lists.{Pair}
+use Rattle.command_parts.specs.Words.{is_among}
+use Rattle.documents.specs.Deletions.{delete_places, replace_span}
+use Rattle.documents.specs.Documents.{Document, Widget}
+use Rattle.documents.specs.History.{edit_separator, modified_set}
+use Rattle.documents.specs.Marks.{mark_unset, set_found, with_mark}
+use Rattle.documents.specs.Promise.{Change, answered, refused, change_with, unless_idle}
+use Rattle.documents.specs.Reversals.{edit_redo, edit_undo}
+use Rattle.documents.specs.Tags.{add_spans, known_or, remove_spans, reordered, tag_delete}
+use Rattle.documents.specs.Texts.{insert_at, insertion_offset, within_limits}
+use Rattle.documents.specs.View.{is_idle, shown, view_end}
+
+-- ---- what may follow, or not
+
+pub carried-with : {A : Type 0} (P : Document → Type 0) (document : Document) (value : Result A Fault) (next : A → Change) → P document
+    → ((given : A) → value ≡ Ok given → P (next given).document) → P (change_with document value next).document
+carried-with P document (Err fault) next same goes = same
+carried-with P document (Ok given) next same goes = goes given refl
+
+pub carried-active : (P : Document → Type 0) (document : Document) (widget : Widget) (change : Change) → P document
+    → (is_idle document widget ≡ false → P change.document) → P (unless_idle widget document change).document
+carried-active P document widget change same next =
+    elim (is_idle document widget) as (λ b. is_idle document widget ≡ b → P (if b then answered document Empty else change).document) [
+      | true ↦ λ _. same
+      | false ↦ λ busy. next busy
+    ] refl
+
+pub carried-limited : (P : Document → Type 0) (limits : LimitTable) (document : Document) (tags chars : ℕ) (change : Change) → P document
+    → (chars ≤ limits.chars → P change.document) → P (within_limits limits document tags chars change).document
+carried-limited P limits document tags chars change same next =
+    elim (nat_lt (limits.tags + 1) tags) as
+    (λ b. P (if b then refused document TooManyTags else if nat_lt limits.chars chars then refused document TextTooLong else change).document) [
+      | true ↦ same
+      | false ↦ elim (nat_lt limits.chars chars) as (λ b. nat_lt limits.chars chars ≡ b → P (if b then refused document TextTooLong else change).document) [
+        | true ↦ λ _. same
+        | false ↦ λ few. next (ltb-false limits.chars chars few)
+      ] refl
+    ]
+
+known-carried : (P : Document → Type 0) (document : Document) (at : ℕ) (name : List ℕ) (change : Change) → P document → P change.document
+    → P (known_or document at name change).document
+known-carried P document at name change same next =
+    elim (is_among name document.tags) as (λ b. P (if b then change else refused document (NoSuchTag at)).document) [
+      | true ↦ next
+      | false ↦ same
+    ]
+
+-- tags in another order
+pub carried-reordered : (P : Document → Type 0) (document : Document) (at : ℕ)
+    (order : List (List ℕ) → List ℕ → Option (List ℕ) → List (List ℕ)) (words : List ℕ × Option (List ℕ))
+    → P document → ((tags : List (List ℕ)) → P (record document { tags = tags })) → P (reordered document at order words).document
+carried-reordered P document at order (name, None) same next =
+    known-carried P document at name (answered (record document { tags = order document.tags name None }) Empty) same (next (order document.tags name None))
+carried-reordered P document at order (name, Some other) same next =
+    let change : Change = answered (record document { tags = order document.tags name (Some other) }) Empty in
+    known-carried P document at name (known_or document (at + 1) other change) same
+    (known-carried P document (at + 1) other change same (next (order document.tags name (Some other))))
+
+-- ---- edits
+
+-- It holds of a document, and after each edit of a widget that a command may make.
+pub record IsCarried (limits : LimitTable) (document : Document) (widget : Widget) (P : Document → Type 0) : Type 0 where
+  pub same : P document
+  pub inserted : (place : ℕ) (pairs : List Pair) → is_idle document widget ≡ false
+      → P (insert_at limits document widget (insertion_offset document widget place) pairs).document
+  pub replaced : (from to : ℕ) (pairs : List Pair) → is_idle document widget ≡ false → from ≤ to
+      → P (replace_span limits document widget (insertion_offset document widget from) (insertion_offset document widget to) pairs).document
+  pub deleted : (places : List ℕ) → is_idle document widget ≡ false
+      → (view_end document widget ≤ length document.cells → All (λ place. place ≤ length (shown document widget)) places)
+      → P (delete_places document widget places).document
+  pub set : (name : List ℕ) (offset : ℕ) (found : Option Place) → P (set_found limits document widget name offset found).document
+  pub turned : (name : List ℕ) (place : Place) → P (with_mark document widget name place)
+  pub unset : (names : List (List ℕ)) → P (mark_unset document names).document
+  pub added : (name places : List ℕ) → P (add_spans limits document widget name places).document
+  pub removed : (name places : List ℕ) → P (remove_spans document widget name places).document
+  pub untagged : (names : List (List ℕ)) → P (tag_delete document names).document
+  pub ordered : (at : ℕ) (order : List (List ℕ) → List ℕ → Option (List ℕ) → List (List ℕ)) (words : List ℕ × Option (List ℕ))
+      → P (reordered document at order words).document
+  pub modified : (flag : Bool) → P (modified_set document flag).document
+  pub separated : P (edit_separator document).document
+  pub undone : P (edit_undo document widget).document
+  pub redone : P (edit_redo document widget).document
