@@ -16,8 +16,8 @@ ghost use Rattle.command_parts.specs.declared.answers.Answer.TheVariants.{Empty}
 use crate::documents::Document;
 use crate::views::view_of;
 use command_parts::{
-    Answer, Fault, clear_slots, delete_names, deleted_slots, find_tag, is_one_too_many, push_names, push_names_in,
-    push_next, push_previous, push_ranges, set_slot, spans_of, tag_spans,
+    Answer, Fault, clear_slots, delete_names, deleted_slots, find_tag, is_one_too_many, push_names,
+    push_names_in, push_next, push_previous, push_ranges, set_slot, spans_of, tag_spans,
 };
 use edit_ops::Span;
 use std::alloc::AllocError;

@@ -145,11 +145,7 @@ impl<S: TextStore> Document<S> {
 
     /// Takes the widgets of these names out of the document and of others, as `drop_widgets` does.
     #[cycle(drop)]
-    fn drop_with(
-        &mut self,
-        others: &mut [Document<S>],
-        names: &[String],
-    ) -> Result<(), AllocError>
+    fn drop_with(&mut self, others: &mut [Document<S>], names: &[String]) -> Result<(), AllocError>
         ensures ok { OnOk result (self.new ≡ thinned (texts_of names.now) self.old) }
         ensures others { OnOk result (others.new ≡ map (thinned (texts_of names.now)) others.old) }
         ensures err { OnErr result ((self.new ≡ self.old) × (others.new ≡ others.old)) }

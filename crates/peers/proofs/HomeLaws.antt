@@ -28,7 +28,7 @@ found-in : (name : List ℕ) (place : ℕ) (names : List (List ℕ)) (others : H
 found-in name place [] others = refl
 found-in name place (first ∷ names) others =
     elim (is_same name first) as (λ b. (if b then Some place else home_in name (placed_at place names ++ others))
-        ≡ (if b || is_among name names then Some place else home_in name others)) [
+    ≡ (if b || is_among name names then Some place else home_in name others)) [
       | false ↦ found-in name place names others
       | true ↦ refl
     ]
@@ -68,10 +68,10 @@ module _ {D : Type 0} (names : D → List (List ℕ)) where
   homes-found name place (d ∷ ds) =
       found-in name place (names d) (homes_from (suc place) (map names ds))
       ∙ elim (is_among name (names d)) as (λ b. (if b then Some place else home_in name (homes_from (suc place) (map names ds)))
-          ≡ option_map (λ k. place + k) (if b then Some 0 else option_map suc (first_with name ds))) [
-          | false ↦ homes-found name (suc place) ds ∙ onward (first_with name ds)
-          | true ↦ let same : place ≡ place + 0 = omega arith in ap Some same
-        ]
+      ≡ option_map (λ k. place + k) (if b then Some 0 else option_map suc (first_with name ds))) [
+        | false ↦ homes-found name (suc place) ds ∙ onward (first_with name ds)
+        | true ↦ let same : place ≡ place + 0 = omega arith in ap Some same
+      ]
     where
       onward : (found : Option ℕ) → option_map (λ k. suc place + k) found ≡ option_map (λ k. place + k) (option_map suc found)
       onward None = refl
@@ -96,7 +96,7 @@ module _ {D : Type 0} (names : D → List (List ℕ)) where
       ap (λ hs. placed_at place (names e) ++ hs) (homes-added (suc place) ds d)
       ∙ sym (append_assoc (placed_at place (names e)) (homes_from (suc place) (map names ds)) (placed_at (suc place + length ds) (names d)))
       ∙ (let same : suc place + length ds ≡ place + suc (length ds) = omega arith in
-        ap (λ p. (placed_at place (names e) ++ homes_from (suc place) (map names ds)) ++ placed_at p (names d)) same)
+      ap (λ p. (placed_at place (names e) ++ homes_from (suc place) (map names ds)) ++ placed_at p (names d)) same)
 
   -- a widget more, behind the others of its document
   pub homes-peer : (place at : ℕ) (ds : List D) (new nothing : D) (name : List ℕ) → at < length ds
@@ -108,7 +108,7 @@ module _ {D : Type 0} (names : D → List (List ℕ)) where
       let here = placed_at place (names d) in
       let behind = homes_from (suc place) (map names ds) in
       let count : length (names d ++ []) ≡ length here =
-          ap length (append-nil (names d)) ∙ sym (length-map (names d) (λ n. (n, place))) in
+      ap length (append-nil (names d)) ∙ sym (length-map (names d) (λ n. (n, place))) in
       let same : place ≡ place + 0 = omega arith in
       ap (λ ns. placed_at place ns ++ behind) is
       ∙ ap (λ hs. hs ++ behind) (map-append (λ n. (n, place)) (names d) (name ∷ []))
@@ -121,15 +121,15 @@ module _ {D : Type 0} (names : D → List (List ℕ)) where
       let more = length (flat_map names (take (at + 1) ds)) in
       let long : length here ≡ length (names d) = length-map (names d) (λ n. (n, place)) in
       let count : length (names d ++ flat_map names (take (at + 1) ds)) ≡ length (names d) + more =
-          length-append (names d) (flat_map names (take (at + 1) ds)) in
+      length-append (names d) (flat_map names (take (at + 1) ds)) in
       let back : length (names d ++ flat_map names (take (at + 1) ds)) - length (names d) ≡ more = omega (arith, count) in
       let same : suc place + at ≡ place + suc at = omega arith in
       ap (λ hs. here ++ hs) (homes-peer (suc place) at ds new nothing name (omega (arith, within)) is)
       ∙ ap₂ (λ i p. here ++ insert behind i (name, p)) (sym back) same
       ∙ sym (insert-append_right here behind (length (names d)) (length (names d ++ flat_map names (take (at + 1) ds))) (name, place + suc at)
-          long (omega (arith, count)))
+      long (omega (arith, count)))
       ∙ (let step : suc (at + 1) ≡ suc at + 1 = omega arith in
-        ap (λ n. insert (here ++ behind) (length (flat_map names (take n (d ∷ ds)))) (name, place + suc at)) step)
+      ap (λ n. insert (here ++ behind) (length (flat_map names (take n (d ∷ ds)))) (name, place + suc at)) step)
 
   -- a document that keeps its widgets
   pub names-same : (at : ℕ) (ds : List D) (new nothing : D) → names new ≡ names (get_or ds at nothing) → map names (slice_set ds at new) ≡ map names ds
@@ -171,8 +171,14 @@ module _ {D : Type 0} (names : D → List (List ℕ)) where
   pub noted-within : (ds : List D) (count end : ℕ) (homes : Homes) (nothing : D) → AreNoted ds count end homes → count < length ds
       → end + length (names (get_or ds count nothing)) ≤ length homes
   noted-within ds count end homes nothing noted within =
-      omega (arith, noted.end_is, next-count count ds nothing within, front-count (count + 1) ds,
-        ap length noted.names_stay, length-map homes (λ home. home.0))
+      omega (
+        arith,
+        noted.end_is,
+        next-count count ds nothing within,
+        front-count (count + 1) ds,
+        ap length noted.names_stay,
+        length-map homes (λ home. home.0),
+      )
 
   pub noted-more : (ds : List D) (count start end : ℕ) (old new : Homes) (nothing : D) → AreNoted ds count start old → count < length ds
       → end ≡ start + length (names (get_or ds count nothing)) → names_in new ≡ names_in old
@@ -192,15 +198,15 @@ module _ {D : Type 0} (names : D → List (List ℕ)) where
         names_stay = same ∙ noted.names_stay;
         end_is = is ∙ ap (λ n. n + c) noted.end_is ∙ sym (next-count count ds nothing within);
         right =
-          ap (take end) (made ∙ ap (λ n. front ++ replicate n count ++ drop end (places_in old)) some)
-          ∙ ap (λ n. take n (front ++ replicate c count ++ drop end (places_in old))) at_end
-          ∙ ap (take (length front + c)) (append_assoc front (replicate c count) (drop end (places_in old)))
-          ∙ take-append-add front (replicate c count ++ drop end (places_in old)) c
-          ∙ ap (λ xs. front ++ xs) (take-append-le c (replicate c count) (drop end (places_in old)) (omega (arith, counted))
+            ap (take end) (made ∙ ap (λ n. front ++ replicate n count ++ drop end (places_in old)) some)
+            ∙ ap (λ n. take n (front ++ replicate c count ++ drop end (places_in old))) at_end
+            ∙ ap (take (length front + c)) (append_assoc front (replicate c count) (drop end (places_in old)))
+            ∙ take-append-add front (replicate c count ++ drop end (places_in old)) c
+            ∙ ap (λ xs. front ++ xs) (take-append-le c (replicate c count) (drop end (places_in old)) (omega (arith, counted))
             ∙ take_all c (replicate c count) (omega (arith, counted)))
-          ∙ ap₂ (λ xs ys. xs ++ ys) noted.right (sym (placed-places count (names d)))
-          ∙ sym (map-append (λ home. home.1) (homes_from 0 (map names (take count ds))) (placed_at count (names d)))
-          ∙ ap places_in ((let here : count ≡ 0 + length (take count ds) = omega (arith, length-take-least count ds (omega (arith, within))) in
+            ∙ ap₂ (λ xs ys. xs ++ ys) noted.right (sym (placed-places count (names d)))
+            ∙ sym (map-append (λ home. home.1) (homes_from 0 (map names (take count ds))) (placed_at count (names d)))
+            ∙ ap places_in ((let here : count ≡ 0 + length (take count ds) = omega (arith, length-take-least count ds (omega (arith, within))) in
             ap (λ p. homes_from 0 (map names (take count ds)) ++ placed_at p (names d)) here)
             ∙ sym (homes-added 0 (take count ds) d) ∙ ap (λ front. homes_from 0 (map names front)) (sym (take_more ds count nothing within)));
       }
@@ -223,7 +229,7 @@ pub names-filtered : (keeps : List ℕ → Bool) (homes : Homes) → names_in (f
 names-filtered keeps [] = refl
 names-filtered keeps (home ∷ homes) =
     elim (keeps home.0) as (λ b. names_in (cond b (home ∷ filter (λ h. keeps h.0) homes) (filter (λ h. keeps h.0) homes))
-        ≡ cond b (home.0 ∷ filter keeps (names_in homes)) (filter keeps (names_in homes))) [
+    ≡ cond b (home.0 ∷ filter keeps (names_in homes)) (filter keeps (names_in homes))) [
       | false ↦ names-filtered keeps homes
       | true ↦ ap (λ ns. home.0 ∷ ns) (names-filtered keeps homes)
     ]
@@ -244,7 +250,7 @@ names-left names thin has keeps left none [] = refl
 names-left names thin has keeps left none (d ∷ ds) =
     let rest = names-left names thin has keeps left none ds in
     elim (has (thin d)) as (λ b. has (thin d) ≡ b → flat_map names (cond b (thin d ∷ filter has (map thin ds)) (filter has (map thin ds)))
-        ≡ filter keeps (names d ++ flat_map names ds)) [
+    ≡ filter keeps (names d ++ flat_map names ds)) [
       | false ↦ λ gone. rest ∙ ap (λ xs. xs ++ filter keeps (flat_map names ds)) (sym (none (thin d) gone) ∙ left d)
           ∙ sym (filter-append keeps (names d) (flat_map names ds))
       | true ↦ λ stays. ap₂ (λ xs ys. xs ++ ys) (left d) rest ∙ sym (filter-append keeps (names d) (flat_map names ds))

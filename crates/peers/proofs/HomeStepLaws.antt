@@ -33,8 +33,8 @@ pub home-is : (name : List ℕ) (documents : List Document) (place : ℕ) → ho
 home-is name [] place found = absurd (let none : None ≡ Some place = found in cc)
 home-is name (document ∷ documents) place found =
     elim (is_among name (window_names document)) as (λ b. is_among name (window_names document) ≡ b
-        → cond b (Some 0) (option_map suc (home name documents)) ≡ Some place
-        → (place < length (document ∷ documents)) × (is_among name (window_names (document_at (document ∷ documents) place)) ≡ true)) [
+    → cond b (Some 0) (option_map suc (home name documents)) ≡ Some place
+    → (place < length (document ∷ documents)) × (is_among name (window_names (document_at (document ∷ documents) place)) ≡ true)) [
       | true ↦ λ among here.
           let first : 0 ≡ place = let same : Some 0 ≡ Some place = here in cc in
           subst (λ at. (at < length (document ∷ documents)) × (is_among name (window_names (document_at (document ∷ documents) at)) ≡ true)) first (omega arith, among)
@@ -59,7 +59,7 @@ some-widget name document among = all document.widgets among
     all [] none = absurd (let no : false ≡ true = none in cc)
     all (widget ∷ widgets) is =
         elim (is_same name widget.name) as (λ b. is_same name widget.name ≡ b → (b || is_among name (map (λ (w : Widget). w.name) widgets)) ≡ true
-            → (found : Widget) × (find (λ (w : Widget). is_same w.name name) (widget ∷ widgets) ≡ Some found)) [
+        → (found : Widget) × (find (λ (w : Widget). is_same w.name name) (widget ∷ widgets) ≡ Some found)) [
           | true ↦ λ same _. (widget, ap (λ b. cond b (Some widget) (find (λ (w : Widget). is_same w.name name) widgets)) (bytes_eq-turned widget.name name ∙ same))
           | false ↦ λ other rest.
               let found = all widgets rest in
@@ -88,7 +88,6 @@ bad-command limits windows document widget words fault is = ap (shaped limits wi
 
 module _ (limits : LimitTable) (documents : List Document) (place : ℕ) (new : Document) (result : Result Answer Fault) (change : Change)
     (does : Does limits (document_at documents place) new result change) where
-
   pub does-world : result ≢ Err Memory → with_all limits (slice_set documents place new) ≡ (changed (with_all limits documents) place change).world
   does-world not = ap (λ document. with_all limits (slice_set documents place document)) (does.document not)
 
@@ -117,7 +116,7 @@ module _ (limits : LimitTable) (documents : List Document) (place : ℕ) (new : 
         limits = formed.limits;
         shown = all-changed (λ (d : Document). 0 < length d.widgets) documents place new formed.shown (omega (arith, shown, few, here, there));
         documents = all-changed (IsWellFormedDocument limits) documents place new formed.documents
-          (does.well_formed (all-at (IsWellFormedDocument limits) documents place formed.documents within));
+            (does.well_formed (all-at (IsWellFormedDocument limits) documents place formed.documents within));
         widget_names = subst (IsDistinct is_same) (sym does-windows) formed.widget_names;
         widget_count = let count = ap length does-windows in omega (arith, count, formed.widget_count);
       }

@@ -21,7 +21,6 @@ no-peer limits windows document widget at words fault none =
 
 module _ (limits : LimitTable) (windows : List (List ℕ)) (document : Document) (widget : Widget) (at : ℕ)
     (words : List (List ℕ)) (name : List ℕ) (options : List (List ℕ)) (first : first_of words ≡ Ok (name, options)) where
-
   abbrev with_options : Result Settings Fault → Change
   with_options found = change_with document found (peer_with limits windows document at name)
 

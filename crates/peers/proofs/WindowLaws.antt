@@ -80,6 +80,7 @@ last-moved {A} xs x last to is =
     at_end : (ys : List A) → slice_get (ys ++ x ∷ []) (length ys) ≡ Some x
     at_end [] = refl
     at_end (y ∷ ys) = at_end ys
+
     off_end : (ys : List A) → remove (ys ++ x ∷ []) (length ys) ≡ ys
     off_end [] = refl
     off_end (y ∷ ys) = ap (λ zs. y ∷ zs) (off_end ys)
@@ -91,7 +92,7 @@ homes-put name bytes m new homes index home spelled seen fresh made =
     let none = absent name bytes m.entries homes spelled seen fresh in
     let last : insert_index string_eq m name ≡ length m.entries = or_len-absent (string_eq name) m.entries (absent_from_lookup (string_eq name) m.entries none) in
     ap (map home_kept) (made ∙ ap (λ es. move_index es (insert_index string_eq m name) index) (insert_entry-new string_eq m name home none)
-      ∙ last-moved m.entries (name, home) (insert_index string_eq m name) index last)
+    ∙ last-moved m.entries (name, home) (insert_index string_eq m name) index last)
     ∙ map-insert home_kept m.entries index (name, home)
     ∙ ap₂ (λ hs b. insert hs index (chars b, home)) seen spelled
 
@@ -157,7 +158,7 @@ filled-more from index home places ordered within =
     let here = get_or places index 0 in
     let behind = drop (index + 1) places in
     let long : length front ≡ index =
-        omega (arith, length-append (take from places) (replicate (index - from) home), length-replicate (index - from) home, length-take from places) in
+    omega (arith, length-append (take from places) (replicate (index - from) home), length-replicate (index - from) home, length-take from places) in
     let count : suc (index - from) ≡ index + 1 - from = omega (arith, ordered) in
     ap (λ xs. slice_set (front ++ xs) index home) (drop_more places index 0 within)
     ∙ ap (λ n. slice_set (front ++ here ∷ behind) n home) (sym long)
@@ -176,6 +177,6 @@ pub fills-more : {Z : Type 0} (from index home : ℕ) (old new : List (String Z 
 fills-more from index home old new ordered within are = (
   value-names new index home ∙ are.0,
   value-places new index home ∙ ap (λ ps. slice_set ps index home) are.1
-  ∙ filled-more from index home (places_in (map home_kept old)) ordered
-    (omega (arith, within, length-map (map home_kept old) (λ home. home.1), length-map old home_kept)),
+      ∙ filled-more from index home (places_in (map home_kept old)) ordered
+      (omega (arith, within, length-map (map home_kept old) (λ home. home.1), length-map old home_kept)),
 )

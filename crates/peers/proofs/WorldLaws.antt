@@ -51,7 +51,7 @@ left-names names document = all document.widgets
     all [] = refl
     all (widget ∷ widgets) =
         elim (not (is_among widget.name names)) as (λ b. map (λ (w : Widget). w.name) (cond b (widget ∷ filter (is_kept names) widgets) (filter (is_kept names) widgets))
-            ≡ cond b (widget.name ∷ filter (λ name. not (is_among name names)) (map (λ (w : Widget). w.name) widgets)) (filter (λ name. not (is_among name names)) (map (λ (w : Widget). w.name) widgets))) [
+        ≡ cond b (widget.name ∷ filter (λ name. not (is_among name names)) (map (λ (w : Widget). w.name) widgets)) (filter (λ name. not (is_among name names)) (map (λ (w : Widget). w.name) widgets))) [
           | false ↦ all widgets
           | true ↦ ap (λ ns. widget.name ∷ ns) (all widgets)
         ]
@@ -75,6 +75,7 @@ left-documents names documents = filter-changed (keeps_some names) has_widgets (
   where
     alike : (document : Document) → has_widgets (without_widgets names document) ≡ true → thinned names document ≡ without_widgets names document
     alike document keeps = ap (λ b. cond b (without_widgets names document) document) keeps
+
     same : (document : Document) → keeps_some names (thinned names document) ≡ has_widgets (without_widgets names document)
     same document =
         elim (keeps_some names document) as (λ b. keeps_some names document ≡ b → keeps_some names (cond b (without_widgets names document) document) ≡ has_widgets (without_widgets names document)) [
@@ -351,7 +352,7 @@ formed-peer limits name settings documents new place (Ok value) formed within fe
     record {
       limits = formed.limits;
       shown = subst (AllByRecursion (λ (d : Document). 0 < length d.widgets)) (sym made)
-        (all-changed (λ (d : Document). 0 < length d.widgets) documents place (with_peer name settings old) formed.shown (omega (arith, shown)));
+          (all-changed (λ (d : Document). 0 < length d.widgets) documents place (with_peer name settings old) formed.shown (omega (arith, shown)));
       documents = all;
       widget_names = distinct;
       widget_count = omega (arith, count, more, room);

@@ -117,7 +117,12 @@ impl<S: TextStore> Documents<S> {
 
     /// Makes a further widget of the document at a place, of a name that no widget has, and gives it and the document
     /// options.
-    pub fn add_peer(&mut self, place: usize, name: &str, settings: Settings) -> Result<(), AllocError>
+    pub fn add_peer(
+        &mut self,
+        place: usize,
+        name: &str,
+        settings: Settings,
+    ) -> Result<(), AllocError>
         requires found { self.old.windows ≡ homes_of self.old.list.items }
         requires place { place < length self.old.list.items }
         requires named { is_window_name (chars name.now) ≡ true }

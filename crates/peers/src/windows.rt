@@ -4,7 +4,6 @@ ghost use Rattle.tcl_words.specs.Unread.{texts_of};
 ghost use Rattle.command_parts.specs.Words.{is_among, is_same};
 ghost use Rattle.peers.specs.Windows.{home_in, names_in, places_in};
 
-
 use command_parts::is_among;
 use indexmap::IndexMap;
 use std::alloc::{AllocError, Global};
@@ -51,7 +50,13 @@ impl Windows {
     }
 
     /// Puts the name of a new widget in, before the one at an index of the order, with the place of its document.
-    pub fn put(&mut self, alloc: Global, index: usize, name: &str, home: usize) -> Result<(), AllocError>
+    pub fn put(
+        &mut self,
+        alloc: Global,
+        index: usize,
+        name: &str,
+        home: usize,
+    ) -> Result<(), AllocError>
         requires new { home_in (chars name.now) self.old ≡ None }
         requires within { index ≤ length self.old }
         ensures ok { OnOk result (self.new ≡ insert self.old index (chars name.now, home)) }

@@ -167,7 +167,13 @@ impl<S: TextStore> World<S> {
     }
 
     /// Makes a further widget of the document at a place, of the name that is the word at a position, with options.
-    fn add_peer(&mut self, place: usize, at: usize, name: &str, settings: Settings) -> Result<Answer, Fault>
+    fn add_peer(
+        &mut self,
+        place: usize,
+        at: usize,
+        name: &str,
+        settings: Settings,
+    ) -> Result<Answer, Fault>
         requires place { place < length self.old.documents }
         requires named { is_window_name (chars name.now) ≡ true }
         requires lines { AreLines (lines (characters (document_at self.old.documents place).cells)) settings }
@@ -193,7 +199,13 @@ impl<S: TextStore> World<S> {
 
     /// `W peer create V ?option value ..?` (text(n), "PEER WIDGETS"), of a widget of the document at a place. The arguments
     /// stand from a position on.
-    fn create_peer(&mut self, place: usize, widget: usize, at: usize, arguments: &[String]) -> Result<Answer, Fault>
+    fn create_peer(
+        &mut self,
+        place: usize,
+        widget: usize,
+        at: usize,
+        arguments: &[String],
+    ) -> Result<Answer, Fault>
         requires place { place < length self.old.documents }
         requires shown { widget < length (document_at self.old.documents place).widgets }
         requires near { at + length arguments.now ≤ usize.MAX }
@@ -222,7 +234,13 @@ impl<S: TextStore> World<S> {
     }
 
     /// A command of the widget of a name, which shows the document at a place, of all its words, which have this shape.
-    fn on_document(&mut self, place: usize, name: &str, shape: Shape, words: &[String]) -> Result<Answer, Fault>
+    fn on_document(
+        &mut self,
+        place: usize,
+        name: &str,
+        shape: Shape,
+        words: &[String],
+    ) -> Result<Answer, Fault>
         requires home { home (chars name.now) self.old.documents ≡ Some place }
         requires shape { reading (texts_of words.now) ≡ Ok shape }
         requires within { shape.arguments + shape.count ≤ length words.now }

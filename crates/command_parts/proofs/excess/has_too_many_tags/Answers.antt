@@ -10,13 +10,13 @@ pub returns-then-count-most : goal.returns-then-count-most
 returns-then-count-most c =
     let tags = names_of c.args.tags.now.tags in
     let many : c.args.limits.now.tags + 1 < length (with_names tags (all_names c.args.pairs.now)) = omega (
-        arith,
-        c.if-count-most.true,
-        c.tags.ensures,
-        c.len-count.ensures.value,
-        length-map c.args.tags.now.tags (λ (tag : Tag). tag.name),
-        with_names-longer tags (all_names c.args.pairs.now),
-      ) in
+      arith,
+      c.if-count-most.true,
+      c.tags.ensures,
+      c.len-count.ensures.value,
+      length-map c.args.tags.now.tags (λ (tag : Tag). tag.name),
+      with_names-longer tags (all_names c.args.pairs.now),
+    ) in
     grind (arith, nat_tests, many)
 
 pub returns-in-None : goal.returns-in-None

@@ -25,7 +25,7 @@ returns-clause-room g c =
     let left = length (g.S.TextStore.content c.args.store.now).cells in
     let few : tags ≤ c.args.limits.now.tags + 1 =
     subst (λ (pairs : List Pair). length (with_names (names_of c.args.tags.now.tags) (all_names pairs)) ≤ c.args.limits.now.tags + 1) c.as_slice.ensures.value
-      (excess-few c.args.limits.now _ _ (sym c.excess_of.ensures.value ∙ c.in_default.is)) in
+    (excess-few c.args.limits.now _ _ (sym c.excess_of.ensures.value ∙ c.in_default.is)) in
     let same : pieces.total c.deref.result.now ≡ total c.args.pairs.items =
     ap pieces.total (c.deref.ensures.value ∙ c.in_ok-pieces.ensures.pieces) ∙ total-pieces c.make_pieces.new.tags.tags c.args.widget.0 c.args.pairs.items in
     on_ok_weaker c.put_texts.result (λ fits. excess-none c.args.limits.now tags (left + total c.args.pairs.items) few (subst (λ n. left + n ≤ c.args.limits.now.chars) same fits))
@@ -37,7 +37,7 @@ returns-clause-fault g c =
     let left = length (g.S.TextStore.content c.args.store.now).cells in
     let few : tags ≤ c.args.limits.now.tags + 1 =
     subst (λ (pairs : List Pair). length (with_names (names_of c.args.tags.now.tags) (all_names pairs)) ≤ c.args.limits.now.tags + 1) c.as_slice.ensures.value
-      (excess-few c.args.limits.now _ _ (sym c.excess_of.ensures.value ∙ c.in_default.is)) in
+    (excess-few c.args.limits.now _ _ (sym c.excess_of.ensures.value ∙ c.in_default.is)) in
     let same : pieces.total c.deref.result.now ≡ total c.args.pairs.items =
     ap pieces.total (c.deref.ensures.value ∙ c.in_ok-pieces.ensures.pieces) ∙ total-pieces c.make_pieces.new.tags.tags c.args.widget.0 c.args.pairs.items in
     IfErr-weaker c.put_texts.result (λ fault. fault ≢ Memory → (fault ≡ TextTooLong) × (c.args.limits.now.chars < left + pieces.total c.deref.result.now))

@@ -21,8 +21,16 @@ overflow_add-end g c =
     let whole = ap length (c.loop-place.invariant.names_stay ∙ sym c.requires) in
     let one = length-map c.loop-place.windows (λ home. home.0) in
     let other = length-map c.args.windows.now (λ home. home.0) in
-    omega (arith, noted-within window_names documents c.loop-place.place c.loop-place.end c.loop-place.windows bare_document c.loop-place.invariant c.loop-place-test.true, c.widget_count-end.ensures, read,
-      whole, one, other, c.len-count.ensures.value)
+    omega (
+      arith,
+      noted-within window_names documents c.loop-place.place c.loop-place.end c.loop-place.windows bare_document c.loop-place.invariant c.loop-place-test.true,
+      c.widget_count-end.ensures,
+      read,
+      whole,
+      one,
+      other,
+      c.len-count.ensures.value,
+    )
 
 pub loop-place-preserved : goal.loop-place-preserved
 loop-place-preserved g c =

@@ -25,7 +25,7 @@ returns-in-Ok-clause-distinct g c =
     let items = c.in_ok-push.ensures.items ∙ ap (λ (d : Document). documents ++ d ∷ []) c.in_ok-new.ensures.value in
     let found = added-homes (chars c.args.name.now) c.args.settings documents c.args.self.now.windows c.put.new.self c.len-index.result c.len-place.result c.requires.found c.len-index.ensures.value
     (omega (arith, c.len-place.ensures, c.args.self.now.list.ok.0))
-      c.in-Ok.ensures.ok ∙ ap homes_of (sym items) in
+    c.in-Ok.ensures.ok ∙ ap homes_of (sym items) in
     subst (IsDistinct is_same) (ap names_in found ∙ homes-windows c.push.new.self.items) c.len-count.ensures.distinct
 
 pub returns-in-Ok-clause-well_formed : goal.returns-in-Ok-clause-well_formed

@@ -68,7 +68,7 @@ returns-in-Ok-clause-distinct g c =
     let here = read-is documents c.args.place c.index_mut.result.now c.requires.place c.index_mut.ensures.value in
     let made = c.in-Ok.ensures.ok ∙ ap (with_peer name c.args.settings) here in
     let found = peer-homes name c.args.settings documents c.args.self.now.windows c.put.new.self c.count_to-index.result c.args.place c.requires.found c.requires.place end c.in_ok-put.ensures.ok
-      ∙ ap (λ (d : Document). homes_of (slice_set documents c.args.place d)) (sym made) in
+    ∙ ap (λ (d : Document). homes_of (slice_set documents c.args.place d)) (sym made) in
     subst (IsDistinct is_same) (ap names_in found ∙ homes-windows (slice_set documents c.args.place c.add_widget.new.self)) c.len-count.ensures.distinct
 
 pub returns-in-Ok-clause-well_formed : goal.returns-in-Ok-clause-well_formed

@@ -13,7 +13,7 @@ pub returns-then-has_widget-clause-reply : goal.returns-then-has_widget-clause-r
 returns-then-has_widget-clause-reply g c = λ _.
     let world = c.args.self.now in
     sym (ap (λ (x : Change). x.reply) (peer-taken world.limits (all_windows world) (document_at world.documents c.args.place) c.args.at (chars c.args.name.now) c.args.settings
-      (sym c.has_widget.ensures ∙ c.if-has_widget.true)))
+    (sym c.has_widget.ensures ∙ c.if-has_widget.true)))
 
 pub returns-then-has_widget-clause-world : goal.returns-then-has_widget-clause-world
 returns-then-has_widget-clause-world g c = λ _.
@@ -25,13 +25,13 @@ pub returns-then-is_full-clause-reply : goal.returns-then-is_full-clause-reply
 returns-then-is_full-clause-reply g c = λ _.
     let world = c.args.self.now in
     sym (ap (λ (x : Change). x.reply) (peer-many world.limits (all_windows world) (document_at world.documents c.args.place) c.args.at (chars c.args.name.now) c.args.settings
-      (sym c.has_widget.ensures ∙ c.if-has_widget.false) (sym c.is_full.ensures ∙ c.if-is_full.true)))
+    (sym c.has_widget.ensures ∙ c.if-has_widget.false) (sym c.is_full.ensures ∙ c.if-is_full.true)))
 
 pub returns-then-is_full-clause-world : goal.returns-then-is_full-clause-world
 returns-then-is_full-clause-world g c = λ _.
     let world = c.args.self.now in let document = document_at world.documents c.args.place in
     let change = peer-many world.limits (all_windows world) document c.args.at (chars c.args.name.now) c.args.settings
-      (sym c.has_widget.ensures ∙ c.if-has_widget.false) (sym c.is_full.ensures ∙ c.if-is_full.true) in
+    (sym c.has_widget.ensures ∙ c.if-has_widget.false) (sym c.is_full.ensures ∙ c.if-is_full.true) in
     sym (ap (λ (x : Change). (changed world c.args.place x).world) change ∙ changed-refused world.limits world.documents c.args.place (refused document TooManyWidgets) refl)
 
 pub add_peer-requires-clause-new : goal.add_peer-requires-clause-new
@@ -49,15 +49,17 @@ invariant_of-self-2 g c =
     let documents = c.self.inside.documents.list.items in let limits = c.self.inside.limits in
     let few : nat_le limits.widgets (length (windows_of documents)) ≡ false =
     subst (λ (w : World). nat_le w.limits.widgets (length (all_windows w)) ≡ false) (sym c.self.view_is) (sym c.is_full.ensures ∙ c.if-is_full.false) in
-    let within : c.args.place < length documents = subst (λ (w : World). c.args.place < length w.documents) (sym c.self.view_is) c.requires.place in
-    (formed-peer limits (chars c.args.name.now) c.args.settings documents c.add_peer.new.self.list.items c.args.place c.add_peer.result c.self.invariant.0 within few c.add_peer.ensures.ok
-      c.add_peer.ensures.err c.add_peer.ensures.distinct (c.add_peer.ensures.well_formed limits c.self.invariant.0.documents), c.add_peer.ensures.found)
+    let within : c.args.place < length documents = subst (λ (w : World). c.args.place < length w.documents) (sym c.self.view_is) c.requires.place in (
+      formed-peer limits (chars c.args.name.now) c.args.settings documents c.add_peer.new.self.list.items c.args.place c.add_peer.result c.self.invariant.0 within few c.add_peer.ensures.ok
+          c.add_peer.ensures.err c.add_peer.ensures.distinct (c.add_peer.ensures.well_formed limits c.self.invariant.0.documents),
+      c.add_peer.ensures.found,
+    )
 
 pub returns-clause-reply : goal.returns-clause-reply
 returns-clause-reply g c = λ _.
     let world = c.args.self.now in
     sym (ap (λ (x : Change). x.reply) (peer-new world.limits (all_windows world) (document_at world.documents c.args.place) c.args.at (chars c.args.name.now) c.args.settings
-      (sym c.has_widget.ensures ∙ c.if-has_widget.false) (sym c.is_full.ensures ∙ c.if-is_full.false)))
+    (sym c.has_widget.ensures ∙ c.if-has_widget.false) (sym c.is_full.ensures ∙ c.if-is_full.false)))
 
 pub returns-clause-world : goal.returns-clause-world
 returns-clause-world g c = λ _.

@@ -32,10 +32,9 @@ pub invariant_of-self-2 : goal.invariant_of-self-2
 invariant_of-self-2 g c =
     let documents = c.self.inside.documents.list.items in
     let few : nat_le c.self.inside.limits.widgets (length (windows_of documents)) ≡ false =
-    subst (λ (w : World). nat_le w.limits.widgets (length (all_windows w)) ≡ false) (sym c.self.view_is) (sym c.is_full.ensures ∙ c.if-is_full.false) in
-    (
+    subst (λ (w : World). nat_le w.limits.widgets (length (all_windows w)) ≡ false) (sym c.self.view_is) (sym c.is_full.ensures ∙ c.if-is_full.false) in (
       formed-added c.self.inside.limits (chars c.args.name.now) c.args.settings documents c.add.new.self.list.items c.add.result c.self.invariant.0 few c.add.ensures.ok c.add.ensures.err
-        c.add.ensures.distinct (c.add.ensures.well_formed c.self.inside.limits c.self.invariant.0.limits c.self.invariant.0.documents),
+          c.add.ensures.distinct (c.add.ensures.well_formed c.self.inside.limits c.self.invariant.0.limits c.self.invariant.0.documents),
       c.add.ensures.found,
     )
 

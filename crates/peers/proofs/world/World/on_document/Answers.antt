@@ -73,8 +73,7 @@ invariant_of-self g c =
     let change = command limits (windows_of documents) old (widget_at old widget) words in
     let does : Does limits old c.command.new.document c.command.result change =
     subst (λ (d : Document). Does limits d c.command.new.document c.command.result (command limits (windows_of documents) d (widget_at d widget) words)) lent
-      (c.command.ensures.does (windows_of documents)) in
-    (
+    (c.command.ensures.does (windows_of documents)) in (
       does-form limits documents c.args.place c.command.new.document c.command.result change does c.self.invariant.0 found.0,
       c.self.invariant.1 ∙ sym (does-homes limits documents c.args.place c.command.new.document c.command.result change does),
     )
@@ -92,7 +91,7 @@ returns-in-PeerCreate-clause-reply g c = λ other.
     let step = found-change world c.args.place document words (widget_named name document) (widget_at document widget) named in
     c.create_peer.ensures.reply other
     ∙ ap (λ arguments. (changed world c.args.place (peer_create world.limits (all_windows world) document (widget_at document widget) c.args.shape.arguments arguments)).reply)
-      (arguments-part c.args.words.now c.args.shape)
+    (arguments-part c.args.words.now c.args.shape)
     ∙ sym (ap (λ (x : Change). (changed world c.args.place x).reply) change) ∙ sym (ap (λ (o : Outcome). o.reply) step)
 
 pub returns-in-PeerCreate-clause-world : goal.returns-in-PeerCreate-clause-world
@@ -108,7 +107,7 @@ returns-in-PeerCreate-clause-world g c = λ other.
     let step = found-change world c.args.place document words (widget_named name document) (widget_at document widget) named in
     c.create_peer.ensures.world other
     ∙ ap (λ arguments. (changed world c.args.place (peer_create world.limits (all_windows world) document (widget_at document widget) c.args.shape.arguments arguments)).world)
-      (arguments-part c.args.words.now c.args.shape)
+    (arguments-part c.args.words.now c.args.shape)
     ∙ sym (ap (λ (x : Change). (changed world c.args.place x).world) change) ∙ sym (ap (λ (o : Outcome). o.world) step)
 
 pub returns-in_default-command : goal.returns-in_default-command
@@ -121,7 +120,7 @@ returns-in_default-command g c =
     let change = command limits (windows_of documents) old (widget_at old widget) words in
     let does : Does limits old c.command.new.document c.command.result change =
     subst (λ (d : Document). Does limits d c.command.new.document c.command.result (command limits (windows_of documents) d (widget_at d widget) words)) lent
-      (c.command.ensures.does (windows_of documents)) in
+    (c.command.ensures.does (windows_of documents)) in
     let named : widget_named name old ≡ Some (widget_at old widget) =
     subst (λ (d : Document). widget_named name d ≡ Some (widget_at d widget)) read c.in-Some.ensures.some in
     let step = found-change (with_all limits documents) c.args.place old words (widget_named name old) (widget_at old widget) named in
@@ -129,9 +128,9 @@ returns-in_default-command g c =
     record {
       reply = λ other. does.reply other ∙ sym (ap (λ (o : Outcome). o.reply) step) ∙ ap (λ (w : World). (after w).reply) c.self.view_is;
       world = λ other.
-      does-world limits documents c.args.place c.command.new.document c.command.result change does other ∙ sym (ap (λ (o : Outcome). o.world) step) ∙ ap (λ (w : World). (after w).world) c.self.view_is;
+          does-world limits documents c.args.place c.command.new.document c.command.result change does other ∙ sym (ap (λ (o : Outcome). o.world) step) ∙ ap (λ (w : World). (after w).world) c.self.view_is;
       refused = subst (λ (w : World). IfErr c.command.result (λ _. with_all limits (slice_set documents c.args.place c.command.new.document) ≡ w)) c.self.view_is
-        (does-refuse limits documents c.args.place c.command.new.document c.command.result change does);
+          (does-refuse limits documents c.args.place c.command.new.document c.command.result change does);
       sure = c.command.ensures.sure;
       well_formed = does-form limits documents c.args.place c.command.new.document c.command.result change does c.self.invariant.0 found.0;
     }

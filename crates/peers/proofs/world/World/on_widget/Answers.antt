@@ -60,7 +60,7 @@ returns-in-Err-clause-world g c = λ _.
     let change = bad-command world.limits (all_windows world) document widget.0 words c.in-Err.fault (sym c.shape.ensures.value ∙ c.in-Err.is) in
     let step = found-change world c.in-Some.place document words (widget_named name document) widget.0 widget.1 in
     sym (ap (λ (x : Change). (changed world c.in-Some.place x).world) change
-      ∙ changed-refused world.limits world.documents c.in-Some.place (refused document (shape_fault c.in-Err.fault)) refl)
+    ∙ changed-refused world.limits world.documents c.in-Some.place (refused document (shape_fault c.in-Err.fault)) refl)
     ∙ sym (ap (λ (o : Outcome). o.world) step) ∙ sym (ap (λ found. (on_home world name words found).world) some)
 
 pub returns-in-Ok-clause-reply : goal.returns-in-Ok-clause-reply
