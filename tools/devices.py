@@ -5,19 +5,22 @@
 
 A standard input that can't be read, a standard output that is full, closed, or read by nobody, a script
 that comes a byte at a time, and a console that sends a line once the one before it is answered.  Each
-worked script that comes in pieces prints what it prints in one piece, and never wants memory.  A script of
-megabytes takes no more memory than a short one.  The last line is `N passed, M failed`.
+worked script that comes in pieces prints what it prints in one piece, and never wants memory.  Each front of a
+script of comments, quotes and escapes, cut anywhere in its bytes, prints what that front prints.  A script of
+megabytes takes no more memory than a short one, and what is large ends on a small stack.  The last line is
+`N passed, M failed`.
 """
 
 import argparse
 import os
+import resource
 import select
 import subprocess
 import sys
 
 import model
 import worked
-from harness import SIZE_MARGIN, TIMEOUT_SECONDS, Tally, measure_size
+from harness import LONG_TIMEOUT_SECONDS, SIZE_MARGIN, TIMEOUT_SECONDS, Tally, measure_size, run_program
 
 SCRIPT = b"text .t\n.t insert 1.0 ab\n.t get 1.0 end\n"
 ANSWERS = b".t\n\nab\n\n"
@@ -31,6 +34,14 @@ CONVERSATION = [
 ]
 # The worked scripts come in so many pieces at most.
 MOST_PIECES = 60
+# Rows with comments, quotes and escapes, which are cut at each byte.
+FRONT_ROWS = {
+    "a comment, braces and escapes",
+    "escapes of digits",
+    "a line that goes on",
+    "several bytes",
+}
+SMALL_STACK = 256 * 1024
 # More than a pipe holds while nobody reads it.
 LONG_SCRIPT = b".t index end\n" * 100_000
 
@@ -64,7 +75,9 @@ def closed_output(program):
 
 def abandoned_output(program):
     """A pipe whose reader goes away after a few bytes."""
-    process = subprocess.Popen([program], stdin=subprocess.PIPE, stdout=subprocess.PIPE, stderr=subprocess.PIPE, bufsize=0)
+    process = subprocess.Popen(
+        [program], stdin=subprocess.PIPE, stdout=subprocess.PIPE, stderr=subprocess.PIPE, bufsize=0
+    )
     process.stdin.write(SCRIPT)
     process.stdout.read(len(ANSWERS))
     process.stdout.close()
@@ -140,6 +153,45 @@ def check_worked_scripts(program, tally):
         )
 
 
+def check_fronts(program, tally):
+    """Each front of the rows on comments, quotes and escapes: the model's run of that front."""
+    for row in worked.FILE_ROWS:
+        if row.name not in FRONT_ROWS:
+            continue
+        for length in range(len(row.script)):
+            front = row.script[:length]
+            plain = model.run_output(front)
+            given = run_program(program, front)
+            tally.check(
+                (given.output, given.status) == (plain.output, plain.status),
+                f"the first {length} bytes of {row.name!r}: status {given.status}, output {given.output!r}",
+            )
+
+
+def deep_scripts():
+    """Scripts that leave something large to be dropped: a list, a history, a text, a nest of braces."""
+    return [
+        ("a list of 1,000,000 elements", b'text .t; .t insert 1.0 a "' + b"b " * 1_000_000 + b'"'),
+        ("1,000,000 groups", b"text .t -undo 1\n" + b".t insert 1.0 x\n.t delete 1.0\n" * 500_000),
+        ("1,000,000 lines", b"text .t; .t insert 1.0 {" + b"x\n" * 1_000_000 + b"}; .t index end"),
+        ("a word in 1,000,000 braces", b"text .t; .t insert 1.0 " + b"{" * 1_000_000 + b"}" * 1_000_000),
+    ]
+
+
+def check_stack(program, tally):
+    """Nothing goes deeper with what it works on: large scripts end on a stack of 256 KiB."""
+    for name, script in deep_scripts():
+        done = subprocess.run(
+            [program],
+            input=script,
+            stdout=subprocess.DEVNULL,
+            stderr=subprocess.PIPE,
+            timeout=LONG_TIMEOUT_SECONDS,
+            preexec_fn=lambda: resource.setrlimit(resource.RLIMIT_STACK, (SMALL_STACK, SMALL_STACK)),
+        )
+        tally.check(done.returncode in (0, 1) and done.stderr == b"", f"{name}: status {done.returncode}")
+
+
 def check_size(program, tally):
     """No command that was given is kept: the greatest resident size is that of a script an eighth as long."""
     short, long = (measure_size(program, b"text .t\n", b".t index end\n", length) for length in (500_000, 4_000_000))
@@ -163,6 +215,8 @@ def main():
         given = run(program)
         tally.check(given == wanted, f"{name}: wanted {wanted!r}, given {given!r}")
     check_worked_scripts(program, tally)
+    check_fronts(program, tally)
+    check_stack(program, tally)
     check_size(program, tally)
     return tally.close()
 

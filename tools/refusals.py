@@ -1,7 +1,7 @@
 #!/usr/bin/env python3
 """Runs the program on each worked script once for each growth of memory, with that growth refused.
 
-    python3 tools/refusals.py --program PATH --shim PATH
+    python3 tools/refusals.py --program PATH --shim PATH [--random 200]
 
 The shim is tools/refuse.c, built.  With one growth refused a run may end in two ways alone:
 
@@ -13,6 +13,10 @@ The shim is tools/refuse.c, built.  With one growth refused a run may end in two
 Anything else is a failure: another output, a crash, a run that doesn't end, a refusal that left no
 trace.  So is a run that answers out of memory though nothing was refused.
 
+Where a growth refuses a command of a script whose commands are given again (`worked.repeated_scripts`), the
+script is run once more with that command given twice: refused the first time, it has to answer the second time
+as it does where nothing was refused.  Beside the worked scripts stand random ones, with some growths of each.
+
 Ends in a line `N passed, M failed`; the exit status is 1 if anything failed.
 """
 
@@ -23,6 +27,7 @@ import tempfile
 from collections import Counter
 
 import model
+import scripts
 import worked
 from harness import Tally, run_program
 
@@ -32,6 +37,11 @@ RUN_FAULT_ERRORS = b"out of memory\n"
 # rest of the scripts.
 ENOUGH_FAILURES = 3
 ENOUGH_FAILURES_IN_ALL = 20
+
+# How many growths of a random script are refused.
+RANDOM_GROWTHS = 10
+# A script with a command given twice is longer, so the growth that refuses it may be a few further on.
+NEAR_GROWTHS = (0, 1, 2, 3, -1)
 
 
 class Preloaded:
@@ -62,14 +72,26 @@ def read_count(report):
 
 
 def runs_with_one_refusal(script):
-    """Every (output, status) that the script may give where one command finds no memory."""
+    """Every (output, status) that the script may give where one command finds no memory, with the first such command;
+    None where that command proves to hold a script fault."""
     commands, script_fault = model.reads_script(script)
-    runs = set()
+    runs = {model.run_output(script): None} if script_fault is not None else {}
     for number in range(len(commands)):
-        runs.add(model.run_with_refusals(script, model.PROGRAM_LIMITS, {number}))
-    if script_fault is not None:
-        runs.add(model.run_output(script))
+        runs.setdefault(model.run_with_refusals(script, model.PROGRAM_LIMITS, {number}), number)
     return runs
+
+
+def with_command_twice(script, number):
+    """The script in which the command of a number is given twice, one right behind the other."""
+    text = script.decode("utf-8")
+    source = model.Source(script)
+    place = found = 0
+    while True:
+        start = place
+        words, place = model.command_at(source, start)
+        if words and found == number:
+            return (text[:place] + "\n" + text[start:place] + "\n" + text[place:]).encode("utf-8")
+        found += bool(words)
 
 
 def ends_for_memory(result, plain):
@@ -113,44 +135,72 @@ def check_plain_run(program, name, script, plain, tally):
     return growths
 
 
-def check_script(program, name, script, tally, kinds):
-    """One run for each growth of the script.  Gives the number of growths."""
+def check_again(program, name, script, growth, command, tally):
+    """The command that a refused growth refuses answers as ever where it is given again right there."""
+    doubled = with_command_twice(script, command)
+    wanted = model.run_with_refusals(doubled, model.PROGRAM_LIMITS, {command})
+    for near in NEAR_GROWTHS:
+        result, _ = program.run(doubled, growth + near)
+        if model.Run(result.output, result.status) == wanted and result.errors == b"":
+            tally.passed()
+            return
+    tally.failed(f"{name!r}, growth {growth} refused, command {command} given again: {describe(result)}")
+
+
+def check_script(program, name, script, tally, kinds, is_repeated=False, most_growths=None):
+    """One run for each growth of the script, or for so many of them.  Gives the number of growths."""
     plain = model.run_output(script)
     growths = check_plain_run(program, name, script, plain, tally)
     if growths is None:
         return 0
     one_refusal = runs_with_one_refusal(script)
     failures_before = tally.failures
-    for number in range(1, growths + 1):
+    step = 1 if most_growths is None else max(1, growths // most_growths)
+    for number in range(1, growths + 1, step):
         result, _ = program.run(script, number)
         kind = kind_of_end(result, plain, one_refusal)
         tally.check(kind is not None, f"{name!r}, growth {number} of {growths} refused: {describe(result)}")
         kinds[kind] += 1
+        command = one_refusal.get(model.Run(result.output, result.status))
+        if is_repeated and kind == "command refused" and command is not None:
+            check_again(program, name, script, number, command, tally)
+            kinds["given again"] += 1
         if tally.failures - failures_before >= ENOUGH_FAILURES:
             print(f"the other growths of {name!r} are left out")
             break
     return growths
 
 
+def all_scripts(random_count):
+    """The name of each script, the script, whether its commands are given again, and how many growths are refused."""
+    worked_ones = [(name, script, False, None) for name, script in worked.refused_scripts()]
+    repeated = [(name, script, True, None) for name, script in worked.repeated_scripts()]
+    chance = [(f"seed {seed}", scripts.script(seed), False, RANDOM_GROWTHS) for seed in range(random_count)]
+    return repeated + worked_ones + chance
+
+
 def main():
     parser = argparse.ArgumentParser(description="refuses each growth of each worked script in turn")
     parser.add_argument("--program", required=True)
     parser.add_argument("--shim", required=True)
+    parser.add_argument("--random", type=int, default=200)
     options = parser.parse_args()
     tally = Tally()
     kinds = Counter()
     growths = 0
-    scripts = worked.refused_scripts()
+    given = all_scripts(options.random)
     with tempfile.TemporaryDirectory() as folder:
         program = Preloaded(options.program, options.shim, os.path.join(folder, "growths"))
-        for name, script in scripts:
-            growths += check_script(program, name, script, tally, kinds)
+        for name, script, is_repeated, most_growths in given:
+            growths += check_script(program, name, script, tally, kinds, is_repeated, most_growths)
             if tally.failures >= ENOUGH_FAILURES_IN_ALL:
                 print("the other scripts are left out")
                 break
     tally.check(growths > 0, "no growth was counted: the shim doesn't reach the program")
-    print(f"{len(scripts)} scripts, {growths} growths, {sum(kinds.values())} runs with a growth refused:")
-    print(f"  {kinds['command refused']} refused one command, {kinds['run ended']} ended the run")
+    again = kinds.pop("given again", 0)
+    print(f"{len(given)} scripts, {growths} growths, {sum(kinds.values())} runs with a growth refused:")
+    print(f"  {kinds['command refused']} refused one command, of which {again} were given again;")
+    print(f"  {kinds['run ended']} ended the run")
     return tally.close()
 
 

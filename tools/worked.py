@@ -280,6 +280,91 @@ def long_scripts():
     ]
 
 
+def dumped(script, *widgets):
+    """A script, and then dumps of these widgets' whole views."""
+    return script + b"".join(b"; %s dump 1.0 end" % widget for widget in widgets)
+
+
+def repeated_scripts():
+    """Scripts of which each command that a refused growth refuses is then given again: one for each family of commands, with
+    dumps of what is left."""
+    return [
+        ("ranges, given again", dumped(b"text .t; .t insert 1.0 abcdefgh; .t delete 1.0 1.4 1.2 1.6 1.0 1.1; .t delete 1.0 1.1 1.0 zz", b".t")),
+        (
+            "a replacement, given again",
+            dumped(b'text .t; .t insert 1.0 "hello world"; .t mark set insert 1.3; .t replace 1.0 1.5 hi; .t replace 1.2 1.0 x', b".t"),
+        ),
+        (
+            "undo and redo, given again",
+            dumped(
+                b"text .t -undo 1; .t insert end a; .t insert end b; .t delete 1.0; .t edit undo; .t edit undo; .t edit modified; "
+                b".t edit undo; .t edit redo; .t edit modified",
+                b".t",
+            ),
+        ),
+        (
+            "peers, given again",
+            dumped(
+                b'text .t; .t insert 1.0 "a\nb\nc\nd"; .t peer create .p -startline 2 -endline 3; .t delete 2.1; .p delete 1.0 end; '
+                b".t delete 1.0 end; .p insert 1.0 x; .t peer create .q; destroy .p .t",
+                b".q",
+            ),
+        ),
+        (
+            "tags, given again",
+            dumped(
+                b"text .t; .t insert 1.0 abc; .t tag add x 1.0 1.2; .t insert 1.1 Y; .t insert 1.3 Z; .t insert 1.1 W {}; "
+                b".t tag ranges x; .t insert 1.0 {} {q r}; .t tag names; .t tag delete q x; .t tag add s 1.0 end",
+                b".t",
+            ),
+        ),
+        (
+            "search and dump, given again",
+            dumped(
+                b"text .t; .t insert 1.0 abc; .t peer create .p; .p tag add sel 1.1 1.2; .t dump -text 1.0 1.3; .p dump -text 1.0 1.3; "
+                b".t search -all b 1.0; .t count -chars 1.0 end",
+                b".t",
+                b".p",
+            ),
+        ),
+        (
+            "marks, given again",
+            dumped(
+                b"text .t; .t insert 1.0 ab; .t mark set m 1.0; .t mark set n 1.0; .t mark set z end; .t mark next 1.0; .t mark gravity m left; "
+                b".t mark previous z; .t mark unset insert m; .t mark names",
+                b".t",
+            ),
+        ),
+        (
+            "options, given again",
+            dumped(
+                b"text .t -undo 1 -maxundo 7 -state disabled; .t configure -state normal -maxundo -12; .t cget -maxundo; .t insert 1.0 a; "
+                b".t configure -undo 0; .t peer create .p -startline 1 -endline 1; .p cget -endline; .p configure -endline {}",
+                b".t",
+                b".p",
+            ),
+        ),
+        (
+            "an edit of a peer that another undoes, given again",
+            dumped(
+                b'text .t -undo 1; .t insert 1.0 "a\nb"; .t peer create .p -startline 2; .p insert 1.0 "x\n"; .t edit undo; .t edit undo; '
+                b".t edit redo",
+                b".t",
+                b".p",
+            ),
+        ),
+        (
+            "several documents, given again",
+            dumped(
+                b"text .t; text .u; .t insert 1.0 a; .u tag add x 1.0; .t peer create .p; .u peer create .q; .t tag names; "
+                b"destroy .t .q; text .v -undo 1; .v insert 1.0 b y; destroy .u",
+                b".p",
+                b".v",
+            ),
+        ),
+    ]
+
+
 def refused_scripts():
     """The names and scripts that the program is run on once for each of their growths."""
     rows = [(row.name, row.script) for row in ROWS if row.limits == PROGRAM_LIMITS]
