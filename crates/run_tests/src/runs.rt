@@ -216,6 +216,41 @@ fn a_writer_fails_at_each_place(rt: HostRuntime) -> Result<(), Fail> {
     Ok(())
 }
 
+// Both devices fail, the reader after so many bytes of the script, the writer after so many of the answers.
+fn check_both(
+    rt: &impl Abort,
+    alloc: Global,
+    all: &[u8],
+    place: usize,
+    room: usize,
+) -> Result<(), Fail> {
+    let mut source = reader(SCRIPT, 3, Some(place));
+    let mut sink = writer(alloc, 5, room, place % 2 == 0);
+    let ended = run::<PlainStore, _, _>(alloc, &mut source, &mut sink, limits(100)?);
+    let wanted = if room < printed_before(place) {
+        Err(RunFault::Write)
+    } else {
+        Err(RunFault::Read)
+    };
+    assert!(rt; ended == wanted, "after {place} and {room} bytes");
+    assert!(rt;
+        sink.get_ref().written[..] == all[..room.min(printed_before(place))],
+        "after {place} and {room} bytes"
+    );
+    Ok(())
+}
+
+#[test]
+fn both_devices_fail(rt: HostRuntime) -> Result<(), Fail> {
+    let all = output_of(rt.alloc(), SCRIPT)?;
+    for place in 0..=SCRIPT.len() {
+        for room in [0, 20, 34, 50, 90] {
+            check_both(&rt, rt.alloc(), &all, place, room)?;
+        }
+    }
+    Ok(())
+}
+
 // A script of so many blanks, how many reads it may take, and whether the run ends by itself in these.
 static ALLOWED: [(&'static [u8], u32, bool); 4] = [
     (&[b' '; 4096], 1, false),
