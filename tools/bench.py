@@ -175,6 +175,25 @@ def peer_queries(size):
     return [f".w{1 + number % (WIDGETS - 1)} index end" for number in range(size)]
 
 
+def with_documents(commands):
+    """These commands behind those that make 64 documents of one widget each, which share a text of `size` characters out."""
+    return lambda size: (
+        [f"text .w{number}" for number in range(WIDGETS)]
+        + [f".w{number} insert end {{" + LINE * (size // len(LINE) // WIDGETS) + "}" for number in range(WIDGETS)]
+        + commands(size)
+    )
+
+
+def document_inserts(size):
+    """Insertions into each document in turn."""
+    return [f".w{number % WIDGETS} insert 1.0 x" for number in range(size // 8)]
+
+
+def document_queries(size):
+    """Places asked for of each document in turn."""
+    return [f".w{number % WIDGETS} index end" for number in range(size)]
+
+
 def with_lines(commands):
     """These commands behind those that make a text of `size` short lines, of which one near the end has a rare word."""
     return lambda size: (
@@ -236,6 +255,8 @@ KINDS = [
     Kind("dump each tenth line", with_tagged_lines(line_dumps), sizes=DUMPED_LINES),
     Kind("64 widgets: insert", with_peers(peer_inserts)),
     Kind("64 widgets: index", with_peers(peer_queries)),
+    Kind("64 documents: insert", with_documents(document_inserts)),
+    Kind("64 documents: index", with_documents(document_queries)),
     Kind("a refused command", refused_commands),
     Kind("20 words of that length", long_words),
     Kind("20 bare words, 20 x", spelled_words("", "", PROSE.replace(" ", "_"))),

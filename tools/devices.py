@@ -127,12 +127,12 @@ def console(program):
     return process.wait(timeout=TIMEOUT_SECONDS), answers, rest
 
 
-def in_pieces(program, script):
-    """A pipe that hands out a script in pieces."""
+def in_pieces(program, script, most_pieces=MOST_PIECES):
+    """A pipe that hands out a script in so many pieces at most."""
     process = subprocess.Popen(
         [program], stdin=subprocess.PIPE, stdout=subprocess.PIPE, stderr=subprocess.PIPE, bufsize=0
     )
-    length = max(1, len(script) // MOST_PIECES)
+    length = max(1, len(script) // most_pieces)
     try:
         for place in range(0, len(script), length):
             process.stdin.write(script[place:place + length])
@@ -151,6 +151,13 @@ def check_worked_scripts(program, tally):
             given == (plain.status, plain.output, b""),
             f"{name!r} in pieces: status {given[0]}, standard error {given[2]!r}, output {given[1][:200]!r}",
         )
+
+
+def check_bytes(program, tally):
+    """The script of many lines, a byte at a time."""
+    row = worked.many_lines()
+    given = in_pieces(program, row.script, len(row.script))
+    tally.check(given == (row.status, row.output, b""), f"{row.name!r} by single bytes: status {given[0]}")
 
 
 def check_fronts(program, tally):
@@ -215,6 +222,7 @@ def main():
         given = run(program)
         tally.check(given == wanted, f"{name}: wanted {wanted!r}, given {given!r}")
     check_worked_scripts(program, tally)
+    check_bytes(program, tally)
     check_fronts(program, tally)
     check_stack(program, tally)
     check_size(program, tally)
