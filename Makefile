@@ -1,4 +1,6 @@
-# make run     the program on standard input, or on SCRIPT=file; with no script given, on examples/first.tcl
+# make try     a script before anything is proved: standard input, or SCRIPT=file; with no script given, examples/first.tcl
+# make run     the same by the proved program, which is proved and built first where it isn't yet
+# make build   the proved program alone: crates/tktext/out/tktext
 # make test    the gate, and then the checks that the gate can't do; the last line counts them
 # make fuzz    the program against the plain model on random scripts: SEEDS=300 of them, FIRST=0 on
 # make gate    the gate alone, and its processor time over that of `rt selftest`; with nothing beside it
@@ -15,12 +17,16 @@ SEEDS ?= 300
 FIRST ?= 0
 SOURCES = crates.txt $(shell find crates -name '*.rt' -o -name '*.antt' | grep -v /out/)
 
+try:
+	@python3 tools/try.py examples/first.tcl $(SCRIPT)
+
 run: $(PROGRAM)
 	@sh tools/run.sh $(PROGRAM) examples/first.tcl $(SCRIPT)
 
-# The program, proved and built; `rt run` proves the crates below it first.
+build: $(PROGRAM)
+
 $(PROGRAM): $(SOURCES)
-	cd crates/tktext && rt run < /dev/null > /dev/null
+	@python3 tools/build.py
 	@touch $@
 
 $(SHIM): tools/refuse.c
@@ -63,4 +69,4 @@ bench: $(PROGRAM) $(LINE_BENCH) $(TREE_BENCH)
 gate:
 	python3 tools/gate.py --ratio
 
-.PHONY: run test fuzz bench gate
+.PHONY: try run build test fuzz bench gate
