@@ -1,0 +1,123 @@
+#!/usr/bin/env python3
+"""Compares the program with real Tk 8.6: the rows of docs/differences.md, and random scripts outside them.
+
+    python3 tools/tk.py --program PATH                     every row, in the program and in Tk
+    python3 tools/tk.py --program PATH --scripts N [--first K]     random scripts in both
+
+Where Tk isn't installed (`apt-get install xvfb tk8.6`) the rows are run in the program alone, and random scripts not at
+all; both is said.  Ends in a line `N passed, M failed`; the exit status is 1 if anything failed.
+"""
+
+import argparse
+import os
+import re
+import sys
+from typing import NamedTuple
+
+import tk_real
+from harness import Answer, Tally, ask_program
+
+TOP = os.path.dirname(os.path.dirname(os.path.abspath(__file__)))
+TABLE = os.path.join(TOP, "docs", "differences.md")
+KINDS = ("our choice", "a bug of Tk's", "left out")
+# The words of the table for an answer that isn't a text.
+EMPTY, REFUSED, NONE = "*empty*", "*refused*", "*none*"
+CELL_BREAK = "<br>"
+
+
+class Row(NamedTuple):
+    """A difference: the commands of a script, and the last answers in Tk and in the program, as the table spells them."""
+
+    name: str
+    commands: tuple
+    tk: tuple
+    ours: tuple
+
+
+def cells_of(line):
+    """The cells of a line of a table."""
+    return [cell.strip() for cell in line.strip().strip("|").split("|")]
+
+
+def spans_of(cell):
+    """The parts of a cell: code without its quotes, and words as they are."""
+    return tuple(re.sub(r"^`(.*)`$", r"\1", part.strip()) for part in cell.split(CELL_BREAK))
+
+
+def read_rows(path):
+    """The rows of all tables of differences."""
+    rows = []
+    with open(path, encoding="utf-8") as file:
+        for line in file:
+            cells = cells_of(line) if line.startswith("| ") else []
+            if len(cells) == 6 and cells[0] != "Name":
+                assert cells[4] in KINDS, f"{cells[0]}: no kind is {cells[4]!r}"
+                rows.append(Row(cells[0], *map(spans_of, cells[1:4])))
+    return rows
+
+
+def shown(answer):
+    """An answer as the table spells it."""
+    if answer is None:
+        return NONE
+    if answer.is_refused:
+        return REFUSED
+    return answer.text.replace("\\", "\\").replace("\n", "\\n") or EMPTY
+
+
+def check_answers(where, row, wanted, answers, tally):
+    """The last answers are those that the row names."""
+    given = tuple(shown(answer) for answer in answers[-len(wanted) :])
+    tally.check(given == wanted, f"{row.name} in {where}: {' / '.join(given)} and not {' / '.join(wanted)}")
+
+
+def check_row(program, tk, row, tally):
+    """The row holds in the program and, if it is there, in Tk; and it is a difference."""
+    tally.check(row.tk != row.ours, f"{row.name}: both columns are the same")
+    check_answers("the program", row, row.ours, ask_program(program, row.commands), tally)
+    if tk is not None:
+        check_answers("Tk", row, row.tk, tk.answers(row.commands), tally)
+
+
+def check_rows(program, tk, tally):
+    rows = read_rows(TABLE)
+    names = [row.name for row in rows]
+    tally.check(len(names) == len(set(names)), "two rows have one name")
+    for row in rows:
+        check_row(program, tk, row, tally)
+    print(f"{len(rows)} rows, in the program {'alone: Tk is not installed' if tk is None else 'and in Tk'}")
+
+
+def check_scripts(program, tk, seeds, tally):
+    """Random scripts give in both what the rows leave the same."""
+    if tk is None:
+        print("no random scripts: Tk is not installed")
+        tally.passed()
+        return
+    import tk_scripts
+
+    counts = tk_scripts.compare(program, tk, seeds, tally)
+    print(counts)
+
+
+def main():
+    parser = argparse.ArgumentParser(description="compares the program with real Tk")
+    parser.add_argument("--program", required=True)
+    parser.add_argument("--scripts", type=int, default=0)
+    parser.add_argument("--first", type=int, default=0)
+    options = parser.parse_args()
+    tally = Tally()
+    tk = tk_real.RealTk() if tk_real.is_installed() else None
+    try:
+        if options.scripts:
+            check_scripts(options.program, tk, range(options.first, options.first + options.scripts), tally)
+        else:
+            check_rows(options.program, tk, tally)
+    finally:
+        if tk is not None:
+            tk.close()
+    return tally.close()
+
+
+if __name__ == "__main__":
+    sys.exit(main())
