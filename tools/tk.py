@@ -23,6 +23,8 @@ KINDS = ("our choice", "a bug of Tk's", "left out")
 # The words of the table for an answer that isn't a text.
 EMPTY, REFUSED, NONE = "*empty*", "*refused*", "*none*"
 CELL_BREAK = "<br>"
+# A command that stands for many, each with a number in the place of its N.
+MANY = re.compile(r"`(.*)` for N from (\d+) to (\d+)")
 
 
 class Row(NamedTuple):
@@ -44,6 +46,16 @@ def spans_of(cell):
     return tuple(re.sub(r"^`(.*)`$", r"\1", part.strip()) for part in cell.split(CELL_BREAK))
 
 
+def commands_of(cell):
+    """The commands of a cell."""
+    commands = []
+    for part in cell.split(CELL_BREAK):
+        many = MANY.fullmatch(part.strip())
+        numbers = range(int(many[2]), int(many[3]) + 1) if many else []
+        commands += [many[1].replace("N", str(number)) for number in numbers] or spans_of(part)
+    return tuple(commands)
+
+
 def read_rows(path):
     """The rows of all tables of differences."""
     rows = []
@@ -52,7 +64,7 @@ def read_rows(path):
             cells = cells_of(line) if line.startswith("| ") else []
             if len(cells) == 6 and cells[0] != "Name":
                 assert cells[4] in KINDS, f"{cells[0]}: no kind is {cells[4]!r}"
-                rows.append(Row(cells[0], *map(spans_of, cells[1:4])))
+                rows.append(Row(cells[0], commands_of(cells[1]), *map(spans_of, cells[2:4])))
     return rows
 
 
@@ -62,7 +74,7 @@ def shown(answer):
         return NONE
     if answer.is_refused:
         return REFUSED
-    return answer.text.replace("\\", "\\").replace("\n", "\\n") or EMPTY
+    return answer.text.replace("\n", "\\n") or EMPTY
 
 
 def check_answers(where, row, wanted, answers, tally):

@@ -2,7 +2,8 @@
 #
 # Reads lines from standard input: `new` makes a fresh interpreter with a Tk of its own, and any other line is a
 # command in UTF-8, spelled in hexadecimal digits, which is run there.  Writes a line for each command: `ok` or `error`,
-# a blank, and the answer, spelled so too.  No window is shown, and no event is ever looked at.
+# a blank, and the answer, spelled so too.  No window is shown, and no event is ever looked at.  Texts keep their
+# selections for themselves: else a widget loses its own to the display when another one selects something.
 
 wm withdraw .
 fconfigure stdout -buffering line
@@ -11,7 +12,7 @@ proc fresh {} {
     set made [interp create]
     interp eval $made {set ::argv {}}
     load {} Tk $made
-    interp eval $made {wm withdraw .}
+    interp eval $made {wm withdraw .; option add *Text.exportSelection 0}
     return $made
 }
 
