@@ -15,7 +15,8 @@ import sys
 from typing import NamedTuple
 
 import tk_real
-from harness import Answer, Tally, ask_program
+import tk_scripts
+from harness import Tally, ask_program
 
 TOP = os.path.dirname(os.path.dirname(os.path.abspath(__file__)))
 TABLE = os.path.join(TOP, "docs", "differences.md")
@@ -102,14 +103,10 @@ def check_rows(program, tk, tally):
 
 def check_scripts(program, tk, seeds, tally):
     """Random scripts give in both what the rows leave the same."""
-    if tk is None:
-        print("no random scripts: Tk is not installed")
-        tally.passed()
-        return
-    import tk_scripts
-
-    counts = tk_scripts.compare(program, tk, seeds, tally)
-    print(counts)
+    met = tk_scripts.compare(program, tk, seeds, tally)
+    names = {row.name for row in read_rows(TABLE)}
+    for rule in sorted(set(met) - names):
+        tally.failed(f"no row of the table is called {rule}")
 
 
 def main():
@@ -118,6 +115,9 @@ def main():
     parser.add_argument("--scripts", type=int, default=0)
     parser.add_argument("--first", type=int, default=0)
     options = parser.parse_args()
+    if options.scripts and not tk_real.is_installed():
+        print("random scripts are not run: Tk is not installed\n0 passed, 0 failed")
+        return 0
     tally = Tally()
     tk = tk_real.RealTk() if tk_real.is_installed() else None
     try:
