@@ -208,8 +208,9 @@ class Editor:
         for shown in range(top, min(top + rows, lines + 1)):
             self.draw_line(y + shown - top, shown, self.text.line(widget, shown), spans, width)
         state = "changed" if self.text.ask(widget, "edit", "modified") == "1" else "written"
-        name = f"{'*' if number == self.active else ' '}{widget}  {os.path.basename(self.path)}  {line}.{column}  {state}"
-        self.screen.addnstr(y + rows, 0, name.ljust(width - 1, "-"), width - 1, curses.A_DIM)
+        star = "*" if number == self.active else " "
+        told = f"{star}{widget}  {os.path.basename(self.path)}  {line}.{column}  {state}"
+        self.screen.addnstr(y + rows, 0, told.ljust(width - 1, "-"), width - 1, curses.A_DIM)
         return y + line - top, min(column, width - 1)
 
     def draw_line(self, y, line, characters, spans, width):

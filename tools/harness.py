@@ -1,4 +1,4 @@
-"""What the tools share: running the program once, the memory that it takes, and counting what passed and what failed."""
+"""What the tools share: running the program, its answers, the memory that it takes, and counting what passed."""
 
 import subprocess
 import sys

@@ -1,12 +1,15 @@
 #!/usr/bin/env python3
-"""Runs each example of the manual page, docs/tktext.1.md, and compares what the page says of it.
+"""Runs each example of the manual page, docs/tktext.1.md, of README and of docs/tour.md, and compares what they say.
 
     python3 tools/manual.py --program PATH
 
 In a block of code a line that begins with `% ` is a command, and the lines behind it are its answer.  The blocks of a
 section are one run, until a script fault ends it.  In a block of `sh` a line that begins with `$ ` is a line for the
 shell, in which `tktext` is the program.  Each subcommand, option and switch has to stand in an example, and each text
-of an error too.  Ends in a line `N passed, M failed`; the exit status is 1 if anything failed.
+of an error too.  README's table has to be examples/first.tcl with its answers, its screen one of those that
+`editor_test.py` captures, and docs/tour.md examples/tour.tcl with its output.
+
+Ends in a line `N passed, M failed`; the exit status is 1 if anything failed.
 """
 
 import argparse
@@ -18,16 +21,17 @@ import tempfile
 from typing import NamedTuple
 
 import model
-from harness import TIMEOUT_SECONDS, Tally, ask_program
+from harness import TIMEOUT_SECONDS, Tally, ask_program, run_program
 
 TOP = os.path.dirname(os.path.dirname(os.path.abspath(__file__)))
-PAGE = os.path.join(TOP, "docs", "tktext.1.md")
 FENCE = "```"
+CODE = re.compile("`([^`]*)`")
 # The faults of commands and of scripts, without the word in them; and those that no example can bring about.
 FAULTS = (
-    "invalid command name", "bad option", "wrong # args", "bad text index", "text doesn't contain any characters tagged with",
-    "there is no mark named", "bad mark gravity", "isn't defined in text widget", "bad comparison operator", "bad list",
-    "expected boolean value but got", "expected integer but got", "\" before \"", "-startline must be less than or equal to -endline",
+    "invalid command name", "bad option", "wrong # args", "bad text index",
+    "text doesn't contain any characters tagged with", "there is no mark named", "bad mark gravity",
+    "isn't defined in text widget", "bad comparison operator", "bad list", "expected boolean value but got",
+    "expected integer but got", "\" before \"", "-startline must be less than or equal to -endline",
     "nothing to undo", "nothing to redo", "already exists", "too many widgets", "too many tags", "too many marks",
     "missing close-brace", 'missing "', "extra characters after close-brace", "extra characters after close-quote",
     "substitution isn't supported", "bad character code", "script isn't UTF-8", "read failed", "write failed",
@@ -70,15 +74,14 @@ def examples_of(section, lines, prompt):
     return [example._replace(answer=example.answer or "") for example in examples]
 
 
-def read_page(path):
+def read_page(page):
     """The examples of the page by sections, and those for the shell."""
     sections, shell = {}, []
-    with open(path, encoding="utf-8") as file:
-        for section, is_shell, lines in blocks_of(file.read()):
-            if is_shell:
-                shell += examples_of(section, lines, "$ ")
-            else:
-                sections.setdefault(section, []).extend(examples_of(section, lines, "% "))
+    for section, is_shell, lines in blocks_of(page):
+        if is_shell:
+            shell += examples_of(section, lines, "$ ")
+        else:
+            sections.setdefault(section, []).extend(examples_of(section, lines, "% "))
     return sections, shell
 
 
@@ -100,6 +103,11 @@ def runs_of(examples):
     return [run for run in runs if run]
 
 
+def check_example(example, given, tally):
+    told = f"{example.section}: {example.command}: {given!r} and not {example.answer!r}"
+    tally.check(given == example.answer, told)
+
+
 def written(answer):
     """An answer as the page shows it."""
     return f"error: {answer.text}" if answer.is_refused else answer.text
@@ -109,8 +117,7 @@ def check_run(program, examples, tally):
     """One run: each answer is that of the page."""
     answers = [written(answer) for answer in ask_program(program, [example.command for example in examples])]
     for number, example in enumerate(examples):
-        given = answers[number] if number < len(answers) else "no answer"
-        tally.check(given == example.answer, f"{example.section}: {example.command}: {given!r} and not {example.answer!r}")
+        check_example(example, answers[number] if number < len(answers) else "no answer", tally)
 
 
 def check_shell(program, examples, tally):
@@ -120,11 +127,10 @@ def check_shell(program, examples, tally):
         environment = {**os.environ, "PATH": f"{folder}:{os.environ['PATH']}"}
         for example in examples:
             done = subprocess.run(
-                ["sh", "-c", example.command], stdin=subprocess.DEVNULL, stdout=subprocess.PIPE, stderr=subprocess.STDOUT,
-                env=environment, timeout=TIMEOUT_SECONDS,
+                ["sh", "-c", example.command], stdin=subprocess.DEVNULL, stdout=subprocess.PIPE,
+                stderr=subprocess.STDOUT, env=environment, timeout=TIMEOUT_SECONDS,
             )
-            given = done.stdout.decode("utf-8", "replace").removesuffix("\n")
-            tally.check(given == example.answer, f"{example.section}: {example.command}: {given!r} and not {example.answer!r}")
+            check_example(example, done.stdout.decode("utf-8", "replace").removesuffix("\n"), tally)
 
 
 def wanted_words():
@@ -153,18 +159,58 @@ def check_whole(page, examples, tally):
         tally.check(text in page, f"the page doesn't name {text!r}")
 
 
+def text_of(*names):
+    with open(os.path.join(TOP, *names), encoding="utf-8") as file:
+        return file.read()
+
+
+def table_of(page):
+    """The rows of the first table of a page, each its code, without the head."""
+    rows = re.search(r"(?:^\|.*\n)+", page, re.M)[0].split("\n")[2:-1]
+    return [[(CODE.findall(cell) or [""])[0] for cell in row.strip("|").split("|")] for row in rows]
+
+
+def check_first(program, tally):
+    """README's table is examples/first.tcl with its answers."""
+    rows = table_of(text_of("README.md"))
+    commands = [line for line in text_of("examples", "first.tcl").split("\n") if line and not line.startswith("#")]
+    tally.check([row[0] for row in rows] == commands, "README's table hasn't the commands of examples/first.tcl")
+    for (command, shown), answer in zip(rows, ask_program(program, commands)):
+        tally.check(shown == written(answer), f"README: {command}: {written(answer)!r} and not {shown!r}")
+
+
+def check_tour(program, tally):
+    """docs/tour.md has a script and its output."""
+    script, output = ("\n".join(lines) + "\n" for _, _, lines in blocks_of(text_of("docs", "tour.md")))
+    tally.check(script == text_of("examples", "tour.tcl"), "docs/tour.md hasn't the script of examples/tour.tcl")
+    given = run_program(program, script.encode("utf-8")).output.decode("utf-8")
+    tally.check(given == output, f"docs/tour.md: the output is {given!r}")
+
+
+def check_screen(tally):
+    """README's screen is one that the editor showed in a terminal."""
+    screens = [lines for _, _, lines in blocks_of(text_of("README.md")) if any("list.txt" in line for line in lines)]
+    captured = text_of("tools", "editor.screens")
+    for lines in screens:
+        is_captured = "".join(f"|{line}\n" for line in lines) in captured
+        tally.check(is_captured, "README's screen isn't in tools/editor.screens")
+    tally.check(len(screens) == 1, f"README has {len(screens)} screens")
+
+
 def main():
     parser = argparse.ArgumentParser(description="runs the examples of the manual page")
     parser.add_argument("--program", required=True)
     options = parser.parse_args()
     tally = Tally()
-    sections, shell = read_page(PAGE)
+    sections, shell = read_page(text_of("docs", "tktext.1.md"))
     for examples in sections.values():
         for run in runs_of(examples):
             check_run(options.program, run, tally)
     check_shell(options.program, shell, tally)
-    with open(PAGE, encoding="utf-8") as file:
-        check_whole(file.read(), [example for examples in sections.values() for example in examples] + shell, tally)
+    check_whole(text_of("docs", "tktext.1.md"), sum(sections.values(), shell), tally)
+    check_first(options.program, tally)
+    check_tour(options.program, tally)
+    check_screen(tally)
     return tally.close()
 
 

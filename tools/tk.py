@@ -29,7 +29,7 @@ MANY = re.compile(r"`(.*)` for N from (\d+) to (\d+)")
 
 
 class Row(NamedTuple):
-    """A difference: the commands of a script, and the last answers in Tk and in the program, as the table spells them."""
+    """A difference: a script's commands, and the last answers of Tk and of the program, as the table spells them."""
 
     name: str
     commands: tuple

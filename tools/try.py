@@ -17,7 +17,7 @@ import sys
 
 TOP = os.path.dirname(os.path.dirname(os.path.abspath(__file__)))
 CRATE = os.path.join(TOP, "crates", "tktext")
-NOTE = "make try: unproved and slow, some ten seconds to begin; `make run` proves the program first, and is the proved one"
+NOTE = "make try: unproved and slow, a few seconds to a minute; `make run` is the proved program, and proves it first"
 # The last line of `rt try` where a run came to its end.
 ENDED = re.compile(rb"run=ended status=\d+ ")
 NO_ANSWER = "make try: no whole answer: `rt try` stops at 1 MB of output and at a minute; `make run` doesn't"
