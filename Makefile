@@ -1,4 +1,4 @@
-# make try     a script before anything is proved: standard input, or SCRIPT=file; with no script given, examples/first.tcl
+# make try     a script before anything is proved: standard input, SCRIPT=file, or with neither examples/first.tcl
 # make run     the same by the proved program, which is proved and built first where it isn't yet
 # make build   the proved program alone: crates/tktext/out/tktext
 # make test    the gate, and then the checks that the gate can't do; the last line counts them
