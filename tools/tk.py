@@ -92,13 +92,13 @@ def check_row(program, tk, row, tally):
         check_answers("Tk", row, row.tk, tk.answers(row.commands), tally)
 
 
-def check_rows(program, tk, tally):
+def check_rows(program, tk, version, tally):
     rows = read_rows(TABLE)
     names = [row.name for row in rows]
     tally.check(len(names) == len(set(names)), "two rows have one name")
     for row in rows:
         check_row(program, tk, row, tally)
-    print(f"{len(rows)} rows, in the program {'alone: Tk is not installed' if tk is None else 'and in Tk'}")
+    print(f"{len(rows)} rows, in the program {'alone: ' if tk is None else 'and in '}{version}")
 
 
 def check_scripts(program, tk, seeds, tally):
@@ -115,16 +115,16 @@ def main():
     parser.add_argument("--scripts", type=int, default=0)
     parser.add_argument("--first", type=int, default=0)
     options = parser.parse_args()
-    if options.scripts and not tk_real.is_installed():
-        print("random scripts are not run: Tk is not installed\n0 passed, 0 failed")
-        return 0
     tally = Tally()
-    tk = tk_real.RealTk() if tk_real.is_installed() else None
+    tk, version = tk_real.open_tk()
+    if options.scripts and tk is None:
+        print(f"random scripts are not run: {version}\n0 passed, 0 failed")
+        return 0
     try:
         if options.scripts:
             check_scripts(options.program, tk, range(options.first, options.first + options.scripts), tally)
         else:
-            check_rows(options.program, tk, tally)
+            check_rows(options.program, tk, version, tally)
     finally:
         if tk is not None:
             tk.close()

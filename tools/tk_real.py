@@ -34,9 +34,19 @@ def find_wish():
     return next((found for found in map(shutil.which, WISHES) if found), None)
 
 
-def is_installed():
-    """Whether real Tk can be asked here."""
-    return find_wish() is not None and shutil.which("Xvfb") is not None
+def open_tk():
+    """Real Tk, or None where it can't be asked here, and its version, or why it can't."""
+    if find_wish() is None or shutil.which("Xvfb") is None:
+        return None, "Tk 8.6 or Xvfb isn't installed"
+    tk = RealTk()
+    try:
+        (version,) = tk.answers(["info patchlevel"])
+    except OSError:
+        version = None
+    if version is None or not version.text.startswith("8.6."):
+        tk.close()
+        return None, f"no Tk 8.6 answers, but {version and version.text}"
+    return tk, f"Tk {version.text}"
 
 
 class Display:
