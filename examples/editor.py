@@ -20,7 +20,8 @@ import re
 import subprocess
 import sys
 
-PROGRAM = os.path.join(os.path.dirname(os.path.abspath(__file__)), "..", "crates", "tktext", "out", "tktext")
+TOP = os.path.dirname(os.path.dirname(os.path.abspath(__file__)))
+PROGRAM = os.path.join(TOP, "crates", "tktext", "out", "tktext")
 PANES = (".a", ".b")
 # Words that are shown in colours, each by a tag of its name.
 WORDS = {"TODO": curses.COLOR_RED, "proved": curses.COLOR_GREEN}
@@ -223,9 +224,10 @@ class Editor:
 
 def run(screen, text, path):
     curses.raw()
-    curses.use_default_colors()
-    for pair, color in enumerate(WORDS.values(), 1):
-        curses.init_pair(pair, color, -1)
+    if curses.has_colors():
+        curses.use_default_colors()
+        for pair, color in enumerate(WORDS.values(), 1):
+            curses.init_pair(pair, color, -1)
     editor = Editor(screen, text, path)
     editor.color()
     editor.draw()
@@ -248,7 +250,10 @@ def load(text, path):
 def main():
     if len(sys.argv) < 2:
         sys.exit(__doc__)
-    text = Text(sys.argv[2:] or [PROGRAM])
+    try:
+        text = Text(sys.argv[2:] or [PROGRAM])
+    except OSError as error:
+        sys.exit(f"{error.filename}: {error.strerror}; `make build` builds the program")
     load(text, sys.argv[1])
     os.environ.setdefault("ESCDELAY", "25")
     curses.wrapper(run, text, sys.argv[1])

@@ -27,7 +27,7 @@ QUOTED, LINE_SIZE = "| ", 300
 
 def is_given(file):
     """Whether a script may come on this standard input: from a pipe or a file, and not from a terminal."""
-    mode = os.fstat(file.fileno()).st_mode
+    mode = os.fstat(file.fileno()).st_mode if file is not None else 0
     return stat.S_ISFIFO(mode) or stat.S_ISREG(mode) or stat.S_ISSOCK(mode)
 
 
@@ -66,6 +66,8 @@ def main(arguments):
     except OSError:
         print("make try: there is no `rt` on the path: this wants the Rattle kit", file=sys.stderr)
         return 2
+    except KeyboardInterrupt:
+        return 130
     sys.stdout.buffer.write(answers)
     sys.stdout.flush()
     if not ENDED.search(said):
