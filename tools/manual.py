@@ -120,17 +120,23 @@ def check_run(program, examples, tally):
         check_example(example, answers[number] if number < len(answers) else "no answer", tally)
 
 
+def run_shell(command, environment):
+    """What a line for the shell writes, without the last newline."""
+    how = {"stdin": subprocess.DEVNULL, "stdout": subprocess.PIPE, "stderr": subprocess.STDOUT, "env": environment}
+    try:
+        done = subprocess.run(["sh", "-c", command], timeout=TIMEOUT_SECONDS, **how)
+    except subprocess.TimeoutExpired:
+        return f"no end after {TIMEOUT_SECONDS} s"
+    return done.stdout.decode("utf-8", "replace").removesuffix("\n")
+
+
 def check_shell(program, examples, tally):
     """The lines for the shell, with the program on its path as `tktext`."""
     with tempfile.TemporaryDirectory() as folder:
         os.symlink(os.path.abspath(program), os.path.join(folder, "tktext"))
         environment = {**os.environ, "PATH": f"{folder}:{os.environ['PATH']}"}
         for example in examples:
-            done = subprocess.run(
-                ["sh", "-c", example.command], stdin=subprocess.DEVNULL, stdout=subprocess.PIPE,
-                stderr=subprocess.STDOUT, env=environment, timeout=TIMEOUT_SECONDS,
-            )
-            check_example(example, done.stdout.decode("utf-8", "replace").removesuffix("\n"), tally)
+            check_example(example, run_shell(example.command, environment), tally)
 
 
 def wanted_words():

@@ -13,7 +13,7 @@ from typing import NamedTuple
 DRIVER = os.path.join(os.path.dirname(os.path.abspath(__file__)), "tk_driver.tcl")
 WISHES = ("wish8.6", "wish")
 # An answer that isn't there after so many seconds never comes.
-PATIENCE = 5
+PATIENCE = 60
 # A process of Tk keeps something of each interpreter, so it is begun anew after so many.
 MOST_INTERPRETERS = 400
 
