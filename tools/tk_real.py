@@ -14,8 +14,8 @@ DRIVER = os.path.join(os.path.dirname(os.path.abspath(__file__)), "tk_driver.tcl
 WISHES = ("wish8.6", "wish")
 # An answer that isn't there after so many seconds never comes.
 PATIENCE = 60
-# A process of Tk keeps something of each interpreter, so it is begun anew after so many.
-MOST_INTERPRETERS = 400
+# A process of Tk keeps something of each script, so it is begun anew after so many.
+MOST_SCRIPTS = 1_000
 
 
 class Answer(NamedTuple):
@@ -76,7 +76,7 @@ class RealTk:
         self.count = 0
 
     def begin(self):
-        """A process without an interpreter yet."""
+        """A process that has met no script yet."""
         self.end()
         self.process = subprocess.Popen(
             [find_wish(), DRIVER],
@@ -115,8 +115,8 @@ class RealTk:
         return line
 
     def new(self):
-        """A fresh interpreter."""
-        if self.process is None or self.count >= MOST_INTERPRETERS:
+        """No widgets."""
+        if self.process is None or self.count >= MOST_SCRIPTS:
             self.begin()
         self.count += 1
         self.write(b"new")
