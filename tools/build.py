@@ -19,10 +19,13 @@ from concurrent.futures import ThreadPoolExecutor
 
 TOP = os.path.dirname(os.path.dirname(os.path.abspath(__file__)))
 LOG = os.path.join(TOP, "out", "build.log")
+CORES = len(os.sched_getaffinity(0))
 # With up to so many cores `rt` chooses its processes by itself, and looks at the memory that is free.
 CHOSEN_CORES, MOST_JOBS = 4, 8
 # How often a terminal is told that the proof goes on, in seconds.
 BEAT = 1.0
+# How much is shown of what `rt` says of a crate that isn't proved.
+SHOWN_LINES = 40
 
 
 def read_crates(path):
@@ -51,10 +54,13 @@ def plan(crates, program):
     return [first] + [[name] for name in wanted if name not in first] + [[program]]
 
 
-def rt_words(is_program):
-    """The command that proves a crate and keeps it for those above, or proves and links the program."""
-    cores = len(os.sched_getaffinity(0))
-    jobs = [] if cores <= CHOSEN_CORES else ["--jobs", str(min(cores, MOST_JOBS))]
+def rt_words(is_program, share):
+    """The command that proves a crate and keeps it for those above, or proves and links the program.
+
+    `share` is how many cores it has for itself.
+    """
+    is_chosen = share == CORES <= CHOSEN_CORES
+    jobs = [] if is_chosen else ["--jobs", str(min(share, MOST_JOBS))]
     return ["rt", "run" if is_program else "lib", *jobs]
 
 
@@ -77,12 +83,14 @@ class Progress:
         start = "\r\033[K" if self.is_live else ""
         print(f"{start}{text}", file=sys.stderr, flush=True)
 
-    def beat(self):
-        """The line that changes."""
-        with self.lock:
-            if self.is_live and self.running:
-                text = f"[{self.done}/{self.total}] {' '.join(self.running)}, {self.seconds():.0f} s"
-                print(f"\r\033[K{text[:79]}", end="", file=sys.stderr, flush=True)
+    def tell(self):
+        """Shows the line that changes, as long as the program runs."""
+        while self.is_live:
+            time.sleep(BEAT)
+            with self.lock:
+                if self.running:
+                    text = f"[{self.done}/{self.total}] {' '.join(self.running)}, {self.seconds():.0f} s"
+                    print(f"\r\033[K{text[:79]}", end="", file=sys.stderr, flush=True)
 
     def start(self, name):
         with self.lock:
@@ -96,12 +104,12 @@ class Progress:
             self.say(f"[{self.done}/{self.total}] {name} {word} in {seconds:.0f} s, {self.seconds():.0f} s in all")
 
 
-def prove(name, is_program, progress, log):
+def prove(name, is_program, share, progress, log):
     """Proves one crate, and tells whether it is proved."""
     progress.start(name)
     began = time.monotonic()
     done = subprocess.run(
-        rt_words(is_program),
+        rt_words(is_program, share),
         cwd=os.path.join(TOP, "crates", name),
         stdin=subprocess.DEVNULL,
         stdout=subprocess.DEVNULL if is_program else subprocess.PIPE,
@@ -113,15 +121,17 @@ def prove(name, is_program, progress, log):
     progress.end(name, time.monotonic() - began, is_proved)
     log.write(f"== {name}\n".encode() + said)
     if not is_proved:
-        sys.stderr.write(said.decode("utf-8", "replace"))
+        lines = said.decode("utf-8", "replace").splitlines()
+        print(*lines[-SHOWN_LINES:], f"(all of it is in {LOG})", sep="\n", file=sys.stderr)
     return is_proved
 
 
 def prove_all(groups, program, progress, log):
     """Proves group after group, and tells whether all are proved."""
-    with ThreadPoolExecutor(max(len(group) for group in groups)) as pool:
+    with ThreadPoolExecutor(CORES) as pool:
         for group in groups:
-            made = pool.map(lambda name: prove(name, name == program, progress, log), group)
+            share = max(CORES // len(group), 1)
+            made = pool.map(lambda name: prove(name, name == program, share, progress, log), group)
             if not all(list(made)):
                 return False
     return True
@@ -134,9 +144,7 @@ def main():
     groups = plan(read_crates(os.path.join(TOP, "crates.txt")), program)
     progress = Progress(sum(len(group) for group in groups))
     progress.say(f"proving {progress.total} crates from what was kept; nothing kept, this takes many minutes")
-    stop = threading.Event()
-    beats = threading.Thread(target=lambda: [progress.beat() for _ in iter(lambda: stop.wait(BEAT), True)], daemon=True)
-    beats.start()
+    threading.Thread(target=progress.tell, daemon=True).start()
     os.makedirs(os.path.dirname(LOG), exist_ok=True)
     try:
         with open(LOG, "wb") as log:
@@ -146,7 +154,6 @@ def main():
     except OSError:
         progress.say("there is no `rt` on the path: this wants the Rattle kit")
         is_proved = False
-    stop.set()
     return 0 if is_proved else 1
 
 
