@@ -89,7 +89,8 @@ def check_row(program, tk, row, tally):
     tally.check(row.tk != row.ours, f"{row.name}: both columns are the same")
     check_answers("the program", row, row.ours, ask_program(program, row.commands), tally)
     if tk is not None:
-        check_answers("Tk", row, row.tk, tk.answers(row.commands), tally)
+        patience = tk_real.LITTLE_PATIENCE if NONE in row.tk else tk_real.PATIENCE
+        check_answers("Tk", row, row.tk, tk.answers(row.commands, patience), tally)
 
 
 def check_rows(program, tk, version, tally):

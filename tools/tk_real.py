@@ -14,6 +14,8 @@ DRIVER = os.path.join(os.path.dirname(os.path.abspath(__file__)), "tk_driver.tcl
 WISHES = ("wish8.6", "wish")
 # An answer that isn't there after so many seconds never comes.
 PATIENCE = 60
+# The same where none is awaited.
+LITTLE_PATIENCE = 5
 # A process of Tk keeps something of each script, so it is begun anew after so many.
 MOST_SCRIPTS = 1_000
 
@@ -103,9 +105,9 @@ class RealTk:
         except BrokenPipeError:
             raise NoAnswer from None
 
-    def read_line(self):
+    def read_line(self, patience):
         """The next line, or NoAnswer."""
-        line, until = b"", time.monotonic() + PATIENCE
+        line, until = b"", time.monotonic() + patience
         while not line.endswith(b"\n"):
             ready, _, _ = select.select([self.process.stdout], [], [], max(0, until - time.monotonic()))
             piece = os.read(self.process.stdout.fileno(), 65536) if ready else b""
@@ -121,23 +123,23 @@ class RealTk:
         self.count += 1
         self.write(b"new")
 
-    def run(self, command):
+    def run(self, command, patience):
         """The answer of one command, or NoAnswer, after which a script can't go on."""
         try:
             self.write(command.encode("utf-8").hex().encode())
-            word, _, spelled = self.read_line().decode().strip().partition(" ")
+            word, _, spelled = self.read_line(patience).decode().strip().partition(" ")
         except NoAnswer:
             self.end()
             raise
         return Answer(bytes.fromhex(spelled).decode("utf-8", "replace"), word == "error")
 
-    def answers(self, commands):
+    def answers(self, commands, patience=PATIENCE):
         """The answers of a script's commands; where one gave none the list ends with None."""
         found = []
         try:
             self.new()
             for command in commands:
-                found.append(self.run(command))
+                found.append(self.run(command, patience))
         except NoAnswer:
             self.end()
             found.append(None)
