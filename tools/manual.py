@@ -32,7 +32,8 @@ FAULTS = (
     "text doesn't contain any characters tagged with", "there is no mark named", "bad mark gravity",
     "isn't defined in text widget", "bad comparison operator", "bad list", "expected boolean value but got",
     "expected integer but got", "\" before \"", "-startline must be less than or equal to -endline",
-    "nothing to undo", "nothing to redo", "already exists", "too many widgets", "too many tags", "too many marks", "text is too long",
+    "nothing to undo", "nothing to redo", "already exists", "too many widgets", "too many tags", "too many marks",
+    "text is too long",
     "missing close-brace", 'missing "', "extra characters after close-brace", "extra characters after close-quote",
     "substitution isn't supported", "bad character code", "script isn't UTF-8", "read failed", "write failed",
 )
