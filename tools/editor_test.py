@@ -55,15 +55,17 @@ class Terminal:
 
     def __init__(self, program, folder, path):
         self.socket = os.path.join(folder, "tmux")
+        self.environment = {**os.environ, "LANG": "C.UTF-8", "LC_ALL": "C.UTF-8"}
+        self.environment.pop("TMUX", None)
         words = [sys.executable, EDITOR, path, *program.split()]
-        self.tmux(
-            "-f", "/dev/null", "new-session", "-d", "-x", str(WIDTH), "-y", str(HEIGHT),
-            "-e", "LANG=C.UTF-8", "-e", "LC_ALL=C.UTF-8", *words,
-        )
+        self.tmux("-f", "/dev/null", "new-session", "-d", "-x", str(WIDTH), "-y", str(HEIGHT), *words)
         self.tmux("set-option", "-g", "status", "off")
 
     def tmux(self, *words):
-        done = subprocess.run(["tmux", "-u", "-S", self.socket, *words], capture_output=True, stdin=subprocess.DEVNULL)
+        done = subprocess.run(
+            ["tmux", "-u", "-S", self.socket, *words],
+            capture_output=True, stdin=subprocess.DEVNULL, env=self.environment,
+        )
         return done.stdout.decode("utf-8", "replace")
 
     def send(self, keys):
