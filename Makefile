@@ -1,6 +1,9 @@
-# make run     the program on standard input, or on SCRIPT=file; with no script given, on examples/first.tcl
+# make try     a script before anything is proved: standard input, SCRIPT=file, or with neither examples/first.tcl
+# make run     the same by the proved program, which is proved and built first where it isn't yet
+# make build   the proved program alone: crates/tktext/out/tktext
 # make test    the gate, and then the checks that the gate can't do; the last line counts them
 # make fuzz    the program against the plain model on random scripts: SEEDS=300 of them, FIRST=0 on
+# make tk      the program against real Tk, where that is installed: the rows of docs/differences.md, and random scripts
 # make gate    the gate alone, and its processor time over that of `rt selftest`; with nothing beside it
 # make bench   the program's time per command as the text grows, and its memory as the script does, into docs/bench.txt;
 #              what is done to one long line, into docs/bench_lines.txt; and lines in the tree, into docs/bench_tree.txt
@@ -15,12 +18,16 @@ SEEDS ?= 300
 FIRST ?= 0
 SOURCES = crates.txt $(shell find crates -name '*.rt' -o -name '*.antt' | grep -v /out/)
 
+try:
+	@python3 tools/try.py examples/first.tcl $(SCRIPT)
+
 run: $(PROGRAM)
 	@sh tools/run.sh $(PROGRAM) examples/first.tcl $(SCRIPT)
 
-# The program, proved and built; `rt run` proves the crates below it first.
+build: $(PROGRAM)
+
 $(PROGRAM): $(SOURCES)
-	cd crates/tktext && rt run < /dev/null > /dev/null
+	@python3 tools/build.py
 	@touch $@
 
 $(SHIM): tools/refuse.c
@@ -42,7 +49,10 @@ test: $(SHIM) $(WEIGH)
 	  'python3 tools/idle.py --program $(PROGRAM)' \
 	  'python3 tools/devices.py --program $(PROGRAM)' \
 	  'python3 tools/memory.py --program $(NODE_MEMORY) --shim $(WEIGH)' \
-	  'python3 tools/own_counter.py'
+	  'python3 tools/own_counter.py' \
+	  'python3 tools/manual.py --program $(PROGRAM)' \
+	  'python3 tools/tk.py --program $(PROGRAM)' \
+	  'python3 tools/editor_test.py --program $(PROGRAM)'
 
 fuzz: $(PROGRAM)
 	python3 tools/fuzz.py --program $(PROGRAM) --seeds $(SEEDS) --first $(FIRST)
@@ -63,4 +73,8 @@ bench: $(PROGRAM) $(LINE_BENCH) $(TREE_BENCH)
 gate:
 	python3 tools/gate.py --ratio
 
-.PHONY: run test fuzz bench gate
+tk: $(PROGRAM)
+	python3 tools/tk.py --program $(PROGRAM)
+	python3 tools/tk.py --program $(PROGRAM) --scripts $(SEEDS) --first $(FIRST)
+
+.PHONY: try run build test fuzz bench gate tk

@@ -1,4 +1,4 @@
-"""What the tools share: running the program once, the memory that it takes, and counting what passed and what failed."""
+"""What the tools share: running the program, its answers, the memory that it takes, and counting what passed."""
 
 import subprocess
 import sys
@@ -79,3 +79,35 @@ class Tally:
         """Prints the closing line and gives the exit status."""
         print(f"{self.passes} passed, {self.failures} failed")
         return 1 if self.failures or not self.passes else 0
+
+
+class Answer(NamedTuple):
+    """What a command gave: a text, or the text of the fault for which it was refused."""
+
+    text: str
+    is_refused: bool
+
+
+# A command that is refused with its own words: what is written before its line is the answer of the command before it.
+PROBE = ".=={}=="
+ERROR = "error: "
+
+
+def read_answer(piece):
+    """One answer of the program, from what it wrote."""
+    is_refused = piece.startswith(ERROR)
+    return Answer(piece[len(ERROR) :] if is_refused else piece, is_refused)
+
+
+def ask_program(program, commands):
+    """The answers of the program to commands, each as a script spells it; a script fault is the last of them."""
+    probes = [PROBE.format(number) for number in range(len(commands))]
+    script = "".join(f"{command}\n{probe}\n" for command, probe in zip(commands, probes))
+    rest = run_program(program, script.encode("utf-8")).output.decode("utf-8")
+    answers = []
+    for probe in probes:
+        piece, found, rest = rest.partition(f'{ERROR}invalid command name "{probe}"\n')
+        answers.append(read_answer(piece.removesuffix("\n")))
+        if not found:
+            break
+    return answers

@@ -14,3 +14,4 @@ fi
 "$program" < "$script"
 status=$?
 [ "$status" -eq 0 ] || echo "status $status" >&2
+exit "$status"

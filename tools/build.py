@@ -1,0 +1,161 @@
+#!/usr/bin/env python3
+"""Proves and builds the program, and tells on standard error how far it is: what `make build` calls.
+
+    python3 tools/build.py [--crate NAME]
+
+Proves the crates that the program stands on, lowest first, and the program last, each over what earlier runs kept.
+Crates that share no crate below are proved side by side, since the kit's `rt` lets one run at a time work in a folder;
+what is left is proved one crate after the other, each by as many processes as there are cores.  What `rt` says is kept
+in out/build.log, and shown where a crate fails; the exit status is then 1.
+"""
+
+import argparse
+import os
+import subprocess
+import sys
+import threading
+import time
+from concurrent.futures import ThreadPoolExecutor
+
+TOP = os.path.dirname(os.path.dirname(os.path.abspath(__file__)))
+LOG = os.path.join(TOP, "out", "build.log")
+CORES = len(os.sched_getaffinity(0))
+# With up to so many cores `rt` chooses its processes by itself, and looks at the memory that is free.
+CHOSEN_CORES, MOST_JOBS = 4, 8
+# How often a terminal is told that the proof goes on, in seconds.
+BEAT = 1.0
+# How much is shown of what `rt` says of a crate that isn't proved.
+SHOWN_LINES = 40
+
+
+def read_crates(path):
+    """Each crate of the list with the crates of the list that its line names, in the order of the list."""
+    lines = {}
+    with open(path, encoding="utf-8") as file:
+        for line in file:
+            name, colon, needs = line.partition(":")
+            if colon and not line.startswith("#"):
+                lines[name.split()[0]] = needs.split()
+    return {name: [need for need in needs if need in lines] for name, needs in lines.items()}
+
+
+def crates_below(crates, name):
+    """The crates that one stands on."""
+    found = set(crates[name])
+    for need in crates[name]:
+        found |= crates_below(crates, need)
+    return found
+
+
+def plan(crates, program):
+    """Groups of crates, each after those that it needs; those of a group share no crate."""
+    wanted = [name for name in crates if name in crates_below(crates, program)]
+    first = [name for name in wanted if not crates_below(crates, name)]
+    return [first] + [[name] for name in wanted if name not in first] + [[program]]
+
+
+def rt_words(is_program, share):
+    """The command that proves a crate and keeps it for those above, or proves and links the program.
+
+    `share` is how many cores it has for itself.
+    """
+    is_chosen = share == CORES <= CHOSEN_CORES
+    jobs = [] if is_chosen else ["--jobs", str(min(share, MOST_JOBS))]
+    return ["rt", "run" if is_program else "lib", *jobs]
+
+
+class Progress:
+    """Counts the crates that are done, and shows it: on a terminal in one line that changes."""
+
+    def __init__(self, total):
+        self.total = total
+        self.done = 0
+        self.running = []
+        self.began = time.monotonic()
+        self.lock = threading.Lock()
+        self.is_live = sys.stderr.isatty()
+
+    def seconds(self):
+        return time.monotonic() - self.began
+
+    def say(self, text):
+        """A line that stays."""
+        start = "\r\033[K" if self.is_live else ""
+        print(f"{start}{text}", file=sys.stderr, flush=True)
+
+    def tell(self):
+        """Shows the line that changes, as long as the program runs."""
+        while self.is_live:
+            time.sleep(BEAT)
+            with self.lock:
+                if self.running:
+                    text = f"[{self.done}/{self.total}] {' '.join(self.running)}, {self.seconds():.0f} s"
+                    print(f"\r\033[K{text[:79]}", end="", file=sys.stderr, flush=True)
+
+    def start(self, name):
+        with self.lock:
+            self.running.append(name)
+
+    def end(self, name, seconds, is_proved):
+        with self.lock:
+            self.running.remove(name)
+            self.done += is_proved
+            word = "proved" if is_proved else "NOT PROVED"
+            self.say(f"[{self.done}/{self.total}] {name} {word} in {seconds:.0f} s, {self.seconds():.0f} s in all")
+
+
+def prove(name, is_program, share, progress, log):
+    """Proves one crate, and tells whether it is proved."""
+    progress.start(name)
+    began = time.monotonic()
+    done = subprocess.run(
+        rt_words(is_program, share),
+        cwd=os.path.join(TOP, "crates", name),
+        stdin=subprocess.DEVNULL,
+        stdout=subprocess.DEVNULL if is_program else subprocess.PIPE,
+        stderr=subprocess.PIPE if is_program else subprocess.STDOUT,
+    )
+    said = done.stderr if is_program else done.stdout
+    # A program that is proved is run at once, on an empty script, which ends with status 0.
+    is_proved = done.returncode == 0
+    progress.end(name, time.monotonic() - began, is_proved)
+    log.write(f"== {name}\n".encode() + said)
+    if not is_proved:
+        lines = said.decode("utf-8", "replace").splitlines()
+        print(*lines[-SHOWN_LINES:], f"(all of it is in {LOG})", sep="\n", file=sys.stderr)
+    return is_proved
+
+
+def prove_all(groups, program, progress, log):
+    """Proves group after group, and tells whether all are proved."""
+    with ThreadPoolExecutor(CORES) as pool:
+        for group in groups:
+            share = max(CORES // len(group), 1)
+            made = pool.map(lambda name: prove(name, name == program, share, progress, log), group)
+            if not all(list(made)):
+                return False
+    return True
+
+
+def main():
+    parser = argparse.ArgumentParser(description="proves and builds a program, and tells how far it is")
+    parser.add_argument("--crate", default="tktext")
+    program = parser.parse_args().crate
+    groups = plan(read_crates(os.path.join(TOP, "crates.txt")), program)
+    progress = Progress(sum(len(group) for group in groups))
+    progress.say(f"proving {progress.total} crates from what was kept; nothing kept, this takes many minutes")
+    threading.Thread(target=progress.tell, daemon=True).start()
+    os.makedirs(os.path.dirname(LOG), exist_ok=True)
+    try:
+        with open(LOG, "wb") as log:
+            is_proved = prove_all(groups, program, progress, log)
+    except KeyboardInterrupt:
+        is_proved = False
+    except OSError:
+        progress.say("there is no `rt` on the path: this wants the Rattle kit")
+        is_proved = False
+    return 0 if is_proved else 1
+
+
+if __name__ == "__main__":
+    sys.exit(main())
