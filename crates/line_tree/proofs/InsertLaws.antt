@@ -16,16 +16,16 @@ use Rattle.raw_nodes.specs.Records.{Records, with_sum}
 use Rattle.raw_nodes.specs.Rows.{kids, kids_of, row}
 use Rattle.raw_nodes.specs.declared.names.NodePtr.{NodePtr}
 use Rattle.raw_nodes.proofs.PlaceLaws.{same_or_other}
-use Rattle.line_tree.specs.Changes.{Among, CanPut, Distinct, FitsSum, Puts, resummed, sums}
+use Rattle.line_tree.specs.Changes.{Among, CanPut, Distinct, FitsSum, Puts, resummed, sum_all, sums}
 use Rattle.line_tree.specs.Finds.{HasRow, Leads}
 use Rattle.line_tree.specs.Growth.{CanInsert, Grows, Inserts, KeepsLink, KeepsWide, lines_of, names_of, trees}
 use Rattle.line_tree.specs.Shape.{Holds, IsTree, Links, lines_in, sum_at, tree_at, sum_of}
 use Rattle.line_tree.specs.Trees.{IsBalanced, Tree, inner, lines, names, tops, total}
 use Rattle.line_tree.specs.declared.find.Found.{Found}
 use Rattle.line_tree.proofs.AmongLaws.{among-get, among-left, among-right}
-use Rattle.line_tree.proofs.BuildLaws.{sum-trees}
+use Rattle.line_tree.proofs.BuildLaws.{sum-kids, sum-trees}
 use Rattle.line_tree.proofs.DistinctLaws.{distinct-left, distinct-right}
-use Rattle.line_tree.proofs.FillLaws.{at-update, sums-row}
+use Rattle.line_tree.proofs.FillLaws.{at-update, sum_all-insert, sums-row}
 use Rattle.line_tree.proofs.FrameLaws.{inner-no-top, tops-among}
 use Rattle.line_tree.proofs.GrowLaws.{all-append, all-left, all-right, grows-line, grows-wide, names-append, of-one}
 use Rattle.line_tree.proofs.SplitLaws.{grows-put, grows-resum, parted-is}
@@ -101,6 +101,9 @@ module _ (m : Records) (p : NodePtr) (k : ℕ) (x : NodePtr) (can : CanInsert m 
   pub low-can_put : CanPut m p k x
   low-can_put = let n = length-map (kids m p) (tree_at m 0) in let place = low-place in
       can-put m m 0 p leaves k (tree_at m 0 x) more k x low-grows (named-node m 0 p k x can) can.distinct.0 (not-line m 0 p k x can) (has-node m 0 p k x can) (subst (Links m p 0) (tops-tree_at m 0 (kids m p)) can.tree.1) (omega arith) (named-tree m 0 x can.line) low-tops (line-fits m 0 p k x can)
+
+  pub low-sum : plus (sum_at m p) (sum_at m x) ≡ sum_all m (insert (kids m p) k x)
+  low-sum = ap (λ s. plus s (sum_at m x)) (sum-kids m 0 p can.tree) ∙ sum_all-insert m (kids m p) k x
 
   pub low-inserts : (n : Records) (o : Option NodePtr) → Puts m n p (insert (kids m p) k x) o → Inserts m n 1 p k x o
   low-inserts n o puts =
@@ -218,6 +221,12 @@ module _ (m : Records) (h : ℕ) (p : NodePtr) (k : ℕ) (x : NodePtr) (can : Ca
     two-can_put = let n = ap length (kids-same l (Some s) ins) in let w = slice_get_within (kids m p) f.slot f.child leads.child in
         can-put m l h p (ts m h p k x can) k (tree_at m 0 x) (now l (Some s) ins) (f.slot + 1) s (now-grows l (Some s) ins) (named-node m h p k x can) can.distinct.0 (not-line m h p k x can)
         (has-now l (Some s) ins) (links-now l (Some s) ins) (omega arith) (named-tree l h s ins.grows.holds.1.0) two-tops (line-fits m h p k x can)
+
+    pub two-sum : plus (sum_at l p) (sum_at m x) ≡ sum_all l (insert (kids l p) (f.slot + 1) s)
+    two-sum = let us = now l (Some s) ins in let g = now-grows l (Some s) ins in
+        let node = ap sum_of (node-same l (Some s) ins) ∙ sum-held m (suc h) (tree_at m (suc h) p) can.tree in let line = sum-held m 0 (tree_at m 0 x) can.line in
+        (λ i. plus (node i) (line i))
+        ∙ sym (ap (sum_all l) two-tops ∙ sum-trees l h us g.holds ∙ ap total g.line ∙ total-with_line (lines_of h (ts m h p k x can)) k (tree_at m 0 x))
 
     pub two-inserts : (n : Records) (o : Option NodePtr) → Puts l n p (insert (kids l p) (f.slot + 1) s) o → Inserts m n (suc h) p k x o
     two-inserts n o puts =

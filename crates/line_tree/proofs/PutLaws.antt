@@ -14,11 +14,11 @@ use Rattle.raw_nodes.specs.Rows.{kids, kids_of, row}
 use Rattle.raw_nodes.specs.declared.names.NodePtr.{NodePtr}
 use Rattle.raw_nodes.proofs.MapLaws.{at_some, get_inserted, get_other, kept_insert, some_of}
 use Rattle.raw_nodes.proofs.RowLaws.{length-row}
-use Rattle.line_tree.specs.Changes.{Among, CanFill, CanPut, FitsSum, Stay, refilled, relinked, sum_all}
+use Rattle.line_tree.specs.Changes.{Among, CanFill, CanPut, FitsSum, Stay, refilled, relinked, sum_all, sums}
 use Rattle.line_tree.specs.Finds.{HasRow}
 use Rattle.line_tree.specs.Shape.{Links, sum_at, sum_of}
 use Rattle.line_tree.proofs.AmongLaws.{among-drop, among-get, among-insert, among-take}
-use Rattle.line_tree.proofs.FillLaws.{refilled-other, refilled-sum, sum_all-append, sum_all-same}
+use Rattle.line_tree.proofs.FillLaws.{refilled-other, refilled-sum, sum_all-append, sum_all-same, sums-row}
 use Rattle.line_tree.proofs.FrameLaws.{links-same}
 use Rattle.line_tree.proofs.KeptLaws.{kept-front, kept-row, take-short}
 use Rattle.line_tree.proofs.SumLaws.{fits-left, fits-right}
@@ -52,6 +52,18 @@ module _ (m : Records) (p : NodePtr) (at : ℕ) (x : NodePtr) (can : CanPut m p 
   pub fill-room : length (insert (kids m p) at x) ≤ 12 → CanFill m p (insert (kids m p) at x)
   fill-room few = record { found = can.row.found; is = can.row.is; inner = can.row.inner; long = long; few = few; each = named-all; apart = can.apart; fits = can.fits }
 
+  pub halves-sum : plus (sum_all m (take 6 (insert (kids m p) at x))) (sum_all m (drop 6 (insert (kids m p) at x))) ≡ sum_all m (insert (kids m p) at x)
+  halves-sum = sym (ap (sum_all m) (sym (take-append-drop 6 (insert (kids m p) at x))) ∙ sum_all-append m (take 6 (insert (kids m p) at x)) (drop 6 (insert (kids m p) at x)))
+
+  both : FitsSum (plus (sum_all m (take 6 (insert (kids m p) at x))) (sum_all m (drop 6 (insert (kids m p) at x))))
+  both = subst FitsSum (sym halves-sum) can.fits
+
+  pub first-fits : FitsSum (sums m (row (take 6 (insert (kids m p) at x))))
+  first-fits = let all = insert (kids m p) at x in subst FitsSum (sym (sums-row m (take 6 all))) (fits-left (sum_all m (take 6 all)) (sum_all m (drop 6 all)) both)
+
+  pub last-fits : FitsSum (sums m (row (drop 6 (insert (kids m p) at x))))
+  last-fits = let all = insert (kids m p) at x in subst FitsSum (sym (sums-row m (drop 6 all))) (fits-right (sum_all m (take 6 all)) (sum_all m (drop 6 all)) both)
+
   -- the children before the new one stay
   pub kept-put : Stay m p at (row (insert (kids m p) at x))
   kept-put = let ks = kids m p in let long : length (take at ks) ≡ at = omega (arith, length-take at ks, can.place) in
@@ -73,12 +85,22 @@ module _ (m : Records) (p : NodePtr) (at : ℕ) (x : NodePtr) (can : CanPut m p 
     made : Records
     made = finite.insert m s (blank None)
 
-    both : FitsSum (plus (sum_all m (take 6 (insert (kids m p) at x))) (sum_all m (drop 6 (insert (kids m p) at x))))
-    both = subst FitsSum (ap (sum_all m) (sym (take-append-drop 6 (insert (kids m p) at x))) ∙ sum_all-append m (take 6 (insert (kids m p) at x)) (drop 6 (insert (kids m p) at x))) can.fits
-
     sum-made : (c : NodePtr) → IsSome (finite.get m c) → sum_at made c ≡ sum_at m c
     unfolding made
     sum-made c named = ap sum_of (get_other m s (blank None) c (not-new c named))
+
+    -- the sums of both parts as they were
+    pub left-sums : sums (finite.insert m s (blank None)) (row (take 6 (insert (kids m p) at x))) ≡ sums m (row (take 6 (insert (kids m p) at x)))
+    unfolding made
+    left-sums = let all = insert (kids m p) at x in let n = finite.insert m s (blank None) in
+        sums-row n (take 6 all) ∙ sum_all-same m n (take 6 all) (λ c a. sum-made c (named-all c (among-take c 6 all a))) ∙ sym (sums-row m (take 6 all))
+
+    pub right-sums : sums (refilled (finite.insert m s (blank None)) p (row (take 6 (insert (kids m p) at x)))) (row (drop 6 (insert (kids m p) at x))) ≡ sums m (row (drop 6 (insert (kids m p) at x)))
+    unfolding made
+    right-sums = let all = insert (kids m p) at x in let left = finite.insert m s (blank None) in let n = refilled left p (row (take 6 all)) in
+        sums-row n (drop 6 all) ∙ sum_all-same m n (drop 6 all) (λ c a.
+        refilled-sum left p (row (take 6 all)) c (λ e. can.apart (among-drop p 6 all (subst (λ q. Among q (drop 6 all)) e a))) ∙ sum-made c (named-all c (among-drop c 6 all a)))
+        ∙ sym (sums-row m (drop 6 all))
 
     pub fill-left : CanFill (finite.insert m s (blank None)) p (take 6 (insert (kids m p) at x))
     unfolding made

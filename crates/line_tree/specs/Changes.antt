@@ -105,6 +105,8 @@ pub record CanEven (m : Records) (a b : NodePtr) : Type 0 where
   pub two : a ≢ b
   pub off_left : Among a (kids m a ++ kids m b) → ⊥
   pub off_right : Among b (kids m a ++ kids m b) → ⊥
+  pub sum_left : sum_at m a ≡ sum_all m (kids m a)
+  pub sum_right : sum_at m b ≡ sum_all m (kids m b)
   pub fits : FitsSum (sum_all m (kids m a ++ kids m b))
 
 -- a has all of them

@@ -62,13 +62,13 @@ pub fn insert_in<C: Ticks>(
     ensures count { spares store.new + finite.len (records store.new)
         ≡ spares store.old + finite.len (records store.old) }
 {
-    if height == 1 {
-        return put(store, node, k, line, ticks);
-    }
     let more = store.sum(line, ticks);
+    if height == 1 {
+        return put(store, node, k, line, &more, ticks);
+    }
     let found = lead(store, node, k, ticks);
     match insert_in(store, found.child, height - 1, found.rest, line, ticks) {
-        Some(sibling) => put(store, node, found.slot + 1, sibling, ticks),
+        Some(sibling) => put(store, node, found.slot + 1, sibling, &more, ticks),
         None => {
             add(store, node, &more, ticks);
             None
