@@ -28,6 +28,7 @@ use Rattle.line_tree.proofs.DistinctLaws.{distinct-left, distinct-right}
 use Rattle.line_tree.proofs.FillLaws.{at-update, sum_all-insert, sums-row}
 use Rattle.line_tree.proofs.FrameLaws.{inner-no-top, tops-among}
 use Rattle.line_tree.proofs.GrowLaws.{all-append, all-left, all-right, grows-line, grows-wide, names-append, of-one}
+use Rattle.line_tree.proofs.PutLaws.{split_at}
 use Rattle.line_tree.proofs.SplitLaws.{grows-put, grows-resum, parted-is}
 use Rattle.line_tree.proofs.StepLaws.{all-balanced, at-place, can-put, keeps-after, keeps-put, keeps-resum, keeps-same, links-kept, split-insert, split-same, total-with_line, wide-balanced, wide-put, wide-same, wide-some}
 use Rattle.line_tree.proofs.SumLaws.{total-append}
@@ -108,7 +109,7 @@ module _ (m : Records) (p : NodePtr) (k : ℕ) (x : NodePtr) (can : CanInsert m 
   pub low-inserts : (n : Records) (o : Option NodePtr) → Puts m n p (insert (kids m p) k x) o → Inserts m n 1 p k x o
   low-inserts n o puts =
       let g = grows-put m m n 0 p leaves k (tree_at m 0 x) more k x o low-grows (named-node m 0 p k x can) can.distinct.0 (not-line m 0 p k x can) low-can_put low-tops puts in
-      let same = parted-is n 0 p more o g.holds in
+      let same = parted-is n 0 p more (split_at m n p (insert (kids m p) k x) o puts) o g.holds in
       let long = length-insert leaves k (tree_at m 0 x) low-place in
       record {
         grows = subst (λ us. Grows m n 1 ((p, leaves) ∷ []) k (tree_at m 0 x) us) (sym same) g;
@@ -232,7 +233,7 @@ module _ (m : Records) (h : ℕ) (p : NodePtr) (k : ℕ) (x : NodePtr) (can : Ca
     two-inserts n o puts =
         let us = now l (Some s) ins in
         let g = grows-put m l n h p (ts m h p k x can) k (tree_at m 0 x) us (f.slot + 1) s o (now-grows l (Some s) ins) (named-node m h p k x can) can.distinct.0 (not-line m h p k x can) two-can_put two-tops puts in
-        let same = parted-is n h p us o g.holds in
+        let same = parted-is n h p us (split_at l n p (insert (kids l p) (f.slot + 1) s) o puts) o g.holds in
         let all = ap length two-tops ∙ length-map us (λ (t : Tree h). t.0) in
         let kids_long = ap length (kids-same l (Some s) ins) in let w = slice_get_within (kids m p) f.slot f.child leads.child in let ts_long = length-map (kids m p) (tree_at m h) in
         let inserted = length-insert (kids l p) (f.slot + 1) s (omega arith) in
@@ -265,7 +266,7 @@ module _ (m : Records) (h : ℕ) (p : NodePtr) (k : ℕ) (x : NodePtr) (can : Ca
     one-inserts n is =
         let us = now l None ins in let has = has-now l None ins in
         let g = grows-resum m l n h p (ts m h p k x can) k (tree_at m 0 x) us (now-grows l None ins) (named-node m h p k x can) can.distinct.0 (not-line m h p k x can) has one-tops one-links is in
-        let same = parted-is n h p us None g.holds in
+        let same = parted-is n h p us 0 None g.holds in
         let long = ap length (sym (kids-same l None ins) ∙ one-tops) ∙ length-map us (λ (t : Tree h). t.0) in let ts_long = length-map (kids m p) (tree_at m h) in
         let s = sums l (row (kids l p)) in
         record {

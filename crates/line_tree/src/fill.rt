@@ -262,8 +262,17 @@ fn part<C: Ticks>(
     part
 }
 
-/// Puts one more child among those of a node, below which stands so much more then. Where there are 13, the last seven
-/// get a node of their own.
+/// How many of 13 children stay where they split: six where the new one is put, so that a node which lines are put into
+/// one behind the other leaves seven behind.
+fn first_half(at: usize) -> usize
+    ensures low { 6 ≤ result }
+    ensures high { result ≤ 7 }
+{
+    if at > 6 { 7 } else { 6 }
+}
+
+/// Puts one more child among those of a node, below which stands so much more then. Where there are 13, the last six or
+/// seven get a node of their own.
 pub fn put<C: Ticks>(
     store: &mut NodeStore<C>,
     node: NodePtr,
@@ -289,12 +298,13 @@ pub fn put<C: Ticks>(
         refill(store, node, at, &all, sum);
         None
     } else {
-        let left = part(store, node, at, extra, 0, 6, ticks);
-        let right = part(store, node, at, extra, 6, 7, ticks);
+        let half = first_half(at);
+        let left = part(store, node, at, extra, 0, half, ticks);
+        let right = part(store, node, at, extra, half, 13 - half, ticks);
         let last = sum_of(store, &right, ticks);
         let first = sum_less(store, &left, &sum, &last, ticks);
         let sibling = store.make(None);
-        refill(store, node, at.min(6), &left, first);
+        refill(store, node, at.min(half), &left, first);
         refill(store, sibling, 0, &right, last);
         Some(sibling)
     }

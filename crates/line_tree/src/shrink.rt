@@ -67,19 +67,20 @@ pub fn part_without<C: Ticks>(
     part
 }
 
-/// Number `i` of the children of two nodes.
+/// Number `i` of the children of two nodes, of which the left one has so many.
 fn pick_pair<C: Ticks>(
     store: &NodeStore<C>,
     left: NodePtr,
     right: NodePtr,
+    count: usize,
     i: usize,
     ticks: &mut C,
 ) -> Option<NodePtr>
     requires left { HasRow (records store.now) left }
     requires right { HasRow (records store.now) right }
+    requires count { count ≡ length (kids (records store.now) left) }
     ensures { result ≡ slice_get (kids (records store.now) left ++ kids (records store.now) right) i }
 {
-    let count = store.children(left);
     if i < count {
         store.child(left, i, ticks)
     } else if i - count < 12 {
@@ -104,10 +105,11 @@ fn part_pair<C: Ticks>(
     requires from { from ≤ 24 }
     ensures { result ≡ row (take count (drop from (kids (records store.now) left ++ kids (records store.now) right))) }
 {
+    let first = store.children(left);
     let mut part = [None; 12];
     for i in 0..12 {
         part[i] = if i < count {
-            pick_pair(store, left, right, from + i, ticks)
+            pick_pair(store, left, right, first, from + i, ticks)
         } else {
             None
         };
