@@ -42,11 +42,11 @@ WEIGHTS = (
 REASONS = """
 What is done at a random place of a million lines waits for memory, and for the table of pages: hardly one of the
 nodes on the way is in a cache. By valgrind's model of 32 KB and 32 MB of cache a line that is taken out misses the
-first MISSES times and the second LASTS times; it takes INSTRUCTIONS instructions, and FEWER where there are 10,000
-lines. With pages of 2 MB (GLIBC_TUNABLES=glibc.malloc.hugetlb=1, which a program can't ask for itself) the same takes
-60 to 75 percent of the time. At each level three or four children are asked for their lines, each in a node of its
-own. One place in memory a level would do if a node kept beside each link how many lines that child has; the map of
-records, which is all that is known of the nodes, has each number at the child alone.
+first 63 times and the second 11 times; it takes 2,500 instructions, and 1,900 where there are 10,000 lines. With
+pages of 2 MB (GLIBC_TUNABLES=glibc.malloc.hugetlb=1, which a program can't ask for itself) the same takes 63 to 82
+percent of the time. At each level three or four children are asked for their lines, each in a node of its own. One
+place in memory a level would do if a node kept beside each link how many lines that child has; the map of records,
+which is all that is known of the nodes, has each number at the child alone.
 """
 
 
