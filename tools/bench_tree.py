@@ -1,11 +1,12 @@
 #!/usr/bin/env python3
 """Times lines that are put into the tree of lines, taken out, and found, and weighs them.
 
-    python3 tools/bench_tree.py --program PATH --out FILE [--repeat 3]
+    python3 tools/bench_tree.py --program PATH --shim PATH --out FILE [--repeat 3]
 
-PATH is the program `tree_bench`. Prints a table and writes it to FILE. Each time is the processor's, the least of
-several runs, less that of a run that does the same without what is timed. The exit status is 1 if an aim is missed, if
-the tree isn't as a plain list says after random edits, or if it can't be dropped on a small stack.
+PATH is the program `tree_bench` and the allocator of `tools/weigh.c`. Prints a table and writes it to FILE. Each time
+is the processor's, the least of several runs, less that of a run that does the same without what is timed. A weight is
+the most bytes at once, the allocator's own among them. The exit status is 1 if an aim is missed, if the tree isn't as a
+plain list says after random edits, or if it can't be dropped on a small stack.
 """
 
 import argparse
@@ -13,6 +14,7 @@ import os
 import resource
 import subprocess
 import sys
+import tempfile
 
 COUNTS = (10_000, 100_000, 1_000_000)
 LENGTH = 40
@@ -47,6 +49,10 @@ pages of 2 MB (GLIBC_TUNABLES=glibc.malloc.hugetlb=1, which a program can't ask 
 percent of the time. At each level three or four children are asked for their lines, each in a node of its own. One
 place in memory a level would do if a node kept beside each link how many lines that child has; the map of records,
 which is all that is known of the nodes, has each number at the child alone.
+
+Of the bytes a line that is put in with a thousand others 8 are in spare nodes and rooms for the next thousand,
+whatever would split (27 of each for each line), 48 in one inner node for every six lines, and 144 in the line's own
+node and text.
 """
 
 
@@ -94,15 +100,24 @@ def times(options):
     return lines, aims
 
 
+def weigh(options, work, count):
+    """The most bytes that one run holds at once."""
+    with tempfile.TemporaryDirectory() as folder:
+        report = os.path.join(folder, "weight.txt")
+        shim = {"LD_PRELOAD": os.path.abspath(options.shim), "WEIGHT_REPORT": report}
+        subprocess.run([options.program, work, str(count), str(LENGTH)], env=shim, capture_output=True, check=True)
+        with open(report, encoding="ascii") as file:
+            return int(file.read().split()[2])
+
+
 def weights(options):
     """The table of memory, and whether each aim is met."""
     count = COUNTS[-1]
     lines = [f"{f'bytes a line, of {count:,} of {LENGTH} characters':<52}{'bytes':>10}"]
     aims = []
     for name, work, is_aim in WEIGHTS:
-        idle, full = run_once(options.program, work, 0)[1], run_once(options.program, work, count)[1]
-        each = (full - idle) / count
-        lines.append(f"{name:<52}{each:>10.0f}")
+        each = (weigh(options, work, count) - weigh(options, work, 0)) / count
+        lines.append(f"{name:<52}{each:>10.1f}")
         if is_aim:
             aims.append((each <= MOST_BYTES, f"{name}: at most {MOST_BYTES} bytes a line"))
     return lines, aims
@@ -121,6 +136,7 @@ def checks(options):
 def main():
     parser = argparse.ArgumentParser(description="times and weighs the tree of lines")
     parser.add_argument("--program", required=True)
+    parser.add_argument("--shim", required=True)
     parser.add_argument("--out", required=True)
     parser.add_argument("--repeat", type=int, default=3)
     options = parser.parse_args()
