@@ -63,7 +63,8 @@ def small_stack():
 
 def run_once(program, work, count, before=None):
     """The seconds of processor and the bytes that one run takes, and what it prints: two numbers."""
-    process = subprocess.Popen([program, work, str(count), str(LENGTH)], stdout=subprocess.PIPE, env={}, preexec_fn=before)
+    words = [program, work, str(count), str(LENGTH)]
+    process = subprocess.Popen(words, stdout=subprocess.PIPE, env={}, preexec_fn=before)
     output = process.stdout.read()
     _, status, usage = os.wait4(process.pid, 0)
     process.returncode = os.waitstatus_to_exitcode(status)
@@ -84,7 +85,8 @@ def seconds(options, work, count):
 
 def times(options):
     """The table of times, and whether each aim is met."""
-    least = {(work, count): seconds(options, work, count) for work in ("lines", "fill", "insert", "remove", "walk") for count in COUNTS}
+    works = ("lines", "fill", "insert", "remove", "walk")
+    least = {(work, count): seconds(options, work, count) for work in works for count in COUNTS}
     head = "".join(f"{count:>12,}" for count in COUNTS)
     lines = [f"{'nanoseconds a line, of so many':<42}{head}{'growth':>10}{'seconds':>10}"]
     aims = []
