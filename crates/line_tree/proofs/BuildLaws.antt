@@ -15,14 +15,14 @@ use Rattle.raw_nodes.proofs.RowLaws.{somes, somes-row}
 use Rattle.raw_nodes.proofs.UpdateLaws.{get-update-other}
 use Rattle.line_tree.specs.Changes.{Among, CanFill, Distinct, link_one, refilled, relinked, sum_all, sums}
 use Rattle.line_tree.specs.Growth.{lines_of, names_of}
-use Rattle.line_tree.specs.Shape.{Holds, IsNode, Links, line_of, tree_at}
+use Rattle.line_tree.specs.Shape.{Holds, IsNode, IsTree, Links, line_of, sum_at, tree_at}
 use Rattle.line_tree.specs.Trees.{Tree, inner, lines, names, tops, total}
 use Rattle.line_tree.proofs.AmongLaws.{among-left, among-right}
 use Rattle.line_tree.proofs.DistinctLaws.{distinct-right}
 use Rattle.line_tree.proofs.FillLaws.{at-update, refilled-other, relinked-other, relinked-row, relinked-sums}
 use Rattle.line_tree.proofs.FrameLaws.{SameBody, body-same, body-trans, holds-moved, inner-no-top, links-same, tops-among}
 use Rattle.line_tree.proofs.SumLaws.{total-append}
-use Rattle.line_tree.proofs.TreeLaws.{sum-held}
+use Rattle.line_tree.proofs.TreeLaws.{sum-held, sum-tree, tops-tree_at}
 use Rattle.line_tree.proofs.UpdateLaws.{named-link_one}
 
 -- ---- links
@@ -66,6 +66,9 @@ body-refilled m p os q n = let l = relinked m p 0 os in
 pub sum-trees : (m : Records) (h : ℕ) (ts : List (Tree h)) → AllByRecursion (Holds m h) ts → sum_all m (tops h ts) ≡ total (lines_of h ts)
 sum-trees m h [] all = refl
 sum-trees m h (t ∷ ts) all = (λ i. plus (sum-held m h t all.0 i) (sum-trees m h ts all.1 i)) ∙ sym (total-append (lines h t) (lines_of h ts))
+
+pub sum-kids : (m : Records) (h : ℕ) (p : NodePtr) → IsTree m (suc h) p → sum_at m p ≡ sum_all m (kids m p)
+sum-kids m h p is = sum-tree m (suc h) p is ∙ sym (ap (sum_all m) (sym (tops-tree_at m h (kids m p))) ∙ sum-trees m h (map (tree_at m h) (kids m p)) is.2)
 
 pub distinct-tops : (h : ℕ) (ts : List (Tree h)) → Distinct (names_of h ts) → Distinct (tops h ts)
 distinct-tops h [] d = tt

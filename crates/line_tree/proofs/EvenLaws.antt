@@ -2,8 +2,9 @@
 use Rattle.std.proofs.Common.{◌≡◌, ℕ, zero, suc, ◌+◌, ◌<◌, ◌≤◌, inl, inr, List, [], ◌∷◌, ◌++◌, length, take, drop, refl, sym, ap, ◌∙◌, subst, arith, length-append, length-take, length-drop}
 use Rattle.std.specs.Prelude.{IsSome, slice_get}
 use Rattle.std.specs.FinMap as finite
+use Rattle.std.specs.declared.option.Option.{Option}
 use Rattle.std.specs.List.{remove}
-use Rattle.std.specs.declared.option.Option.TheVariants.{None}
+use Rattle.std.specs.declared.option.Option.TheVariants.{None, Some}
 use Rattle.std.proofs.lemmas.List.{append-nil, take-append-drop}
 use Rattle.std.proofs.lemmas.List.Edits.{length-remove}
 use Rattle.std.proofs.lemmas.Option.{slice_get_past}
@@ -12,11 +13,11 @@ use Rattle.raw_nodes.specs.Records.{Records}
 use Rattle.raw_nodes.specs.Rows.{kids, row}
 use Rattle.raw_nodes.specs.declared.names.NodePtr.{NodePtr}
 use Rattle.raw_nodes.proofs.RowLaws.{length-row}
-use Rattle.line_tree.specs.Changes.{Among, CanEven, CanFill, FitsSum, Stay, refilled, relinked, sum_all}
+use Rattle.line_tree.specs.Changes.{Among, CanEven, CanFill, FitsSum, Stay, refilled, relinked, sum_all, sums}
 use Rattle.line_tree.specs.Finds.{HasRow}
-use Rattle.line_tree.specs.Shape.{Links}
-use Rattle.line_tree.proofs.AmongLaws.{among-cases, among-drop, among-get, among-take}
-use Rattle.line_tree.proofs.FillLaws.{refilled-other, refilled-sum, sum_all-append, sum_all-same}
+use Rattle.line_tree.specs.Shape.{Links, sum_at}
+use Rattle.line_tree.proofs.AmongLaws.{among-cases, among-drop, among-get, among-take, get-among}
+use Rattle.line_tree.proofs.FillLaws.{refilled-other, refilled-sum, row-some, sum_all-append, sum_all-same, sums-row}
 use Rattle.line_tree.proofs.KeptLaws.{kept-row}
 use Rattle.line_tree.proofs.SumLaws.{fits-left, fits-right}
 use Rattle.line_tree.proofs.UpdateLaws.{named-refilled}
@@ -65,7 +66,13 @@ module _ (m : Records) (a b : NodePtr) (can : CanEven m a b) where
     fits = can.fits;
   }
 
-  halves : (n : ℕ) → FitsSum (plus (sum_all m (take n both)) (sum_all m (drop n both)))
+  pub named-part : (cs : List NodePtr) → ((c : NodePtr) → Among c cs → Among c both) → (os : List (Option NodePtr)) → os ≡ row cs → (i : ℕ) (d : NodePtr) → slice_get os i ≡ Some (Some d) → IsSome (finite.get m d)
+  named-part cs inside os is i d there = named-both d (inside d (get-among cs i d (row-some cs i d (ap (λ zs. slice_get zs i) (sym is) ∙ there))))
+
+  pub whole-sum : plus (sum_at m a) (sum_at m b) ≡ sum_all m (kids m a ++ kids m b)
+  whole-sum = (λ i. plus (can.sum_left i) (can.sum_right i)) ∙ sym (sum_all-append m (kids m a) (kids m b))
+
+  pub halves : (n : ℕ) → FitsSum (plus (sum_all m (take n both)) (sum_all m (drop n both)))
   halves n = subst FitsSum (ap (sum_all m) (sym (take-append-drop n both)) ∙ sum_all-append m (take n both) (drop n both)) can.fits
 
   pub fill-front : (n : ℕ) → n ≤ 12 → CanFill m a (take n (kids m a ++ kids m b))
@@ -94,3 +101,9 @@ module _ (m : Records) (a b : NodePtr) (can : CanEven m a b) where
         apart = λ s. can.off_right (among-drop b n both s);
         fits = subst FitsSum (sym same) (fits-right (sum_all m (take n both)) (sum_all m (drop n both)) (halves n));
       }
+
+  -- the sum of the others once the first are told
+  pub back-sums : (n : ℕ) → sums (refilled m a (row (take n (kids m a ++ kids m b)))) (row (drop n (kids m a ++ kids m b))) ≡ sum_all m (drop n (kids m a ++ kids m b))
+  back-sums n = let left = refilled m a (row (take n both)) in
+      sums-row left (drop n both)
+      ∙ sum_all-same m left (drop n both) (λ c s. refilled-sum m a (row (take n both)) c (λ e. can.off_left (among-drop a n both (subst (λ q. Among q (drop n both)) e s))))

@@ -9,7 +9,7 @@ use Rattle.std.specs.declared.option.Option.TheVariants.{None, Some}
 use Rattle.std.proofs.lemmas.List.{append-nil, ext_get_or, drop_all}
 use Rattle.std.proofs.lemmas.List.Edits.{sets, sets-eq}
 use Rattle.std.proofs.lemmas.Option.{get_or_from_slice_get}
-use Rattle.toggle_sums.specs.CountLaws.{no_text-plus, plus-associative}
+use Rattle.toggle_sums.specs.CountLaws.{no_text-plus, plus-associative, plus-commutative}
 use Rattle.toggle_sums.specs.Counts.{no_text, plus}
 use Rattle.raw_nodes.specs.Records.{Record, Records, update, with_child, with_parent, with_sum}
 use Rattle.raw_nodes.specs.Rows.{kids, kids_of, row}
@@ -105,6 +105,16 @@ sums-row m cs = sums-somes m cs (12 - length cs)
 pub sum_all-same : (m n : Records) (cs : List NodePtr) → ((c : NodePtr) → Among c cs → sum_at n c ≡ sum_at m c) → sum_all n cs ≡ sum_all m cs
 sum_all-same m n [] same = refl
 sum_all-same m n (c ∷ cs) same = λ i. plus (same c (inl refl) i) (sum_all-same m n cs (λ d a. same d (inr a)) i)
+
+pub sums-same : (m n : Records) (os : List (Option NodePtr)) → ((c : NodePtr) → sum_at n c ≡ sum_at m c) → sums n os ≡ sums m os
+sums-same m n [] same = refl
+sums-same m n (None ∷ os) same = ap (plus no_text) (sums-same m n os same)
+sums-same m n (Some c ∷ os) same = λ i. plus (same c i) (sums-same m n os same i)
+
+pub sum_all-insert : (m : Records) (cs : List NodePtr) (at : ℕ) (x : NodePtr) → plus (sum_all m cs) (sum_at m x) ≡ sum_all m (insert cs at x)
+sum_all-insert m cs zero x = plus-commutative (sum_all m cs) (sum_at m x)
+sum_all-insert m [] (suc at) x = plus-commutative no_text (sum_at m x)
+sum_all-insert m (c ∷ cs) (suc at) x = plus-associative (sum_at m c) (sum_all m cs) (sum_at m x) ∙ ap (plus (sum_at m c)) (sum_all-insert m cs at x)
 
 pub sum_all-append : (m : Records) (cs ds : List NodePtr) → sum_all m (cs ++ ds) ≡ plus (sum_all m cs) (sum_all m ds)
 sum_all-append m [] ds = sym (no_text-plus (sum_all m ds))

@@ -16,18 +16,19 @@ use Rattle.raw_nodes.specs.Records.{Records, with_sum}
 use Rattle.raw_nodes.specs.Rows.{kids, kids_of, row}
 use Rattle.raw_nodes.specs.declared.names.NodePtr.{NodePtr}
 use Rattle.raw_nodes.proofs.PlaceLaws.{same_or_other}
-use Rattle.line_tree.specs.Changes.{Among, CanPut, Distinct, FitsSum, Puts, resummed, sums}
+use Rattle.line_tree.specs.Changes.{Among, CanPut, Distinct, FitsSum, Puts, resummed, sum_all, sums}
 use Rattle.line_tree.specs.Finds.{HasRow, Leads}
 use Rattle.line_tree.specs.Growth.{CanInsert, Grows, Inserts, KeepsLink, KeepsWide, lines_of, names_of, trees}
 use Rattle.line_tree.specs.Shape.{Holds, IsTree, Links, lines_in, sum_at, tree_at, sum_of}
 use Rattle.line_tree.specs.Trees.{IsBalanced, Tree, inner, lines, names, tops, total}
 use Rattle.line_tree.specs.declared.find.Found.{Found}
 use Rattle.line_tree.proofs.AmongLaws.{among-get, among-left, among-right}
-use Rattle.line_tree.proofs.BuildLaws.{sum-trees}
+use Rattle.line_tree.proofs.BuildLaws.{sum-kids, sum-trees}
 use Rattle.line_tree.proofs.DistinctLaws.{distinct-left, distinct-right}
-use Rattle.line_tree.proofs.FillLaws.{at-update, sums-row}
+use Rattle.line_tree.proofs.FillLaws.{at-update, sum_all-insert, sums-row}
 use Rattle.line_tree.proofs.FrameLaws.{inner-no-top, tops-among}
 use Rattle.line_tree.proofs.GrowLaws.{all-append, all-left, all-right, grows-line, grows-wide, names-append, of-one}
+use Rattle.line_tree.proofs.PutLaws.{split_at}
 use Rattle.line_tree.proofs.SplitLaws.{grows-put, grows-resum, parted-is}
 use Rattle.line_tree.proofs.StepLaws.{all-balanced, at-place, can-put, keeps-after, keeps-put, keeps-resum, keeps-same, links-kept, split-insert, split-same, total-with_line, wide-balanced, wide-put, wide-same, wide-some}
 use Rattle.line_tree.proofs.SumLaws.{total-append}
@@ -102,10 +103,13 @@ module _ (m : Records) (p : NodePtr) (k : ℕ) (x : NodePtr) (can : CanInsert m 
   low-can_put = let n = length-map (kids m p) (tree_at m 0) in let place = low-place in
       can-put m m 0 p leaves k (tree_at m 0 x) more k x low-grows (named-node m 0 p k x can) can.distinct.0 (not-line m 0 p k x can) (has-node m 0 p k x can) (subst (Links m p 0) (tops-tree_at m 0 (kids m p)) can.tree.1) (omega arith) (named-tree m 0 x can.line) low-tops (line-fits m 0 p k x can)
 
+  pub low-sum : plus (sum_at m p) (sum_at m x) ≡ sum_all m (insert (kids m p) k x)
+  low-sum = ap (λ s. plus s (sum_at m x)) (sum-kids m 0 p can.tree) ∙ sum_all-insert m (kids m p) k x
+
   pub low-inserts : (n : Records) (o : Option NodePtr) → Puts m n p (insert (kids m p) k x) o → Inserts m n 1 p k x o
   low-inserts n o puts =
       let g = grows-put m m n 0 p leaves k (tree_at m 0 x) more k x o low-grows (named-node m 0 p k x can) can.distinct.0 (not-line m 0 p k x can) low-can_put low-tops puts in
-      let same = parted-is n 0 p more o g.holds in
+      let same = parted-is n 0 p more (split_at m n p (insert (kids m p) k x) o puts) o g.holds in
       let long = length-insert leaves k (tree_at m 0 x) low-place in
       record {
         grows = subst (λ us. Grows m n 1 ((p, leaves) ∷ []) k (tree_at m 0 x) us) (sym same) g;
@@ -219,11 +223,17 @@ module _ (m : Records) (h : ℕ) (p : NodePtr) (k : ℕ) (x : NodePtr) (can : Ca
         can-put m l h p (ts m h p k x can) k (tree_at m 0 x) (now l (Some s) ins) (f.slot + 1) s (now-grows l (Some s) ins) (named-node m h p k x can) can.distinct.0 (not-line m h p k x can)
         (has-now l (Some s) ins) (links-now l (Some s) ins) (omega arith) (named-tree l h s ins.grows.holds.1.0) two-tops (line-fits m h p k x can)
 
+    pub two-sum : plus (sum_at l p) (sum_at m x) ≡ sum_all l (insert (kids l p) (f.slot + 1) s)
+    two-sum = let us = now l (Some s) ins in let g = now-grows l (Some s) ins in
+        let node = ap sum_of (node-same l (Some s) ins) ∙ sum-held m (suc h) (tree_at m (suc h) p) can.tree in let line = sum-held m 0 (tree_at m 0 x) can.line in
+        (λ i. plus (node i) (line i))
+        ∙ sym (ap (sum_all l) two-tops ∙ sum-trees l h us g.holds ∙ ap total g.line ∙ total-with_line (lines_of h (ts m h p k x can)) k (tree_at m 0 x))
+
     pub two-inserts : (n : Records) (o : Option NodePtr) → Puts l n p (insert (kids l p) (f.slot + 1) s) o → Inserts m n (suc h) p k x o
     two-inserts n o puts =
         let us = now l (Some s) ins in
         let g = grows-put m l n h p (ts m h p k x can) k (tree_at m 0 x) us (f.slot + 1) s o (now-grows l (Some s) ins) (named-node m h p k x can) can.distinct.0 (not-line m h p k x can) two-can_put two-tops puts in
-        let same = parted-is n h p us o g.holds in
+        let same = parted-is n h p us (split_at l n p (insert (kids l p) (f.slot + 1) s) o puts) o g.holds in
         let all = ap length two-tops ∙ length-map us (λ (t : Tree h). t.0) in
         let kids_long = ap length (kids-same l (Some s) ins) in let w = slice_get_within (kids m p) f.slot f.child leads.child in let ts_long = length-map (kids m p) (tree_at m h) in
         let inserted = length-insert (kids l p) (f.slot + 1) s (omega arith) in
@@ -256,7 +266,7 @@ module _ (m : Records) (h : ℕ) (p : NodePtr) (k : ℕ) (x : NodePtr) (can : Ca
     one-inserts n is =
         let us = now l None ins in let has = has-now l None ins in
         let g = grows-resum m l n h p (ts m h p k x can) k (tree_at m 0 x) us (now-grows l None ins) (named-node m h p k x can) can.distinct.0 (not-line m h p k x can) has one-tops one-links is in
-        let same = parted-is n h p us None g.holds in
+        let same = parted-is n h p us 0 None g.holds in
         let long = ap length (sym (kids-same l None ins) ∙ one-tops) ∙ length-map us (λ (t : Tree h). t.0) in let ts_long = length-map (kids m p) (tree_at m h) in
         let s = sums l (row (kids l p)) in
         record {

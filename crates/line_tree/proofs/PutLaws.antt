@@ -1,5 +1,5 @@
 -- One more child for a node, with room and without.
-use Rattle.std.proofs.Common.{◌≡◌, ℕ, zero, suc, ◌-◌, ◌≤◌, inl, inr, List, [], ◌∷◌, ◌++◌, length, take, drop, map, replicate, cond, refl, sym, ap, ◌∙◌, subst, arith, length-drop, length-take}
+use Rattle.std.proofs.Common.{◌≡◌, ℕ, zero, suc, ◌+◌, ◌-◌, ◌≤◌, inl, inr, List, [], ◌∷◌, ◌++◌, length, take, drop, map, replicate, cond, refl, sym, ap, ◌∙◌, subst, arith, length-drop, length-take}
 use Rattle.std.specs.Prelude.{◌≢◌, IfSome, IsSome, is_some, slice_get}
 use Rattle.std.specs.FinMap as finite
 use Rattle.std.specs.List.{count_by, insert}
@@ -14,11 +14,11 @@ use Rattle.raw_nodes.specs.Rows.{kids, kids_of, row}
 use Rattle.raw_nodes.specs.declared.names.NodePtr.{NodePtr}
 use Rattle.raw_nodes.proofs.MapLaws.{at_some, get_inserted, get_other, kept_insert, some_of}
 use Rattle.raw_nodes.proofs.RowLaws.{length-row}
-use Rattle.line_tree.specs.Changes.{Among, CanFill, CanPut, FitsSum, Stay, refilled, relinked, sum_all}
+use Rattle.line_tree.specs.Changes.{Among, CanFill, CanPut, FitsSum, Puts, Stay, refilled, relinked, sum_all, sums}
 use Rattle.line_tree.specs.Finds.{HasRow}
 use Rattle.line_tree.specs.Shape.{Links, sum_at, sum_of}
 use Rattle.line_tree.proofs.AmongLaws.{among-drop, among-get, among-insert, among-take}
-use Rattle.line_tree.proofs.FillLaws.{refilled-other, refilled-sum, sum_all-append, sum_all-same}
+use Rattle.line_tree.proofs.FillLaws.{refilled-other, refilled-sum, sum_all-append, sum_all-same, sums-row}
 use Rattle.line_tree.proofs.FrameLaws.{links-same}
 use Rattle.line_tree.proofs.KeptLaws.{kept-front, kept-row, take-short}
 use Rattle.line_tree.proofs.SumLaws.{fits-left, fits-right}
@@ -38,6 +38,11 @@ pub count-row : (m : Records) (p : NodePtr) (n : ℕ) → HasRow m p → IfSome 
 count-row m p n has says =
     at_some (finite.get m p) (λ r. n ≡ count_by is_some r.children) has.found says has.is ∙ ap (count_by is_some) has.children ∙ count-somes (kids m p) (12 - length (kids m p))
 
+-- ---- how many stay where they split
+abbrev pub split_at : (m n : Records) (p : NodePtr) (all : List NodePtr) (o : Option NodePtr) → Puts m n p all o → ℕ
+split_at m n p all None puts = 0
+split_at m n p all (Some s) puts = puts.half
+
 -- ---- the parts fit
 module _ (m : Records) (p : NodePtr) (at : ℕ) (x : NodePtr) (can : CanPut m p at x) where
   long : length can.row.found.children ≡ 12
@@ -51,6 +56,18 @@ module _ (m : Records) (p : NodePtr) (at : ℕ) (x : NodePtr) (can : CanPut m p 
 
   pub fill-room : length (insert (kids m p) at x) ≤ 12 → CanFill m p (insert (kids m p) at x)
   fill-room few = record { found = can.row.found; is = can.row.is; inner = can.row.inner; long = long; few = few; each = named-all; apart = can.apart; fits = can.fits }
+
+  pub halves-sum : (half : ℕ) → plus (sum_all m (take half (insert (kids m p) at x))) (sum_all m (drop half (insert (kids m p) at x))) ≡ sum_all m (insert (kids m p) at x)
+  halves-sum half = sym (ap (sum_all m) (sym (take-append-drop half (insert (kids m p) at x))) ∙ sum_all-append m (take half (insert (kids m p) at x)) (drop half (insert (kids m p) at x)))
+
+  both : (half : ℕ) → FitsSum (plus (sum_all m (take half (insert (kids m p) at x))) (sum_all m (drop half (insert (kids m p) at x))))
+  both half = subst FitsSum (sym (halves-sum half)) can.fits
+
+  pub first-fits : (half : ℕ) → FitsSum (sums m (row (take half (insert (kids m p) at x))))
+  first-fits half = let all = insert (kids m p) at x in subst FitsSum (sym (sums-row m (take half all))) (fits-left (sum_all m (take half all)) (sum_all m (drop half all)) (both half))
+
+  pub last-fits : (half : ℕ) → FitsSum (sums m (row (drop half (insert (kids m p) at x))))
+  last-fits half = let all = insert (kids m p) at x in subst FitsSum (sym (sums-row m (drop half all))) (fits-right (sum_all m (take half all)) (sum_all m (drop half all)) (both half))
 
   -- the children before the new one stay
   pub kept-put : Stay m p at (row (insert (kids m p) at x))
@@ -73,32 +90,42 @@ module _ (m : Records) (p : NodePtr) (at : ℕ) (x : NodePtr) (can : CanPut m p 
     made : Records
     made = finite.insert m s (blank None)
 
-    both : FitsSum (plus (sum_all m (take 6 (insert (kids m p) at x))) (sum_all m (drop 6 (insert (kids m p) at x))))
-    both = subst FitsSum (ap (sum_all m) (sym (take-append-drop 6 (insert (kids m p) at x))) ∙ sum_all-append m (take 6 (insert (kids m p) at x)) (drop 6 (insert (kids m p) at x))) can.fits
-
     sum-made : (c : NodePtr) → IsSome (finite.get m c) → sum_at made c ≡ sum_at m c
     unfolding made
     sum-made c named = ap sum_of (get_other m s (blank None) c (not-new c named))
 
-    pub fill-left : CanFill (finite.insert m s (blank None)) p (take 6 (insert (kids m p) at x))
+    -- the sums of both parts as they were
+    pub left-sums : (half : ℕ) → sums (finite.insert m s (blank None)) (row (take half (insert (kids m p) at x))) ≡ sums m (row (take half (insert (kids m p) at x)))
     unfolding made
-    fill-left = let all = insert (kids m p) at x in let n = length-take 6 all in
-        let same = sum_all-same m (finite.insert m s (blank None)) (take 6 all) (λ c a. sum-made c (named-all c (among-take c 6 all a))) in
+    left-sums half = let all = insert (kids m p) at x in let n = finite.insert m s (blank None) in
+        sums-row n (take half all) ∙ sum_all-same m n (take half all) (λ c a. sum-made c (named-all c (among-take c half all a))) ∙ sym (sums-row m (take half all))
+
+    pub right-sums : (half : ℕ) → sums (refilled (finite.insert m s (blank None)) p (row (take half (insert (kids m p) at x)))) (row (drop half (insert (kids m p) at x))) ≡ sums m (row (drop half (insert (kids m p) at x)))
+    unfolding made
+    right-sums half = let all = insert (kids m p) at x in let left = finite.insert m s (blank None) in let n = refilled left p (row (take half all)) in
+        sums-row n (drop half all) ∙ sum_all-same m n (drop half all) (λ c a.
+        refilled-sum left p (row (take half all)) c (λ e. can.apart (among-drop p half all (subst (λ q. Among q (drop half all)) e a))) ∙ sum-made c (named-all c (among-drop c half all a)))
+        ∙ sym (sums-row m (drop half all))
+
+    pub fill-left : (half : ℕ) → half ≤ 12 → CanFill (finite.insert m s (blank None)) p (take half (insert (kids m p) at x))
+    unfolding made
+    fill-left half small = let all = insert (kids m p) at x in let n = length-take half all in
+        let same = sum_all-same m (finite.insert m s (blank None)) (take half all) (λ c a. sum-made c (named-all c (among-take c half all a))) in
         record {
           found = can.row.found;
           is = get_other m s (blank None) p p-not-new ∙ can.row.is;
           inner = can.row.inner;
           long = long;
           few = omega arith;
-          each = λ c a. kept_insert m s (blank None) c (named-all c (among-take c 6 all a));
-          apart = λ a. can.apart (among-take p 6 all a);
-          fits = subst FitsSum (sym same) (fits-left (sum_all m (take 6 all)) (sum_all m (drop 6 all)) both);
+          each = λ c a. kept_insert m s (blank None) c (named-all c (among-take c half all a));
+          apart = λ a. can.apart (among-take p half all a);
+          fits = subst FitsSum (sym same) (fits-left (sum_all m (take half all)) (sum_all m (drop half all)) (both half));
         }
 
-    -- of the first six those before the new one stay
-    pub kept-left : (n : ℕ) → n ≤ at → n ≤ 6 → Stay (finite.insert m s (blank None)) p n (row (take 6 (insert (kids m p) at x)))
+    -- of the first half those before the new one stay
+    pub kept-left : (half : ℕ) → (n : ℕ) → n ≤ at → n ≤ half → Stay (finite.insert m s (blank None)) p n (row (take half (insert (kids m p) at x)))
     unfolding made
-    kept-left n before few = let ks = kids m p in
+    kept-left half n before few = let ks = kids m p in
         let same : (q : NodePtr) → IsSome (finite.get m q) → finite.get made q ≡ finite.get m q = λ q named. get_other m s (blank None) q (not-new q named) in
         let node = get_other m s (blank None) p p-not-new in let children = ap kids_of node in let place = can.place in let cut = length-take at ks in
         let row_now : HasRow made p = record {
@@ -110,21 +137,21 @@ module _ (m : Records) (p : NodePtr) (at : ℕ) (x : NodePtr) (can : CanPut m p 
           each = λ i c is. kept_insert m s (blank None) c (can.row.each i c (ap (λ cs. slice_get cs i) (sym children) ∙ is));
         } in
         let links : Links made p 0 (kids made p) = subst (Links made p 0) (sym children) (links-same m made p 0 ks can.links (λ q a. same q (named-kid q a))) in
-        kept-front made p row_now links n (take 6 (insert ks at x)) (subst (λ cs. n ≤ length cs) (sym children) (omega arith))
-        (take-short n 6 (insert ks at x) few ∙ take-append-le n (take at ks) (x ∷ drop at ks) (omega arith) ∙ take-short n at ks before ∙ ap (take n) (sym children))
+        kept-front made p row_now links n (take half (insert ks at x)) (subst (λ cs. n ≤ length cs) (sym children) (omega arith))
+        (take-short n half (insert ks at x) few ∙ take-append-le n (take at ks) (x ∷ drop at ks) (omega arith) ∙ take-short n at ks before ∙ ap (take n) (sym children))
 
-    pub fill-right : length (insert (kids m p) at x) ≤ 13 → CanFill (refilled (finite.insert m s (blank None)) p (row (take 6 (insert (kids m p) at x)))) s (drop 6 (insert (kids m p) at x))
+    pub fill-right : (half : ℕ) → length (insert (kids m p) at x) ≤ half + 12 → CanFill (refilled (finite.insert m s (blank None)) p (row (take half (insert (kids m p) at x)))) s (drop half (insert (kids m p) at x))
     unfolding made
-    fill-right few = let all = insert (kids m p) at x in let n = length-drop 6 all in let left = finite.insert m s (blank None) in
-        let same = sum_all-same m (refilled left p (row (take 6 all))) (drop 6 all) (λ c a.
-        refilled-sum left p (row (take 6 all)) c (λ e. can.apart (among-drop p 6 all (subst (λ q. Among q (drop 6 all)) e a))) ∙ sum-made c (named-all c (among-drop c 6 all a))) in
+    fill-right half few = let all = insert (kids m p) at x in let n = length-drop half all in let left = finite.insert m s (blank None) in
+        let same = sum_all-same m (refilled left p (row (take half all))) (drop half all) (λ c a.
+        refilled-sum left p (row (take half all)) c (λ e. can.apart (among-drop p half all (subst (λ q. Among q (drop half all)) e a))) ∙ sum-made c (named-all c (among-drop c half all a))) in
         record {
           found = blank None;
           inner = refl;
-          is = refilled-other left p (take 6 all) s (λ e. p-not-new (sym e)) (λ a. not-old (among-take s 6 all a)) ∙ get_inserted m s (blank None);
+          is = refilled-other left p (take half all) s (λ e. p-not-new (sym e)) (λ a. not-old (among-take s half all a)) ∙ get_inserted m s (blank None);
           long = refl;
           few = omega arith;
-          each = λ c a. named-refilled left p (row (take 6 all)) c (kept_insert m s (blank None) c (named-all c (among-drop c 6 all a)));
-          apart = λ a. not-old (among-drop s 6 all a);
-          fits = subst FitsSum (sym same) (fits-right (sum_all m (take 6 all)) (sum_all m (drop 6 all)) both);
+          each = λ c a. named-refilled left p (row (take half all)) c (kept_insert m s (blank None) c (named-all c (among-drop c half all a)));
+          apart = λ a. not-old (among-drop s half all a);
+          fits = subst FitsSum (sym same) (fits-right (sum_all m (take half all)) (sum_all m (drop half all)) (both half));
         }

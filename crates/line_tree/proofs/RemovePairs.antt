@@ -24,7 +24,7 @@ use Rattle.line_tree.specs.Shrinking.{CanMend, CanRemove, Cleans, Removes, Settl
 use Rattle.line_tree.specs.Trees.{IsBalanced, Named, Tree, inner, lines, names, tops, total}
 use Rattle.line_tree.specs.declared.find.Found.{Found}
 use Rattle.line_tree.proofs.AmongLaws.{among-drop, among-get, among-or, among-take, get-among}
-use Rattle.line_tree.proofs.BuildLaws.{built, sum-trees, tree-is}
+use Rattle.line_tree.proofs.BuildLaws.{built, sum-kids, sum-trees, tree-is}
 use Rattle.line_tree.proofs.DistinctLaws.{distinct-apart, distinct-left, distinct-right}
 use Rattle.line_tree.proofs.FillLaws.{refilled-other}
 use Rattle.line_tree.proofs.EvenLaws.{fill-back, fill-front, fill-whole}
@@ -138,6 +138,8 @@ module _ (m : Records) (g : ℕ) (p : NodePtr) (k : ℕ) (can : CanRemove m (suc
       two = facts.two;
       off_left = λ s. facts.off_left (tops-among g below a (subst (Among a) both s));
       off_right = λ s. facts.off_right (tops-among g below b (subst (Among b) both s));
+      sum_left = sum-kids l g a hold_a;
+      sum_right = sum-kids l g b hold_b;
       fits = subst FitsSum (sym (ap (sum_all l) both ∙ sum-trees l g below (all-append (Holds l g) xs ys hold_a.2 hold_b.2))) two-fits;
     }
 

@@ -39,8 +39,8 @@ len-refilled m p os = len-resummed (relinked m p 0 os) p os ∙ len-relinked m p
 pub len-puts : (m n : Records) (p : NodePtr) (all : List NodePtr) (o : Option NodePtr) → Puts m n p all o → finite.len n ≡ finite.len m + length (option_to_list o)
 len-puts m n p all None puts = let a = ap finite.len puts.same in let b = len-refilled m p (row all) in omega arith
 len-puts m n p all (Some s) puts =
-    let made = finite.insert m s (blank None) in let left = refilled made p (row (take 6 all)) in
-    let a = ap finite.len puts.same in let b = len-refilled left s (row (drop 6 all)) in let c = len-refilled made p (row (take 6 all)) in let d = len-new m s (blank None) puts.fresh in omega arith
+    let made = finite.insert m s (blank None) in let left = refilled made p (row (take puts.half all)) in
+    let a = ap finite.len puts.same in let b = len-refilled left s (row (drop puts.half all)) in let c = len-refilled made p (row (take puts.half all)) in let d = len-new m s (blank None) puts.fresh in omega arith
 
 pub len-line : (m n : Records) (x : NodePtr) (l : LineContent) → NewLine m n x l → finite.len n ≡ finite.len m + 1
 len-line m n x l new = ap finite.len new.same ∙ len-new m x (blank (Some l)) new.fresh

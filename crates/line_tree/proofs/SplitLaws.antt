@@ -1,5 +1,5 @@
 -- A node with one more child, with room and without.
-use Rattle.std.proofs.Common.{◌≡◌, ℕ, suc, ◌≤◌, ◌⊎◌, inl, inr, List, [], ◌∷◌, ◌++◌, length, take, drop, refl, sym, ap, ◌∙◌, subst, arith}
+use Rattle.std.proofs.Common.{◌≡◌, ℕ, suc, ◌+◌, ◌≤◌, ◌⊎◌, inl, inr, List, [], ◌∷◌, ◌++◌, length, take, drop, refl, sym, ap, ◌∙◌, subst, arith}
 use Rattle.std.specs.Prelude.{◌≢◌, IsSome}
 use Rattle.std.specs.FinMap as finite
 use Rattle.std.specs.List.{AllByRecursion, insert}
@@ -23,7 +23,7 @@ use Rattle.line_tree.proofs.DistinctLaws.{distinct-apart, distinct-append, disti
 use Rattle.line_tree.proofs.FillLaws.{at-update, refilled-other, sums-row}
 use Rattle.line_tree.proofs.FrameLaws.{all-same, holds-same, links-same, names-all-held, tops-among}
 use Rattle.line_tree.proofs.GrowLaws.{all-left, all-right, grows-up, in-cases, in-left, in-right, names-append, of-one, to-one, unnamed}
-use Rattle.line_tree.proofs.PutLaws.{fill-left, fill-right, fill-room}
+use Rattle.line_tree.proofs.PutLaws.{fill-left, fill-right, fill-room, split_at}
 use Rattle.line_tree.proofs.UpdateLaws.{named-refilled, refilled-named}
 
 -- ---- with room
@@ -109,17 +109,17 @@ grows-split m l n h p ts k x cs1 ds1 s g named out other_name fresh can_left can
 
 -- ---- by the number of children
 pub grows-put : (m l n : Records) (h : ℕ) (p : NodePtr) (ts : List (Tree h)) (k : ℕ) (x : Tree 0) (us : List (Tree h)) (at : ℕ) (y : NodePtr) (o : Option NodePtr) → Grows m l h ts k x us → IsSome (finite.get m p) → (Among p (names_of h ts) → ⊥) → p ≢ x.0
-    → CanPut l p at y → insert (kids l p) at y ≡ tops h us → Puts l n p (insert (kids l p) at y) o → Grows m n (suc h) ((p, ts) ∷ []) k x (parted h p us o)
+    → CanPut l p at y → insert (kids l p) at y ≡ tops h us → (puts : Puts l n p (insert (kids l p) at y) o) → Grows m n (suc h) ((p, ts) ∷ []) k x (parted h p us (split_at l n p (insert (kids l p) at y) o puts) o)
 grows-put m l n h p ts k x us at y None g named out other_name can same puts =
     grows-room m l n h p ts k x us g named out other_name (subst (CanFill l p) same (fill-room l p at y can puts.few)) (puts.same ∙ ap (λ cs. refilled l p (row cs)) same)
 grows-put m l n h p ts k x us at y (Some s) g named out other_name can same puts =
-    let all = insert (kids l p) at y in let made = finite.insert l s (blank None) in let many = puts.many in let few : length all ≤ 13 = omega arith in
-    let e1 : take 6 all ≡ tops h (take 6 us) = ap (take 6) same ∙ take-map (λ (t : Tree h). t.0) 6 us in
-    let e2 : drop 6 all ≡ tops h (drop 6 us) = ap (drop 6) same ∙ drop-map (λ (t : Tree h). t.0) 6 us in
-    grows-split m l n h p ts k x (take 6 us) (drop 6 us) s (subst (λ zs. Grows m l h ts k x zs) (sym (take-append-drop 6 us)) g) named out other_name puts.fresh
-    (subst (CanFill made p) e1 (fill-left l p at y can s puts.fresh))
-    (subst (λ cs. CanFill (refilled made p (row cs)) s (tops h (drop 6 us))) e1 (subst (CanFill (refilled made p (row (take 6 all))) s) e2 (fill-right l p at y can s puts.fresh few)))
-    (puts.same ∙ ap (λ cs. refilled (refilled made p (row cs)) s (row (drop 6 all))) e1 ∙ ap (λ cs. refilled (refilled made p (row (tops h (take 6 us)))) s (row cs)) e2)
+    let all = insert (kids l p) at y in let made = finite.insert l s (blank None) in let many = puts.many in let half = puts.half in let low = puts.low in let high = puts.high in let few : length all ≤ half + 12 = omega arith in
+    let e1 : take half all ≡ tops h (take half us) = ap (take half) same ∙ take-map (λ (t : Tree h). t.0) half us in
+    let e2 : drop half all ≡ tops h (drop half us) = ap (drop half) same ∙ drop-map (λ (t : Tree h). t.0) half us in
+    grows-split m l n h p ts k x (take half us) (drop half us) s (subst (λ zs. Grows m l h ts k x zs) (sym (take-append-drop half us)) g) named out other_name puts.fresh
+    (subst (CanFill made p) e1 (fill-left l p at y can s puts.fresh half (omega arith)))
+    (subst (λ cs. CanFill (refilled made p (row cs)) s (tops h (drop half us))) e1 (subst (CanFill (refilled made p (row (take half all))) s) e2 (fill-right l p at y can s puts.fresh half few)))
+    (puts.same ∙ ap (λ cs. refilled (refilled made p (row cs)) s (row (drop half all))) e1 ∙ ap (λ cs. refilled (refilled made p (row (tops h (take half us)))) s (row cs)) e2)
 
 -- ---- the sum alone
 pub grows-resum : (m l n : Records) (h : ℕ) (p : NodePtr) (ts : List (Tree h)) (k : ℕ) (x : Tree 0) (us : List (Tree h)) → Grows m l h ts k x us → IsSome (finite.get m p) → (Among p (names_of h ts) → ⊥) → p ≢ x.0
@@ -145,6 +145,6 @@ grows-resum m l n h p ts k x us g named out other_name has same links is =
     (grows-up m l last h p ts k x us g named out other_name holds (λ q a b. frame q a) (named-update l p (λ r. with_sum r s)) (update-named l p (λ r. with_sum r s)))
 
 -- ---- the tree at each name
-pub parted-is : (n : Records) (h : ℕ) (p : NodePtr) (us : List (Tree h)) (o : Option NodePtr) → AllByRecursion (Holds n (suc h)) (parted h p us o) → trees n (suc h) p o ≡ parted h p us o
-parted-is n h p us None all = let e = tree-is n (suc h) (p, us) all.0 in λ i. e i ∷ []
-parted-is n h p us (Some s) all = let e = tree-is n (suc h) (p, take 6 us) all.0 in let f = tree-is n (suc h) (s, drop 6 us) all.1.0 in λ i. e i ∷ f i ∷ []
+pub parted-is : (n : Records) (h : ℕ) (p : NodePtr) (us : List (Tree h)) (half : ℕ) (o : Option NodePtr) → AllByRecursion (Holds n (suc h)) (parted h p us half o) → trees n (suc h) p o ≡ parted h p us half o
+parted-is n h p us half None all = let e = tree-is n (suc h) (p, us) all.0 in λ i. e i ∷ []
+parted-is n h p us half (Some s) all = let e = tree-is n (suc h) (p, take half us) all.0 in let f = tree-is n (suc h) (s, drop half us) all.1.0 in λ i. e i ∷ f i ∷ []

@@ -24,7 +24,7 @@ use Rattle.line_tree.proofs.BuildLaws.{sum-trees}
 use Rattle.line_tree.proofs.FillLaws.{at-update, refilled-other, relinked-row}
 use Rattle.line_tree.proofs.FrameLaws.{tops-among}
 use Rattle.line_tree.proofs.GrowLaws.{all-left, all-right, unnamed}
-use Rattle.line_tree.proofs.PutLaws.{fill-left, fill-room}
+use Rattle.line_tree.proofs.PutLaws.{fill-left, fill-room, split_at}
 use Rattle.line_tree.proofs.SumLaws.{total-append}
 use Rattle.line_tree.proofs.TreeLaws.{named-row}
 
@@ -69,12 +69,12 @@ pub keeps-put : (m n : Records) (p : NodePtr) (at : ℕ) (y : NodePtr) (o : Opti
 keeps-put m n p at y None can puts = let all = insert (kids m p) at y in
     subst (λ z. KeepsLink m z p) (sym puts.same) (keeps-refilled m p all (fill-room m p at y can puts.few))
 keeps-put m n p at y (Some s) can puts =
-    let all = insert (kids m p) at y in let made = finite.insert m s (blank None) in let left = refilled made p (row (take 6 all)) in let named = named-row m p can.row in
+    let all = insert (kids m p) at y in let made = finite.insert m s (blank None) in let left = refilled made p (row (take puts.half all)) in let named = named-row m p can.row in
     let p_s : p ≢ s = λ e. unnamed m p named (ap (finite.get m) e ∙ puts.fresh) in
     subst (λ z. KeepsLink m z p) (sym puts.same)
-    (keeps-then m left (refilled left s (row (drop 6 all))) p
-    (keeps-after m made left p (get_other m s (blank None) p p_s) (keeps-refilled made p (take 6 all) (fill-left m p at y can s puts.fresh)))
-    (refilled-other left s (drop 6 all) p p_s (λ a. can.apart (subst (Among p) (take-append-drop 6 all) (among-right p (take 6 all) (drop 6 all) a)))))
+    (keeps-then m left (refilled left s (row (drop puts.half all))) p
+    (keeps-after m made left p (get_other m s (blank None) p p_s) (keeps-refilled made p (take puts.half all) (fill-left m p at y can s puts.fresh puts.half (omega (arith, puts.high)))))
+    (refilled-other left s (drop puts.half all) p p_s (λ a. can.apart (subst (Among p) (take-append-drop puts.half all) (among-right p (take puts.half all) (drop puts.half all) a)))))
 
 pub keeps-resum : (m : Records) (p : NodePtr) (s : Count) (r : Record) → finite.get m p ≡ Some r → (n : Records) → finite.get n p ≡ Some (with_sum r s) → KeepsLink m n p
 keeps-resum m p s r was n is = record { before = r; was = was; after = with_sum r s; is = is; parent = refl; slot = refl }
@@ -95,14 +95,14 @@ all-take P n xs a = all-left P (take n xs) (drop n xs) (subst (AllByRecursion P)
 pub all-drop : {X : Type 0} (P : X → Type 0) (n : ℕ) (xs : List X) → AllByRecursion P xs → AllByRecursion P (drop n xs)
 all-drop P n xs a = all-right P (take n xs) (drop n xs) (subst (AllByRecursion P) (sym (take-append-drop n xs)) a)
 
-pub wide-put : (m n : Records) (h : ℕ) (p : NodePtr) (ts us : List (Tree h)) (all : List NodePtr) (o : Option NodePtr) → Puts m n p all o → length all ≡ length us → length us ≡ length ts + 1 → AllByRecursion (IsBalanced h) us
-    → KeepsWide (suc h) (p, ts) (parted h p us o) o
+pub wide-put : (m n : Records) (h : ℕ) (p : NodePtr) (ts us : List (Tree h)) (all : List NodePtr) (o : Option NodePtr) → (puts : Puts m n p all o) → length all ≡ length us → length us ≡ length ts + 1 → AllByRecursion (IsBalanced h) us
+    → KeepsWide (suc h) (p, ts) (parted h p us (split_at m n p all o puts) o) o
 wide-put m n h p ts us all None puts e f balanced = let few = puts.few in record {
   wide = λ least small w. let low = w.0 in ((omega arith, omega arith, balanced), tt);
   split = λ s. absurd (false≢true s);
 }
-wide-put m n h p ts us all (Some s) puts e f balanced = let many = puts.many in let a = length-take 6 us in let b = length-drop 6 us in
-    let left = all-take (IsBalanced h) 6 us balanced in let right = all-drop (IsBalanced h) 6 us balanced in record {
+wide-put m n h p ts us all (Some s) puts e f balanced = let many = puts.many in let low = puts.low in let high = puts.high in let a = length-take puts.half us in let b = length-drop puts.half us in
+    let left = all-take (IsBalanced h) puts.half us balanced in let right = all-drop (IsBalanced h) puts.half us balanced in record {
       wide = λ least small w. ((omega arith, omega arith, left), ((omega arith, omega arith, right), tt));
       split = λ c w. ((omega arith, omega arith, left), ((omega arith, omega arith, right), tt));
     }

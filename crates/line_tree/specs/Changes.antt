@@ -84,7 +84,7 @@ pub record CanPut (m : Records) (p : NodePtr) (at : ℕ) (x : NodePtr) : Type 0 
   pub apart : Among p (insert (kids m p) at x) → ⊥
   pub fits : FitsSum (sum_all m (insert (kids m p) at x))
 
--- all are the children of p now; s is new, and has all but the first six
+-- all are the children of p now; s is new, and has all but the first six or seven
 pub record Fills (m n : Records) (p : NodePtr) (all : List NodePtr) : Type 0 where
   pub few : length all ≤ 12
   pub same : n ≡ refilled m p (row all)
@@ -92,7 +92,10 @@ pub record Fills (m n : Records) (p : NodePtr) (all : List NodePtr) : Type 0 whe
 pub record Splits (m n : Records) (p : NodePtr) (all : List NodePtr) (s : NodePtr) : Type 0 where
   pub many : length all ≡ 13
   pub fresh : finite.get m s ≡ None
-  pub same : n ≡ refilled (refilled (finite.insert m s (blank None)) p (row (take 6 all))) s (row (drop 6 all))
+  pub half : ℕ
+  pub low : 6 ≤ half
+  pub high : half ≤ 7
+  pub same : n ≡ refilled (refilled (finite.insert m s (blank None)) p (row (take half all))) s (row (drop half all))
 
 abbrev pub Puts : Records → Records → NodePtr → List NodePtr → Option NodePtr → Type 0
 Puts m n p all o = MatchOption o (Fills m n p all) (Splits m n p all)
@@ -105,6 +108,8 @@ pub record CanEven (m : Records) (a b : NodePtr) : Type 0 where
   pub two : a ≢ b
   pub off_left : Among a (kids m a ++ kids m b) → ⊥
   pub off_right : Among b (kids m a ++ kids m b) → ⊥
+  pub sum_left : sum_at m a ≡ sum_all m (kids m a)
+  pub sum_right : sum_at m b ≡ sum_all m (kids m b)
   pub fits : FitsSum (sum_all m (kids m a ++ kids m b))
 
 -- a has all of them

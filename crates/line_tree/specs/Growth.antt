@@ -76,10 +76,10 @@ pub record Inserts (m n : Records) (h : ℕ) (p : NodePtr) (k : ℕ) (x : NodePt
   pub wide : KeepsWide h (tree_at m h p) (trees n h p o) o
   pub link : KeepsLink m n p
 
--- the children us below p, or the first six below p and the others below a second node
-abbrev pub parted : (h : ℕ) → NodePtr → List (Tree h) → Option NodePtr → List (Tree (suc h))
-parted h p us None = (p, us) ∷ []
-parted h p us (Some s) = (p, take 6 us) ∷ (s, drop 6 us) ∷ []
+-- the children us below p, or the first half below p and the others below a second node
+abbrev pub parted : (h : ℕ) → NodePtr → List (Tree h) → ℕ → Option NodePtr → List (Tree (suc h))
+parted h p us half None = (p, us) ∷ []
+parted h p us half (Some s) = (p, take half us) ∷ (s, drop half us) ∷ []
 
 -- x is a new record, with a line
 pub record NewLine (m n : Records) (x : NodePtr) (l : LineContent) : Type 0 where

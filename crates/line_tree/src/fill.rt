@@ -108,23 +108,65 @@ pub fn lessen<C: Ticks>(store: &mut NodeStore<C>, node: NodePtr, gone: &Sums<WOR
     }
 }
 
-/// Makes these the children of a node, and its sum theirs. The first stay where they are.
+/// What is counted of the text below these nodes.
+pub fn sum_of<C: Ticks>(
+    store: &NodeStore<C>,
+    nodes: &[Option<NodePtr>; 12],
+    ticks: &mut C,
+) -> Sums<WORDS>
+    requires nodes { (i : ℕ) (c : _) → slice_get nodes.now i ≡ Some (Some c) → IsName store.now c }
+    requires fits { FitsSum (sums (records store.now) nodes.now) }
+    ensures { result ≡ sums (records store.now) nodes.now }
+{
+    let mut sum = Sums::zero();
+    for slot in 0..12 {
+        if let Some(node) = nodes[slot] {
+            let more = store.sum(node, ticks);
+            sum = sum.plus(&more);
+        }
+    }
+    sum
+}
+
+/// What is counted of the text below these nodes, which is that much less than a sum. Which slots are toggled is asked
+/// of them, where some are in what went.
+pub fn sum_less<C: Ticks>(
+    store: &NodeStore<C>,
+    nodes: &[Option<NodePtr>; 12],
+    sum: &Sums<WORDS>,
+    gone: &Sums<WORDS>,
+    ticks: &mut C,
+) -> Sums<WORDS>
+    requires nodes { (i : ℕ) (c : _) → slice_get nodes.now i ≡ Some (Some c) → IsName store.now c }
+    requires sum { plus (sums (records store.now) nodes.now) gone.now ≡ sum.now }
+    requires fits { FitsSum (sums (records store.now) nodes.now) }
+    ensures { result ≡ sums (records store.now) nodes.now }
+{
+    if gone.is_bare() {
+        sum.less(gone.lines(), gone.characters(), gone.marks())
+    } else {
+        sum_of(store, nodes, ticks)
+    }
+}
+
+/// Makes these the children of a node, and its sum theirs, which is given. The first stay where they are.
 pub fn refill<C: Ticks>(
     store: &mut NodeStore<C>,
     node: NodePtr,
     from: usize,
     children: &[Option<NodePtr>; 12],
-    ticks: &mut C,
+    sum: Sums<WORDS>,
 )
     requires fill { (cs : _) × (children.now ≡ row cs) × CanFill (records store.old) node cs }
     requires from { from ≤ 12 }
     requires kept { Stay (records store.old) node from children.now }
+    requires sum { sum ≡ sums (records store.old) children.now }
     ensures records { records store.new ≡ refilled (records store.old) node children.now }
     ensures spares { spares store.new ≡ spares store.old }
     ensures rooms { rooms store.new ≡ rooms store.old }
 {
     relink(store, node, from, children);
-    resum(store, node, ticks);
+    store.set_sum(node, sum);
 }
 
 /// A new node above two.
@@ -147,7 +189,8 @@ pub fn join<C: Ticks>(
     let mut children = [None; 12];
     children[0] = Some(left);
     children[1] = Some(right);
-    refill(store, root, 0, &children, ticks);
+    let sum = sum_of(store, &children, ticks);
+    refill(store, root, 0, &children, sum);
     root
 }
 
@@ -219,15 +262,28 @@ fn part<C: Ticks>(
     part
 }
 
-/// Puts one more child among those of a node. Where there are 13 then, the last seven get a node of their own.
+/// How many of 13 children stay where they split: six where the new one is put, so that a node which lines are put into
+/// one behind the other leaves seven behind.
+fn first_half(at: usize) -> usize
+    ensures low { 6 ≤ result }
+    ensures high { result ≤ 7 }
+{
+    if at > 6 { 7 } else { 6 }
+}
+
+/// Puts one more child among those of a node, below which stands so much more then. Where there are 13, the last six or
+/// seven get a node of their own.
 pub fn put<C: Ticks>(
     store: &mut NodeStore<C>,
     node: NodePtr,
     at: usize,
     extra: NodePtr,
+    more: &Sums<WORDS>,
     ticks: &mut C,
 ) -> Option<NodePtr>
     requires put { CanPut (records store.old) node at extra }
+    requires sum { plus (sum_at (records store.old) node) more.now
+        ≡ sum_all (records store.old) (insert (kids (records store.old) node) at extra) }
     requires spare { 0 < spares store.old }
     requires room { 0 < rooms store.old }
     ensures puts { Puts (records store.old) (records store.new) node
@@ -235,16 +291,21 @@ pub fn put<C: Ticks>(
     ensures spares { spares store.new + length (option_to_list result) ≡ spares store.old }
     ensures rooms { rooms store.new + length (option_to_list result) ≡ rooms store.old }
 {
+    let old = store.sum(node, ticks);
+    let sum = old.plus(more);
     if store.children(node) < 12 {
         let all = part(store, node, at, extra, 0, 12, ticks);
-        refill(store, node, at, &all, ticks);
+        refill(store, node, at, &all, sum);
         None
     } else {
-        let left = part(store, node, at, extra, 0, 6, ticks);
-        let right = part(store, node, at, extra, 6, 7, ticks);
+        let half = first_half(at);
+        let left = part(store, node, at, extra, 0, half, ticks);
+        let right = part(store, node, at, extra, half, 13 - half, ticks);
+        let last = sum_of(store, &right, ticks);
+        let first = sum_less(store, &left, &sum, &last, ticks);
         let sibling = store.make(None);
-        refill(store, node, at.min(6), &left, ticks);
-        refill(store, sibling, 0, &right, ticks);
+        refill(store, node, at.min(half), &left, first);
+        refill(store, sibling, 0, &right, last);
         Some(sibling)
     }
 }

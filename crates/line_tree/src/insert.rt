@@ -43,7 +43,8 @@ pub fn new_line<C: Ticks>(store: &mut NodeStore<C>, line: Line) -> NodePtr
     store.make(Some(line))
 }
 
-/// Puts in a line below a node of this height. A node with 13 children gives the last seven to a new one.
+/// Puts in a line below a node of this height. A node with 13 children gives the last ones to a
+/// new one.
 pub fn insert_in<C: Ticks>(
     store: &mut NodeStore<C>,
     node: NodePtr,
@@ -62,13 +63,13 @@ pub fn insert_in<C: Ticks>(
     ensures count { spares store.new + finite.len (records store.new)
         ≡ spares store.old + finite.len (records store.old) }
 {
-    if height == 1 {
-        return put(store, node, k, line, ticks);
-    }
     let more = store.sum(line, ticks);
+    if height == 1 {
+        return put(store, node, k, line, &more, ticks);
+    }
     let found = lead(store, node, k, ticks);
     match insert_in(store, found.child, height - 1, found.rest, line, ticks) {
-        Some(sibling) => put(store, node, found.slot + 1, sibling, ticks),
+        Some(sibling) => put(store, node, found.slot + 1, sibling, &more, ticks),
         None => {
             add(store, node, &more, ticks);
             None

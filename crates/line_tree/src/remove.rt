@@ -27,11 +27,10 @@ fn settle<C: Ticks>(
     ensures spares { spares store.new ≡ spares store.old }
     ensures rooms { rooms store.new ≡ rooms store.old }
 {
-    if store.children(child) < 6 {
-        mend(store, node, slot, ticks)
-    } else {
-        None
+    if kid(store, child, 5, ticks).is_some() {
+        return None;
     }
+    mend(store, node, slot, ticks)
 }
 
 /// Takes out a line below a node of this height.

@@ -8,10 +8,10 @@ ghost use Rattle.line_tree.specs.Shape.{Links, sum_at};
 ghost use Rattle.line_tree.specs.Changes.{CanEven, CanFill, Evens, Mends, refilled, sum_all};
 ghost use Rattle.line_tree.specs.Shrinking.{CanMend};
 
-use crate::fill::{lessen, refill, relink};
+use crate::fill::{lessen, refill, relink, sum_less, sum_of};
 use raw_nodes::{NodePtr, NodeStore, Ticks};
 use text_model::WORDS;
-use toggle_sums::Sums;
+use toggle_sums::{Summary, Sums};
 
 /// Number `i` of a node's children.
 pub fn kid<C: Ticks>(
@@ -67,19 +67,20 @@ pub fn part_without<C: Ticks>(
     part
 }
 
-/// Number `i` of the children of two nodes.
+/// Number `i` of the children of two nodes, of which the left one has so many.
 fn pick_pair<C: Ticks>(
     store: &NodeStore<C>,
     left: NodePtr,
     right: NodePtr,
+    count: usize,
     i: usize,
     ticks: &mut C,
 ) -> Option<NodePtr>
     requires left { HasRow (records store.now) left }
     requires right { HasRow (records store.now) right }
+    requires count { count ≡ length (kids (records store.now) left) }
     ensures { result ≡ slice_get (kids (records store.now) left ++ kids (records store.now) right) i }
 {
-    let count = store.children(left);
     if i < count {
         store.child(left, i, ticks)
     } else if i - count < 12 {
@@ -104,15 +105,53 @@ fn part_pair<C: Ticks>(
     requires from { from ≤ 24 }
     ensures { result ≡ row (take count (drop from (kids (records store.now) left ++ kids (records store.now) right))) }
 {
+    let first = store.children(left);
     let mut part = [None; 12];
     for i in 0..12 {
         part[i] = if i < count {
-            pick_pair(store, left, right, from + i, ticks)
+            pick_pair(store, left, right, first, from + i, ticks)
         } else {
             None
         };
     }
     part
+}
+
+/// What is counted of the first `half` children of two nodes, and of the others. The left one has `first` of them now;
+/// only those that change sides are looked at, and which slots are toggled is asked of those that stay, where some are
+/// in what goes.
+fn sum_halves<C: Ticks>(
+    store: &NodeStore<C>,
+    left: NodePtr,
+    right: NodePtr,
+    first: usize,
+    half: usize,
+    ticks: &mut C,
+) -> (Sums<WORDS>, Sums<WORDS>)
+    requires even { CanEven (records store.now) left right }
+    requires first { first ≡ length (kids (records store.now) left) }
+    requires half { half ≤ 12 }
+    requires rest { length (kids (records store.now) left ++ kids (records store.now) right) ≤ half + 12 }
+    ensures first { result.0 ≡ sum_all (records store.now)
+        (take half (kids (records store.now) left ++ kids (records store.now) right)) }
+    ensures last { result.1 ≡ sum_all (records store.now)
+        (drop half (kids (records store.now) left ++ kids (records store.now) right)) }
+{
+    let sum_left = store.sum(left, ticks);
+    let sum_right = store.sum(right, ticks);
+    if first < half {
+        let moved = part_pair(store, left, right, first, half - first, ticks);
+        let behind = part_pair(store, left, right, half, 12, ticks);
+        let sum = sum_of(store, &moved, ticks);
+        let rest = sum_less(store, &behind, &sum_right, &sum, ticks);
+        (sum_left.plus(&sum), rest)
+    } else {
+        let front = part_pair(store, left, right, 0, half, ticks);
+        let moved = part_pair(store, left, right, half, first - half, ticks);
+        let sum = sum_of(store, &moved, ticks);
+        let rest = sum_less(store, &front, &sum_left, &sum, ticks);
+        (rest, sum.plus(&sum_right))
+    }
 }
 
 /// Gives all children of two nodes to the left one, where it can have them, and else half to each.
@@ -126,14 +165,17 @@ fn even<C: Ticks>(store: &mut NodeStore<C>, left: NodePtr, right: NodePtr, ticks
     let count = first + store.children(right);
     if count <= 12 {
         let all = part_pair(store, left, right, 0, 12, ticks);
-        refill(store, left, first, &all, ticks);
+        let sum_left = store.sum(left, ticks);
+        let sum_right = store.sum(right, ticks);
+        refill(store, left, first, &all, sum_left.plus(&sum_right));
         true
     } else {
         let half = count / 2;
         let front = part_pair(store, left, right, 0, half, ticks);
         let back = part_pair(store, left, right, half, count - half, ticks);
-        refill(store, left, first.min(half), &front, ticks);
-        refill(store, right, 0, &back, ticks);
+        let (sum_front, sum_back) = sum_halves(store, left, right, first, half, ticks);
+        refill(store, left, first.min(half), &front, sum_front);
+        refill(store, right, 0, &back, sum_back);
         false
     }
 }

@@ -5,16 +5,17 @@ use mathlib.Core.Bool.{false≢true}
 use Rattle.std.specs.Prelude.{IfSome, IsSome, Option, None, Some, is_some}
 use Rattle.segments.specs.Columns.{LineContent}
 use Rattle.toggle_sums.specs.Counts.{Count}
-use Rattle.std.specs.Box.{with_value}
 use Rattle.std.specs.FinMap.{get, insert, remove}
 use Rattle.std.specs.List.{range_with_len, sum_by}
 use Rattle.std.proofs.lemmas.List.{map-append, map-set, length-map, get_or-map}
 use Rattle.raw_nodes.specs.Cells.{IsPlace, node_at, number_in}
 use Rattle.raw_nodes.specs.Chain.{IsChain, before_of, befores_of, flag_of, marks_of, nexts_of, numbers_of, room_in, room_of}
-use Rattle.raw_nodes.specs.HeldLending.{IsLine, IsRoom, RoomBox}
+use Rattle.raw_nodes.specs.HeldLending.{IsLine, IsRoom}
 use Rattle.raw_nodes.specs.Links.{link_name}
 use Rattle.raw_nodes.specs.Records.{Record, cell_of, cells_of, if_used, inner_record, is_used, nones, line_in, record_in, record_of, records_in, records_of, update, updated, with_child, with_line, with_parent, with_sum}
+use Rattle.raw_nodes.specs.Rooms.{with_room_child, with_room_sum}
 use Rattle.raw_nodes.specs.declared.names.Link.{Link}
+use Rattle.raw_nodes.specs.declared.branch.Branch.{Branch}
 use Rattle.raw_nodes.specs.declared.names.NodePtr.{NodePtr}
 use Rattle.raw_nodes.specs.declared.nodes.Held.{Held}
 use Rattle.raw_nodes.specs.declared.nodes.Held.TheVariants.{Spare, Line, Inner}
@@ -116,15 +117,21 @@ parented Spare parent new slot n u = absurd (false≢true u)
 parented (Line line) parent new slot n u = refl
 parented (Inner room) parent new slot n u = refl
 
-pub summed : (h : Held) (room : RoomBox.Denot) (r : Room) (parent : Option NodePtr) (slot : ℕ) (sum : Count) → h ≡ Inner room → r ≡ room.value
-    → record_in (Inner (with_value room (record r { sum = sum }))) parent slot ≡ with_sum (record_in h parent slot) sum
-summed h room r parent slot sum e d = ap (λ (z : Room). inner_record parent slot (map link_name z.children) sum) d ∙ ap (λ k. with_sum (record_in k parent slot) sum) (sym e)
+-- the record of a branch is that of its room
+room_record : Option NodePtr → ℕ → Room → Record
+room_record parent slot room = inner_record parent slot (map link_name room.children) room.sum
 
-pub lodged : (h : Held) (room : RoomBox.Denot) (r : Room) (parent : Option NodePtr) (slot i : ℕ) (link : Link) (child : Option NodePtr) → h ≡ Inner room → r ≡ room.value → link_name link ≡ child
-    → record_in (Inner (with_value room (record r { children = set r.children i link }))) parent slot ≡ with_child (record_in h parent slot) i child
-lodged h room r parent slot i link child e d n =
-    ap (λ (z : Room). inner_record parent slot (map link_name (set z.children i link)) z.sum) d
-    ∙ ap (λ cs. inner_record parent slot cs room.value.sum) (map-set link_name room.value.children i link ∙ ap (set (map link_name room.value.children) i) n)
+pub summed : (h : Held) (old new : Branch) (parent : Option NodePtr) (slot : ℕ) (sum : Count) → h ≡ Inner old → new.room.value ≡ with_room_sum old.room.value sum
+    → record_in (Inner new) parent slot ≡ with_sum (record_in h parent slot) sum
+unfolding room_record
+summed h old new parent slot sum e d = ap (room_record parent slot) d ∙ ap (λ k. with_sum (record_in k parent slot) sum) (sym e)
+
+pub lodged : (h : Held) (old new : Branch) (parent : Option NodePtr) (slot i : ℕ) (link : Link) (child : Option NodePtr) → h ≡ Inner old → new.room.value ≡ with_room_child old.room.value i link → link_name link ≡ child
+    → record_in (Inner new) parent slot ≡ with_child (record_in h parent slot) i child
+unfolding room_record
+lodged h old new parent slot i link child e d n =
+    ap (room_record parent slot) d
+    ∙ ap (λ cs. inner_record parent slot cs old.room.value.sum) (map-set link_name old.room.value.children i link ∙ ap (set (map link_name old.room.value.children) i) n)
     ∙ ap (λ k. with_child (record_in k parent slot) i child) (sym e)
 
 pub lined : (h : Held) (line w : LineContent) (parent : Option NodePtr) (slot : ℕ) → h ≡ Line line → record_in (Line w) parent slot ≡ with_line (record_in h parent slot) w
@@ -161,7 +168,7 @@ line_off (Line line) n = absurd (n line refl)
 line_off (Inner room) n = refl
 
 -- a node that has no room has no children
-pub childless : (h : Held) (parent : Option NodePtr) (slot : ℕ) → is_used h ≡ true → ((room : RoomBox.Denot) → h ≡ Inner room → ⊥) → (record_in h parent slot).children ≡ nones
+pub childless : (h : Held) (parent : Option NodePtr) (slot : ℕ) → is_used h ≡ true → ((room : Branch) → h ≡ Inner room → ⊥) → (record_in h parent slot).children ≡ nones
 childless Spare parent slot u n = refl
 childless (Line line) parent slot u n = refl
 childless (Inner room) parent slot u n = absurd (n room refl)

@@ -6,4 +6,5 @@ pub mod LineLending
 pub mod Links
 pub mod Names
 pub mod Records
+pub mod Rooms
 pub mod Rows

@@ -75,7 +75,8 @@ line_in (Inner room) = None
 abbrev pub record_in : Held → Option NodePtr → ℕ → Record
 record_in Spare parent slot = blank None
 record_in (Line line) parent slot = line_record parent slot line
-record_in (Inner room) parent slot = inner_record parent slot (map link_name room.value.children) room.value.sum
+record_in (Inner branch) parent slot =
+    inner_record parent slot (map link_name branch.room.value.children) branch.room.value.sum
 
 abbrev pub record_of : Node → Record
 record_of x = record_in x.held (link_name x.parent) x.slot

@@ -1,6 +1,7 @@
 //! The nodes of a tree in memory of their own: a finite map from names to records, and spares for it.
 #![tactic(auto)]
 
+mod branch;
 mod heap;
 mod names;
 mod nodes;

@@ -4,6 +4,7 @@ ghost use Rattle.raw_nodes.specs.Records.{blank, is_used, line_in, nones, record
 ghost use Rattle.std.specs.Prelude.{◌≡◌, ◌+◌, ◌<◌, ◌≤◌, None, count_by, is_some, length, map, slice_index_or, true, vec_capacity};
 ghost use Rattle.toggle_sums.specs.Counts.{no_text};
 
+use crate::branch::Branch;
 use crate::names::{Link, NodePtr};
 use segments::Line;
 use text_model::WORDS;
@@ -21,7 +22,7 @@ pub struct Room {
 pub enum Held {
     Spare,
     Line(Line),
-    Inner(Box<Room>),
+    Inner(Branch),
 }
 
 /// A node, as it lies in memory, with its number among all, and a link to the one before it. A spare's parent is the
@@ -63,7 +64,7 @@ impl Room {
 }
 
 impl Held {
-    ghost use Rattle.raw_nodes.specs.HeldLending.{IsLine, IsRoom, LendsBox, LendsText};
+    ghost use Rattle.raw_nodes.specs.HeldLending.{IsLine, IsRoom, LendsBranch, LendsText};
     ghost use Rattle.std.specs.Borrow.{sem};
     ghost use Rattle.raw_nodes.specs.declared.nodes.Held.TheVariants as held;
 
@@ -85,14 +86,14 @@ impl Held {
         }
     }
 
-    /// The room of an inner node.
-    pub fn room_mut(&mut self) -> &mut Box<Room>
+    /// The inner node that a node is.
+    pub fn branch_mut(&mut self) -> &mut Branch
         requires { IsRoom self.old }
-        ensures* writes_back { sem 𝓛 (LendsBox self.entry result) }
+        ensures* writes_back { sem 𝓛 (LendsBranch self.entry result) }
         ensures value { self.old ≡ held.Inner result.now }
     {
         match self {
-            Held::Inner(room) => room,
+            Held::Inner(branch) => branch,
             _ => unreachable!(),
         }
     }
@@ -122,7 +123,7 @@ pub fn hold(rooms: &mut Vec<Box<Room>>, line: Option<Line>) -> Held
 {
     match line {
         Some(line) => Held::Line(line),
-        None => Held::Inner(take_room(rooms)),
+        None => Held::Inner(Branch::of(take_room(rooms))),
     }
 }
 
@@ -135,8 +136,8 @@ pub fn put_back(rooms: &mut Vec<Box<Room>>, held: Held) -> Option<Line>
 {
     match held {
         Held::Line(line) => Some(line),
-        Held::Inner(room) => {
-            rooms.push_reserved(room);
+        Held::Inner(branch) => {
+            rooms.push_reserved(branch.into_room());
             None
         }
         Held::Spare => None,

@@ -89,7 +89,7 @@ impl<C: Ticks> NodeStore<C> {
     {
         ticks.tick();
         match &self.heap.node(name).held {
-            Held::Inner(room) => room.child(i),
+            Held::Inner(branch) => branch.room.child(i),
             _ => None,
         }
     }
@@ -103,7 +103,7 @@ impl<C: Ticks> NodeStore<C> {
         ticks.tick();
         match &self.heap.node(name).held {
             Held::Line(line) => line.sum(),
-            Held::Inner(room) => room.sum,
+            Held::Inner(branch) => branch.room.sum,
             Held::Spare => Sums::counting(0, 0, 0),
         }
     }
@@ -117,7 +117,7 @@ impl<C: Ticks> NodeStore<C> {
         ticks.tick();
         match &self.heap.node(name).held {
             Held::Line(_) => 1,
-            Held::Inner(room) => room.sum.lines(),
+            Held::Inner(branch) => branch.lines,
             Held::Spare => 0,
         }
     }
@@ -131,7 +131,7 @@ impl<C: Ticks> NodeStore<C> {
         ticks.tick();
         match &self.heap.node(name).held {
             Held::Line(line) => (1, line.len()),
-            Held::Inner(room) => (room.sum.lines(), room.sum.characters()),
+            Held::Inner(branch) => (branch.lines, branch.characters),
             Held::Spare => (0, 0),
         }
     }
@@ -142,7 +142,7 @@ impl<C: Ticks> NodeStore<C> {
         ensures { IfSome (entry self.now name) (λ r. result ≡ count_by is_some r.children) }
     {
         match &self.heap.node(name).held {
-            Held::Inner(room) => room.count(),
+            Held::Inner(branch) => branch.room.count(),
             _ => 0,
         }
     }
@@ -186,7 +186,7 @@ impl<C: Ticks> NodeStore<C> {
         ensures spares { spares self.new ≡ spares self.old }
         ensures rooms { rooms self.new ≡ rooms self.old }
     {
-        self.heap.node_mut(name).held.room_mut().sum = sum;
+        self.heap.node_mut(name).held.branch_mut().set_sum(sum);
     }
 
     /// Links a node to its parent, where it has a slot number, or to none.
@@ -209,7 +209,8 @@ impl<C: Ticks> NodeStore<C> {
         ensures spares { spares self.new ≡ spares self.old }
         ensures rooms { rooms self.new ≡ rooms self.old }
     {
-        self.heap.node_mut(name).held.room_mut().children[i] = Link::of(child);
+        let branch = self.heap.node_mut(name).held.branch_mut();
+        branch.set_child(i, Link::of(child));
     }
 
     /// Brings the spares, and the rooms beside them, to `count` at least. Fails for want of memory.

@@ -8,6 +8,7 @@ pub mod MarkPlaceLaws
 pub mod MovedLaws
 pub mod NextLaws
 pub mod PartLaws
+pub mod PlainLaws
 pub mod PreviousLaws
 pub mod SpanLaws
 pub mod TextLaws

@@ -1,4 +1,4 @@
-ghost use Rattle.std.specs.Prelude.{◌≡◌, ◌+◌, ◌<◌, ◌≤◌, ◌^◌, ◌++◌, ℕ, List, encode_utf8, length, take, drop, chars, string_bytes, slice_range, slice_get, Some, IfOk, OnOk, OnErr};
+ghost use Rattle.std.specs.Prelude.{◌≡◌, ◌+◌, ◌<◌, ◌≤◌, ◌^◌, [], ◌++◌, ℕ, List, encode_utf8, length, take, drop, chars, string_bytes, slice_range, slice_get, Some, IfOk, OnOk, OnErr};
 ghost use Rattle.std.specs.Str.{IsCharBoundary};
 ghost use Rattle.text_model.specs.Splices.{inserted, removed};
 
@@ -67,6 +67,16 @@ fn byte_of(text: &str, count: usize, column: usize) -> usize
 }
 
 impl Characters {
+    /// None at all, which takes no memory.
+    pub fn none(alloc: Global) -> Characters
+        ensures { result ≡ [] }
+    {
+        Characters {
+            text: String::new(alloc),
+            count: 0,
+        }
+    }
+
     pub fn new(alloc: Global, text: &str) -> Result<Characters, AllocError>
         ensures { IfOk result (λ characters. characters ≡ chars text.now) }
     {

@@ -2,8 +2,10 @@
 #![tactic(auto)]
 
 mod characters;
+mod form;
 mod line;
 mod marks;
+mod rich;
 mod toggles;
 
 pub use line::Line;

@@ -8,14 +8,8 @@ ghost use Rattle.segments.specs.Columns.{after_removal, after_text, characters, 
 ghost use Rattle.toggle_sums.specs.Toggles.{parity};
 
 use crate::characters::Characters;
-use crate::marks::{
-    Mark, draw_marks, find_mark, joined_marks, keep_before, mark_at, marks_behind, move_marks,
-    next_mark, previous_mark, put_mark, take_mark,
-};
-use crate::toggles::{
-    Toggled, clear, count_before, flip, move_on, move_rest_back, move_rest_on, next_toggle,
-    odd_slots, previous_toggle, remove_columns, slots_at,
-};
+use crate::form::Form;
+use crate::toggles::is_empty;
 use std::alloc::{AllocError, AllocFailed, Global};
 use std::marker::Model;
 use text_model::{MarkNo, Place, TagSet, TagSlot, WORDS};
@@ -26,18 +20,13 @@ use toggle_sums::Sums;
 #[derive(Drop)]
 pub struct Line {
     alloc: Global,
-    text: Characters,
-    toggles: Vec<Toggled>,
-    marks: Vec<Mark>,
+    form: Form,
 }
 
 impl Model for Line {
-    ghost use Rattle.std.specs.Prelude.{length};
     ghost use Rattle.std.specs.FinMap as finite;
     ghost use Rattle.segments.specs.Columns.{LineContent};
-    ghost use Rattle.segments.specs.Entries.{LieIn};
-    ghost use Rattle.segments.specs.Kept.{columns_from, AreMarks};
-    ghost use Rattle.segments.specs.Marks.{marks_of};
+    ghost use Rattle.segments.specs.Forms.{content};
     ghost use Rattle.std.specs.Coded.{codes, coded_ℕ};
     ghost use Rattle.std.specs.FinSet as set;
     ghost use Rattle.std.specs.Ordering.{nat_cmp};
@@ -47,9 +36,7 @@ impl Model for Line {
 
     ghost coded = { Prim.hlevel (codes, place.the_row.coded, set.code {R = nat_cmp} coded_ℕ, finite.code {R = nat_cmp} coded_ℕ place.the_row.coded) };
 
-    ghost view = { λ a. record { columns = columns_from 0 a.text a.toggles.items; marks = marks_of a.marks.items } };
-
-    ghost invariant = { λ a. LieIn 0 (length a.text) a.toggles.items × AreMarks (length a.text) a.marks.items };
+    ghost view = { λ a. content a.form };
 }
 
 impl Line {
@@ -59,9 +46,7 @@ impl Line {
     {
         Ok(Line {
             alloc,
-            text: Characters::new(alloc, text)?,
-            toggles: Vec::new(alloc),
-            marks: Vec::new(alloc),
+            form: Form::Plain(Characters::new(alloc, text)?),
         })
     }
 
@@ -69,7 +54,10 @@ impl Line {
     pub fn len(&self) -> usize
         ensures { result ≡ length self.now.columns }
     {
-        self.text.len()
+        match &self.form {
+            Form::Plain(text) => text.len(),
+            Form::Rich(line) => line.len(),
+        }
     }
 
     /// The character at a column.
@@ -77,7 +65,10 @@ impl Line {
         requires { column < length self.now.columns }
         ensures { slice_get (characters self.now.columns) column ≡ Some result }
     {
-        self.text.at(column)
+        match &self.form {
+            Form::Plain(text) => text.at(column),
+            Form::Rich(line) => line.char_at(column),
+        }
     }
 
     /// The slots that are toggled an odd number of times before the character at a column; at the end of the line those
@@ -86,11 +77,10 @@ impl Line {
         requires { column ≤ length self.now.columns }
         ensures { result ≡ tags_before column self.now.columns }
     {
-        if column == self.text.len() {
-            return odd_slots(&self.toggles);
+        match &self.form {
+            Form::Plain(_) => TagSet::empty(),
+            Form::Rich(line) => line.tags_before(column),
         }
-        let count = count_before(&self.toggles, column + 1);
-        odd_slots(&self.toggles[..count])
     }
 
     /// The slots that are toggled an odd number of times before the characters before a column.
@@ -98,8 +88,10 @@ impl Line {
         requires { column ≤ length self.now.columns }
         ensures { result ≡ parity (toggles (take column self.now.columns)) }
     {
-        let count = count_before(&self.toggles, column);
-        odd_slots(&self.toggles[..count])
+        match &self.form {
+            Form::Plain(_) => TagSet::empty(),
+            Form::Rich(line) => line.tags_behind(column),
+        }
     }
 
     /// The first column from one on before which a slot is toggled.
@@ -110,7 +102,10 @@ impl Line {
         ensures above { IfSome result (λ next. column ≤ next) }
         ensures bound { IfSome result (λ next. next < length self.now.columns) }
     {
-        next_toggle(&self.toggles, column, slot)
+        match &self.form {
+            Form::Plain(_) => None,
+            Form::Rich(line) => line.next_toggle(column, slot),
+        }
     }
 
     /// The last column below one before which a slot is toggled.
@@ -120,7 +115,10 @@ impl Line {
         ensures value { result ≡ previous_toggle slot.0 column self.now.columns }
         ensures below { IfSome result (λ previous. previous < column) }
     {
-        previous_toggle(&self.toggles, column, slot)
+        match &self.form {
+            Form::Plain(_) => None,
+            Form::Rich(line) => line.previous_toggle(column, slot),
+        }
     }
 
     /// Of the marks, in the order of their numbers, the one at an index.
@@ -129,9 +127,9 @@ impl Line {
             ≡ slice_get (finite.entries self.now.marks) index }
         ensures bound { IfSome result (λ mark. mark.1.offset ≤ length self.now.columns) }
     {
-        match self.marks.get(index) {
-            Some(mark) => Some((mark.number, mark.place)),
-            None => None,
+        match &self.form {
+            Form::Plain(_) => None,
+            Form::Rich(line) => line.mark(index),
         }
     }
 
@@ -140,7 +138,10 @@ impl Line {
         ensures value { result ≡ finite.get self.now.marks number.0 }
         ensures bound { IfSome result (λ place. place.offset ≤ length self.now.columns) }
     {
-        find_mark(&self.marks, number)
+        match &self.form {
+            Form::Plain(_) => None,
+            Form::Rich(line) => line.mark_place(number),
+        }
     }
 
     /// The least column at or above this one at which a mark stands.
@@ -149,7 +150,10 @@ impl Line {
         ensures above { IfSome result (λ next. column ≤ next) }
         ensures bound { IfSome result (λ next. next ≤ length self.now.columns) }
     {
-        next_mark(&self.marks, column)
+        match &self.form {
+            Form::Plain(_) => None,
+            Form::Rich(line) => line.next_mark(column),
+        }
     }
 
     /// The greatest column below this one at which a mark stands.
@@ -158,25 +162,30 @@ impl Line {
         ensures below { IfSome result (λ previous. previous < column) }
         ensures bound { IfSome result (λ previous. previous ≤ length self.now.columns) }
     {
-        previous_mark(&self.marks, column)
+        match &self.form {
+            Form::Plain(_) => None,
+            Form::Rich(line) => line.previous_mark(column),
+        }
     }
 
     /// Of the marks that stand at a column, in the order of their numbers, the one at an index.
     pub fn mark_at(&self, column: usize, index: usize) -> Option<MarkNo>
         ensures { result ≡ slice_get (marks_at column self.now.marks) index }
     {
-        mark_at(&self.marks, column, index)
+        match &self.form {
+            Form::Plain(_) => None,
+            Form::Rich(line) => line.mark_at(column, index),
+        }
     }
 
     /// What is counted of the line.
     pub fn sum(&self) -> Sums<WORDS>
         ensures { result ≡ line_count self.now }
     {
-        let mut sums = Sums::counting(1, self.text.len(), self.marks.len());
-        for entry in &self.toggles {
-            sums = sums.with_toggles(&entry.slots);
+        match &self.form {
+            Form::Plain(text) => Sums::counting(1, text.len(), 0),
+            Form::Rich(line) => line.sum(),
         }
-        sums
     }
 
     /// The characters from one column to another.
@@ -185,7 +194,10 @@ impl Line {
         requires within { to ≤ length self.now.columns }
         ensures { IfOk result (λ text. chars (string_bytes text) ≡ slice_range (characters self.now.columns) from to) }
     {
-        self.text.copy(self.alloc, from, to)
+        match &self.form {
+            Form::Plain(text) => text.copy(self.alloc, from, to),
+            Form::Rich(line) => line.copy_text(from, to),
+        }
     }
 
     /// A copy of the line.
@@ -194,9 +206,7 @@ impl Line {
     {
         Ok(Line {
             alloc: self.alloc,
-            text: self.text.try_clone(self.alloc)?,
-            toggles: Vec::from_slice(self.alloc, &self.toggles)?,
-            marks: Vec::from_slice(self.alloc, &self.marks)?,
+            form: self.form.try_clone(self.alloc)?,
         })
     }
 
@@ -207,18 +217,9 @@ impl Line {
         ensures tail { IfOk result (λ tail. tail ≡ line_behind column self.old) }
         ensures refused { OnErr result (self.new ≡ self.old) }
     {
-        let count = count_before(&self.toggles, column);
-        let mut toggles = Vec::from_slice(self.alloc, &self.toggles[count..])?;
-        let marks = marks_behind(self.alloc, &self.marks, column)?;
-        let text = self.text.cut(column)?;
-        move_rest_back(&mut toggles, 0, column);
-        self.toggles.truncate(count);
-        keep_before(&mut self.marks, column);
         Ok(Line {
             alloc: self.alloc,
-            text,
-            toggles,
-            marks,
+            form: self.form.cut(column, self.alloc)?,
         })
     }
 
@@ -239,21 +240,7 @@ impl Line {
         ensures new { OnOk result (self.new ≡ joined self.old other.now) }
         ensures refused { OnErr result (self.new ≡ self.old) }
     {
-        let len = self.text.len();
-        // More characters than a number can count have no room in memory.
-        if other.text.len() > usize::MAX - len {
-            return Err(AllocError);
-        }
-        let count = self.toggles.len();
-        let marks = joined_marks(self.alloc, &self.marks, &other.marks, len)?;
-        self.toggles.extend_from_slice(&other.toggles)?;
-        if self.text.join(&other.text).is_err() {
-            self.toggles.truncate(count);
-            return Err(AllocError);
-        }
-        move_rest_on(&mut self.toggles, count, len);
-        self.marks = marks;
-        Ok(())
+        self.form.join_copy(&other.form, self.alloc)
     }
 
     /// Puts a text in before the character at a column.
@@ -262,13 +249,7 @@ impl Line {
         ensures new { OnOk result (self.new ≡ after_text column (chars text.now) self.old) }
         ensures refused { OnErr result (self.new ≡ self.old) }
     {
-        let len = self.text.len();
-        self.text.insert(column, text)?;
-        let count = self.text.len() - len;
-        let start = count_before(&self.toggles, column);
-        move_rest_on(&mut self.toggles, start, count);
-        move_marks(&mut self.marks, column, count);
-        Ok(())
+        self.form.insert_text(column, text)
     }
 
     /// Takes the characters from one column to another out. What was toggled an odd number of times in these is toggled
@@ -279,11 +260,7 @@ impl Line {
         ensures new { OnOk result (self.new ≡ after_removal from to self.old) }
         ensures refused { OnErr result (self.new ≡ self.old) }
     {
-        let len = self.text.len();
-        self.text.remove(from, to)?;
-        remove_columns(&mut self.toggles, from, to, len);
-        draw_marks(&mut self.marks, from, to);
-        Ok(())
+        self.form.remove_range(from, to)
     }
 
     /// Says whether a slot is toggled before the character at a column.
@@ -300,11 +277,10 @@ impl Line {
         ensures marks { self.new.marks ≡ self.old.marks }
         ensures refused { OnErr result (self.new ≡ self.old) }
     {
-        let index = count_before(&self.toggles, column);
-        if slots_at(&self.toggles, index, column).has(slot) == is_toggled {
-            return Ok(());
+        if is_toggled {
+            self.form.enrich(self.alloc)?;
         }
-        flip(&mut self.toggles, column, &TagSet::empty().with(slot))
+        self.form.set_toggle(column, slot, is_toggled)
     }
 
     /// Toggles each slot of a set before the character at a column.
@@ -315,7 +291,10 @@ impl Line {
         ensures marks { self.new.marks ≡ self.old.marks }
         ensures refused { OnErr result (self.new ≡ self.old) }
     {
-        flip(&mut self.toggles, column, slots)
+        if !is_empty(slots) {
+            self.form.enrich(self.alloc)?;
+        }
+        self.form.toggle(column, slots)
     }
 
     /// Takes the toggles of a slot before the characters from one column to another away, which takes no memory.
@@ -326,7 +305,8 @@ impl Line {
         ensures columns { self.new.columns ≡ changed (with_toggle slot.0 false) from to self.old.columns }
         ensures marks { self.new.marks ≡ self.old.marks }
     {
-        clear(&mut self.toggles, slot, from, to);
+        self.form.clear(slot, from, to);
+        self.form.settle(self.alloc);
     }
 
     /// Puts the mark of a number at a place.
@@ -336,7 +316,11 @@ impl Line {
         ensures marks { OnOk result (self.new.marks ≡ finite.insert self.old.marks number.0 place) }
         ensures refused { OnErr result (self.new ≡ self.old) }
     {
-        put_mark(&mut self.marks, number, place)
+        self.form.enrich(self.alloc)?;
+        match &mut self.form {
+            Form::Plain(_) => unreachable!(),
+            Form::Rich(line) => line.put_mark(number, place),
+        }
     }
 
     /// Takes the mark of a number away.
@@ -344,6 +328,7 @@ impl Line {
         ensures columns { self.new.columns ≡ self.old.columns }
         ensures marks { self.new.marks ≡ finite.remove self.old.marks number.0 }
     {
-        take_mark(&mut self.marks, number)
+        self.form.take_mark(number);
+        self.form.settle(self.alloc);
     }
 }

@@ -12,9 +12,11 @@ use Rattle.line_tree.specs.Finds.{Leads, lines_below}
 use Rattle.line_tree.specs.Growth.{CanInsert, Inserts}
 use Rattle.line_tree.specs.Shape.{sum_at, tree_at}
 use Rattle.line_tree.specs.declared.find.Found.{Found}
-use Rattle.line_tree.proofs.InsertLaws.{can-child, has-node, has-now, low-can_put, low-inserts, one-fits, one-inserts, one-sum, two-can_put, two-inserts}
+use Rattle.line_tree.proofs.InsertLaws.{can-child, has-node, has-now, low-can_put, low-inserts, low-sum, one-fits, one-inserts, one-sum, two-can_put, two-inserts, two-sum}
 use Rattle.line_tree.proofs.RoomLaws.{len-puts, len-resummed}
-use Rattle.toggle_sums.specs.Counts.{plus}
+use Rattle.toggle_sums.specs.Counts.{Count, plus}
+use Rattle.std.specs.Prelude.{IfSome, IsSome}
+use Rattle.line_tree.specs.Changes.{sum_all}
 use Rattle.line_tree.proofs.RowLaws.{sum_is}
 use Rattle.line_tree.proofs.TreeLaws.{below-tree, named-tree}
 use Rattle.line_tree.proofs.insert.+insert_in.Goals as goal
@@ -37,6 +39,21 @@ few-kids m h p k x can f leads = let w = slice_get_within (kids m p) f.slot f.ch
 
 pub put-requires-clause-put : goal.put-requires-clause-put
 put-requires-clause-put g t c = low-can_put (records c.args.store.now) c.args.node c.args.k c.args.line (subst (λ h. CanInsert (records c.args.store.now) h c.args.node c.args.k c.args.line) c.if-height-eq1.true c.requires.insert)
+
+-- what the line adds
+line-sum : (m l : Records) (p x : NodePtr) (s : Count) (all : Count) → IsSome (finite.get m x) → IfSome (finite.get m x) (λ r. s ≡ r.sum) → plus (sum_at l p) (sum_at m x) ≡ all → plus (sum_at l p) s ≡ all
+line-sum m l p x s all named says is = ap (plus (sum_at l p)) (sum_is m x s named says) ∙ is
+
+pub put-requires-clause-sum : goal.put-requires-clause-sum
+put-requires-clause-sum g t c = let m = records c.args.store.now in
+    line-sum m m c.args.node c.args.line c.sum-more.result (sum_all m (insert (kids m c.args.node) c.args.k c.args.line)) (named-tree m 0 c.args.line c.requires.insert.line) c.sum-more.ensures.value
+    (low-sum m c.args.node c.args.k c.args.line (subst (λ h. CanInsert m h c.args.node c.args.k c.args.line) c.if-height-eq1.true c.requires.insert))
+
+pub put-requires-in-Some-clause-sum : goal.put-requires-in-Some-clause-sum
+put-requires-in-Some-clause-sum g t c = let m = records c.args.store.now in let l = records c.insert_in.new.store in
+    line-sum m l c.args.node c.args.line c.sum-more.result (sum_all l (insert (kids l c.args.node) (c.lead-found.result.slot + 1) c.in-Some.sibling)) (named-tree m 0 c.args.line c.requires.insert.line) c.sum-more.ensures.value
+    (two-sum m (c.args.height - 1) c.args.node c.args.k c.args.line (above m c.args.height c.args.node c.args.k c.args.line c.requires.insert c.requires.node) c.lead-found.result c.lead-found.ensures l c.in-Some.sibling
+    (subst (λ o. Inserts m l (c.args.height - 1) c.lead-found.result.child c.lead-found.result.rest c.args.line o) c.in-Some.is c.insert_in.ensures.inserts))
 
 pub returns-then-height-eq1-clause-inserts : goal.returns-then-height-eq1-clause-inserts
 returns-then-height-eq1-clause-inserts g t c = let m = records c.args.store.now in

@@ -2,7 +2,11 @@ use Rattle.std.proofs.Common.{◌≤◌, ◌++◌, length, take, drop, arith, le
 use Rattle.raw_nodes.specs.Names.{records}
 use Rattle.raw_nodes.specs.Rows.{kids}
 use Rattle.line_tree.proofs.FillLaws.{same_row}
+use Rattle.line_tree.proofs.PutLaws.{count-row}
 use Rattle.line_tree.proofs.shrink.part_pair.Goals as goal
+
+pub pick_pair-requires-clause-count : goal.pick_pair-requires-clause-count
+pick_pair-requires-clause-count g c = count-row (records c.args.store.now) c.args.left c.children-first.result c.requires.left c.children-first.ensures
 
 pub returns : goal.returns
 returns g c = let m = records c.args.store.now in

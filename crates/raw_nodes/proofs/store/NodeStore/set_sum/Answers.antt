@@ -9,9 +9,9 @@ pub node_mut-requires : goal.node_mut-requires
 unfolding records
 node_mut-requires g c = let h = c.args.self.now.heap in name_place h.places h.values c.args.name h.paired c.requires.0
 
-pub room_mut-requires : goal.room_mut-requires
+pub branch_mut-requires : goal.branch_mut-requires
 unfolding records
-room_mut-requires g c =
+branch_mut-requires g c =
     let h = c.args.self.now.heap in let p = c.args.name in let x = c.node_mut.result.now in let e = c.node_mut.ensures.value in
     room_if x.held _ x.slot (in_use h.places h.values p x h.paired c.requires.0 e) (told_entry h.places h.values p x h.paired c.requires.0 e (λ r. r.line ≡ _) c.requires.1)
 
@@ -26,7 +26,7 @@ invariant_of-self g c =
       chained = chain_kept h.places h.values p x _ h.paired named e refl a.spares a.first_spare a.chained;
       counted = count_kept h.places h.values p x _ h.paired named e refl a.spares a.counted;
       numbered = numbers_kept h.places h.values p x _ h.paired named e refl refl a.numbered;
-      roomed = rooms_kept h.places h.values p x _ h.paired named e refl _ a.room_count (sym (ap room_in c.room_mut.ensures.value)) a.roomed;
+      roomed = rooms_kept h.places h.values p x _ h.paired named e refl _ a.room_count (sym (ap room_in c.branch_mut.ensures.value)) a.roomed;
       fitting = a.fitting;
     }
 
@@ -35,4 +35,4 @@ unfolding records
 returns-clause-records g c =
     let a = c.args.self.now in let h = a.heap in let p = c.args.name in let named = c.requires.0 in let x = c.node_mut.result.now in let e = c.node_mut.ensures.value in
     rewritten h.places h.values p x _ h.paired named e refl (λ r. with_sum r c.args.sum)
-    (summed x.held c.room_mut.result.now c.deref_mut.result.now _ x.slot c.args.sum c.room_mut.ensures.value c.deref_mut.ensures.value)
+    (summed x.held c.branch_mut.result.now c.set_sum.new.self _ x.slot c.args.sum c.branch_mut.ensures.value c.set_sum.ensures)

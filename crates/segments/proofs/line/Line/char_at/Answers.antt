@@ -1,15 +1,11 @@
-use Rattle.std.proofs.Common.{length, sym, ap, ◌∙◌, arith}
+use Rattle.std.proofs.Common.{sym, ap, ◌∙◌}
 use Rattle.std.specs.Prelude.{slice_get}
 use Rattle.segments.specs.Columns.{LineContent, characters}
-use Rattle.segments.proofs.ColumnLaws.{characters-columns, length-columns}
+use Rattle.segments.specs.Forms.{content}
+use Rattle.segments.proofs.PlainLaws.{characters-plain}
 use Rattle.segments.proofs.line.Line.char_at.Goals as goal
 
-pub at-requires : goal.at-requires
-at-requires c =
-    omega (arith, c.requires, ap (λ (line : LineContent). length line.columns) c.self.view_is, length-columns 0 c.self.inside.text c.self.inside.toggles.items)
-
-pub returns : goal.returns
-returns c =
-    ap (λ (line : LineContent). slice_get (characters line.columns) c.args.column) (sym c.self.view_is)
-    ∙ ap (λ text. slice_get text c.args.column) (characters-columns 0 c.self.inside.text c.self.inside.toggles.items)
-    ∙ c.at.ensures
+pub returns-in-Plain : goal.returns-in-Plain
+returns-in-Plain c =
+    let text = c.in-Plain.text in
+    sym (ap (λ (line : LineContent). slice_get (characters line.columns) c.args.column) (ap content (sym c.in-Plain.is) ∙ c.self.view_is)) ∙ ap (λ xs. slice_get xs c.args.column) (characters-plain text) ∙ c.at.ensures

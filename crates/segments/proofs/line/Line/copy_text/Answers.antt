@@ -1,11 +1,11 @@
-use Rattle.std.proofs.Common.{length, ap, arith}
-use Rattle.segments.specs.Columns.{LineContent}
-use Rattle.segments.proofs.ColumnLaws.{characters-columns, length-columns}
+use Rattle.std.proofs.Common.{◌≡◌, sym, ap, subst, ◌∙◌}
+use Rattle.std.specs.Prelude.{IfOk, chars, slice_range, string_bytes}
+use Rattle.segments.specs.Columns.{LineContent, characters}
+use Rattle.segments.specs.Forms.{content}
+use Rattle.segments.proofs.PlainLaws.{characters-plain}
 use Rattle.segments.proofs.line.Line.copy_text.Goals as goal
 
-pub copy-requires-clause-within : goal.copy-requires-clause-within
-copy-requires-clause-within c =
-    omega (arith, c.requires.within, ap (λ (line : LineContent). length line.columns) c.self.view_is, length-columns 0 c.self.inside.text c.self.inside.toggles.items)
-
-pub returns : goal.returns
-returns c = rw (← c.self.view_is, characters-columns 0 c.self.inside.text c.self.inside.toggles.items) c.copy.ensures
+pub returns-in-Plain : goal.returns-in-Plain
+returns-in-Plain c =
+    let same = sym (characters-plain c.in-Plain.text) ∙ ap (λ (line : LineContent). characters line.columns) (ap content (sym c.in-Plain.is) ∙ c.self.view_is) in
+    subst (λ xs. IfOk c.copy.result (λ text. chars (string_bytes text) ≡ slice_range xs c.args.from c.args.to)) same c.copy.ensures

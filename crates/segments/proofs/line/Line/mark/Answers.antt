@@ -1,39 +1,10 @@
-use Rattle.std.proofs.Common.{◌<◌, ◌≤◌, length, get_or, refl, sym, ap, subst, ◌∙◌}
-use Rattle.std.proofs.lemmas.Option.{slice_get_past, slice_get_read}
+use Rattle.std.proofs.Common.{sym, ap, ◌∙◌}
+use Rattle.std.specs.Prelude.{slice_get}
 use Rattle.std.specs.FinMap as finite
-use Rattle.std.specs.Prelude.{option_map, slice_get}
-use Rattle.segments.specs.declared.marks.Mark.{Mark}
 use Rattle.segments.specs.Columns.{LineContent}
-use Rattle.segments.specs.Marks.{entry_of}
-use Rattle.segments.proofs.ColumnLaws.{length-columns}
-use Rattle.segments.proofs.MarkLaws.{slice_get-marks_of}
+use Rattle.segments.specs.Forms.{content}
+use Rattle.segments.proofs.PlainLaws.{mark-none}
 use Rattle.segments.proofs.line.Line.mark.Goals as goal
 
-pub returns-in-Some-clause-value : goal.returns-in-Some-clause-value
-returns-in-Some-clause-value c =
-    let index = c.args.index in
-    let found = c.in-Some.ensures.lookup in
-    sym (ap (λ (line : LineContent). slice_get (finite.entries line.marks) index) (sym c.self.view_is)
-    ∙ slice_get-marks_of c.self.inside.marks.items index c.self.invariant.1.rise
-    ∙ ap (λ marks. option_map entry_of (slice_get marks index)) (sym c.deref.ensures.value)
-    ∙ ap (option_map entry_of) (slice_get_read c.deref.result.now (length c.deref.result.now) index c.in-Some.mark.now refl found.3.0 found.1))
-
-pub returns-in-Some-clause-bound : goal.returns-in-Some-clause-bound
-returns-in-Some-clause-bound c =
-    let index = c.args.index in
-    let mark = c.in-Some.mark.now in
-    let text = c.self.inside.text in
-    let found = c.in-Some.ensures.lookup in
-    let within = subst (λ marks. index < length marks) c.deref.ensures.value found.3.0 in
-    let here = found.1 ∙ ap (λ marks. get_or marks index mark) c.deref.ensures.value in
-    let long = sym (length-columns 0 text c.self.inside.toggles.items) ∙ ap (λ (line : LineContent). length line.columns) c.self.view_is in
-    subst (λ len. mark.place.offset ≤ len) long
-    (subst (λ (m : Mark). m.place.offset ≤ length text) (sym here) (c.self.invariant.1.stand index mark within))
-
-pub returns-in-None-clause-value : goal.returns-in-None-clause-value
-returns-in-None-clause-value c =
-    let index = c.args.index in
-    sym (ap (λ (line : LineContent). slice_get (finite.entries line.marks) index) (sym c.self.view_is)
-    ∙ slice_get-marks_of c.self.inside.marks.items index c.self.invariant.1.rise
-    ∙ ap (λ marks. option_map entry_of (slice_get marks index)) (sym c.deref.ensures.value)
-    ∙ ap (option_map entry_of) (slice_get_past c.deref.result.now index c.in-None.ensures.lookup.3))
+pub returns-in-Plain-clause-value : goal.returns-in-Plain-clause-value
+returns-in-Plain-clause-value c = sym (mark-none c.args.index) ∙ ap (λ (line : LineContent). slice_get (finite.entries line.marks) c.args.index) (ap content (sym c.in-Plain.is) ∙ c.self.view_is)

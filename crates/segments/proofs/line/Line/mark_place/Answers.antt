@@ -1,18 +1,9 @@
-use Rattle.std.proofs.Common.{◌≤◌, length, sym, ap, subst, ◌∙◌}
+use Rattle.std.proofs.Common.{sym, ap, ◌∙◌}
 use Rattle.std.specs.FinMap as finite
-use Rattle.text_model.proofs.PlaceLaws.{stands_if_some}
 use Rattle.segments.specs.Columns.{LineContent}
-use Rattle.segments.specs.Marks.{marks_of}
-use Rattle.segments.proofs.ColumnLaws.{length-columns}
-use Rattle.segments.proofs.MarkOrderLaws.{mark_stands}
+use Rattle.segments.specs.Forms.{content}
+use Rattle.segments.proofs.PlainLaws.{place-none}
 use Rattle.segments.proofs.line.Line.mark_place.Goals as goal
 
-pub returns-clause-bound : goal.returns-clause-bound
-returns-clause-bound c =
-    let kept = c.self.invariant.1 in
-    let text = c.self.inside.text in
-    let marks = c.self.inside.marks.items in
-    let number = c.args.number.0 in
-    let found = c.find_mark.ensures ∙ ap (λ marks. finite.get (marks_of marks) number) c.deref.ensures.value in
-    let long = sym (length-columns 0 text c.self.inside.toggles.items) ∙ ap (λ (line : LineContent). length line.columns) c.self.view_is in
-    stands_if_some c.find_mark.result _ (λ place is. subst (λ len. place.offset ≤ len) long (mark_stands marks (length text) number place kept.rise kept.stand (sym found ∙ is)))
+pub returns-in-Plain-clause-value : goal.returns-in-Plain-clause-value
+returns-in-Plain-clause-value c = sym (place-none c.args.number.0) ∙ ap (λ (line : LineContent). finite.get line.marks c.args.number.0) (ap content (sym c.in-Plain.is) ∙ c.self.view_is)

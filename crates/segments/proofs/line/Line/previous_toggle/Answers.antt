@@ -1,20 +1,11 @@
-use Rattle.std.proofs.Common.{◌<◌, ◌≤◌, length, sym, ap, subst, ◌∙◌, arith}
-use Rattle.std.specs.Prelude.{IfSome}
+use Rattle.std.proofs.Common.{◌≤◌, length, sym, ap, ◌∙◌, arith}
 use Rattle.segments.specs.Columns.{LineContent, previous_toggle}
-use Rattle.segments.proofs.ColumnLaws.{length-columns}
-use Rattle.segments.proofs.NextLaws.{previous_below, previous_column}
+use Rattle.segments.specs.Forms.{content}
+use Rattle.segments.proofs.PlainLaws.{length-plain, previous-plain}
 use Rattle.segments.proofs.line.Line.previous_toggle.Goals as goal
 
-pub returns-clause-value : goal.returns-clause-value
-returns-clause-value c =
-    let text = c.self.inside.text in
-    let entries = c.self.inside.toggles.items in
-    let within : c.args.column ≤ length text = omega (arith, c.requires.within, ap (λ (line : LineContent). length line.columns) c.self.view_is, length-columns 0 text entries) in
-    (rw c.deref.ensures.value at (c.previous_toggle.ensures 0 (length text))) c.self.invariant.0
-    ∙ previous_column c.args.slot.0 c.args.column text entries c.self.invariant.0 within
-    ∙ ap (λ (line : LineContent). previous_toggle c.args.slot.0 c.args.column line.columns) c.self.view_is
-
-pub returns-clause-below : goal.returns-clause-below
-returns-clause-below c =
-    let entries = c.self.inside.toggles.items in
-    subst (λ r. IfSome r (λ previous. previous < c.args.column)) (sym ((rw c.deref.ensures.value at (c.previous_toggle.ensures 0 (length c.self.inside.text))) c.self.invariant.0)) (previous_below c.args.slot.0 c.args.column entries)
+pub returns-in-Plain-clause-value : goal.returns-in-Plain-clause-value
+returns-in-Plain-clause-value c =
+    let text = c.in-Plain.field-0 in let now = ap content (sym c.in-Plain.is) ∙ c.self.view_is in
+    let within : c.args.column ≤ length text = omega (arith, c.requires.within, ap (λ (line : LineContent). length line.columns) now, length-plain text) in
+    sym (previous-plain c.args.slot.0 c.args.column text within) ∙ ap (λ (line : LineContent). previous_toggle c.args.slot.0 c.args.column line.columns) now

@@ -1,0 +1,55 @@
+ghost use Rattle.std.specs.Prelude.{◌≡◌};
+
+use crate::names::Link;
+use crate::nodes::Room;
+use text_model::WORDS;
+use toggle_sums::Sums;
+
+/// An inner node: its room, and beside that how many lines and characters stand below, so that who looks for one among
+/// a node's children reads no room of theirs.
+#[derive(Drop)]
+pub struct Branch {
+    pub room: Box<Room>,
+    pub lines: usize,
+    pub characters: usize,
+    ghost lines_told: { lines ≡ room.value.sum.lines },
+    ghost characters_told: { characters ≡ room.value.sum.characters },
+}
+
+impl Branch {
+    ghost use Rattle.raw_nodes.specs.Rooms.{with_room_child, with_room_sum};
+    ghost use Rattle.std.specs.Prelude.{◌<◌};
+    ghost use Rattle.toggle_sums.specs.Counts.{no_text};
+
+    /// Of a room without text below.
+    pub fn of(room: Box<Room>) -> Branch
+        requires { room.value.sum ≡ no_text }
+        ensures { result.room ≡ room }
+    {
+        Branch {
+            room,
+            lines: 0,
+            characters: 0,
+        }
+    }
+
+    pub fn into_room(self) -> Box<Room> {
+        let Branch { room, .. } = self;
+        room
+    }
+
+    pub fn set_sum(&mut self, sum: Sums<WORDS>)
+        ensures { self.new.room.value ≡ with_room_sum self.old.room.value sum }
+    {
+        self.lines = sum.lines();
+        self.characters = sum.characters();
+        self.room.sum = sum;
+    }
+
+    pub fn set_child(&mut self, i: usize, child: Link)
+        requires { i < 12 }
+        ensures { self.new.room.value ≡ with_room_child self.old.room.value i child }
+    {
+        self.room.children[i] = child;
+    }
+}

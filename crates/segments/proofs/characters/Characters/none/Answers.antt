@@ -1,0 +1,10 @@
+use Rattle.std.proofs.Common.{sym, ap, ◌∙◌, length}
+use Rattle.std.specs.Prelude.{chars}
+use Rattle.std.proofs.lemmas.Str.{chars-nil}
+use Rattle.segments.proofs.characters.Characters.none.Goals as goal
+
+pub invariant_of-result : goal.invariant_of-result
+invariant_of-result c = sym (ap (λ bytes. length (chars bytes)) c.new.ensures.bytes ∙ ap length chars-nil)
+
+pub returns : goal.returns
+returns c = ap chars c.new.ensures.bytes ∙ chars-nil

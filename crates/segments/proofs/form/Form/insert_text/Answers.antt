@@ -1,0 +1,12 @@
+use Rattle.std.proofs.Common.{sym, ap, ◌∙◌}
+use Rattle.std.specs.Prelude.{chars}
+use Rattle.std.proofs.lemmas.Result.{on_ok_weaker}
+use Rattle.segments.specs.Columns.{after_text, plain_line}
+use Rattle.segments.specs.Forms.{content}
+use Rattle.segments.proofs.PlainLaws.{inserted-plain}
+use Rattle.segments.proofs.form.Form.insert_text.Goals as goal
+
+pub returns-in-Plain-clause-new : goal.returns-in-Plain-clause-new
+returns-in-Plain-clause-new c =
+    let new = chars c.args.text.now in
+    on_ok_weaker c.insert.result (λ is. ap plain_line is ∙ inserted-plain c.args.column new c.in-Plain.characters ∙ ap (after_text c.args.column new) (sym (ap content c.in-Plain.is))) c.insert.ensures.new
