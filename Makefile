@@ -7,6 +7,7 @@
 # make gate    the gate alone, and its processor time over that of `rt selftest`; with nothing beside it
 # make bench   the program's time per command as the text grows, and its memory as the script does, into docs/bench.txt;
 #              what is done to one long line, into docs/bench_lines.txt; and lines in the tree, into docs/bench_tree.txt
+# make counts  the instructions of a command on texts of two sizes, into docs/bench_counts.txt; it needs valgrind
 
 PROGRAM = crates/tktext/out/tktext
 LINE_BENCH = crates/line_bench/out/line_bench
@@ -70,6 +71,9 @@ bench: $(PROGRAM) $(LINE_BENCH) $(TREE_BENCH) $(WEIGH)
 	python3 tools/bench_lines.py --program $(LINE_BENCH) --out docs/bench_lines.txt
 	python3 tools/bench_tree.py --program $(TREE_BENCH) --shim $(WEIGH) --out docs/bench_tree.txt
 
+counts: $(PROGRAM)
+	python3 tools/bench_counts.py --program $(PROGRAM) --out docs/bench_counts.txt
+
 gate:
 	python3 tools/gate.py --ratio
 
@@ -77,4 +81,4 @@ tk: $(PROGRAM)
 	python3 tools/tk.py --program $(PROGRAM)
 	python3 tools/tk.py --program $(PROGRAM) --scripts $(SEEDS) --first $(FIRST)
 
-.PHONY: try run build test fuzz bench gate tk
+.PHONY: try run build test fuzz bench counts gate tk
