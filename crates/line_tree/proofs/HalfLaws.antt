@@ -1,9 +1,9 @@
 -- The sums of the first children of two nodes, and of the others, by those that change sides.
-use Rattle.std.proofs.Common.{◌≡◌, ℕ, ◌+◌, ◌-◌, ◌<◌, ◌≤◌, List, ◌++◌, length, take, drop, sym, ap, ◌∙◌, arith, length-drop}
+use Rattle.std.proofs.Common.{◌≡◌, ℕ, ◌+◌, ◌-◌, ◌≤◌, List, ◌++◌, length, take, drop, sym, ap, ◌∙◌, arith, length-drop}
 use Rattle.std.proofs.Math.Seq.{drop-append-add, drop-append_seam, take-append-add, take-append_seam}
 use Rattle.std.proofs.lemmas.List.{drop-append-le, take-append-drop, take-append-le}
 use Rattle.toggle_sums.specs.CountLaws.{plus-commutative}
-use Rattle.toggle_sums.specs.Counts.{Count, plus}
+use Rattle.toggle_sums.specs.Counts.{plus}
 use Rattle.raw_nodes.specs.Records.{Records}
 use Rattle.raw_nodes.specs.declared.names.NodePtr.{NodePtr}
 use Rattle.line_tree.specs.Changes.{sum_all}

@@ -1,5 +1,5 @@
 -- Which of some lines has the mark of a number.
-use Rattle.std.proofs.Common.{◌≡◌, ◌≢◌, ℕ, zero, suc, ◌+◌, ◌-◌, ◌<◌, ◌≤◌, Bool, true, false, cond, List, [], ◌∷◌, ◌++◌, length, take, drop, refl, sym, ap, ap₂, ◌∙◌, arith}
+use Rattle.std.proofs.Common.{◌≡◌, ℕ, zero, suc, ◌-◌, ◌<◌, ◌≤◌, Bool, true, false, cond, List, [], ◌∷◌, ◌++◌, length, take, drop, refl, sym, ap, ap₂, ◌∙◌, arith}
 use Rattle.std.specs.Prelude.{is_some, slice_get, slice_range}
 use Rattle.std.specs.FinMap as finite
 use Rattle.std.specs.declared.option.Option.{Option}
@@ -15,7 +15,7 @@ use Rattle.line_lists.proofs.FindLaws.{drop_after}
 use Rattle.line_lists.proofs.MarkPlaces.{has-none}
 use Rattle.line_lists.proofs.RowLaws.{free-parts}
 use Rattle.line_lists.proofs.SearchRows.{FailFrom, next-found, next-none}
-use Rattle.line_tree.specs.MarkTable.{AreBare, IsMarkedBelow, holder, lines_without, noted}
+use Rattle.line_tree.specs.MarkTable.{AreBare, IsMarkedBelow, holder, lines_without}
 use Rattle.line_tree.specs.Places.{IsLineAt}
 use Rattle.line_tree.specs.Trees.{Named, contents}
 use Rattle.line_tree.proofs.NearestLaws.{long}

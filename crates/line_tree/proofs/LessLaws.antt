@@ -2,9 +2,8 @@
 --     less-plus        a part without toggles
 --     sum_all-remove   a child
 --     line-gone        a line
-use Rattle.std.proofs.Common.{◌≡◌, ℕ, zero, suc, ◌+◌, ◌-◌, List, [], ◌∷◌, refl, sym, ap, ◌∙◌, subst, arith}
-use Rattle.std.specs.Prelude.{Some, slice_get, IsSome}
-use Rattle.std.specs.FinMap as finite
+use Rattle.std.proofs.Common.{◌≡◌, ℕ, zero, suc, ◌+◌, ◌-◌, List, [], ◌∷◌, sym, ap, ◌∙◌, arith}
+use Rattle.std.specs.Prelude.{Some, slice_get}
 use Rattle.std.specs.List.{remove}
 use Rattle.std.proofs.lemmas.Option.{none-some, same_Some}
 use Rattle.text_model.specs.SlotSets.{differing}

@@ -1,10 +1,19 @@
 -- How many lines can be put in with no more memory, whatever nodes split.
-use Rattle.std.specs.Prelude.{ℕ, ◌+◌, ◌-◌, ◌*◌, ◌/◌, length, max, min}
+use Rattle.std.specs.Prelude.{ℕ, zero, suc, ◌+◌, ◌-◌, ◌*◌, ◌/◌, ◌^◌, length, max, min, nat_le, if◌then◌else◌}
 use Rattle.line_tree.specs.TreeState.{TreeState}
 
--- each may take a node for itself, one for each level, of which there are 25 at most, and one for a new root
+-- the greatest height, of 1 to h + 1, of a tree of at most so many lines
+abbrev pub levels_up_to : ℕ → ℕ → ℕ
+levels_up_to zero lines = 1
+levels_up_to (suc h) lines = if nat_le (2 * 6 ^ suc h) lines then suc (suc h) else levels_up_to h lines
+
+-- none has more than 25 levels
+unfoldable pub levels_at_most : ℕ → ℕ
+levels_at_most lines = levels_up_to 24 lines
+
+-- each line may take a node for itself, one for each level, and one for a new root; there are no more lines than nodes
 abbrev pub room_by_height : TreeState → ℕ
-room_by_height t = min t.spares t.rooms / 27
+room_by_height t = min t.spares t.rooms / (levels_at_most t.nodes + 2)
 
 -- of nodes with 6 children at least there is one for each 5 lines in all, however they came to stand there
 abbrev pub room_by_width : TreeState → ℕ

@@ -7,6 +7,7 @@ mod climb;
 mod fill;
 mod find;
 mod insert;
+mod levels;
 mod locate;
 mod mark_names;
 mod marks;

@@ -2,6 +2,7 @@ use crate::climb::rank;
 use crate::fill::{join, top};
 use crate::find::select;
 use crate::insert::{insert_in, new_line};
+use crate::levels::levels;
 use crate::locate::locate;
 use crate::nearest::{Wanted, next, previous};
 use crate::prefix::prefix;
@@ -49,13 +50,16 @@ impl<C: Ticks> Model for LineTree<C> {
 }
 
 impl<C: Ticks> LineTree<C> {
-    ghost use Rattle.std.specs.Prelude.{◌≡◌, ℕ, ◌+◌, ◌-◌, ◌*◌, ◌^◌, ◌≤◌, ◌<◌, OnOk, IfOk};
+    ghost use Rattle.std.specs.Prelude.{◌≡◌, ℕ, ◌+◌, ◌-◌, ◌*◌, ◌^◌, ◌≤◌, ◌<◌, OnOk, IfOk, IfSome};
     ghost use Rattle.std.specs.Prelude.{[], ◌∷◌, length, option_map, slice_get, take};
     ghost use Rattle.std.specs.List.{insert, remove};
     ghost use Rattle.toggle_sums.specs.Counts.{plus};
     ghost use Rattle.text_model.specs.TagBits.{slot_count};
+    ghost use Rattle.raw_nodes.specs.Names.{records};
     ghost use Rattle.line_lists.specs.Edits.{without_mark};
     ghost use Rattle.line_lists.specs.Lists.{count_of, has_marks, has_toggle, next_line, previous_line};
+    ghost use Rattle.line_tree.specs.Growth.{StandsAlone};
+    ghost use Rattle.line_tree.specs.Shape.{lines_in};
     ghost use Rattle.line_tree.specs.Trees.{Named, contents, total};
     ghost use Rattle.segments.specs.Columns.{line_count, plain_line};
     ghost use Rattle.line_tree.specs.Changes.{Distinct, FitsSum};
@@ -101,7 +105,9 @@ impl<C: Ticks> LineTree<C> {
         ensures height { self.new.height ≡ self.old.height }
         ensures room { OnOk result (count ≤ line_room self.new) }
     {
-        let steep = count.checked_mul(27).ok_or(AllocError)?;
+        let most = count.checked_mul(27).ok_or(AllocError)?;
+        let nodes = self.nodes_with(most).ok_or(AllocError)?;
+        let steep = count * (levels(nodes) + 2);
         let rooms = self.count / 5 + count / 5 + 27;
         if steep <= rooms + count {
             return self.store.reserve(steep);
@@ -110,11 +116,29 @@ impl<C: Ticks> LineTree<C> {
         self.store.reserve_lines(rooms + count)
     }
 
+    /// How many nodes and spares there are at most, once so many more are reserved, if that can be counted.
+    fn nodes_with(&self, more: usize) -> Option<usize>
+        ensures { IfSome result (λ most. self.now.nodes + more ≤ most) }
+    {
+        let used = self.count.checked_add(self.count / 5 + 1)?;
+        let all = used.checked_add(self.store.spares())?;
+        let most = all.checked_add(more)?;
+        Some(most)
+    }
+
     /// How many lines there are.
     pub fn len(&self) -> usize
         ensures { result ≡ length self.now.lines }
     {
         self.count
+    }
+
+    /// The root, and the nodes: those of a balanced tree with these lines, and no others.
+    pub fn nodes(&self) -> (NodePtr, &NodeStore<C>)
+        ensures tree { StandsAlone (records result.1.now) self.now.height result.0 }
+        ensures lines { lines_in (records result.1.now) self.now.height result.0 ≡ self.now.lines }
+    {
+        (self.root, &self.store)
     }
 
     /// How many levels of nodes there are.

@@ -1,7 +1,7 @@
 ghost use Rattle.raw_nodes.specs.Chain.{IsChain, befores_of, flag_of, marks_of, nexts_of, numbers_of, room_of, rooms_for};
 ghost use Rattle.std.specs.FinMap as finite;
 ghost use Rattle.std.specs.List.{range_with_len};
-ghost use Rattle.std.specs.Prelude.{◌≡◌, ◌≢◌, ◌+◌, ◌^◌, ◌<◌, ◌≤◌, [], ◌∷◌, ◌++◌, IfSome, None, Some, OnErr, OnOk, count_by, false, is_some, length, map, option_map, slice_index_or, sum_by, true, vec_capacity};
+ghost use Rattle.std.specs.Prelude.{◌≡◌, ◌≢◌, ◌+◌, ◌^◌, ◌<◌, ◌≤◌, [], ◌∷◌, ◌++◌, IfSome, None, Some, OnErr, OnOk, count_by, false, is_some, length, map, max, option_map, slice_index_or, sum_by, true, vec_capacity};
 
 use crate::heap::Heap;
 use crate::names::{Link, NodePtr};
@@ -219,6 +219,7 @@ impl<C: Ticks> NodeStore<C> {
         ensures rooms { OnOk result (count ≤ rooms self.new) }
         ensures records { records self.new ≡ records self.old }
         ensures more { (spares self.old ≤ spares self.new) × (rooms self.old ≤ rooms self.new) }
+        ensures most { spares self.new ≤ max (spares self.old) count }
     {
         self.reserve_lines(count)?;
         while self.rooms.len() < count {
@@ -232,12 +233,20 @@ impl<C: Ticks> NodeStore<C> {
         ensures spares { OnOk result (count ≤ spares self.new) }
         ensures records { records self.new ≡ records self.old }
         ensures more { spares self.old ≤ spares self.new }
+        ensures most { spares self.new ≤ max (spares self.old) count }
         ensures rooms { rooms self.new ≡ rooms self.old }
     {
         while self.spares < count {
             self.grow()?;
         }
         Ok(())
+    }
+
+    /// How many spares there are.
+    pub fn spares(&self) -> usize
+        ensures { result ≡ spares self.now }
+    {
+        self.spares
     }
 
     /// One more spare.

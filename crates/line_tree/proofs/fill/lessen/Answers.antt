@@ -1,8 +1,8 @@
-use Rattle.std.proofs.Common.{◌≡◌, ◌+◌, ◌≤◌, sym, ap, ◌∙◌, subst, arith}
+use Rattle.std.proofs.Common.{sym, ap, ◌∙◌, arith}
 use Rattle.raw_nodes.specs.Names.{records}
 use Rattle.raw_nodes.specs.Records.{update, with_sum}
 use Rattle.raw_nodes.specs.Rows.{kids, row}
-use Rattle.toggle_sums.specs.Counts.{Count, less, plus}
+use Rattle.toggle_sums.specs.Counts.{Count, less}
 use Rattle.line_tree.specs.Changes.{sums}
 use Rattle.line_tree.proofs.LessLaws.{less-plus}
 use Rattle.line_tree.proofs.RowLaws.{sum_is}

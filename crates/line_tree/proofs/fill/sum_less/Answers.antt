@@ -1,4 +1,4 @@
-use Rattle.std.proofs.Common.{◌≡◌, ◌+◌, ◌≤◌, sym, ap, ◌∙◌, arith}
+use Rattle.std.proofs.Common.{sym, ap, ◌∙◌, arith}
 use Rattle.raw_nodes.specs.Names.{records}
 use Rattle.toggle_sums.specs.Counts.{Count, less}
 use Rattle.line_tree.specs.Changes.{sums}

@@ -1,16 +1,14 @@
-use Rattle.std.proofs.Common.{◌≡◌, ◌+◌, ◌-◌, ◌<◌, ◌≤◌, ◌++◌, ℕ, List, length, take, drop, refl, sym, ap, subst, ◌∙◌, arith, length-append, length-drop, length-take}
+use Rattle.std.proofs.Common.{◌≡◌, ◌+◌, ◌-◌, ◌≤◌, ◌++◌, ℕ, List, length, take, drop, sym, ap, subst, ◌∙◌, arith, length-drop}
 use Rattle.std.specs.Prelude.{IfSome}
 use Rattle.std.specs.declared.option.Option.{Option}
 use Rattle.std.specs.FinMap as finite
 use Rattle.std.proofs.lemmas.List.{take-append-drop, take_all}
-use Rattle.toggle_sums.specs.Counts.{Count, CountsFit, plus}
+use Rattle.toggle_sums.specs.Counts.{Count, plus}
 use Rattle.raw_nodes.specs.Names.{records}
 use Rattle.raw_nodes.specs.Records.{Records}
 use Rattle.raw_nodes.specs.Rows.{kids, row}
 use Rattle.raw_nodes.specs.declared.names.NodePtr.{NodePtr}
 use Rattle.line_tree.specs.Changes.{CanEven, FitsSum, sum_all, sums}
-use Rattle.line_tree.specs.Finds.{HasRow}
-use Rattle.line_tree.specs.Shape.{sum_at}
 use Rattle.line_tree.proofs.AmongLaws.{among-drop, among-take}
 use Rattle.line_tree.proofs.EvenLaws.{halves, named-part}
 use Rattle.line_tree.proofs.FillLaws.{sum_all-append, sums-row}

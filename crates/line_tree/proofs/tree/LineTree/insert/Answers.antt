@@ -3,14 +3,16 @@ use Rattle.std.specs.List.{insert}
 use Rattle.std.proofs.lemmas.List.Edits.{length-insert}
 use Rattle.toggle_sums.specs.Counts.{plus}
 use Rattle.segments.specs.Columns.{line_count}
-use Rattle.raw_nodes.specs.Names.{records}
+use Rattle.raw_nodes.specs.Names.{records, spares}
 use Rattle.line_tree.specs.Changes.{FitsSum}
 use Rattle.line_tree.specs.Growth.{Inserts, StandsAlone}
+use Rattle.line_tree.specs.Room.{levels_at_most}
 use Rattle.line_tree.specs.Shape.{lines_in}
 use Rattle.line_tree.specs.Trees.{total}
-use Rattle.line_tree.proofs.LineRoomLaws.{low-height, one-more, room-falls}
+use Rattle.line_tree.proofs.LevelLaws.{levels-held}
+use Rattle.line_tree.proofs.LineRoomLaws.{one-more, room-falls}
 use Rattle.line_tree.proofs.RoomLaws.{len-line, len-root}
-use Rattle.line_tree.proofs.RootLaws.{can-insert, can-root, fits-now, new-root, new-root-alone, same-root, same-root-alone, stands-few, stands-least}
+use Rattle.line_tree.proofs.RootLaws.{can-insert, can-root, fits-now, new-root, new-root-alone, same-root, same-root-alone}
 use Rattle.line_tree.proofs.RowLaws.{none_of}
 use Rattle.line_tree.proofs.TreeLaws.{named-tree, total-lines}
 use Rattle.line_tree.proofs.tree.LineTree.insert.Goals as goal
@@ -102,7 +104,7 @@ returns-in-Some-clause-spares g c = let v = ap (λ z. z.spares) c.self.view_is i
 pub returns-in-Some-clause-room : goal.returns-in-Some-clause-room
 returns-in-Some-clause-room g c = let m = records c.self.inside.store in let h = c.self.inside.height in let r = c.self.inside.root in let stands = c.self.invariant.0.stands in
     let old = c.args.self.now in
-    room-falls old _ (subst (λ v. v.height ≤ 25) c.self.view_is (low-height h (length (lines_in m h r)) (stands-least m h r stands) (stands-few m h r stands))) (returns-in-Some-clause-nodes g c)
+    room-falls old _ (subst (λ v. v.height ≤ levels_at_most v.nodes) c.self.view_is (levels-held m h r (spares c.self.inside.store) stands)) (returns-in-Some-clause-nodes g c)
     (ap length (returns-in-Some-clause-lines g c) ∙ length-insert old.lines c.args.k (c.new_line-name.result, c.args.line) c.requires.place)
     (returns-in-Some-clause-spares g c) (returns-in-Some-clause-rooms g c)
 
@@ -112,6 +114,6 @@ returns-in_default-clause-spares g c = let v = ap (λ z. z.spares) c.self.view_i
 pub returns-in_default-clause-room : goal.returns-in_default-clause-room
 returns-in_default-clause-room g c = let m = records c.self.inside.store in let h = c.self.inside.height in let r = c.self.inside.root in let stands = c.self.invariant.0.stands in
     let old = c.args.self.now in
-    room-falls old _ (subst (λ v. v.height ≤ 25) c.self.view_is (low-height h (length (lines_in m h r)) (stands-least m h r stands) (stands-few m h r stands))) (returns-in_default-clause-nodes g c)
+    room-falls old _ (subst (λ v. v.height ≤ levels_at_most v.nodes) c.self.view_is (levels-held m h r (spares c.self.inside.store) stands)) (returns-in_default-clause-nodes g c)
     (ap length (returns-in_default-clause-lines g c) ∙ length-insert old.lines c.args.k (c.new_line-name.result, c.args.line) c.requires.place)
     (returns-in_default-clause-spares g c) (returns-in_default-clause-rooms g c)

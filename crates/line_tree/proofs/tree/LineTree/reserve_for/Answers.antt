@@ -1,15 +1,36 @@
-use Rattle.std.proofs.Common.{◌≡◌, ◌+◌, ◌*◌, ◌/◌, length, ap, sym, ◌∙◌, subst, arith, rules}
+use Rattle.std.proofs.Common.{◌≡◌, ◌≤◌, ◌<◌, ◌+◌, ◌*◌, ◌/◌, ◌^◌, length, ap, sym, ◌∙◌, subst, arith, rules}
+use Rattle.std.specs.FinMap as finite
+use Rattle.std.proofs.Math.Nat.{mul-le-mul_left}
 use Rattle.std.proofs.lemmas.Result.{on_ok_weaker}
-use Rattle.raw_nodes.specs.Names.{records}
+use Rattle.raw_nodes.specs.Names.{records, spares}
 use Rattle.line_tree.specs.Growth.{Stands}
+use Rattle.line_tree.specs.Room.{levels_at_most}
 use Rattle.line_tree.specs.Shape.{lines_in}
-use Rattle.line_tree.proofs.LineRoomLaws.{many-records, on_ok_two, steep-room, wide-room}
+use Rattle.line_tree.proofs.LevelLaws.{many-records, more-lines}
+use Rattle.line_tree.proofs.LineRoomLaws.{on_ok_two, steep-room, wide-room}
 use Rattle.line_tree.proofs.tree.LineTree.reserve_for.Goals as goal
+
+pub overflow_mul-steep : goal.overflow_mul-steep
+overflow_mul-steep g c =
+    let is : c.in_ok-most.most ≡ c.args.count * 27 = search rules in
+    let fits : c.in_ok-most.most < 2 ^ 64 = search rules in
+    let low = c.levels.ensures.low in
+    let less : c.args.count * (c.levels.result + 2) ≤ c.args.count * 27 = mul-le-mul_left c.args.count (omega arith) in
+    omega (arith, is, fits, less)
 
 pub returns-then-steep-rooms-clause-room : goal.returns-then-steep-rooms-clause-room
 returns-then-steep-rooms-clause-room g c =
-    let is : c.in_ok-steep.steep ≡ c.args.count * 27 = search rules in
-    on_ok_two c.reserve.result (λ s r. steep-room _ c.args.count (omega (arith, s, is)) (omega (arith, r, is))) c.reserve.ensures.spares c.reserve.ensures.rooms
+    let new = c.reserve.new.self in
+    let is : c.in_ok-most.most ≡ c.args.count * 27 = search rules in
+    let all : c.args.self.now.nodes + c.in_ok-most.most ≤ c.in_ok-nodes.nodes = search rules in
+    let was = ap (λ v. v.nodes) c.self.view_is in
+    let same = ap finite.len c.reserve.ensures.records in
+    let low = c.levels.ensures.low in
+    let less : c.args.count * (c.levels.result + 2) ≤ c.args.count * 27 = mul-le-mul_left c.args.count (omega arith) in
+    let most = c.reserve.ensures.most in
+    let few : spares new + finite.len (records new) ≤ c.in_ok-nodes.nodes = omega (arith, is, all, was, same, less, most) in
+    let high = subst (λ l. levels_at_most (spares new + finite.len (records new)) ≤ l) (sym c.levels.ensures.value) (more-lines _ _ few) in
+    on_ok_two c.reserve.result (λ s r. steep-room _ c.args.count c.levels.result high s r) c.reserve.ensures.spares c.reserve.ensures.rooms
 
 pub returns-clause-room : goal.returns-clause-room
 returns-clause-room g c =

@@ -1,4 +1,4 @@
-use Rattle.std.proofs.Common.{◌≡◌, ◌≤◌, ◌-◌}
+use Rattle.std.proofs.Common.{◌≡◌, ◌≤◌, ◌-◌, max}
 use Rattle.raw_nodes.specs.Names.{records, rooms, spares}
 use Rattle.raw_nodes.proofs.store.NodeStore.reserve.Given as goal
 
@@ -7,6 +7,7 @@ invariant-loop-self g l = record {
   records : records l.self ≡ records l.fn.self;
   reserved : l.count ≤ spares l.self;
   more : spares l.fn.self ≤ spares l.self;
+  most : spares l.self ≤ max (spares l.fn.self) l.count;
   rooms : rooms l.fn.self ≤ rooms l.self;
 }
 

@@ -1,4 +1,4 @@
-use Rattle.std.proofs.Common.{◌≡◌, ◌≤◌, ◌-◌}
+use Rattle.std.proofs.Common.{◌≡◌, ◌≤◌, ◌-◌, max}
 use Rattle.raw_nodes.specs.Names.{records, rooms, spares}
 use Rattle.raw_nodes.proofs.store.NodeStore.reserve_lines.Given as goal
 
@@ -6,6 +6,7 @@ abbrev pub invariant-loop-self : goal.invariant-loop-self
 invariant-loop-self g l = record {
   records : records l.self ≡ records l.fn.self;
   more : spares l.fn.self ≤ spares l.self;
+  most : spares l.self ≤ max (spares l.fn.self) l.count;
   rooms : rooms l.self ≡ rooms l.fn.self;
 }
 
