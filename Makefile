@@ -41,7 +41,7 @@ $(WEIGH): tools/weigh.c
 
 # `rt ci` puts back an out/ that was there before it, so old programs are taken away first.
 test: $(SHIM) $(WEIGH)
-	rm -rf crates/tktext/out crates/node_memory/out
+	rm -rf crates/tktext/out crates/node_memory/out crates/tree_bench/out
 	python3 tools/total.py 'python3 tools/gate.py' \
 	  'python3 tools/selftest.py' \
 	  'python3 tools/fuzz.py --program $(PROGRAM) --seeds 300' \
@@ -50,6 +50,7 @@ test: $(SHIM) $(WEIGH)
 	  'python3 tools/idle.py --program $(PROGRAM)' \
 	  'python3 tools/devices.py --program $(PROGRAM)' \
 	  'python3 tools/memory.py --program $(NODE_MEMORY) --shim $(WEIGH)' \
+	  'python3 tools/tree_refusals.py --program $(TREE_BENCH) --shim $(SHIM)' \
 	  'python3 tools/own_counter.py' \
 	  'python3 tools/manual.py --program $(PROGRAM)' \
 	  'python3 tools/tk.py --program $(PROGRAM)' \

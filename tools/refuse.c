@@ -7,13 +7,15 @@
    memalign and posix_memalign from the beginning of main to its end. The one with the number
    REFUSE_GROWTH, counted from 1, answers NULL (ENOMEM); all others, and all of them where the variable
    is missing or 0, are handed on. The file GROWTH_REPORT holds the number of growths so far as decimal
-   digits. It is written anew at each growth, so it is right however the program ends. */
+   digits. It is written anew at each growth, so it is right however the program ends. The file LEFT_REPORT
+   holds, once the program has ended, how many blocks were not freed. */
 
 #define _GNU_SOURCE
 #include <dlfcn.h>
 #include <errno.h>
 #include <fcntl.h>
 #include <stddef.h>
+#include <stdio.h>
 #include <stdlib.h>
 #include <unistd.h>
 
@@ -21,6 +23,7 @@ extern void *__libc_malloc(size_t);
 extern void *__libc_calloc(size_t, size_t);
 extern void *__libc_realloc(void *, size_t);
 extern void *__libc_memalign(size_t, size_t);
+extern void __libc_free(void *);
 
 typedef int (*main_function)(int, char **, char **);
 typedef int (*start_function)(main_function, int, char **, void (*)(void), void (*)(void), void (*)(void), void *);
@@ -30,6 +33,7 @@ static int armed;                /* main began and has not returned */
 static unsigned long growths;    /* how many there were */
 static unsigned long refused;    /* the number of the one to refuse, 0 for none */
 static int report = -1;          /* the report's file, -1 for none */
+static long blocks;              /* how many are not freed */
 
 static void write_report(void)
 {
@@ -59,25 +63,42 @@ static int is_refused(void)
     return 1;
 }
 
+/* A block that is new, if there is one. */
+static void *with(void *block)
+{
+    blocks += block != NULL;
+    return block;
+}
+
 void *malloc(size_t size)
 {
-    return is_refused() ? NULL : __libc_malloc(size);
+    return is_refused() ? NULL : with(__libc_malloc(size));
 }
 
 void *calloc(size_t count, size_t size)
 {
-    return is_refused() ? NULL : __libc_calloc(count, size);
+    return is_refused() ? NULL : with(__libc_calloc(count, size));
 }
 
 void *realloc(void *block, size_t size)
 {
     int only_frees = block != NULL && size == 0;
-    return !only_frees && is_refused() ? NULL : __libc_realloc(block, size);
+    if (!only_frees && is_refused())
+        return NULL;
+    void *moved = __libc_realloc(block, size);
+    blocks += (block == NULL && moved != NULL) - only_frees;
+    return moved;
 }
 
 void *memalign(size_t alignment, size_t size)
 {
-    return is_refused() ? NULL : __libc_memalign(alignment, size);
+    return is_refused() ? NULL : with(__libc_memalign(alignment, size));
+}
+
+void free(void *block)
+{
+    blocks -= block != NULL;
+    __libc_free(block);
 }
 
 void *aligned_alloc(size_t alignment, size_t size)
@@ -92,6 +113,17 @@ int posix_memalign(void **block, size_t alignment, size_t size)
         return ENOMEM;
     *block = made;
     return 0;
+}
+
+__attribute__((destructor)) static void report_left(void)
+{
+    const char *path = getenv("LEFT_REPORT");
+    long left = blocks;
+    FILE *file = path == NULL ? NULL : fopen(path, "w");
+    if (file != NULL) {
+        fprintf(file, "%ld\n", left);
+        fclose(file);
+    }
 }
 
 static int counted_main(int count, char **words, char **environment)

@@ -66,6 +66,11 @@ pub fn splice(
     Ok(true)
 }
 
+/// Reserves for so many lines to be put in.
+pub fn reserve(counted: &mut Counted, count: usize) -> Result<(), AllocError> {
+    counted.tree.reserve_for(count)
+}
+
 /// Puts in one line as number `k`, and says whether that was done.
 pub fn insert(
     counted: &mut Counted,

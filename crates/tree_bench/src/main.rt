@@ -1,17 +1,21 @@
 //! `tree_bench WORK COUNT LENGTH` does one thing with a tree of so many lines of so many characters each, and prints
-//! how many lines there are then, and a count of the work's own: what `tools/bench_tree.py` times.
+//! how many lines there are then, and a count of the work's own: what `tools/bench_tree.py` times, and
+//! `tools/tree_refusals.py` runs where memory is refused.
 #![tactic(auto)]
 
 mod counted;
 mod counter;
 mod lines;
 mod mixed;
+mod refused;
+mod shape;
 mod works;
 
 use counted::{Counted, new_tree, whole};
 use counter::Counter;
 use lines::{make_lines, sum_of, text_of};
-use mixed::{mix, new_mixed};
+use mixed::{mix, mixed_of};
+use refused::{Refusals, ask_twice};
 use std::alloc::{AllocError, Global};
 use std::process::ExitCode;
 use std::{env, io};
@@ -34,6 +38,9 @@ enum Work {
     Walk,
     /// So many random splices of up to 40 lines. It prints how often the tree isn't as a plain list says.
     Mixed,
+    /// The same, and then a hundred lines that were reserved for. It prints how often a new tree was refused, and how
+    /// often that reservation, and the differences.
+    Refused,
 }
 
 impl Work {
@@ -46,20 +53,22 @@ impl Work {
             "insert" => Some(Work::Insert),
             "walk" => Some(Work::Walk),
             "mixed" => Some(Work::Mixed),
+            "refused" => Some(Work::Refused),
             _ => None,
         }
     }
 }
 
-/// How many lines there are in the end, and the work's own count.
+/// What is printed.
 #[derive(Clone, Copy)]
-struct Outcome {
-    lines: usize,
-    done: usize,
+enum Outcome {
+    /// How many lines there are in the end, and the work's own count.
+    Done { lines: usize, done: usize },
+    Refused(Refusals),
 }
 
 fn outcome_of(counted: &Counted, ticks: &mut Counter) -> Outcome {
-    Outcome {
+    Outcome::Done {
         lines: counted.count,
         done: whole(counted, ticks).characters(),
     }
@@ -69,7 +78,7 @@ fn outcome_of(counted: &Counted, ticks: &mut Counter) -> Outcome {
 fn walked(counted: &Counted, ticks: &mut Counter) -> Outcome {
     ticks.seen = 0;
     walk(counted, ticks);
-    Outcome {
+    Outcome::Done {
         lines: counted.count,
         done: ticks.seen,
     }
@@ -81,19 +90,24 @@ fn lines_alone(alloc: Global, count: usize, text: &str) -> Result<Outcome, Alloc
         Some(sum) => sum.characters(),
         None => 0,
     };
-    Ok(Outcome {
+    Ok(Outcome::Done {
         lines: lines.len(),
         done,
     })
 }
 
 fn mixed_splices(alloc: Global, count: usize, length: usize) -> Result<Outcome, AllocError> {
-    let mut mixed = new_mixed(alloc)?;
+    let mut mixed = mixed_of(alloc, new_tree(alloc)?)?;
     mix(alloc, &mut mixed, count, length, &mut Counter::new())?;
-    Ok(Outcome {
+    Ok(Outcome::Done {
         lines: mixed.counted.count,
         done: mixed.differences,
     })
+}
+
+fn refused_growths(alloc: Global, count: usize, length: usize) -> Result<Outcome, AllocError> {
+    let refusals = ask_twice(alloc, count, length, &mut Counter::new())?;
+    Ok(Outcome::Refused(refusals))
 }
 
 /// Does one of the works on a tree.
@@ -123,6 +137,7 @@ fn run(alloc: Global, work: Work, count: usize, length: usize) -> Result<Outcome
     match work {
         Work::Lines => lines_alone(alloc, count, &text),
         Work::Mixed => mixed_splices(alloc, count, length),
+        Work::Refused => refused_growths(alloc, count, length),
         _ => work_on(alloc, &mut new_tree(alloc)?, work, count, &text),
     }
 }
@@ -141,7 +156,13 @@ fn main(rt: HostRuntime) -> io::Result<ExitCode> {
     let Some(work) = kind else {
         return Ok(ExitCode::from(1));
     };
-    let Outcome { lines, done } = run(rt.alloc(), work, count, length)?;
-    println!(&rt; "{lines} {done}")?;
+    match run(rt.alloc(), work, count, length)? {
+        Outcome::Done { lines, done } => println!(&rt; "{lines} {done}")?,
+        Outcome::Refused(Refusals {
+            trees,
+            rooms,
+            differences,
+        }) => println!(&rt; "{trees} {rooms} {differences}")?,
+    }
     Ok(ExitCode::SUCCESS)
 }

@@ -1,8 +1,9 @@
 ghost use Rattle.std.specs.Prelude.{◌+◌, ◌≤◌, length};
 
-use crate::counted::{Counted, new_tree, splice, whole};
+use crate::counted::{Counted, splice, whole};
 use crate::counter::Counter;
 use crate::lines::{Numbers, text_of};
+use crate::shape::count_faults;
 use segments::Line;
 use std::alloc::{AllocError, Global};
 
@@ -87,6 +88,22 @@ fn reach_of(step: usize) -> Reach {
     }
 }
 
+/// Lines in the place of others, in both. Says whether that was done.
+fn splice_lines(
+    alloc: Global,
+    mixed: &mut Mixed,
+    k: usize,
+    gone: usize,
+    lines: Vec<Line>,
+    ticks: &mut Counter,
+) -> Result<bool, AllocError>
+    requires { k + gone ≤ length mixed.old.plain.items }
+{
+    let mut lengths = lengths_of(alloc, &lines)?;
+    replace(&mut mixed.plain, k, gone, &mut lengths)?;
+    splice(&mut mixed.counted, k, gone, lines, ticks)
+}
+
 /// A splice in both at a random place. Says whether it was made.
 fn splice_both(
     alloc: Global,
@@ -100,9 +117,7 @@ fn splice_both(
     let gone = mixed.numbers.below(reach.out_below).min(len - k);
     let count = mixed.numbers.below(reach.in_below).max(1);
     let lines = random_lines(alloc, &mut mixed.numbers, count, length)?;
-    let mut lengths = lengths_of(alloc, &lines)?;
-    replace(&mut mixed.plain, k, gone, &mut lengths)?;
-    splice(&mut mixed.counted, k, gone, lines, ticks)
+    splice_lines(alloc, mixed, k, gone, lines, ticks)
 }
 
 /// Whether all lines together are what they are to be.
@@ -148,19 +163,25 @@ fn count_differences(mixed: &Mixed, k: usize, ticks: &mut Counter) -> usize {
         + !has_start(mixed, k, ticks) as usize
 }
 
-/// A tree of the lone newline.
-pub fn new_mixed(alloc: Global) -> Result<Mixed, AllocError> {
+/// How much of the nodes isn't as it is to be, by a walk over all of them.
+pub fn walk_faults(mixed: &Mixed, ticks: &mut Counter) -> usize {
+    count_faults(&mixed.counted.tree, &mixed.plain, ticks)
+}
+
+/// What begins with a tree of the lone newline.
+pub fn mixed_of(alloc: Global, counted: Counted) -> Result<Mixed, AllocError> {
     let mut plain = Vec::new(alloc);
     plain.push(1)?;
     Ok(Mixed {
-        counted: new_tree(alloc)?,
+        counted,
         plain,
         numbers: Numbers::new(),
         differences: 0,
     })
 }
 
-/// So many random splices of lines of at most so many characters, with a look at a line after each.
+/// So many random splices of lines of at most so many characters, with a look at a line after each, and at all nodes
+/// after every thousand and after the last.
 pub fn mix(
     alloc: Global,
     mixed: &mut Mixed,
@@ -168,11 +189,27 @@ pub fn mix(
     length: usize,
     ticks: &mut Counter,
 ) -> Result<(), AllocError> {
-    for step in 0..count {
+    for step in 1..=count {
         let is_made = splice_both(alloc, mixed, reach_of(step), length, ticks)?;
         let k = mixed.numbers.below(mixed.plain.len());
         let wrong = count_differences(mixed, k, ticks).wrapping_add(!is_made as usize);
         mixed.differences = mixed.differences.wrapping_add(wrong);
+        if step % 1000 == 0 || step == count {
+            mixed.differences = mixed.differences.wrapping_add(walk_faults(mixed, ticks));
+        }
     }
     Ok(())
+}
+
+/// Puts so many lines in in the midst, in one call, and says whether that was done.
+pub fn put_in(
+    alloc: Global,
+    mixed: &mut Mixed,
+    count: usize,
+    length: usize,
+    ticks: &mut Counter,
+) -> Result<bool, AllocError> {
+    let k = mixed.plain.len() / 2;
+    let lines = random_lines(alloc, &mut mixed.numbers, count, length)?;
+    splice_lines(alloc, mixed, k, 0, lines, ticks)
 }
