@@ -18,9 +18,9 @@ import tempfile
 
 SPLICES = 5
 LENGTH = 20
-# A tree has two nodes and a room at least, and a hundred lines take a node each, one for the level and one for a root.
+# A tree has two nodes and a room at least, and each of a hundred lines takes a node.
 LEAST_NEW = 3
-LEAST_ROOM = 100 * 3
+LEAST_ROOM = 100
 
 
 class Runs:
