@@ -90,6 +90,9 @@ row-above m h n p e is = row-tree m n p (subst (λ k. IsTree m k p) e is)
 pub below-tree : (m : Records) (h : ℕ) (p : NodePtr) → IsTree m (suc h) p → lines_below m p ≡ length (lines_in m (suc h) p)
 below-tree m h p is = counted m h (kids m p) is.2
 
+pub whole-below : (m : Records) (h : ℕ) (p : NodePtr) → IsTree m (suc h) p → lines_at m p ≡ lines_below m p
+whole-below m h p is = count-tree m (suc h) p is ∙ sym (below-tree m h p is)
+
 pub line-found : (m : Records) (h : ℕ) (cs : List NodePtr) (i r k : ℕ) (c : NodePtr) → AllByRecursion (Holds m h) (map (tree_at m h) cs) → slice_get cs i ≡ Some c
     → sum_by (lines_at m) (take i cs) + r ≡ k → r < lines_at m c → slice_get (flat_map (lines h) (map (tree_at m h) cs)) k ≡ slice_get (lines_in m h c) r
 line-found m h [] i r k c all at place rest = absurd (none-some c at)

@@ -3,10 +3,12 @@ ghost use Rattle.std.specs.FinMap as finite;
 ghost use Rattle.raw_nodes.specs.Names.{records, rooms, spares};
 ghost use Rattle.raw_nodes.specs.Rows.{kids};
 ghost use Rattle.line_tree.specs.Finds.{HasRow, Leads, lines_below};
+ghost use Rattle.line_tree.specs.Shape.{lines_at};
 ghost use Rattle.line_tree.specs.Growth.{CanInsert, Inserts, NewLine};
 
 use crate::fill::{add, put};
-use crate::find::{Found, find};
+use crate::find::Found;
+use crate::near::find_near;
 use raw_nodes::{NodePtr, NodeStore, Ticks};
 use segments::Line;
 
@@ -15,6 +17,7 @@ fn lead<C: Ticks>(store: &NodeStore<C>, node: NodePtr, k: usize, ticks: &mut C) 
     requires row { HasRow (records store.now) node }
     requires some { 0 < length (kids (records store.now) node) }
     requires within { k ≤ lines_below (records store.now) node }
+    requires whole { lines_at (records store.now) node ≡ lines_below (records store.now) node }
     ensures { Leads (records store.now) node k result }
 {
     if k == 0 {
@@ -25,7 +28,7 @@ fn lead<C: Ticks>(store: &NodeStore<C>, node: NodePtr, k: usize, ticks: &mut C) 
             rest: 0,
         };
     }
-    let found = find(store, node, k - 1, ticks);
+    let found = find_near(store, node, k - 1, ticks);
     Found {
         child: found.child,
         slot: found.slot,

@@ -11,6 +11,7 @@ mod levels;
 mod locate;
 mod mark_names;
 mod marks;
+mod near;
 mod nearest;
 mod prefix;
 mod remove;

@@ -6,7 +6,7 @@ ghost use Rattle.line_tree.specs.Finds.{HasRow};
 ghost use Rattle.line_tree.specs.Shrinking.{CanLower, CanMend, CanRemove, Cleans, Lowers, Removes, Settles};
 
 use crate::fill::lessen;
-use crate::find::find;
+use crate::near::find_near;
 use crate::shrink::{drop_child, kid, mend, sum_in};
 use raw_nodes::{NodePtr, NodeStore, Ticks};
 
@@ -54,7 +54,7 @@ pub fn remove_in<C: Ticks>(
         let less = sum_in(store, node, k, ticks);
         return drop_child(store, node, k, &less, ticks);
     }
-    let found = find(store, node, k, ticks);
+    let found = find_near(store, node, k, ticks);
     let line = remove_in(store, found.child, height - 1, found.rest, ticks);
     let less = store.sum(line, ticks);
     match settle(store, node, found.slot, found.child, ticks) {

@@ -18,7 +18,7 @@ use Rattle.toggle_sums.specs.Counts.{Count, plus}
 use Rattle.std.specs.Prelude.{IfSome, IsSome}
 use Rattle.line_tree.specs.Changes.{sum_all}
 use Rattle.line_tree.proofs.RowLaws.{sum_is}
-use Rattle.line_tree.proofs.TreeLaws.{below-tree, named-tree}
+use Rattle.line_tree.proofs.TreeLaws.{below-tree, named-tree, whole-below}
 use Rattle.line_tree.proofs.insert.+insert_in.Goals as goal
 
 -- the height as one more than another
@@ -71,6 +71,10 @@ lead-found-requires-clause-some g t c = let m = records c.args.store.now in
 pub lead-found-requires-clause-within : goal.lead-found-requires-clause-within
 lead-found-requires-clause-within g t c = let m = records c.args.store.now in
     within-kids m (c.args.height - 1) c.args.node c.args.k c.args.line (above m c.args.height c.args.node c.args.k c.args.line c.requires.insert c.requires.node)
+
+pub lead-found-requires-clause-whole : goal.lead-found-requires-clause-whole
+lead-found-requires-clause-whole g t c = let m = records c.args.store.now in
+    whole-below m (c.args.height - 1) c.args.node (above m c.args.height c.args.node c.args.k c.args.line c.requires.insert c.requires.node).tree
 
 pub insert_in-requires : goal.insert_in-requires
 insert_in-requires g t c κs inside = let m = records c.args.store.now in

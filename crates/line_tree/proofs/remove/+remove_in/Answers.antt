@@ -18,7 +18,7 @@ use Rattle.line_tree.specs.Shrinking.{CanRemove, Cleans, Removes, Settles}
 use Rattle.line_tree.proofs.RemovePairs.{sum-ready, below-now, can-mend, cleans-gone, cleans-ready, fill-ready, has-ready, inner-ready, links-ready, removes-gone, removes-ready, slot-ready}
 use Rattle.line_tree.proofs.RemoveSteps.{line-named, node-sum, can-below, child-now, cleans-low, has-now, low-fill, low-removes, low-slot, two-kids}
 use Rattle.line_tree.proofs.RoomLaws.{len-gone, len-refilled, len-resummed, len-settles}
-use Rattle.line_tree.proofs.TreeLaws.{below-tree, row-tree, tops-tree_at}
+use Rattle.line_tree.proofs.TreeLaws.{below-tree, row-tree, tops-tree_at, whole-below}
 use Rattle.line_tree.proofs.UpdateLaws.{InnerIn, inner-refilled, named-refilled, room-given}
 use Rattle.line_tree.proofs.remove.+remove_in.Goals as goal
 
@@ -61,74 +61,77 @@ returns-then-height-eq1-clause-removes g t c = let m = records c.args.store.now 
     subst (λ h. Removes m n h c.args.node c.args.k c.drop_child.result) (sym c.if-height-eq1.true)
     (low-removes m c.args.node c.args.k (low m c.args.height c.args.node c.args.k c.if-height-eq1.true c.requires.remove) c.drop_child.result c.drop_child.ensures.child n c.drop_child.ensures.records)
 
-pub find-found-requires-clause-row : goal.find-found-requires-clause-row
-find-found-requires-clause-row g t c = let m = records c.args.store.now in let p = c.args.node in let k = c.args.k in let g2 = c.args.height - 2 in let can = above m c.args.height p k c.requires.node c.if-height-eq1.false c.requires.remove in row-tree m (suc g2) p can.tree
+pub find_near-found-requires-clause-row : goal.find_near-found-requires-clause-row
+find_near-found-requires-clause-row g t c = let m = records c.args.store.now in let p = c.args.node in let k = c.args.k in let g2 = c.args.height - 2 in let can = above m c.args.height p k c.requires.node c.if-height-eq1.false c.requires.remove in row-tree m (suc g2) p can.tree
 
-pub find-found-requires-clause-within : goal.find-found-requires-clause-within
-find-found-requires-clause-within g t c = let m = records c.args.store.now in let p = c.args.node in let k = c.args.k in let g2 = c.args.height - 2 in let can = above m c.args.height p k c.requires.node c.if-height-eq1.false c.requires.remove in let n = below-tree m (suc g2) p can.tree in let w = can.place in omega arith
+pub find_near-found-requires-clause-within : goal.find_near-found-requires-clause-within
+find_near-found-requires-clause-within g t c = let m = records c.args.store.now in let p = c.args.node in let k = c.args.k in let g2 = c.args.height - 2 in let can = above m c.args.height p k c.requires.node c.if-height-eq1.false c.requires.remove in let n = below-tree m (suc g2) p can.tree in let w = can.place in omega arith
+
+pub find_near-found-requires-clause-whole : goal.find_near-found-requires-clause-whole
+find_near-found-requires-clause-whole g t c = let m = records c.args.store.now in let p = c.args.node in let k = c.args.k in let g2 = c.args.height - 2 in let can = above m c.args.height p k c.requires.node c.if-height-eq1.false c.requires.remove in whole-below m (suc g2) p can.tree
 
 pub remove_in-line-requires : goal.remove_in-line-requires
-remove_in-line-requires g t c κs inside = let m = records c.args.store.now in let p = c.args.node in let k = c.args.k in let g2 = c.args.height - 2 in let can = above m c.args.height p k c.requires.node c.if-height-eq1.false c.requires.remove in let f = c.find-found.result in let finds = c.find-found.ensures.found in
+remove_in-line-requires g t c κs inside = let m = records c.args.store.now in let p = c.args.node in let k = c.args.k in let g2 = c.args.height - 2 in let can = above m c.args.height p k c.requires.node c.if-height-eq1.false c.requires.remove in let f = c.find_near-found.result in let finds = c.find_near-found.ensures.found in
     let node = c.requires.node in let more = c.if-height-eq1.false in
     (omega (arith, c.decreases), (inside, (omega arith, down m c.args.height f.child f.rest node more (can-below m (suc g2) p k can f finds))))
 
 pub settle-requires-clause-row : goal.settle-requires-clause-row
-settle-requires-clause-row g t c = let m = records c.args.store.now in let p = c.args.node in let k = c.args.k in let g2 = c.args.height - 2 in let can = above m c.args.height p k c.requires.node c.if-height-eq1.false c.requires.remove in let f = c.find-found.result in let finds = c.find-found.ensures.found in let l = records c.remove_in-line.new.store in let x = c.remove_in-line.result in let rem = child m l c.args.height f.child f.rest x c.requires.node c.if-height-eq1.false c.remove_in-line.ensures.removes in
+settle-requires-clause-row g t c = let m = records c.args.store.now in let p = c.args.node in let k = c.args.k in let g2 = c.args.height - 2 in let can = above m c.args.height p k c.requires.node c.if-height-eq1.false c.requires.remove in let f = c.find_near-found.result in let finds = c.find_near-found.ensures.found in let l = records c.remove_in-line.new.store in let x = c.remove_in-line.result in let rem = child m l c.args.height f.child f.rest x c.requires.node c.if-height-eq1.false c.remove_in-line.ensures.removes in
     has-now m (suc g2) p k can f finds l x rem
 
 pub settle-requires-clause-two : goal.settle-requires-clause-two
-settle-requires-clause-two g t c = let m = records c.args.store.now in let p = c.args.node in let k = c.args.k in let g2 = c.args.height - 2 in let can = above m c.args.height p k c.requires.node c.if-height-eq1.false c.requires.remove in let f = c.find-found.result in let finds = c.find-found.ensures.found in let l = records c.remove_in-line.new.store in let x = c.remove_in-line.result in let rem = child m l c.args.height f.child f.rest x c.requires.node c.if-height-eq1.false c.remove_in-line.ensures.removes in
+settle-requires-clause-two g t c = let m = records c.args.store.now in let p = c.args.node in let k = c.args.k in let g2 = c.args.height - 2 in let can = above m c.args.height p k c.requires.node c.if-height-eq1.false c.requires.remove in let f = c.find_near-found.result in let finds = c.find_near-found.ensures.found in let l = records c.remove_in-line.new.store in let x = c.remove_in-line.result in let rem = child m l c.args.height f.child f.rest x c.requires.node c.if-height-eq1.false c.remove_in-line.ensures.removes in
     two-kids m (suc g2) p k can f finds l x rem
 
 pub settle-requires-clause-child : goal.settle-requires-clause-child
-settle-requires-clause-child g t c = let m = records c.args.store.now in let p = c.args.node in let k = c.args.k in let g2 = c.args.height - 2 in let can = above m c.args.height p k c.requires.node c.if-height-eq1.false c.requires.remove in let f = c.find-found.result in let finds = c.find-found.ensures.found in let l = records c.remove_in-line.new.store in let x = c.remove_in-line.result in let rem = child m l c.args.height f.child f.rest x c.requires.node c.if-height-eq1.false c.remove_in-line.ensures.removes in
+settle-requires-clause-child g t c = let m = records c.args.store.now in let p = c.args.node in let k = c.args.k in let g2 = c.args.height - 2 in let can = above m c.args.height p k c.requires.node c.if-height-eq1.false c.requires.remove in let f = c.find_near-found.result in let finds = c.find_near-found.ensures.found in let l = records c.remove_in-line.new.store in let x = c.remove_in-line.result in let rem = child m l c.args.height f.child f.rest x c.requires.node c.if-height-eq1.false c.remove_in-line.ensures.removes in
     child-now m (suc g2) p k can f finds l x rem
 
 pub settle-requires-clause-below : goal.settle-requires-clause-below
-settle-requires-clause-below g t c = let m = records c.args.store.now in let p = c.args.node in let k = c.args.k in let g2 = c.args.height - 2 in let can = above m c.args.height p k c.requires.node c.if-height-eq1.false c.requires.remove in let f = c.find-found.result in let finds = c.find-found.ensures.found in let l = records c.remove_in-line.new.store in let x = c.remove_in-line.result in let rem = child m l c.args.height f.child f.rest x c.requires.node c.if-height-eq1.false c.remove_in-line.ensures.removes in
+settle-requires-clause-below g t c = let m = records c.args.store.now in let p = c.args.node in let k = c.args.k in let g2 = c.args.height - 2 in let can = above m c.args.height p k c.requires.node c.if-height-eq1.false c.requires.remove in let f = c.find_near-found.result in let finds = c.find_near-found.ensures.found in let l = records c.remove_in-line.new.store in let x = c.remove_in-line.result in let rem = child m l c.args.height f.child f.rest x c.requires.node c.if-height-eq1.false c.remove_in-line.ensures.removes in
     below-now m g2 p k can f finds l x rem
 
 pub settle-requires-clause-pairs : goal.settle-requires-clause-pairs
-settle-requires-clause-pairs g t c = let m = records c.args.store.now in let p = c.args.node in let k = c.args.k in let g2 = c.args.height - 2 in let can = above m c.args.height p k c.requires.node c.if-height-eq1.false c.requires.remove in let f = c.find-found.result in let finds = c.find-found.ensures.found in let l = records c.remove_in-line.new.store in let x = c.remove_in-line.result in let rem = child m l c.args.height f.child f.rest x c.requires.node c.if-height-eq1.false c.remove_in-line.ensures.removes in
+settle-requires-clause-pairs g t c = let m = records c.args.store.now in let p = c.args.node in let k = c.args.k in let g2 = c.args.height - 2 in let can = above m c.args.height p k c.requires.node c.if-height-eq1.false c.requires.remove in let f = c.find_near-found.result in let finds = c.find_near-found.ensures.found in let l = records c.remove_in-line.new.store in let x = c.remove_in-line.result in let rem = child m l c.args.height f.child f.rest x c.requires.node c.if-height-eq1.false c.remove_in-line.ensures.removes in
     can-mend m g2 p k can f finds l x rem
 
 pub drop_child-gone-requires-clause-row : goal.drop_child-gone-requires-clause-row
-drop_child-gone-requires-clause-row g t c = let m = records c.args.store.now in let p = c.args.node in let k = c.args.k in let g2 = c.args.height - 2 in let can = above m c.args.height p k c.requires.node c.if-height-eq1.false c.requires.remove in let f = c.find-found.result in let finds = c.find-found.ensures.found in let l = records c.remove_in-line.new.store in let x = c.remove_in-line.result in let rem = child m l c.args.height f.child f.rest x c.requires.node c.if-height-eq1.false c.remove_in-line.ensures.removes in let n = records c.settle.new.store in let settles = subst (λ o. Settles l n p f.slot f.child o) c.in-Some.is c.settle.ensures.settles in
+drop_child-gone-requires-clause-row g t c = let m = records c.args.store.now in let p = c.args.node in let k = c.args.k in let g2 = c.args.height - 2 in let can = above m c.args.height p k c.requires.node c.if-height-eq1.false c.requires.remove in let f = c.find_near-found.result in let finds = c.find_near-found.ensures.found in let l = records c.remove_in-line.new.store in let x = c.remove_in-line.result in let rem = child m l c.args.height f.child f.rest x c.requires.node c.if-height-eq1.false c.remove_in-line.ensures.removes in let n = records c.settle.new.store in let settles = subst (λ o. Settles l n p f.slot f.child o) c.in-Some.is c.settle.ensures.settles in
     has-ready m g2 p k can f finds l x rem n (Some c.in-Some.slot) settles
 
 pub drop_child-gone-requires-clause-links : goal.drop_child-gone-requires-clause-links
-drop_child-gone-requires-clause-links g t c = let m = records c.args.store.now in let p = c.args.node in let k = c.args.k in let g2 = c.args.height - 2 in let can = above m c.args.height p k c.requires.node c.if-height-eq1.false c.requires.remove in let f = c.find-found.result in let finds = c.find-found.ensures.found in let l = records c.remove_in-line.new.store in let x = c.remove_in-line.result in let rem = child m l c.args.height f.child f.rest x c.requires.node c.if-height-eq1.false c.remove_in-line.ensures.removes in let n = records c.settle.new.store in let settles = subst (λ o. Settles l n p f.slot f.child o) c.in-Some.is c.settle.ensures.settles in
+drop_child-gone-requires-clause-links g t c = let m = records c.args.store.now in let p = c.args.node in let k = c.args.k in let g2 = c.args.height - 2 in let can = above m c.args.height p k c.requires.node c.if-height-eq1.false c.requires.remove in let f = c.find_near-found.result in let finds = c.find_near-found.ensures.found in let l = records c.remove_in-line.new.store in let x = c.remove_in-line.result in let rem = child m l c.args.height f.child f.rest x c.requires.node c.if-height-eq1.false c.remove_in-line.ensures.removes in let n = records c.settle.new.store in let settles = subst (λ o. Settles l n p f.slot f.child o) c.in-Some.is c.settle.ensures.settles in
     links-ready m g2 p k can f finds l x rem n (Some c.in-Some.slot) settles
 
 pub drop_child-gone-requires-clause-slot : goal.drop_child-gone-requires-clause-slot
-drop_child-gone-requires-clause-slot g t c = let m = records c.args.store.now in let p = c.args.node in let k = c.args.k in let g2 = c.args.height - 2 in let can = above m c.args.height p k c.requires.node c.if-height-eq1.false c.requires.remove in let f = c.find-found.result in let finds = c.find-found.ensures.found in let l = records c.remove_in-line.new.store in let x = c.remove_in-line.result in let rem = child m l c.args.height f.child f.rest x c.requires.node c.if-height-eq1.false c.remove_in-line.ensures.removes in let n = records c.settle.new.store in let settles = subst (λ o. Settles l n p f.slot f.child o) c.in-Some.is c.settle.ensures.settles in
+drop_child-gone-requires-clause-slot g t c = let m = records c.args.store.now in let p = c.args.node in let k = c.args.k in let g2 = c.args.height - 2 in let can = above m c.args.height p k c.requires.node c.if-height-eq1.false c.requires.remove in let f = c.find_near-found.result in let finds = c.find_near-found.ensures.found in let l = records c.remove_in-line.new.store in let x = c.remove_in-line.result in let rem = child m l c.args.height f.child f.rest x c.requires.node c.if-height-eq1.false c.remove_in-line.ensures.removes in let n = records c.settle.new.store in let settles = subst (λ o. Settles l n p f.slot f.child o) c.in-Some.is c.settle.ensures.settles in
     slot-ready m g2 p k can f finds l x rem n (Some c.in-Some.slot) settles c.in-Some.slot refl
 
 pub drop_child-gone-requires-clause-fill : goal.drop_child-gone-requires-clause-fill
-drop_child-gone-requires-clause-fill g t c = let m = records c.args.store.now in let p = c.args.node in let k = c.args.k in let g2 = c.args.height - 2 in let can = above m c.args.height p k c.requires.node c.if-height-eq1.false c.requires.remove in let f = c.find-found.result in let finds = c.find-found.ensures.found in let l = records c.remove_in-line.new.store in let x = c.remove_in-line.result in let rem = child m l c.args.height f.child f.rest x c.requires.node c.if-height-eq1.false c.remove_in-line.ensures.removes in let n = records c.settle.new.store in let settles = subst (λ o. Settles l n p f.slot f.child o) c.in-Some.is c.settle.ensures.settles in
+drop_child-gone-requires-clause-fill g t c = let m = records c.args.store.now in let p = c.args.node in let k = c.args.k in let g2 = c.args.height - 2 in let can = above m c.args.height p k c.requires.node c.if-height-eq1.false c.requires.remove in let f = c.find_near-found.result in let finds = c.find_near-found.ensures.found in let l = records c.remove_in-line.new.store in let x = c.remove_in-line.result in let rem = child m l c.args.height f.child f.rest x c.requires.node c.if-height-eq1.false c.remove_in-line.ensures.removes in let n = records c.settle.new.store in let settles = subst (λ o. Settles l n p f.slot f.child o) c.in-Some.is c.settle.ensures.settles in
     fill-ready m g2 p k can f finds l x rem n (Some c.in-Some.slot) settles
 
 pub give_back-requires : goal.give_back-requires
-give_back-requires g t c = let m = records c.args.store.now in let p = c.args.node in let k = c.args.k in let g2 = c.args.height - 2 in let can = above m c.args.height p k c.requires.node c.if-height-eq1.false c.requires.remove in let f = c.find-found.result in let finds = c.find-found.ensures.found in let l = records c.remove_in-line.new.store in let x = c.remove_in-line.result in let rem = child m l c.args.height f.child f.rest x c.requires.node c.if-height-eq1.false c.remove_in-line.ensures.removes in let n = records c.settle.new.store in let settles = subst (λ o. Settles l n p f.slot f.child o) c.in-Some.is c.settle.ensures.settles in
+give_back-requires g t c = let m = records c.args.store.now in let p = c.args.node in let k = c.args.k in let g2 = c.args.height - 2 in let can = above m c.args.height p k c.requires.node c.if-height-eq1.false c.requires.remove in let f = c.find_near-found.result in let finds = c.find_near-found.ensures.found in let l = records c.remove_in-line.new.store in let x = c.remove_in-line.result in let rem = child m l c.args.height f.child f.rest x c.requires.node c.if-height-eq1.false c.remove_in-line.ensures.removes in let n = records c.settle.new.store in let settles = subst (λ o. Settles l n p f.slot f.child o) c.in-Some.is c.settle.ensures.settles in
     let has = has-ready m g2 p k can f finds l x rem n (Some c.in-Some.slot) settles in
     subst (λ z. IsSome (finite.get z c.drop_child-gone.result)) (sym c.drop_child-gone.ensures.records)
     (named-refilled n p (row (remove (kids n p) c.in-Some.slot)) c.drop_child-gone.result (has.each c.in-Some.slot c.drop_child-gone.result c.drop_child-gone.ensures.child))
 
 pub lessen-requires-clause-row : goal.lessen-requires-clause-row
-lessen-requires-clause-row g t c = let m = records c.args.store.now in let p = c.args.node in let k = c.args.k in let g2 = c.args.height - 2 in let can = above m c.args.height p k c.requires.node c.if-height-eq1.false c.requires.remove in let f = c.find-found.result in let finds = c.find-found.ensures.found in let l = records c.remove_in-line.new.store in let x = c.remove_in-line.result in let rem = child m l c.args.height f.child f.rest x c.requires.node c.if-height-eq1.false c.remove_in-line.ensures.removes in let n = records c.settle.new.store in let settles = subst (λ o. Settles l n p f.slot f.child o) c.in-None.is c.settle.ensures.settles in
+lessen-requires-clause-row g t c = let m = records c.args.store.now in let p = c.args.node in let k = c.args.k in let g2 = c.args.height - 2 in let can = above m c.args.height p k c.requires.node c.if-height-eq1.false c.requires.remove in let f = c.find_near-found.result in let finds = c.find_near-found.ensures.found in let l = records c.remove_in-line.new.store in let x = c.remove_in-line.result in let rem = child m l c.args.height f.child f.rest x c.requires.node c.if-height-eq1.false c.remove_in-line.ensures.removes in let n = records c.settle.new.store in let settles = subst (λ o. Settles l n p f.slot f.child o) c.in-None.is c.settle.ensures.settles in
     has-ready m g2 p k can f finds l x rem n None settles
 
 pub lessen-requires-clause-sum : goal.lessen-requires-clause-sum
-lessen-requires-clause-sum g t c = let m = records c.args.store.now in let p = c.args.node in let k = c.args.k in let g2 = c.args.height - 2 in let can = above m c.args.height p k c.requires.node c.if-height-eq1.false c.requires.remove in let f = c.find-found.result in let finds = c.find-found.ensures.found in let l = records c.remove_in-line.new.store in let x = c.remove_in-line.result in let rem = child m l c.args.height f.child f.rest x c.requires.node c.if-height-eq1.false c.remove_in-line.ensures.removes in let n = records c.settle.new.store in let settles = subst (λ o. Settles l n p f.slot f.child o) c.in-None.is c.settle.ensures.settles in
+lessen-requires-clause-sum g t c = let m = records c.args.store.now in let p = c.args.node in let k = c.args.k in let g2 = c.args.height - 2 in let can = above m c.args.height p k c.requires.node c.if-height-eq1.false c.requires.remove in let f = c.find_near-found.result in let finds = c.find_near-found.ensures.found in let l = records c.remove_in-line.new.store in let x = c.remove_in-line.result in let rem = child m l c.args.height f.child f.rest x c.requires.node c.if-height-eq1.false c.remove_in-line.ensures.removes in let n = records c.settle.new.store in let settles = subst (λ o. Settles l n p f.slot f.child o) c.in-None.is c.settle.ensures.settles in
     let less = sum_is l x c.sum-less.result (line-named m (suc g2) p k can f finds l x rem) c.sum-less.ensures.value in
     (λ i. plus (sums-row n (kids n p) i) (less i)) ∙ sum-ready m g2 p k can f finds l x rem n None settles
 
 pub lessen-requires-clause-fits : goal.lessen-requires-clause-fits
-lessen-requires-clause-fits g t c = let m = records c.args.store.now in let p = c.args.node in let k = c.args.k in let g2 = c.args.height - 2 in let can = above m c.args.height p k c.requires.node c.if-height-eq1.false c.requires.remove in let f = c.find-found.result in let finds = c.find-found.ensures.found in let l = records c.remove_in-line.new.store in let x = c.remove_in-line.result in let rem = child m l c.args.height f.child f.rest x c.requires.node c.if-height-eq1.false c.remove_in-line.ensures.removes in let n = records c.settle.new.store in let settles = subst (λ o. Settles l n p f.slot f.child o) c.in-None.is c.settle.ensures.settles in
+lessen-requires-clause-fits g t c = let m = records c.args.store.now in let p = c.args.node in let k = c.args.k in let g2 = c.args.height - 2 in let can = above m c.args.height p k c.requires.node c.if-height-eq1.false c.requires.remove in let f = c.find_near-found.result in let finds = c.find_near-found.ensures.found in let l = records c.remove_in-line.new.store in let x = c.remove_in-line.result in let rem = child m l c.args.height f.child f.rest x c.requires.node c.if-height-eq1.false c.remove_in-line.ensures.removes in let n = records c.settle.new.store in let settles = subst (λ o. Settles l n p f.slot f.child o) c.in-None.is c.settle.ensures.settles in
     subst FitsSum (sym (sums-row n (kids n p))) (fill-ready m g2 p k can f finds l x rem n None settles).fits
 
 pub drop_child-gone-requires-clause-sum : goal.drop_child-gone-requires-clause-sum
-drop_child-gone-requires-clause-sum g t c = let m = records c.args.store.now in let p = c.args.node in let k = c.args.k in let g2 = c.args.height - 2 in let can = above m c.args.height p k c.requires.node c.if-height-eq1.false c.requires.remove in let f = c.find-found.result in let finds = c.find-found.ensures.found in let l = records c.remove_in-line.new.store in let x = c.remove_in-line.result in let rem = child m l c.args.height f.child f.rest x c.requires.node c.if-height-eq1.false c.remove_in-line.ensures.removes in let n = records c.settle.new.store in let settles = subst (λ o. Settles l n p f.slot f.child o) c.in-Some.is c.settle.ensures.settles in
+drop_child-gone-requires-clause-sum g t c = let m = records c.args.store.now in let p = c.args.node in let k = c.args.k in let g2 = c.args.height - 2 in let can = above m c.args.height p k c.requires.node c.if-height-eq1.false c.requires.remove in let f = c.find_near-found.result in let finds = c.find_near-found.ensures.found in let l = records c.remove_in-line.new.store in let x = c.remove_in-line.result in let rem = child m l c.args.height f.child f.rest x c.requires.node c.if-height-eq1.false c.remove_in-line.ensures.removes in let n = records c.settle.new.store in let settles = subst (λ o. Settles l n p f.slot f.child o) c.in-Some.is c.settle.ensures.settles in
     let less = sum_is l x c.sum-less.result (line-named m (suc g2) p k can f finds l x rem) c.sum-less.ensures.value in
     ap (plus (sum_all n (remove (kids n p) c.in-Some.slot))) less ∙ sum-ready m g2 p k can f finds l x rem n (Some c.in-Some.slot) settles
 
@@ -145,17 +148,17 @@ pub sum_in-less-requires-clause-slot : goal.sum_in-less-requires-clause-slot
 sum_in-less-requires-clause-slot g t c = let m = records c.args.store.now in low-slot m c.args.node c.args.k (low m c.args.height c.args.node c.args.k c.if-height-eq1.true c.requires.remove)
 
 pub sum-less-requires : goal.sum-less-requires
-sum-less-requires g t c = let m = records c.args.store.now in let p = c.args.node in let k = c.args.k in let g2 = c.args.height - 2 in let can = above m c.args.height p k c.requires.node c.if-height-eq1.false c.requires.remove in let f = c.find-found.result in let finds = c.find-found.ensures.found in let l = records c.remove_in-line.new.store in let x = c.remove_in-line.result in let rem = child m l c.args.height f.child f.rest x c.requires.node c.if-height-eq1.false c.remove_in-line.ensures.removes in
+sum-less-requires g t c = let m = records c.args.store.now in let p = c.args.node in let k = c.args.k in let g2 = c.args.height - 2 in let can = above m c.args.height p k c.requires.node c.if-height-eq1.false c.requires.remove in let f = c.find_near-found.result in let finds = c.find_near-found.ensures.found in let l = records c.remove_in-line.new.store in let x = c.remove_in-line.result in let rem = child m l c.args.height f.child f.rest x c.requires.node c.if-height-eq1.false c.remove_in-line.ensures.removes in
     line-named m (suc g2) p k can f finds l x rem
 
 pub returns-in-Some-clause-removes : goal.returns-in-Some-clause-removes
-returns-in-Some-clause-removes g t c = let m = records c.args.store.now in let p = c.args.node in let k = c.args.k in let g2 = c.args.height - 2 in let can = above m c.args.height p k c.requires.node c.if-height-eq1.false c.requires.remove in let f = c.find-found.result in let finds = c.find-found.ensures.found in let l = records c.remove_in-line.new.store in let x = c.remove_in-line.result in let rem = child m l c.args.height f.child f.rest x c.requires.node c.if-height-eq1.false c.remove_in-line.ensures.removes in let n = records c.settle.new.store in let settles = subst (λ o. Settles l n p f.slot f.child o) c.in-Some.is c.settle.ensures.settles in
+returns-in-Some-clause-removes g t c = let m = records c.args.store.now in let p = c.args.node in let k = c.args.k in let g2 = c.args.height - 2 in let can = above m c.args.height p k c.requires.node c.if-height-eq1.false c.requires.remove in let f = c.find_near-found.result in let finds = c.find_near-found.ensures.found in let l = records c.remove_in-line.new.store in let x = c.remove_in-line.result in let rem = child m l c.args.height f.child f.rest x c.requires.node c.if-height-eq1.false c.remove_in-line.ensures.removes in let n = records c.settle.new.store in let settles = subst (λ o. Settles l n p f.slot f.child o) c.in-Some.is c.settle.ensures.settles in
     back m (records c.give_back.new.self) c.args.height p k x c.requires.node c.if-height-eq1.false
     (subst (λ z. Removes m z (suc (suc g2)) p k x) (sym c.give_back.ensures.records)
     (removes-gone m g2 p k can f finds l x rem n (Some c.in-Some.slot) settles (records c.drop_child-gone.new.store) c.in-Some.slot c.drop_child-gone.result refl c.drop_child-gone.ensures.child c.drop_child-gone.ensures.records))
 
 pub returns-in-None-clause-removes : goal.returns-in-None-clause-removes
-returns-in-None-clause-removes g t c = let m = records c.args.store.now in let p = c.args.node in let k = c.args.k in let g2 = c.args.height - 2 in let can = above m c.args.height p k c.requires.node c.if-height-eq1.false c.requires.remove in let f = c.find-found.result in let finds = c.find-found.ensures.found in let l = records c.remove_in-line.new.store in let x = c.remove_in-line.result in let rem = child m l c.args.height f.child f.rest x c.requires.node c.if-height-eq1.false c.remove_in-line.ensures.removes in let n = records c.settle.new.store in let settles = subst (λ o. Settles l n p f.slot f.child o) c.in-None.is c.settle.ensures.settles in
+returns-in-None-clause-removes g t c = let m = records c.args.store.now in let p = c.args.node in let k = c.args.k in let g2 = c.args.height - 2 in let can = above m c.args.height p k c.requires.node c.if-height-eq1.false c.requires.remove in let f = c.find_near-found.result in let finds = c.find_near-found.ensures.found in let l = records c.remove_in-line.new.store in let x = c.remove_in-line.result in let rem = child m l c.args.height f.child f.rest x c.requires.node c.if-height-eq1.false c.remove_in-line.ensures.removes in let n = records c.settle.new.store in let settles = subst (λ o. Settles l n p f.slot f.child o) c.in-None.is c.settle.ensures.settles in
     back m (records c.lessen.new.store) c.args.height p k x c.requires.node c.if-height-eq1.false
     (removes-ready m g2 p k can f finds l x rem n None settles (records c.lessen.new.store) (c.lessen.ensures.records ∙ ap (λ z. resummed z p (row (kids n p))) (sym (kept-whole n p (has-ready m g2 p k can f finds l x rem n None settles) (links-ready m g2 p k can f finds l x rem n None settles)))))
 
@@ -165,13 +168,13 @@ returns-then-height-eq1-clause-clean g t c = let m = records c.args.store.now in
     (cleans-low m c.args.node c.args.k (low m c.args.height c.args.node c.args.k c.if-height-eq1.true c.requires.remove) c.drop_child.result c.drop_child.ensures.child n c.drop_child.ensures.records)
 
 pub returns-in-Some-clause-clean : goal.returns-in-Some-clause-clean
-returns-in-Some-clause-clean g t c = let m = records c.args.store.now in let p = c.args.node in let k = c.args.k in let g2 = c.args.height - 2 in let can = above m c.args.height p k c.requires.node c.if-height-eq1.false c.requires.remove in let f = c.find-found.result in let finds = c.find-found.ensures.found in let l = records c.remove_in-line.new.store in let x = c.remove_in-line.result in let rem = child m l c.args.height f.child f.rest x c.requires.node c.if-height-eq1.false c.remove_in-line.ensures.removes in let n = records c.settle.new.store in let settles = subst (λ o. Settles l n p f.slot f.child o) c.in-Some.is c.settle.ensures.settles in let clean = clean-child m l c.args.height f.child x c.requires.node c.if-height-eq1.false c.remove_in-line.ensures.clean in
+returns-in-Some-clause-clean g t c = let m = records c.args.store.now in let p = c.args.node in let k = c.args.k in let g2 = c.args.height - 2 in let can = above m c.args.height p k c.requires.node c.if-height-eq1.false c.requires.remove in let f = c.find_near-found.result in let finds = c.find_near-found.ensures.found in let l = records c.remove_in-line.new.store in let x = c.remove_in-line.result in let rem = child m l c.args.height f.child f.rest x c.requires.node c.if-height-eq1.false c.remove_in-line.ensures.removes in let n = records c.settle.new.store in let settles = subst (λ o. Settles l n p f.slot f.child o) c.in-Some.is c.settle.ensures.settles in let clean = clean-child m l c.args.height f.child x c.requires.node c.if-height-eq1.false c.remove_in-line.ensures.clean in
     clean-back m (records c.give_back.new.self) c.args.height p x c.requires.node c.if-height-eq1.false
     (subst (λ z. Cleans m z (suc (suc g2)) p x) (sym c.give_back.ensures.records)
     (cleans-gone m g2 p k can f finds l x rem n (Some c.in-Some.slot) settles clean (records c.drop_child-gone.new.store) c.in-Some.slot c.drop_child-gone.result refl c.drop_child-gone.ensures.child c.drop_child-gone.ensures.records))
 
 pub returns-in-None-clause-clean : goal.returns-in-None-clause-clean
-returns-in-None-clause-clean g t c = let m = records c.args.store.now in let p = c.args.node in let k = c.args.k in let g2 = c.args.height - 2 in let can = above m c.args.height p k c.requires.node c.if-height-eq1.false c.requires.remove in let f = c.find-found.result in let finds = c.find-found.ensures.found in let l = records c.remove_in-line.new.store in let x = c.remove_in-line.result in let rem = child m l c.args.height f.child f.rest x c.requires.node c.if-height-eq1.false c.remove_in-line.ensures.removes in let n = records c.settle.new.store in let settles = subst (λ o. Settles l n p f.slot f.child o) c.in-None.is c.settle.ensures.settles in let clean = clean-child m l c.args.height f.child x c.requires.node c.if-height-eq1.false c.remove_in-line.ensures.clean in
+returns-in-None-clause-clean g t c = let m = records c.args.store.now in let p = c.args.node in let k = c.args.k in let g2 = c.args.height - 2 in let can = above m c.args.height p k c.requires.node c.if-height-eq1.false c.requires.remove in let f = c.find_near-found.result in let finds = c.find_near-found.ensures.found in let l = records c.remove_in-line.new.store in let x = c.remove_in-line.result in let rem = child m l c.args.height f.child f.rest x c.requires.node c.if-height-eq1.false c.remove_in-line.ensures.removes in let n = records c.settle.new.store in let settles = subst (λ o. Settles l n p f.slot f.child o) c.in-None.is c.settle.ensures.settles in let clean = clean-child m l c.args.height f.child x c.requires.node c.if-height-eq1.false c.remove_in-line.ensures.clean in
     clean-back m (records c.lessen.new.store) c.args.height p x c.requires.node c.if-height-eq1.false
     (cleans-ready m g2 p k can f finds l x rem n None settles clean (records c.lessen.new.store) (c.lessen.ensures.records ∙ ap (λ z. resummed z p (row (kids n p))) (sym (kept-whole n p (has-ready m g2 p k can f finds l x rem n None settles) (links-ready m g2 p k can f finds l x rem n None settles)))) refl)
 
@@ -180,18 +183,18 @@ returns-then-height-eq1-clause-count g t c = let m = records c.args.store.now in
     let n = ap finite.len c.drop_child.ensures.records ∙ len-refilled m c.args.node (row (remove (kids m c.args.node) c.args.k)) in let s = c.drop_child.ensures.spares in omega arith
 
 pub returns-in-Some-clause-count : goal.returns-in-Some-clause-count
-returns-in-Some-clause-count g t c = let m = records c.args.store.now in let p = c.args.node in let k = c.args.k in let g2 = c.args.height - 2 in let can = above m c.args.height p k c.requires.node c.if-height-eq1.false c.requires.remove in let f = c.find-found.result in let finds = c.find-found.ensures.found in let l = records c.remove_in-line.new.store in let x = c.remove_in-line.result in let rem = child m l c.args.height f.child f.rest x c.requires.node c.if-height-eq1.false c.remove_in-line.ensures.removes in let n = records c.settle.new.store in let settles = subst (λ o. Settles l n p f.slot f.child o) c.in-Some.is c.settle.ensures.settles in
+returns-in-Some-clause-count g t c = let m = records c.args.store.now in let p = c.args.node in let k = c.args.k in let g2 = c.args.height - 2 in let can = above m c.args.height p k c.requires.node c.if-height-eq1.false c.requires.remove in let f = c.find_near-found.result in let finds = c.find_near-found.ensures.found in let l = records c.remove_in-line.new.store in let x = c.remove_in-line.result in let rem = child m l c.args.height f.child f.rest x c.requires.node c.if-height-eq1.false c.remove_in-line.ensures.removes in let n = records c.settle.new.store in let settles = subst (λ o. Settles l n p f.slot f.child o) c.in-Some.is c.settle.ensures.settles in
     let has = has-ready m g2 p k can f finds l x rem n (Some c.in-Some.slot) settles in
     let gone-named = subst (λ z. IsSome (finite.get z c.drop_child-gone.result)) (sym c.drop_child-gone.ensures.records)
     (named-refilled n p (row (remove (kids n p) c.in-Some.slot)) c.drop_child-gone.result (has.each c.in-Some.slot c.drop_child-gone.result c.drop_child-gone.ensures.child)) in let u = records c.drop_child-gone.new.store in let b = c.drop_child-gone.result in
-    let a = len-settles l n c.args.node c.find-found.result.slot c.find-found.result.child c.settle.result c.settle.ensures.settles in
+    let a = len-settles l n c.args.node c.find_near-found.result.slot c.find_near-found.result.child c.settle.result c.settle.ensures.settles in
     let d = ap finite.len c.drop_child-gone.ensures.records ∙ len-refilled n c.args.node (row (remove (kids n c.args.node) c.in-Some.slot)) in
     let e = ap finite.len c.give_back.ensures.records in let f = len-gone u b gone-named in
     let s1 = c.remove_in-line.ensures.count in let s2 = c.settle.ensures.spares in let s3 = c.drop_child-gone.ensures.spares in let s4 = c.give_back.ensures.spares in omega arith
 
 pub returns-in-None-clause-count : goal.returns-in-None-clause-count
 returns-in-None-clause-count g t c = let l = records c.remove_in-line.new.store in let n = records c.settle.new.store in
-    let a = len-settles l n c.args.node c.find-found.result.slot c.find-found.result.child c.settle.result c.settle.ensures.settles in
+    let a = len-settles l n c.args.node c.find_near-found.result.slot c.find_near-found.result.child c.settle.result c.settle.ensures.settles in
     let d = ap finite.len c.lessen.ensures.records ∙ len-resummed n c.args.node (row (kids n c.args.node)) in
     let s1 = c.remove_in-line.ensures.count in let s2 = c.settle.ensures.spares in let s3 = c.lessen.ensures.spares in omega arith
 
@@ -199,7 +202,7 @@ pub returns-then-height-eq1-clause-rooms : goal.returns-then-height-eq1-clause-r
 returns-then-height-eq1-clause-rooms g t c = let s = c.drop_child.ensures.spares in let r = c.drop_child.ensures.rooms in omega arith
 
 pub returns-in-Some-clause-rooms : goal.returns-in-Some-clause-rooms
-returns-in-Some-clause-rooms g t c = let m = records c.args.store.now in let p = c.args.node in let k = c.args.k in let g2 = c.args.height - 2 in let can = above m c.args.height p k c.requires.node c.if-height-eq1.false c.requires.remove in let f = c.find-found.result in let finds = c.find-found.ensures.found in let l = records c.remove_in-line.new.store in let x = c.remove_in-line.result in let rem = child m l c.args.height f.child f.rest x c.requires.node c.if-height-eq1.false c.remove_in-line.ensures.removes in let n = records c.settle.new.store in let settles = subst (λ o. Settles l n p f.slot f.child o) c.in-Some.is c.settle.ensures.settles in
+returns-in-Some-clause-rooms g t c = let m = records c.args.store.now in let p = c.args.node in let k = c.args.k in let g2 = c.args.height - 2 in let can = above m c.args.height p k c.requires.node c.if-height-eq1.false c.requires.remove in let f = c.find_near-found.result in let finds = c.find_near-found.ensures.found in let l = records c.remove_in-line.new.store in let x = c.remove_in-line.result in let rem = child m l c.args.height f.child f.rest x c.requires.node c.if-height-eq1.false c.remove_in-line.ensures.removes in let n = records c.settle.new.store in let settles = subst (λ o. Settles l n p f.slot f.child o) c.in-Some.is c.settle.ensures.settles in
     let gone = c.drop_child-gone.result in
     let inner = subst (λ z. InnerIn z gone) (sym c.drop_child-gone.ensures.records)
     (inner-refilled n p (row (remove (kids n p) c.in-Some.slot)) gone (inner-ready m g2 p k can f finds l x rem n (Some c.in-Some.slot) settles c.in-Some.slot gone c.drop_child-gone.ensures.child)) in
