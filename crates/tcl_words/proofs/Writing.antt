@@ -1,6 +1,6 @@
 -- Steps of the loop that writes the words of a command.
-use Rattle.std.proofs.Common.{◌≡◌, ℕ, ◌⊎◌, inl, inr, Bool, true, false, Option, Some, None, List, [], ◌∷◌, ◌++◌, map, length, take, drop, chars, encode_utf8, encode_utf8_all, refl, sym, ap, ◌∙◌, arith, subst, append_assoc, append-nil}
-use Rattle.std.proofs.lemmas.Str.{chars-nil}
+use Rattle.std.proofs.Common.{◌≡◌, ◌<◌, ℕ, get_or, IsUtf8, ◌⊎◌, inl, inr, Bool, true, false, Option, Some, None, List, [], ◌∷◌, ◌++◌, map, length, take, drop, chars, encode_utf8, encode_utf8_all, refl, sym, ap, ◌∙◌, arith, subst, append_assoc, append-nil}
+use Rattle.std.proofs.lemmas.Str.{chars-nil, encodes-chars}
 use Rattle.tcl_words.specs.Steps.{step_of, last_step}
 use Rattle.tcl_words.specs.Scanning.{onto_piece, given_onto, kept_onto, ended_before, written, words_next, pieces_from, given_bytes, kept_bytes, word_with, words_after, word_after}
 use Rattle.tcl_words.specs.declared.fault.ScriptFault.{ScriptFault}
@@ -11,7 +11,8 @@ use Rattle.tcl_words.specs.declared.stage.Next.TheVariants.{Go, End, Refuse}
 use Rattle.tcl_words.specs.declared.stage.Output.{Output}
 use Rattle.tcl_words.specs.declared.stage.Step.{Step}
 use Rattle.tcl_words.proofs.Verdicts.{pieces-nil, pieces-cons}
-use Rattle.tcl_words.proofs.Plain.{AllPlain, plain_step, RunOf}
+use Rattle.tcl_words.specs.Runs.{begun}
+use Rattle.tcl_words.proofs.Plain.{AllPlain, plain_step, char_step, RunOf}
 
 -- bytes go onto the first word
 abbrev pub prefixed : List ℕ → List (List ℕ) → List (List ℕ)
@@ -138,3 +139,20 @@ writing_ends cs [] stage words more word step w h does e =
     ∙ ap (λ (s : Step). words ++ prefixed word (spelled (written s.output 0 []))) (sym does)
     ∙ written_more step.output 0 word words [] ∙ append-nil _ ∙ sym e)
 writing_ends cs (b ∷ bytes) stage words more word step w h does e = absurd (omega arith)
+
+-- A bare word that is to begin may be taken as begun.
+pieces_begun : (cs bytes : List ℕ) (stage here : Stage) (b : ℕ) → encode_utf8_all cs ≡ bytes → 0 < length bytes → here ≡ begun stage b → b ≡ get_or bytes 0 0
+    → pieces_from cs stage ≡ pieces_from cs here
+pieces_begun [] bytes stage here b split some is first = absurd (omega (arith, ap length split))
+pieces_begun (c ∷ cs) bytes stage here b split some is first =
+    pieces-cons c cs stage
+    ∙ ap (λ (s : Step). written s.output c (words_next s.next (pieces_from cs)))
+    (char_step stage here b c (encode_utf8_all cs) is (first ∙ ap (λ l. get_or l 0 0) (sym split)))
+    ∙ sym (pieces-cons c cs here)
+
+pub writing_begun : (cs bytes slice : List ℕ) (stage here : Stage) (b : ℕ) (words : List (List ℕ)) (word : List ℕ) → IsWritten cs (chars bytes) stage words word → IsUtf8 bytes
+    → slice ≡ bytes → 0 < length bytes → here ≡ begun stage b → b ≡ get_or slice 0 0 → IsWritten cs (chars bytes) here words word
+writing_begun cs bytes slice stage here b words word w u same some is first = record {
+  pieces = w.pieces ∙ ap (λ l. words ++ prefixed word (spelled l))
+      (pieces_begun (chars bytes) bytes stage here b (encodes-chars bytes u) some is (first ∙ ap (λ l. get_or l 0 0) same));
+}

@@ -2,7 +2,7 @@ ghost use Rattle.std.specs.Prelude.{◌≡◌, ◌<◌, [], ◌∷◌, ◌++◌,
 ghost use Rattle.tcl_words.specs.Scanning.{pieces_from, word_with, words_after, word_after};
 ghost use Rattle.tcl_words.specs.declared.stage.Stage.TheVariants.{BeforeCommand};
 
-use crate::runs::plain_run;
+use crate::runs::{begun, plain_run};
 use crate::stage::{Next, Output, Stage};
 use crate::steps::{last_from, step_from};
 use std::alloc::{AllocError, Global};
@@ -65,9 +65,12 @@ pub fn words_of(alloc: Global, text: &str) -> Result<Vec<String>, AllocError>
     let mut stage = Stage::BeforeCommand;
     let mut rest = text;
     while !rest.is_empty() {
-        let run = plain_run(stage, rest.as_bytes());
+        let bytes = rest.as_bytes();
+        let here = begun(stage, bytes[0]);
+        let run = plain_run(here, bytes);
         if run > 0 {
             writer.word.push_str(&rest[..run])?;
+            stage = here;
             rest = &rest[run..];
             continue;
         }

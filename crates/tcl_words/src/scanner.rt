@@ -3,7 +3,7 @@ ghost use Rattle.tcl_words.specs.Scanning.{scanned};
 ghost use Rattle.tcl_words.specs.Steps.{depth_of};
 
 use crate::fault::ScriptFault;
-use crate::runs::plain_run;
+use crate::runs::{begun, plain_run};
 use crate::stage::{Next, Stage};
 use crate::steps::step_from;
 
@@ -25,8 +25,10 @@ pub fn scan_bytes(bytes: &[u8], from: Stage) -> Scan
     let mut stage = from;
     let mut index = 0;
     while index < bytes.len() {
-        let run = plain_run(stage, &bytes[index..]);
+        let here = begun(stage, bytes[index]);
+        let run = plain_run(here, &bytes[index..]);
         if run > 0 {
+            stage = here;
             index += run;
             continue;
         }

@@ -1,8 +1,8 @@
-use Rattle.std.proofs.Common.{◌++◌, ◌∙◌, map, chars, string_bytes, sym, ap, subst, arith, IsUtf8}
+use Rattle.std.proofs.Common.{◌<◌, ◌++◌, ◌∙◌, length, map, chars, string_bytes, refl, sym, ap, subst, arith, IsUtf8}
 use Rattle.std.proofs.lemmas.Str.{IsUtf8-drop}
 use Rattle.tcl_words.proofs.Scans.{depth_on}
-use Rattle.tcl_words.proofs.Plain.{run_at, front_range, char_boundary, after_char, none_left}
-use Rattle.tcl_words.proofs.Writing.{writing_starts, writing_runs, writing_goes, writing_stops, writing_ends, is_last}
+use Rattle.tcl_words.proofs.Plain.{run_at, depth_from, front_range, char_boundary, after_char, none_left}
+use Rattle.tcl_words.proofs.Writing.{writing_starts, writing_begun, writing_runs, writing_goes, writing_stops, writing_ends, is_last}
 use Rattle.tcl_words.proofs.pieces.words_of.Goals as goal
 
 pub loop-rest-init : goal.loop-rest-init
@@ -14,7 +14,7 @@ loop-rest-init c = record {
 
 pub range-requires : goal.range-requires
 range-requires c =
-    let run = run_at c.loop-rest.stage c.loop-rest.rest.now _ c.plain_run-run.result c.as_bytes.ensures.value c.loop-rest.invariant.utf8 c.if-run-gt0.true
+    let run = run_at c.begun-here.result c.loop-rest.rest.now _ c.plain_run-run.result c.as_bytes-bytes.ensures.value c.loop-rest.invariant.utf8 c.if-run-gt0.true
     c.plain_run-run.ensures.within c.plain_run-run.ensures.plain c.plain_run-run.ensures.end in
     record { start_le_end = omega arith; start_boundary = λ h. absurd (omega arith); end_boundary = run.0 }
 
@@ -22,14 +22,21 @@ pub loop-rest-preserved-then-run-gt0 : goal.loop-rest-preserved-then-run-gt0
 loop-rest-preserved-then-run-gt0 c =
     let rest = c.loop-rest.rest.now in
     let n = c.plain_run-run.result in
-    let run = run_at c.loop-rest.stage rest _ n c.as_bytes.ensures.value c.loop-rest.invariant.utf8 c.if-run-gt0.true
+    let here = c.begun-here.result in
+    let bytes = c.as_bytes-bytes.ensures.value in
+    let run = run_at here rest _ n bytes c.loop-rest.invariant.utf8 c.if-run-gt0.true
     c.plain_run-run.ensures.within c.plain_run-run.ensures.plain c.plain_run-run.ensures.end in
     let after = c.range_from-rest.ensures.value in
     let depth = c.loop-rest.invariant.depth in
+    let less = depth_from c.loop-rest.stage here _ c.begun-here.ensures in
+    let within = c.plain_run-run.ensures.within in
+    let positive = c.if-run-gt0.true in
+    let some : 0 < length rest = omega (arith, ap length bytes) in
     let long = c.range_from-rest.ensures.len in
+    let begun = writing_begun (chars c.args.text.now) rest _ c.loop-rest.stage here _ _ _ c.loop-rest.invariant.written c.loop-rest.invariant.utf8 bytes some c.begun-here.ensures refl in
     record {
       utf8 = subst IsUtf8 (sym after) (IsUtf8-drop rest n c.loop-rest.invariant.utf8 run.0);
-      written = rw after (writing_runs (chars c.args.text.now) rest n c.loop-rest.stage _ _ _ c.loop-rest.invariant.written run.1
+      written = rw after (writing_runs (chars c.args.text.now) rest n here _ _ _ begun run.1
           (c.in_ok-push_str.ensures.bytes ∙ ap (λ l. string_bytes c.loop-rest.writer.word ++ l) (c.range.ensures.value ∙ front_range n rest)));
       depth = omega arith;
     }

@@ -1,9 +1,9 @@
-use Rattle.std.proofs.Common.{◌+◌, sym, ap, ◌∙◌, arith, drop, length-drop}
+use Rattle.std.proofs.Common.{◌+◌, refl, sym, ap, ◌∙◌, arith, drop, length-drop}
 use Rattle.std.proofs.lemmas.List.{take_rest}
 use Rattle.tcl_words.specs.Scanning.{scanned, later}
 use Rattle.tcl_words.proofs.Spelling.{later-later}
 use Rattle.tcl_words.proofs.Scans.{scan_by, scan_over, depth_on}
-use Rattle.tcl_words.proofs.Plain.{scan_skips}
+use Rattle.tcl_words.proofs.Plain.{scan_skips, scan_begun, depth_from}
 use Rattle.tcl_words.proofs.scanner.scan_bytes.Goals as goal
 
 pub loop-index-preserved-then-run-gt0 : goal.loop-index-preserved-then-run-gt0
@@ -11,12 +11,15 @@ loop-index-preserved-then-run-gt0 c =
     let bytes = c.args.bytes.now in
     let index = c.loop-index.index in
     let run = c.plain_run-run.result in
-    let skips = scan_skips bytes _ index run c.loop-index.stage (take_rest bytes index) c.plain_run-run.ensures.within c.plain_run-run.ensures.plain in
+    let here = c.begun-here.result in
+    let skips = scan_skips bytes _ index run here (take_rest bytes index) c.plain_run-run.ensures.within c.plain_run-run.ensures.plain in
     let long = skips.1 in
+    let less = depth_from c.loop-index.stage here _ c.begun-here.ensures in
     let depth = c.loop-index.invariant.depth in
     let within = c.loop-index.invariant.within in
     record {
-      scans = c.loop-index.invariant.scans ∙ ap (later index) skips.0 ∙ later-later index run (scanned (drop (index + run) bytes) c.loop-index.stage);
+      scans = c.loop-index.invariant.scans ∙ ap (later index) (scan_begun bytes index c.loop-index.stage here _ c.loop-index-test.true c.begun-here.ensures refl ∙ skips.0)
+          ∙ later-later index run (scanned (drop (index + run) bytes) here);
       depth = omega arith;
       within = omega (arith, length-drop index bytes);
     }
