@@ -2,7 +2,7 @@ ghost use Rattle.std.specs.Prelude.{◌≡◌, ◌<◌, [], ◌∷◌, ◌++◌,
 ghost use Rattle.tcl_words.specs.Scanning.{pieces_from, word_with, words_after, word_after};
 ghost use Rattle.tcl_words.specs.declared.stage.Stage.TheVariants.{BeforeCommand};
 
-use crate::runs::{begun, plain_run};
+use crate::runs::{Seam, begun, plain_run, seam_behind};
 use crate::stage::{Next, Output, Stage};
 use crate::steps::{last_from, step_from};
 use std::alloc::{AllocError, Global};
@@ -15,8 +15,19 @@ pub struct Writer {
 }
 
 impl Writer {
+    /// Nothing written. It takes no memory.
+    pub fn new(alloc: Global) -> Self
+        ensures words { result.words.items ≡ [] }
+        ensures word { string_bytes result.word ≡ [] }
+    {
+        Writer {
+            words: Vec::new(alloc),
+            word: String::new(alloc),
+        }
+    }
+
     /// Nothing written, with room for a word of so many bytes.
-    pub fn new(alloc: Global, room: usize) -> Result<Self, AllocError>
+    pub fn with_room(alloc: Global, room: usize) -> Result<Self, AllocError>
         ensures words { IfOk result (λ writer. writer.words.items ≡ []) }
         ensures word { IfOk result (λ writer. string_bytes writer.word ≡ []) }
         ensures room { IfOk result (λ writer. room ≤ string_capacity writer.word) }
@@ -25,6 +36,27 @@ impl Writer {
             words: Vec::new(alloc),
             word: String::with_capacity(alloc, room)?,
         })
+    }
+
+    /// Makes room for words of so many bytes, where it wasn't made before.
+    pub fn make_room(&mut self, room: usize) -> Result<(), AllocError>
+        ensures words { self.new.words ≡ self.old.words }
+        ensures word { string_bytes self.new.word ≡ string_bytes self.old.word }
+    {
+        if self.word.capacity() == 0 {
+            self.word.reserve(room)?;
+        }
+        Ok(())
+    }
+
+    /// Adds a word that is whole.
+    pub fn add(&mut self, alloc: Global, word: &str) -> Result<(), AllocError>
+        ensures words { OnOk result (map (λ word. string_bytes word) self.new.words.items
+            ≡ map (λ word. string_bytes word) self.old.words.items ++ word.now ∷ []) }
+        ensures word { string_bytes self.new.word ≡ string_bytes self.old.word }
+    {
+        self.words.push(String::from_str(alloc, word)?)?;
+        Ok(())
     }
 
     /// Writes what a character adds.
@@ -61,13 +93,29 @@ pub fn first_char(text: &str) -> char
 pub fn words_of(alloc: Global, text: &str) -> Result<Vec<String>, AllocError>
     ensures { IfOk result (λ words. map (λ word. string_bytes word) words.items ≡ map encode_utf8_all (pieces_from (chars text.now) BeforeCommand)) }
 {
-    let mut writer = Writer::new(alloc, text.len())?;
+    let mut writer = Writer::new(alloc);
     let mut stage = Stage::BeforeCommand;
     let mut rest = text;
     while !rest.is_empty() {
         let bytes = rest.as_bytes();
         let here = begun(stage, bytes[0]);
         let run = plain_run(here, bytes);
+        if writer.word.is_empty() {
+            match seam_behind(here, bytes, run) {
+                Seam::Blank => {
+                    writer.add(alloc, &rest[..run])?;
+                    stage = Stage::BeforeWord;
+                    rest = &rest[run + 1..];
+                    continue;
+                }
+                Seam::End => {
+                    writer.add(alloc, &rest[..run])?;
+                    return Ok(writer.words);
+                }
+                Seam::Other => {}
+            }
+        }
+        writer.make_room(text.len())?;
         if run > 0 {
             writer.word.push_str(&rest[..run])?;
             stage = here;

@@ -1,9 +1,11 @@
 //! Runs of bytes that go onto a word as they are.
 
 ghost use Rattle.std.specs.Prelude.{◌≡◌, ◌<◌, ◌≤◌, ℕ, length, true, false, slice_index};
+ghost use Rattle.tcl_words.specs.Runs.{IsSeam};
 ghost use Rattle.tcl_words.specs.Runs.{is_plain, is_bare, is_quoted, is_braced, begins_command, begins_word, begun};
 
 use crate::stage::{Stage, TextWord};
+use crate::steps::{is_blank, is_end};
 
 // Whether the byte is an ordinary one of a bare word.
 fn is_bare(byte: u8) -> bool
@@ -116,5 +118,33 @@ pub fn plain_run(stage: Stage, bytes: &[u8]) -> usize
         Stage::Text(TextWord::Quoted) => quoted_run(bytes),
         Stage::Braced(_) => braced_run(bytes),
         _ => 0,
+    }
+}
+
+/// What stands behind a run that is all of a bare word.
+#[derive(Clone, Copy)]
+pub enum Seam {
+    /// A blank, which ends the word.
+    Blank,
+    /// What ends the command.
+    End,
+    /// Anything else, or the run is none of a bare word.
+    Other,
+}
+
+/// What stands behind a run at the front.
+pub fn seam_behind(stage: Stage, bytes: &[u8], run: usize) -> Seam
+    ensures { IsSeam stage bytes.now run result }
+{
+    if run == 0 || run >= bytes.len() || !matches!(stage, Stage::Text(TextWord::Bare)) {
+        return Seam::Other;
+    }
+    let behind = char::from(bytes[run]);
+    if is_end(behind) {
+        Seam::End
+    } else if is_blank(behind) {
+        Seam::Blank
+    } else {
+        Seam::Other
     }
 }
