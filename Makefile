@@ -10,6 +10,7 @@
 # make counts  the instructions of a command on texts of two sizes, into docs/bench_counts.txt; it needs valgrind
 
 PROGRAM = crates/tktext/out/tktext
+ROWS = crates/rows/out/rows
 LINE_BENCH = crates/line_bench/out/line_bench
 TREE_BENCH = crates/tree_bench/out/tree_bench
 NODE_MEMORY = crates/node_memory/out/node_memory
@@ -41,12 +42,12 @@ $(WEIGH): tools/weigh.c
 
 # `rt ci` puts back an out/ that was there before it, so old programs are taken away first.
 test: $(SHIM) $(WEIGH)
-	rm -rf crates/tktext/out crates/node_memory/out crates/tree_bench/out
+	rm -rf crates/tktext/out crates/rows/out crates/node_memory/out crates/tree_bench/out
 	python3 tools/total.py 'python3 tools/gate.py' \
 	  'python3 tools/selftest.py' \
 	  'python3 tools/fuzz.py --program $(PROGRAM) --seeds 300' \
 	  'python3 tools/fuzz.py --program $(PROGRAM) --seeds 100 --lines' \
-	  'python3 tools/refusals.py --program $(PROGRAM) --shim $(SHIM)' \
+	  'python3 tools/refusals.py --program $(PROGRAM) --shim $(SHIM) --rows $(ROWS)' \
 	  'python3 tools/idle.py --program $(PROGRAM)' \
 	  'python3 tools/devices.py --program $(PROGRAM)' \
 	  'python3 tools/memory.py --program $(NODE_MEMORY) --shim $(WEIGH)' \

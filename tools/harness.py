@@ -19,10 +19,11 @@ class Result(NamedTuple):
     errors: bytes
 
 
-def run_program(program, script, environment=None, timeout=TIMEOUT_SECONDS):
+def run_program(program, script, environment=None, timeout=TIMEOUT_SECONDS, arguments=()):
     """Runs the program once on a script."""
+    words = [program, *arguments]
     try:
-        done = subprocess.run([program], input=script, capture_output=True, timeout=timeout, env=environment)
+        done = subprocess.run(words, input=script, capture_output=True, timeout=timeout, env=environment)
     except subprocess.TimeoutExpired as expired:
         return Result(expired.stdout or b"", f"no end after {timeout} s", expired.stderr or b"")
     status = done.returncode if done.returncode >= 0 else f"signal {-done.returncode}"

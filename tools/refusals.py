@@ -1,7 +1,7 @@
 #!/usr/bin/env python3
 """Runs the program on each worked script once for each growth of memory, with that growth refused.
 
-    python3 tools/refusals.py --program PATH --shim PATH [--random 200]
+    python3 tools/refusals.py --program PATH --shim PATH [--rows PATH] [--random 200]
 
 The shim is tools/refuse.c, built.  With one growth refused a run may end in two ways alone:
 
@@ -16,6 +16,7 @@ trace.  So is a run that answers out of memory though nothing was refused.
 Where a growth refuses a command of a script whose commands are given again (`worked.repeated_scripts`), the
 script is run once more with that command given twice: refused the first time, it has to answer the second time
 as it does where nothing was refused.  Beside the worked scripts stand random ones, with some growths of each.
+With `--rows`, which names the program `rows`, the scripts whose commands are given again are run so on each store.
 
 Ends in a line `N passed, M failed`; the exit status is 1 if anything failed.
 """
@@ -38,6 +39,9 @@ RUN_FAULT_ERRORS = b"out of memory\n"
 ENOUGH_FAILURES = 3
 ENOUGH_FAILURES_IN_ALL = 20
 
+# The stores on which `rows` runs a script that is on its standard input.
+STORES = ("PlainStore", "LineVec", "TreeStore")
+
 # How many growths of a random script are refused.
 RANDOM_GROWTHS = 10
 # A script with a command given twice is longer, so the growth that refuses it may be a few further on.
@@ -45,21 +49,28 @@ NEAR_GROWTHS = (0, 1, 2, 3, -1)
 
 
 class Preloaded:
-    """The program under the shim."""
+    """A program with its arguments under the shim.
 
-    def __init__(self, program, shim, report):
+    Growths are counted from the run of the script on: those before it, by which a program reads its arguments, are the
+    ones of an empty script, which takes none.
+    """
+
+    def __init__(self, program, shim, report, arguments=()):
         self.program = program
         self.shim = os.path.abspath(shim)
         self.report = report
+        self.arguments = arguments
+        self.before = 0
+        _, self.before = self.run(b"", 0)
 
     def run(self, script, refused_growth):
         """One run with one growth refused (none for 0): its result, and how many growths there were."""
         if os.path.exists(self.report):
             os.remove(self.report)
         environment = dict(os.environ, LD_PRELOAD=self.shim, GROWTH_REPORT=self.report)
-        environment["REFUSE_GROWTH"] = str(refused_growth)
-        result = run_program(self.program, script, environment)
-        return result, read_count(self.report)
+        environment["REFUSE_GROWTH"] = str(refused_growth + self.before if refused_growth else 0)
+        result = run_program(self.program, script, environment, arguments=self.arguments)
+        return result, read_count(self.report) - self.before
 
 
 def read_count(report):
@@ -171,36 +182,49 @@ def check_script(program, name, script, tally, kinds, is_repeated=False, most_gr
     return growths
 
 
+def repeated_scripts():
+    """What `all_scripts` gives, of the scripts whose commands are given again."""
+    return [(name, script, True, None) for name, script in worked.repeated_scripts()]
+
+
 def all_scripts(random_count):
     """The name of each script, the script, whether its commands are given again, and how many growths are refused."""
     worked_ones = [(name, script, False, None) for name, script in worked.refused_scripts()]
-    repeated = [(name, script, True, None) for name, script in worked.repeated_scripts()]
     chance = [(f"seed {seed}", scripts.script(seed), False, RANDOM_GROWTHS) for seed in range(random_count)]
-    return repeated + worked_ones + chance
+    return repeated_scripts() + worked_ones + chance
+
+
+def check_scripts(name, program, given, tally):
+    """One run of a program for each growth of each script, or for so many of them, and what came of it."""
+    kinds = Counter()
+    growths = 0
+    for script_name, script, is_repeated, most_growths in given:
+        growths += check_script(program, script_name, script, tally, kinds, is_repeated, most_growths)
+        if tally.failures >= ENOUGH_FAILURES_IN_ALL:
+            print("the other scripts are left out")
+            break
+    tally.check(growths > 0, f"{name}: no growth was counted: the shim doesn't reach the program")
+    again = kinds.pop("given again", 0)
+    print(f"{name}: {len(given)} scripts, {growths} growths, {sum(kinds.values())} runs with a growth refused:")
+    print(f"  {kinds['command refused']} refused one command, of which {again} were given again;")
+    print(f"  {kinds['run ended']} ended the run", flush=True)
 
 
 def main():
     parser = argparse.ArgumentParser(description="refuses each growth of each worked script in turn")
     parser.add_argument("--program", required=True)
     parser.add_argument("--shim", required=True)
+    parser.add_argument("--rows")
     parser.add_argument("--random", type=int, default=200)
     options = parser.parse_args()
     tally = Tally()
-    kinds = Counter()
-    growths = 0
-    given = all_scripts(options.random)
     with tempfile.TemporaryDirectory() as folder:
-        program = Preloaded(options.program, options.shim, os.path.join(folder, "growths"))
-        for name, script, is_repeated, most_growths in given:
-            growths += check_script(program, name, script, tally, kinds, is_repeated, most_growths)
-            if tally.failures >= ENOUGH_FAILURES_IN_ALL:
-                print("the other scripts are left out")
-                break
-    tally.check(growths > 0, "no growth was counted: the shim doesn't reach the program")
-    again = kinds.pop("given again", 0)
-    print(f"{len(given)} scripts, {growths} growths, {sum(kinds.values())} runs with a growth refused:")
-    print(f"  {kinds['command refused']} refused one command, of which {again} were given again;")
-    print(f"  {kinds['run ended']} ended the run")
+        report = os.path.join(folder, "growths")
+        for store in STORES if options.rows else ():
+            on_store = Preloaded(options.rows, options.shim, report, ("--store", store))
+            check_scripts(store, on_store, repeated_scripts(), tally)
+        program = Preloaded(options.program, options.shim, report)
+        check_scripts("the program", program, all_scripts(options.random), tally)
     return tally.close()
 
 

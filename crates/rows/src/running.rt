@@ -1,5 +1,5 @@
 use crate::pieces::Pieces;
-use crate::row::{AMPLE, Row};
+use crate::row::{AMPLE, Numbers, Row};
 use line_lists::{LineStore, LineVec};
 use line_tree::TreeStore;
 use script_cli::{Watched, outcome, run};
@@ -27,7 +27,7 @@ fn check_on<R: Print + AllocGlobal, S: TextStore>(
     lengths: &[usize],
     store: &str,
 ) -> io::Result<bool> {
-    let Some(limits) = limits_of(row) else {
+    let Some(limits) = limits_of(row.numbers) else {
         let name = row.name.as_str();
         println!(rt; "{name}: its numbers are no limits")?;
         return Ok(false);
@@ -41,9 +41,8 @@ fn check_on<R: Print + AllocGlobal, S: TextStore>(
     Ok(true)
 }
 
-/// The limits that a row runs under, if its numbers are such.
-fn limits_of(row: &Row) -> Option<Limits> {
-    let numbers = row.numbers;
+/// The limits of these numbers, if they are such.
+pub fn limits_of(numbers: Numbers) -> Option<Limits> {
     Limits::new(
         numbers.chars,
         numbers.tags,

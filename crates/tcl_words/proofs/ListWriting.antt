@@ -210,3 +210,6 @@ pub reading_ends_badly : (cs bytes : List ℕ) (stage : ListStage) (words : List
 reading_ends_badly cs bytes stage words word step w h does bad =
     no_list_of cs (none_found (read_list cs 0 AtElement) (found_at_end cs bytes stage words word step w h does
     ∙ ap (λ s. behind (words_after step.output.ended (word_with step.output 0 word) words) (word_after step.output.ended (word_with step.output 0 word)) (spelled_found (list_end s))) bad))
+
+pub reading_same : (cs rest : List ℕ) (stage : ListStage) (words more : List (List ℕ)) (word : List ℕ) → IsReading cs rest stage words word → more ≡ words → IsReading cs rest stage more word
+reading_same cs rest stage words more word w same = subst (λ l. IsReading cs rest stage l word) (sym same) w

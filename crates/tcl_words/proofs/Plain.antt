@@ -1,21 +1,25 @@
 -- Runs of characters that go onto a word as they are.
-use Rattle.std.proofs.Common.{◌≡◌, ℕ, zero, suc, ◌+◌, ◌-◌, ◌<◌, ◌≤◌, ⊎_elim, Bool, true, false, cond, ◌==◌, IsUtf8, IsCharBoundary, List, [], ◌∷◌, ◌++◌, length, take, drop, get_or, chars, encode_utf8, encode_utf8_all, refl, sym, ap, ◌∙◌, arith, subst, true≢false, length-take, take-append-drop}
+use Rattle.std.proofs.Common.{◌≡◌, ℕ, zero, suc, ◌+◌, ◌-◌, ◌<◌, ◌≤◌, ⊎_elim, Bool, true, false, cond, ◌||◌, ◌==◌, IsUtf8, IsCharBoundary, List, [], ◌∷◌, ◌++◌, length, take, drop, get_or, chars, encode_utf8, encode_utf8_all, refl, sym, ap, ◌∙◌, arith, subst, true≢false, length-take, length-drop, take-append-drop}
 use Rattle.std.specs.Bool.{⊤}
 use Rattle.std.specs.Prelude.{slice_range}
 use Rattle.std.specs.Char.{len_utf8}
 use Rattle.std.proofs.lemmas.Bool.Decides.{nat_tests, leb_tells}
-use Rattle.std.proofs.lemmas.List.{drop-drop}
+use Rattle.std.proofs.lemmas.List.{drop-drop, drop_more, get_or-drop}
 use Rattle.std.proofs.Math.Seq.{drop-append_seam}
 use Rattle.std.proofs.lemmas.Str.{IsCharBoundary-past_char, encode_ascii, length-encode, len_utf8_bounds, encodes-chars, chars-append, IsUtf8-take, IsCharBoundary-end, IsCharBoundary-before_ascii}
 use Rattle.tcl_words.specs.Characters.{is_end, is_blank}
-use Rattle.tcl_words.specs.Runs.{is_ordinary, is_bare, is_quoted, is_braced, is_plain}
-use Rattle.tcl_words.specs.Steps.{keeps, text_step, step_of}
+use Rattle.tcl_words.specs.Runs.{is_ordinary, is_bare, is_quoted, is_braced, is_plain, begins_word, begins_command, begun, IsSeam}
+use Rattle.tcl_words.specs.declared.runs.Seam.TheVariants as seams
+use Rattle.tcl_words.specs.Steps.{keeps, closes, text_step, step_of, depth_of}
 use Rattle.tcl_words.specs.Scanning.{later, scan_next, scanned}
 use Rattle.tcl_words.specs.declared.stage.TextWord.{TextWord}
 use Rattle.tcl_words.specs.declared.stage.TextWord.TheVariants.{Bare, Quoted}
 use Rattle.tcl_words.specs.declared.stage.Stage.{Stage}
 use Rattle.tcl_words.specs.declared.stage.Stage.TheVariants as stages
 use Rattle.tcl_words.specs.declared.stage.Step.{Step}
+use Rattle.tcl_words.specs.declared.stage.Next.{Next}
+use Rattle.tcl_words.specs.declared.stage.Next.TheVariants.{Go, End}
+use Rattle.tcl_words.specs.declared.scanner.Scan.TheVariants.{EndsAt}
 use Rattle.tcl_words.proofs.Verdicts.{scanned-cons}
 use Rattle.tcl_words.proofs.Spelling.{below_or, later-later, later-zero}
 
@@ -183,3 +187,182 @@ after_char rest after c n split long = ap (drop n) split ∙ ap (λ m. drop m (e
 
 pub none_left : (xs : List ℕ) (test : Bool) → test ≡ (length xs == 0) → test ≡ true → length xs ≡ 0
 none_left xs test h k = grind (arith, nat_tests)
+
+-- a bare word that a character begins, taken as begun before it
+
+kept_false : (test plain : Bool) → cond test false plain ≡ true → (test ≡ false) × (plain ≡ true)
+kept_false true plain h = absurd (true≢false (sym h))
+kept_false false plain h = (refl, h)
+
+by_false : (A : Type 0) (test : Bool) (s t : A) → test ≡ false → cond test s t ≡ t
+by_false A test s t h = ap (λ b. cond b s t) h
+
+by_true : (A : Type 0) (test : Bool) (s t : A) → test ≡ true → cond test s t ≡ s
+by_true A test s t h = ap (λ b. cond b s t) h
+
+word_begins : (c : ℕ) → begins_word c ≡ true → step_of stages.BeforeWord c ≡ step_of (stages.Text Bare) c
+word_begins c h =
+    let brace = kept_false (c == 123) _ h in
+    let quote = kept_false (c == 34) _ brace.1 in
+    let end = kept_false (is_end c) _ quote.1 in
+    let blank = kept_false (is_blank c) _ end.1 in
+    let slash = kept_false (c == 92) _ blank.1 in
+    by_false Step (is_end c) _ _ end.0 ∙ by_false Step (is_blank c) _ _ blank.0 ∙ by_false Step (c == 92) _ _ slash.0 ∙ by_false Step (c == 123) _ _ brace.0
+    ∙ by_false Step (c == 34) _ _ quote.0
+    ∙ sym (by_false Step (is_end c) _ _ end.0 ∙ by_false Step (is_blank c) _ _ blank.0 ∙ by_false Step (c == 92) _ _ slash.0)
+
+either_false : (a b : Bool) → a ≡ false → b ≡ false → a || b ≡ false
+either_false a b h k = ap (λ x. x || b) h ∙ k
+
+command_begins : (c : ℕ) → begins_command c ≡ true → step_of stages.BeforeCommand c ≡ step_of (stages.Text Bare) c
+command_begins c h =
+    let hash = kept_false (c == 35) _ h in
+    let word = hash.1 in
+    let brace = kept_false (c == 123) _ word in
+    let quote = kept_false (c == 34) _ brace.1 in
+    let end = kept_false (is_end c) _ quote.1 in
+    let blank = kept_false (is_blank c) _ end.1 in
+    let slash = kept_false (c == 92) _ blank.1 in
+    by_false Step (is_end c || is_blank c) _ _ (either_false (is_end c) (is_blank c) end.0 blank.0) ∙ by_false Step (c == 92) _ _ slash.0
+    ∙ by_false Step (c == 35) _ _ hash.0 ∙ word_begins c word
+
+pub begun_step : (stage : Stage) (c : ℕ) → step_of stage c ≡ step_of (begun stage c) c
+begun_step stages.BeforeCommand c =
+    elim (begins_command c) as (λ b. begins_command c ≡ b → step_of stages.BeforeCommand c ≡ step_of (cond b (stages.Text Bare) stages.BeforeCommand) c)
+    [ true ↦ λ is. command_begins c is | false ↦ λ isn't. refl ] refl
+begun_step stages.BeforeWord c =
+    elim (begins_word c) as (λ b. begins_word c ≡ b → step_of stages.BeforeWord c ≡ step_of (cond b (stages.Text Bare) stages.BeforeWord) c)
+    [ true ↦ λ is. word_begins c is | false ↦ λ isn't. refl ] refl
+begun_step stages.CommandBackslash c = refl
+begun_step stages.Comment c = refl
+begun_step stages.CommentBackslash c = refl
+begun_step stages.WordBackslash c = refl
+begun_step stages.BareBackslash c = refl
+begun_step (stages.Text word) c = refl
+begun_step (stages.AfterDollar word) c = refl
+begun_step (stages.AfterColon word) c = refl
+begun_step (stages.Escaped word stage) c = refl
+begun_step stages.AfterOpening c = refl
+begun_step stages.AfterStar c = refl
+begun_step (stages.Braced depth) c = refl
+begun_step (stages.BracedBackslash depth) c = refl
+begun_step (stages.BracedGap depth) c = refl
+begun_step (stages.Behind closing) c = refl
+begun_step (stages.BehindBackslash closing) c = refl
+
+lower_or : (test : Bool) (stage : Stage) → depth_of (cond test (stages.Text Bare) stage) ≤ depth_of stage
+lower_or true stage = omega arith
+lower_or false stage = omega arith
+
+depth_begun : (stage : Stage) (c : ℕ) → depth_of (begun stage c) ≤ depth_of stage
+depth_begun stages.BeforeCommand c = lower_or (begins_command c) stages.BeforeCommand
+depth_begun stages.BeforeWord c = lower_or (begins_word c) stages.BeforeWord
+depth_begun stages.CommandBackslash c = omega arith
+depth_begun stages.Comment c = omega arith
+depth_begun stages.CommentBackslash c = omega arith
+depth_begun stages.WordBackslash c = omega arith
+depth_begun stages.BareBackslash c = omega arith
+depth_begun (stages.Text word) c = omega arith
+depth_begun (stages.AfterDollar word) c = omega arith
+depth_begun (stages.AfterColon word) c = omega arith
+depth_begun (stages.Escaped word stage) c = omega arith
+depth_begun stages.AfterOpening c = omega arith
+depth_begun stages.AfterStar c = omega arith
+depth_begun (stages.Braced depth) c = omega arith
+depth_begun (stages.BracedBackslash depth) c = omega arith
+depth_begun (stages.BracedGap depth) c = omega arith
+depth_begun (stages.Behind closing) c = omega arith
+depth_begun (stages.BehindBackslash closing) c = omega arith
+
+pub depth_from : (stage here : Stage) (c : ℕ) → here ≡ begun stage c → depth_of here ≤ depth_of stage
+depth_from stage here c is = subst (λ s. depth_of s ≤ depth_of stage) (sym is) (depth_begun stage c)
+
+here_step : (stage here : Stage) (c d : ℕ) → here ≡ begun stage c → c ≡ d → step_of stage d ≡ step_of here d
+here_step stage here c d is same = begun_step stage d ∙ ap (λ s. step_of s d) (ap (begun stage) (sym same) ∙ sym is)
+
+-- a scan goes on from there
+pub scan_begun : (bytes : List ℕ) (i : ℕ) (stage here : Stage) (c : ℕ) → i < length bytes → here ≡ begun stage c → c ≡ get_or bytes i 0
+    → scanned (drop i bytes) stage ≡ scanned (drop i bytes) here
+scan_begun bytes i stage here c h is same =
+    let split = drop_more bytes i 0 h in
+    ap (λ l. scanned l stage) split ∙ scanned-cons (get_or bytes i 0) (drop (i + 1) bytes) stage
+    ∙ ap (λ (s : Step). scan_next s.next (scanned (drop (i + 1) bytes))) (here_step stage here c (get_or bytes i 0) is same)
+    ∙ sym (scanned-cons (get_or bytes i 0) (drop (i + 1) bytes) here) ∙ sym (ap (λ l. scanned l here) split)
+
+-- a character whose first byte begins a bare word does so too
+
+high_word : (c : ℕ) → 128 ≤ c → begins_word c ≡ true
+high_word c h = grind (arith, nat_tests)
+
+high_command : (c : ℕ) → 128 ≤ c → begins_command c ≡ true
+high_command c h = grind (arith, nat_tests)
+
+high_step : (stage : Stage) (b c : ℕ) → 128 ≤ c → step_of stage c ≡ step_of (begun stage b) c
+high_step stages.BeforeCommand b c h =
+    elim (begins_command b) as (λ x. step_of stages.BeforeCommand c ≡ step_of (cond x (stages.Text Bare) stages.BeforeCommand) c)
+    [ true ↦ command_begins c (high_command c h) | false ↦ refl ]
+high_step stages.BeforeWord b c h =
+    elim (begins_word b) as (λ x. step_of stages.BeforeWord c ≡ step_of (cond x (stages.Text Bare) stages.BeforeWord) c)
+    [ true ↦ word_begins c (high_word c h) | false ↦ refl ]
+high_step stages.CommandBackslash b c h = refl
+high_step stages.Comment b c h = refl
+high_step stages.CommentBackslash b c h = refl
+high_step stages.WordBackslash b c h = refl
+high_step stages.BareBackslash b c h = refl
+high_step (stages.Text word) b c h = refl
+high_step (stages.AfterDollar word) b c h = refl
+high_step (stages.AfterColon word) b c h = refl
+high_step (stages.Escaped word stage) b c h = refl
+high_step stages.AfterOpening b c h = refl
+high_step stages.AfterStar b c h = refl
+high_step (stages.Braced depth) b c h = refl
+high_step (stages.BracedBackslash depth) b c h = refl
+high_step (stages.BracedGap depth) b c h = refl
+high_step (stages.Behind closing) b c h = refl
+high_step (stages.BehindBackslash closing) b c h = refl
+
+pub char_step : (stage here : Stage) (b c : ℕ) (more : List ℕ) → here ≡ begun stage b → b ≡ get_or (encode_utf8 c ++ more) 0 0 → step_of stage c ≡ step_of here c
+char_step stage here b c more is first = ⊎_elim
+    (λ low. here_step stage here b c is (first ∙ ap (λ l. get_or (l ++ more) 0 0) (encode_ascii c low)))
+    (λ high. high_step stage b c high ∙ ap (λ s. step_of s c) (sym is))
+    (below_or c)
+
+-- what ends a bare word
+
+pub blank_step : (c : ℕ) → is_blank c ≡ true → is_end c ≡ false → step_of (stages.Text Bare) c ≡ closes (Go stages.BeforeWord)
+blank_step c blank end = by_false Step (is_end c) _ _ end ∙ by_true Step (is_blank c) _ _ blank
+
+pub end_step : (c : ℕ) → is_end c ≡ true → step_of (stages.Text Bare) c ≡ closes End
+end_step c end = by_true Step (is_end c) _ _ end
+
+-- a bare word and what ends it, of a slice of the bytes from i on
+seam_next : (bytes slice : List ℕ) (i n : ℕ) (next : Next) → slice ≡ drop i bytes → n < length slice
+    → ((k : ℕ) → k < n → is_plain (stages.Text Bare) (get_or slice k 0) ≡ true)
+    → step_of (stages.Text Bare) (get_or slice n 0) ≡ closes next
+    → scanned (drop i bytes) (stages.Text Bare) ≡ later n (scan_next next (scanned (drop (i + n + 1) bytes)))
+seam_next bytes slice i n next same long plain ends =
+    let skips = scan_skips bytes slice i n (stages.Text Bare) same (omega arith) plain in
+    let within : i + n < length bytes = omega (arith, ap length same, length-drop i bytes) in
+    let split = drop_more bytes (i + n) 0 within in
+    let there : get_or slice n 0 ≡ get_or bytes (i + n) 0 = ap (λ l. get_or l n 0) same ∙ get_or-drop i bytes n 0 in
+    skips.0 ∙ ap (later n) (ap (λ l. scanned l (stages.Text Bare)) split ∙ scanned-cons (get_or bytes (i + n) 0) (drop (i + n + 1) bytes) (stages.Text Bare)
+    ∙ ap (λ (s : Step). scan_next s.next (scanned (drop (i + n + 1) bytes))) (ap (step_of (stages.Text Bare)) (sym there) ∙ ends))
+
+-- the same from a stage that the word begins in
+pub seam_passes : (bytes slice : List ℕ) (i n : ℕ) (stage here : Stage) (c : ℕ) → i < length bytes → here ≡ begun stage c → c ≡ get_or bytes i 0
+    → slice ≡ drop i bytes → ((k : ℕ) → k < n → is_plain here (get_or slice k 0) ≡ true) → IsSeam here slice n seams.Blank
+    → scanned (drop i bytes) stage ≡ later (n + 1) (scanned (drop (i + (n + 1)) bytes) stages.BeforeWord)
+seam_passes bytes slice i n stage here c less is first same plain seam =
+    scan_begun bytes i stage here c less is first ∙ ap (scanned (drop i bytes)) seam.0
+    ∙ seam_next bytes slice i n (Go stages.BeforeWord) same seam.2 (λ k p. ap (λ s. is_plain s (get_or slice k 0)) (sym seam.0) ∙ plain k p)
+    (blank_step (get_or slice n 0) seam.3 seam.4)
+    ∙ later-later n 1 (scanned (drop (i + n + 1) bytes) stages.BeforeWord)
+    ∙ ap (λ m. later (n + 1) (scanned (drop m bytes) stages.BeforeWord)) (let e : i + n + 1 ≡ i + (n + 1) = omega arith in e)
+
+pub seam_ends : (bytes slice : List ℕ) (i n : ℕ) (stage here : Stage) (c : ℕ) → i < length bytes → here ≡ begun stage c → c ≡ get_or bytes i 0
+    → slice ≡ drop i bytes → ((k : ℕ) → k < n → is_plain here (get_or slice k 0) ≡ true) → IsSeam here slice n seams.End
+    → scanned (drop i bytes) stage ≡ EndsAt (n + 1)
+seam_ends bytes slice i n stage here c less is first same plain seam =
+    scan_begun bytes i stage here c less is first ∙ ap (scanned (drop i bytes)) seam.0
+    ∙ seam_next bytes slice i n End same seam.2 (λ k p. ap (λ s. is_plain s (get_or slice k 0)) (sym seam.0) ∙ plain k p)
+    (end_step (get_or slice n 0) seam.3)

@@ -1,15 +1,26 @@
 -- Characters that go onto a word as they are.
-use Rattle.std.specs.Prelude.{ℕ, Bool, true, false, ◌==◌, if◌then◌else◌}
+use Rattle.std.specs.Prelude.{◌≡◌, ℕ, ◌<◌, Bool, true, false, ◌==◌, if◌then◌else◌}
+use Rattle.std.specs.Prelude.{List, length, slice_index}
+use Rattle.std.specs.Bool.{⊤}
 use Rattle.tcl_words.specs.Characters.{is_end, is_blank}
 use Rattle.tcl_words.specs.declared.stage.TextWord.TheVariants.{Bare, Quoted}
+use Rattle.tcl_words.specs.declared.runs.Seam.{Seam}
+use Rattle.tcl_words.specs.declared.runs.Seam.TheVariants as seams
 use Rattle.tcl_words.specs.declared.stage.Stage.{Stage}
-use Rattle.tcl_words.specs.declared.stage.Stage.TheVariants.{Text, Braced}
+use Rattle.tcl_words.specs.declared.stage.Stage.TheVariants.{BeforeCommand, BeforeWord, Text, Braced}
 
 abbrev pub is_ordinary : ℕ → Bool
 is_ordinary c = if c == 91 then false else (if c == 36 then false else (if c == 92 then false else true))
 
 abbrev pub is_bare : ℕ → Bool
 is_bare c = if is_end c then false else (if is_blank c then false else (if c == 92 then false else is_ordinary c))
+
+-- begins a bare word where a word may begin, and where a command may
+abbrev pub begins_word : ℕ → Bool
+begins_word c = if c == 123 then false else (if c == 34 then false else is_bare c)
+
+abbrev pub begins_command : ℕ → Bool
+begins_command c = if c == 35 then false else begins_word c
 
 abbrev pub is_quoted : ℕ → Bool
 is_quoted c = if c == 34 then false else is_ordinary c
@@ -22,3 +33,18 @@ is_plain (Text Bare) c = is_bare c
 is_plain (Text Quoted) c = is_quoted c
 is_plain (Braced depth) c = is_braced c
 is_plain _ c = false
+
+-- the stage before a character, where a bare word that it begins counts as begun
+abbrev pub begun : Stage → ℕ → Stage
+begun BeforeCommand c = if begins_command c then Text Bare else BeforeCommand
+begun BeforeWord c = if begins_word c then Text Bare else BeforeWord
+begun stage c = stage
+
+-- the characters before the place are of a bare word, and there stands what ends it
+abbrev pub IsSeam : Stage → List ℕ → ℕ → Seam → Type 0
+IsSeam stage bytes n seams.Blank =
+    (stage ≡ Text Bare) × (0 < n) × (n < length bytes)
+    × (is_blank (slice_index bytes n) ≡ true) × (is_end (slice_index bytes n) ≡ false)
+IsSeam stage bytes n seams.End =
+    (stage ≡ Text Bare) × (0 < n) × (n < length bytes) × (is_end (slice_index bytes n) ≡ true)
+IsSeam stage bytes n seams.Other = ⊤

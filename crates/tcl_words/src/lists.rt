@@ -49,13 +49,13 @@ pub fn split_list(alloc: Global, text: &str) -> Result<Vec<String>, ListFault>
     ensures list { IfOk result (λ words. ReadsList (chars text.now) (texts_of words.items)) }
     ensures bad { result ≡ Err ListFault.BadList → (xs : List (List ℕ)) → ¬ ReadsList (chars text.now) xs }
 {
-    let mut writer = Writer::new(alloc, text.len())?;
+    let mut writer = Writer::new(alloc, text.len());
     let mut stage = ListStage::Between;
     let mut rest = text;
     while !rest.is_empty() {
         let run = plain_run(script_stage(stage), rest.as_bytes());
         if run > 0 {
-            writer.word.push_str(&rest[..run])?;
+            writer.keep(&rest[..run])?;
             rest = &rest[run..];
             continue;
         }

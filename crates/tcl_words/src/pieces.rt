@@ -2,7 +2,7 @@ ghost use Rattle.std.specs.Prelude.{◌≡◌, ◌<◌, [], ◌∷◌, ◌++◌,
 ghost use Rattle.tcl_words.specs.Scanning.{pieces_from, word_with, words_after, word_after};
 ghost use Rattle.tcl_words.specs.declared.stage.Stage.TheVariants.{BeforeCommand};
 
-use crate::runs::plain_run;
+use crate::runs::{Seam, begun, plain_run, seam_behind};
 use crate::stage::{Next, Output, Stage};
 use crate::steps::{last_from, step_from};
 use std::alloc::{AllocError, Global};
@@ -12,19 +12,53 @@ use std::alloc::{AllocError, Global};
 pub struct Writer {
     pub words: Vec<String>,
     pub word: String,
+    /// How many bytes the word has room for from its first byte on.
+    room: usize,
 }
 
 impl Writer {
-    /// Nothing written, with room for a word of so many bytes.
-    pub fn new(alloc: Global, room: usize) -> Result<Self, AllocError>
-        ensures words { IfOk result (λ writer. writer.words.items ≡ []) }
-        ensures word { IfOk result (λ writer. string_bytes writer.word ≡ []) }
-        ensures room { IfOk result (λ writer. room ≤ string_capacity writer.word) }
+    /// Nothing written, and no memory taken. A word that isn't added whole has room for so many bytes.
+    pub fn new(alloc: Global, room: usize) -> Self
+        ensures words { result.words.items ≡ [] }
+        ensures word { string_bytes result.word ≡ [] }
     {
-        Ok(Writer {
+        Writer {
             words: Vec::new(alloc),
-            word: String::with_capacity(alloc, room)?,
-        })
+            word: String::new(alloc),
+            room,
+        }
+    }
+
+    /// Makes room for the word under way, where none was made.
+    fn make_room(&mut self) -> Result<(), AllocError>
+        ensures words { self.new.words ≡ self.old.words }
+        ensures word { string_bytes self.new.word ≡ string_bytes self.old.word }
+    {
+        if self.word.capacity() == 0 {
+            self.word.reserve(self.room)?;
+        }
+        Ok(())
+    }
+
+    /// Adds bytes to the word under way.
+    pub fn keep(&mut self, part: &str) -> Result<(), AllocError>
+        ensures words { map (λ word. string_bytes word) self.new.words.items
+            ≡ map (λ word. string_bytes word) self.old.words.items }
+        ensures word { OnOk result (string_bytes self.new.word ≡ string_bytes self.old.word ++ part.now) }
+    {
+        self.make_room()?;
+        self.word.push_str(part)?;
+        Ok(())
+    }
+
+    /// Adds a word that is whole.
+    pub fn add(&mut self, alloc: Global, word: &str) -> Result<(), AllocError>
+        ensures words { OnOk result (map (λ word. string_bytes word) self.new.words.items
+            ≡ map (λ word. string_bytes word) self.old.words.items ++ word.now ∷ []) }
+        ensures word { string_bytes self.new.word ≡ string_bytes self.old.word }
+    {
+        self.words.push(String::from_str(alloc, word)?)?;
+        Ok(())
     }
 
     /// Writes what a character adds.
@@ -34,6 +68,7 @@ impl Writer {
         ensures words { OnOk result (map (λ word. string_bytes word) self.new.words.items
             ≡ words_after output.ended (word_with output c (string_bytes self.old.word)) (map (λ word. string_bytes word) self.old.words.items)) }
     {
+        self.make_room()?;
         if let Some(given) = output.given {
             self.word.push(given)?;
         }
@@ -61,13 +96,31 @@ pub fn first_char(text: &str) -> char
 pub fn words_of(alloc: Global, text: &str) -> Result<Vec<String>, AllocError>
     ensures { IfOk result (λ words. map (λ word. string_bytes word) words.items ≡ map encode_utf8_all (pieces_from (chars text.now) BeforeCommand)) }
 {
-    let mut writer = Writer::new(alloc, text.len())?;
+    let mut writer = Writer::new(alloc, text.len());
     let mut stage = Stage::BeforeCommand;
     let mut rest = text;
     while !rest.is_empty() {
-        let run = plain_run(stage, rest.as_bytes());
+        let bytes = rest.as_bytes();
+        let here = begun(stage, bytes[0]);
+        let run = plain_run(here, bytes);
+        if writer.word.as_str().is_empty() {
+            match seam_behind(here, bytes, run) {
+                Seam::Blank => {
+                    writer.add(alloc, &rest[..run])?;
+                    stage = Stage::BeforeWord;
+                    rest = &rest[run + 1..];
+                    continue;
+                }
+                Seam::End => {
+                    writer.add(alloc, &rest[..run])?;
+                    return Ok(writer.words);
+                }
+                Seam::Other => {}
+            }
+        }
         if run > 0 {
-            writer.word.push_str(&rest[..run])?;
+            writer.keep(&rest[..run])?;
+            stage = here;
             rest = &rest[run..];
             continue;
         }

@@ -3,7 +3,7 @@ ghost use Rattle.tcl_words.specs.Scanning.{scanned};
 ghost use Rattle.tcl_words.specs.Steps.{depth_of};
 
 use crate::fault::ScriptFault;
-use crate::runs::plain_run;
+use crate::runs::{Seam, begun, plain_run, seam_behind};
 use crate::stage::{Next, Stage};
 use crate::steps::step_from;
 
@@ -25,8 +25,20 @@ pub fn scan_bytes(bytes: &[u8], from: Stage) -> Scan
     let mut stage = from;
     let mut index = 0;
     while index < bytes.len() {
-        let run = plain_run(stage, &bytes[index..]);
+        let here = begun(stage, bytes[index]);
+        let rest = &bytes[index..];
+        let run = plain_run(here, rest);
+        match seam_behind(here, rest, run) {
+            Seam::Blank => {
+                stage = Stage::BeforeWord;
+                index += run + 1;
+                continue;
+            }
+            Seam::End => return Scan::EndsAt(index + run + 1),
+            Seam::Other => {}
+        }
         if run > 0 {
+            stage = here;
             index += run;
             continue;
         }

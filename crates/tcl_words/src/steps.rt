@@ -9,14 +9,14 @@ use crate::fault::ScriptFault;
 use crate::stage::{Closing, Next, Stage, Step, TextWord};
 
 /// Whether the character ends a command.
-fn is_end(c: char) -> bool
+pub fn is_end(c: char) -> bool
     ensures { result ≡ is_end c }
 {
     c == '\n' || c == ';'
 }
 
 /// Whether the character separates words.
-fn is_blank(c: char) -> bool
+pub fn is_blank(c: char) -> bool
     ensures { result ≡ is_blank c }
 {
     c == ' ' || c == '\t' || c == '\r' || c == '\x0b' || c == '\x0c'

@@ -2,13 +2,13 @@ use Rattle.std.proofs.Common.{◌++◌, ◌∙◌, map, chars, string_bytes, sym
 use Rattle.std.proofs.lemmas.Str.{IsUtf8-drop}
 use Rattle.tcl_words.proofs.ListWriting.{list_depth}
 use Rattle.tcl_words.proofs.Plain.{run_at, front_range, char_boundary, after_char, none_left, RunOf}
-use Rattle.tcl_words.proofs.ListWriting.{reading_starts, reading_runs, reading_goes, reading_fails, reading_ends, reading_ends_badly}
+use Rattle.tcl_words.proofs.ListWriting.{reading_starts, reading_same, reading_runs, reading_goes, reading_fails, reading_ends, reading_ends_badly}
 use Rattle.tcl_words.proofs.lists.split_list.Goals as goal
 
 pub loop-rest-init : goal.loop-rest-init
 loop-rest-init c = record {
   utf8 = c.utf8.text;
-  reading = reading_starts (chars c.args.text.now) _ _ (ap (map (λ word. string_bytes word)) c.in_ok-writer.ensures.words) c.in_ok-writer.ensures.word;
+  reading = reading_starts (chars c.args.text.now) _ _ (ap (map (λ word. string_bytes word)) c.new-writer.ensures.words) c.new-writer.ensures.word;
   depth = omega arith;
 }
 
@@ -29,8 +29,9 @@ loop-rest-preserved-then-run-gt0 c =
     let long = c.range_from-rest.ensures.len in
     record {
       utf8 = subst IsUtf8 (sym after) (IsUtf8-drop rest n c.loop-rest.invariant.utf8 run.0);
-      reading = rw after (reading_runs (chars c.args.text.now) rest n c.loop-rest.stage _ _ _ c.loop-rest.invariant.reading (subst (λ s. RunOf s rest n) c.script_stage.ensures run.1)
-          (c.in_ok-push_str.ensures.bytes ∙ ap (λ l. string_bytes c.loop-rest.writer.word ++ l) (c.range.ensures.value ∙ front_range n rest)));
+      reading = rw after (reading_same (chars c.args.text.now) _ c.loop-rest.stage _ _ _
+          (reading_runs (chars c.args.text.now) rest n c.loop-rest.stage _ _ _ c.loop-rest.invariant.reading (subst (λ s. RunOf s rest n) c.script_stage.ensures run.1)
+          (c.in_ok-keep.ensures.word ∙ ap (λ l. string_bytes c.loop-rest.writer.word ++ l) (c.range.ensures.value ∙ front_range n rest))) c.keep.ensures.words);
       depth = omega arith;
     }
 
