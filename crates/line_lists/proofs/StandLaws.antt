@@ -102,10 +102,10 @@ stands-found number offset lines rows stands =
     (both.0, subst (λ found. IfSome found (λ (p : Place). offset ≡ min p.offset (length (whole lines).columns - 1))) (sym is) both.1)
 
 -- ---- in the lines of a list
-pub stands-kept : (number from to index start count column : ℕ) (lines : List LineContent) (line : LineContent) → from ≤ index → index < to → slice_get lines index ≡ Some line
-    → start ≡ length (whole (take from lines)).columns → count ≡ length (whole (take index lines)).columns → StandsIn number column (line ∷ [])
-    → StandsIn number (count - start + column) (take (to - from) (drop from lines))
-stands-kept number from to index start count column lines line first last is start_is count_is stands =
+pub stands-kept : (number from to index count column : ℕ) (lines : List LineContent) (line : LineContent) → from ≤ index → index < to → slice_get lines index ≡ Some line
+    → count ≡ length (whole (take (index - from) (drop from lines))).columns → StandsIn number column (line ∷ [])
+    → StandsIn number (count + column) (take (to - from) (drop from lines))
+stands-kept number from to index count column lines line first last is count_is stands =
     let others = drop from lines in
     let m = index - from in
     let k = to - index - 1 in
@@ -113,10 +113,7 @@ stands-kept number from to index start count column lines line first last is sta
     let all : take (to - from) others ≡ take m others ++ line ∷ take k (drop (suc m) others) =
     ap (λ n. take n others) (let same : to - from ≡ m + suc k = omega (arith, first, last) in same) ∙ take-more m (suc k) others
     ∙ ap (λ xs. take m others ++ take (suc k) xs) (drop_after others m line here) in
-    let more : length (whole (take index lines)).columns ≡ length (whole (take from lines)).columns + length (whole (take m others)).columns =
-    ap (λ n. length (whole (take n lines)).columns) (let same : index ≡ from + m = omega (arith, first) in same)
-    ∙ ap (λ xs. length (whole xs).columns) (take-more from m lines) ∙ length-whole (take from lines) (take m others) in
-    let offset : length (whole (take m others)).columns + column ≡ count - start + column = omega (arith, more, start_is, count_is) in
+    let offset : length (whole (take m others)).columns + column ≡ count + column = ap (λ n. n + column) (sym count_is) in
     subst (λ n. StandsIn number n (take (to - from) others)) offset
     (subst (StandsIn number (length (whole (take m others)).columns + column)) (sym all)
     (stands-behind number column (take m others) (line ∷ take k (drop (suc m) others)) (stands-before number column (line ∷ []) (take k (drop (suc m) others)) stands)))
@@ -164,14 +161,12 @@ kept-before number from to index lines ordered is large =
     (free-front part rest number (free-front (take from lines) (part ++ rest) number (ap (λ xs. finite.get (whole xs).marks number) (sym all) ∙ free)).1).0
 
 -- ---- in the lines before a copy, and in its own
-pub stands-copied : (number column start count : ℕ) (reached : Reached) (copy : Copied) (lines : List LineContent)
-    → start ≡ length (whole (take reached.used lines)).columns → count ≡ length (whole (take (reached.used + copy.kept) lines)).columns → StandsIn number column (copy.line ∷ [])
-    → StandsIn number (count - start + column) (lines_with reached copy lines)
-stands-copied number column start count reached copy lines start_is count_is stands =
+pub stands-copied : (number column count : ℕ) (reached : Reached) (copy : Copied) (lines : List LineContent)
+    → count ≡ length (whole (take copy.kept (drop reached.used lines))).columns → StandsIn number column (copy.line ∷ [])
+    → StandsIn number (count + column) (lines_with reached copy lines)
+stands-copied number column count reached copy lines count_is stands =
     let kept = take copy.kept (drop reached.used lines) in
-    let more : length (whole (take (reached.used + copy.kept) lines)).columns ≡ length (whole (take reached.used lines)).columns + length (whole kept).columns =
-    ap (λ xs. length (whole xs).columns) (take-more reached.used copy.kept lines) ∙ length-whole (take reached.used lines) kept in
-    subst (λ n. StandsIn number n (lines_with reached copy lines)) (let same : length (whole kept).columns + column ≡ count - start + column = omega (arith, more, start_is, count_is) in same)
+    subst (λ n. StandsIn number n (lines_with reached copy lines)) (ap (λ n. n + column) (sym count_is))
     (stands-behind number column kept (copy.line ∷ []) stands)
 
 pub copied-none : (number : ℕ) (reached : Reached) (copy : Copied) (lines : List LineContent) → finite.get copy.line.marks number ≡ None

@@ -9,7 +9,7 @@ ghost use Rattle.line_lists.specs.Lists.{has_toggle};
 ghost use Rattle.line_lists.specs.Texts.{whole};
 ghost use Rattle.line_lists.specs.Toggling.{tags_behind};
 
-use crate::drafts::{Copied, Draft, Found, Reached, Stop};
+use crate::drafts::{Copied, Draft, Found, Reached, Stop, span};
 use crate::lists::LineList;
 use std::alloc::AllocError;
 use text_model::{TagSet, TagSlot};
@@ -35,8 +35,11 @@ impl Reached {
         ensures { result ≡ differing self.now.tags
             (tags_behind (whole (take count (drop self.now.used (L.lines list.now)))).columns) }
     {
-        let start = list.prefix(self.used).odd_slots();
-        let kept = list.prefix(self.used + count).odd_slots();
+        if count == 0 {
+            return self.tags;
+        }
+        let start = list.odd_slots(self.used);
+        let kept = list.odd_slots(self.used + count);
         self.tags.differing(&start.differing(&kept))
     }
 
@@ -48,9 +51,7 @@ impl Reached {
         ensures { result ≡ self.now.characters
             + length (whole (take count (drop self.now.used (L.lines list.now)))).columns }
     {
-        let start = list.prefix(self.used).characters();
-        let kept = list.prefix(self.used + count).characters();
-        self.characters + (kept - start)
+        self.characters + span(list, self.used, count)
     }
 }
 

@@ -1,4 +1,4 @@
-ghost use Rattle.std.specs.Prelude.{◌≡◌, ℕ, ◌+◌, ◌-◌, ◌<◌, ◌≤◌, ◌^◌, List, ◌∷◌, [], ◌++◌, IfOk, OnOk, length, take, vec_len, vec_capacity, true, false, chars, None};
+ghost use Rattle.std.specs.Prelude.{◌≡◌, ℕ, ◌+◌, ◌-◌, ◌<◌, ◌≤◌, ◌^◌, List, ◌∷◌, [], ◌++◌, IfOk, OnOk, drop, length, take, vec_len, vec_capacity, true, false, chars, None};
 ghost use Rattle.std.specs.FinMap as finite;
 ghost use Rattle.text_model.specs.Lines.{lines};
 ghost use Rattle.segments.specs.Columns.{LineContent, after_text};
@@ -28,6 +28,17 @@ pub struct Reached {
     pub tags: TagSet,
 }
 
+/// How many characters so many lines from one on have.
+pub fn span<L: LineList>(list: &L, from: usize, count: usize) -> usize
+    requires { from + count ≤ length (L.lines list.now) }
+    ensures { result ≡ length (whole (take count (drop from (L.lines list.now)))).columns }
+{
+    if count == 0 {
+        return 0;
+    }
+    list.start(from + count) - list.start(from)
+}
+
 impl Reached {
     /// Nothing is covered.
     fn nothing() -> Reached
@@ -45,9 +56,7 @@ impl Reached {
         requires { CanFollow self.now copy.now (L.lines list.now) }
         ensures { result ≡ line_start self.now copy.now (L.lines list.now) }
     {
-        let start = list.prefix(self.used);
-        let kept = list.prefix(self.used + copy.kept);
-        self.characters + (kept.characters() - start.characters())
+        self.characters + span(list, self.used, copy.kept)
     }
 
     /// What is covered with one copy more.
@@ -56,16 +65,11 @@ impl Reached {
         ensures { (copies : List Copied) → IsReached self.now copies (L.lines list.now) →
             IsReached result (copies ++ copy.now ∷ []) (L.lines list.now) }
     {
-        let start = list.prefix(self.used);
-        let kept = list.prefix(self.used + copy.kept);
-        let line = copy.line.sum();
-        let parity = start.odd_slots().differing(&kept.odd_slots());
+        let tags = self.tags_behind(list, copy.kept);
         Reached {
             used: self.used + copy.kept + copy.gone,
-            characters: self.characters
-                + (kept.characters() - start.characters())
-                + copy.line.len(),
-            tags: self.tags.differing(&parity).differing(&line.odd_slots()),
+            characters: self.start(list, copy) + copy.line.len(),
+            tags: tags.differing(&copy.line.sum().odd_slots()),
         }
     }
 }
@@ -222,7 +226,7 @@ impl<'a, L: LineList> Draft<'a, L> {
             < reached.now.characters + length (whole (L.lines self.now.list.now)).columns }
         ensures { IsFound reached.now (L.lines self.now.list.now) offset result.0 result.1 }
     {
-        let before = self.list.prefix(reached.used).characters();
+        let before = self.list.start(reached.used);
         self.list.locate(offset - reached.characters + before)
     }
 

@@ -11,7 +11,7 @@ ghost use Rattle.line_lists.specs.Texts.{whole};
 use crate::lists::LineList;
 use segments::Line;
 use std::alloc::{AllocError, Global};
-use text_model::{MarkNo, TagSlot, WORDS};
+use text_model::{MarkNo, TagSet, TagSlot, WORDS};
 use toggle_sums::{Summary, Sums};
 
 /// The lines of a text in a plain `Vec`, whose sums are added up as they are asked for. Other lists are judged by it.
@@ -168,6 +168,14 @@ impl LineList for LineVec {
 
     fn locate(&self, offset: usize) -> (usize, usize) {
         find_column(&self.lines, offset)
+    }
+
+    fn start(&self, line: usize) -> usize {
+        sum_of(&self.lines[..line]).characters()
+    }
+
+    fn odd_slots(&self, line: usize) -> TagSet {
+        sum_of(&self.lines[..line]).odd_slots()
     }
 
     fn prefix(&self, count: usize) -> Sums<WORDS> {

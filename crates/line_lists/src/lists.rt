@@ -9,7 +9,7 @@ ghost use Rattle.line_lists.specs.Texts.{whole};
 
 use segments::Line;
 use std::alloc::{AllocError, Global};
-use text_model::{MarkNo, TagSlot, WORDS};
+use text_model::{MarkNo, TagSet, TagSlot, WORDS};
 use toggle_sums::Sums;
 
 /// A list of the lines of a text, at least one, each with its newline at its end and no other.
@@ -45,6 +45,16 @@ pub trait LineList: Drop {
     fn locate(&self, offset: usize) -> (usize, usize)
         requires { offset < length (whole (lines self.now)).columns }
         ensures { Holds (lines self.now) offset result.0 result.1 };
+
+    /// How many characters stand before a line; all of them, for the line behind the last.
+    fn start(&self, line: usize) -> usize
+        requires { line ≤ length (lines self.now) }
+        ensures { result ≡ length (whole (take line (lines self.now))).columns };
+
+    /// The slots that are toggled an odd number of times before a line.
+    fn odd_slots(&self, line: usize) -> TagSet
+        requires { line ≤ length (lines self.now) }
+        ensures { result ≡ (count_of (take line (lines self.now))).parity };
 
     /// The sum of so many lines from the first.
     fn prefix(&self, count: usize) -> Sums<WORDS>

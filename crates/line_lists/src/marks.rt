@@ -6,7 +6,7 @@ ghost use Rattle.line_lists.specs.Lists.{has_mark, next_line};
 ghost use Rattle.line_lists.specs.Marking.{StandsIn, lines_with};
 ghost use Rattle.line_lists.specs.Texts.{whole};
 
-use crate::drafts::{Copied, Draft, Found, Reached};
+use crate::drafts::{Copied, Draft, Found, Reached, span};
 use crate::lists::LineList;
 use segments::Line;
 use std::alloc::AllocError;
@@ -69,8 +69,7 @@ impl<'a, L: LineList> Draft<'a, L> {
             return None;
         }
         let column = mark_column(self.list.line(index), number)?;
-        let start = self.list.prefix(from).characters();
-        Some(self.list.prefix(index).characters() - start + column)
+        Some(span(self.list, from, index - from) + column)
     }
 
     /// Where the mark of a number stands in the lines that are kept before a copy and in the copy's line, counted from
@@ -95,8 +94,7 @@ impl<'a, L: LineList> Draft<'a, L> {
         let Some(column) = mark_column(&copy.line, number) else {
             return self.find_kept(from, to, number, marked);
         };
-        let start = self.list.prefix(from).characters();
-        Some(self.list.prefix(to).characters() - start + column)
+        Some(span(self.list, from, copy.kept) + column)
     }
 
     /// Where the mark of a number stands in the text, if that is in what the copies before the place cover.

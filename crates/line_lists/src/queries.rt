@@ -19,7 +19,7 @@ use text_model::{MarkNo, Place, TagSet, TagSlot};
 pub fn len<L: LineList>(list: &L) -> usize
     ensures { result ≡ length (content_of (L.lines list.now)).cells }
 {
-    list.prefix(list.len()).characters()
+    list.start(list.len())
 }
 
 /// How many lines the text has, which is how many newlines.
@@ -45,7 +45,7 @@ pub fn tags_at<L: LineList>(list: &L, offset: usize) -> TagSet
 {
     let (index, column) = list.locate(offset);
     let here = list.line(index).tags_before(column);
-    list.prefix(index).odd_slots().differing(&here)
+    list.odd_slots(index).differing(&here)
 }
 
 /// Whether the character at an offset has a tag.
@@ -63,7 +63,7 @@ pub fn line_start<L: LineList>(list: &L, line: usize) -> usize
     ensures value { result ≡ line_start line (characters (content_of (L.lines list.now)).cells) }
     ensures bound { result ≤ length (content_of (L.lines list.now)).cells }
 {
-    list.prefix(line).characters()
+    list.start(line)
 }
 
 /// The line that an offset stands in, which is how many newlines stand before it.
@@ -85,7 +85,7 @@ fn place_of<L: LineList>(list: &L, offset: usize) -> (usize, usize)
         return list.locate(offset);
     }
     let last = list.len() - 1;
-    (last, offset - list.prefix(last).characters())
+    (last, offset - list.start(last))
 }
 
 /// The offset of a column of a line.
@@ -95,7 +95,7 @@ fn offset_of<L: LineList>(list: &L, index: usize, column: usize) -> usize
     ensures value { result ≡ length (whole (take index (L.lines list.now))).columns + column }
     ensures bound { result ≤ length (content_of (L.lines list.now)).cells }
 {
-    list.prefix(index).characters() + column
+    list.start(index) + column
 }
 
 /// The place of the mark of a number, if there is one.

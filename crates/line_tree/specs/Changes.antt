@@ -120,7 +120,7 @@ pub record Merges (m n : Records) (a b : NodePtr) : Type 0 where
 -- each has half of them
 pub record Shares (m n : Records) (a b : NodePtr) : Type 0 where
   pub half : ℕ
-  pub many : 13 ≤ length (kids m a ++ kids m b)
+  pub many : 12 ≤ length (kids m a ++ kids m b)
   pub low : 6 ≤ half
   pub high : half ≤ 12
   pub rest_low : half + 6 ≤ length (kids m a ++ kids m b)

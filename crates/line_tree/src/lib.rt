@@ -17,6 +17,7 @@ mod prefix;
 mod remove;
 mod shrink;
 mod splice;
+mod starts;
 mod taking;
 mod tree;
 mod tree_lines;

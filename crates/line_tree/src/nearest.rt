@@ -1,13 +1,12 @@
-ghost use Rattle.std.specs.Prelude.{◌≡◌, ◌^◌, ◌<◌, ◌≤◌, length};
-ghost use Rattle.raw_nodes.specs.Names.{records};
+ghost use Rattle.std.specs.Prelude.{◌≡◌, ◌^◌, ◌<◌, ◌≤◌, IfSome, length};
+ghost use Rattle.raw_nodes.specs.Names.{IsName, entry, records};
 ghost use Rattle.line_lists.specs.Lists.{next_line, previous_line};
 ghost use Rattle.line_tree.specs.Nearest.{IsKnown, passes, shows};
 ghost use Rattle.line_tree.specs.Shape.{IsTree, lines_in};
 ghost use Rattle.line_tree.specs.Trees.{contents};
 
 use raw_nodes::{NodePtr, NodeStore, Ticks};
-use text_model::{TagSlot, WORDS};
-use toggle_sums::Sums;
+use text_model::TagSlot;
 
 /// What a line is looked for by.
 #[derive(Clone, Copy)]
@@ -19,14 +18,15 @@ pub enum Wanted {
 }
 
 impl Wanted {
-    /// Whether one of some lines has it, by their sum.
-    fn is_in(self, sum: &Sums<WORDS>) -> bool
-        requires { IsKnown self }
-        ensures { result ≡ shows self sum.now }
+    /// Whether one of the lines below a node has it, by their sum.
+    fn is_in<C: Ticks>(self, store: &NodeStore<C>, node: NodePtr, ticks: &mut C) -> bool
+        requires known { IsKnown self }
+        requires named { IsName store.now node }
+        ensures { IfSome (entry store.now node) (λ r. result ≡ shows self r.sum) }
     {
         match self {
-            Wanted::Toggle(slot) => sum.has(slot),
-            Wanted::Mark => sum.marks() > 0,
+            Wanted::Toggle(slot) => store.has_toggle(node, slot, ticks),
+            Wanted::Mark => store.marks(node, ticks) > 0,
         }
     }
 }
@@ -45,7 +45,7 @@ pub fn next<C: Ticks>(
     requires known { IsKnown wanted }
     ensures { result ≡ next_line (passes wanted) from (contents (lines_in (records store.now) height node)) }
 {
-    if from >= store.lines(node, ticks) || !wanted.is_in(&store.sum(node, ticks)) {
+    if from >= store.lines(node, ticks) || !wanted.is_in(store, node, ticks) {
         return None;
     }
     if height == 0 {
@@ -54,11 +54,14 @@ pub fn next<C: Ticks>(
     let mut before = 0;
     for slot in 0..12 {
         if let Some(child) = store.child(node, slot, ticks) {
+            let lines = store.lines(child, ticks);
             let rest = from.saturating_sub(before);
-            if let Some(found) = next(store, child, height - 1, wanted, rest, ticks) {
-                return Some(before + found);
+            if rest < lines {
+                if let Some(found) = next(store, child, height - 1, wanted, rest, ticks) {
+                    return Some(before + found);
+                }
             }
-            before += store.lines(child, ticks);
+            before += lines;
         }
     }
     None
@@ -78,7 +81,7 @@ pub fn previous<C: Ticks>(
     requires known { IsKnown wanted }
     ensures { result ≡ previous_line (passes wanted) to (contents (lines_in (records store.now) height node)) }
 {
-    if to == 0 || !wanted.is_in(&store.sum(node, ticks)) {
+    if to == 0 || !wanted.is_in(store, node, ticks) {
         return None;
     }
     if height == 0 {
@@ -92,8 +95,10 @@ pub fn previous<C: Ticks>(
             let lines = store.lines(child, ticks);
             before -= lines;
             let rest = to.saturating_sub(before).min(lines);
-            if let Some(found) = previous(store, child, height - 1, wanted, rest, ticks) {
-                return Some(before + found);
+            if rest > 0 {
+                if let Some(found) = previous(store, child, height - 1, wanted, rest, ticks) {
+                    return Some(before + found);
+                }
             }
         }
     }

@@ -154,7 +154,8 @@ fn sum_halves<C: Ticks>(
     }
 }
 
-/// Gives all children of two nodes to the left one, where it can have them, and else half to each.
+/// Gives all children of two nodes to the left one, where it can have them and one more, and else half to each: a node
+/// that one line goes out of and another comes into doesn't merge and split by turns.
 fn even<C: Ticks>(store: &mut NodeStore<C>, left: NodePtr, right: NodePtr, ticks: &mut C) -> bool
     requires { CanEven (records store.old) left right }
     ensures evens { Evens (records store.old) (records store.new) left right result }
@@ -163,7 +164,7 @@ fn even<C: Ticks>(store: &mut NodeStore<C>, left: NodePtr, right: NodePtr, ticks
 {
     let first = store.children(left);
     let count = first + store.children(right);
-    if count <= 12 {
+    if count < 12 {
         let all = part_pair(store, left, right, 0, 12, ticks);
         let sum_left = store.sum(left, ticks);
         let sum_right = store.sum(right, ticks);

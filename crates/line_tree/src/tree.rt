@@ -7,13 +7,14 @@ use crate::locate::locate;
 use crate::nearest::{Wanted, next, previous};
 use crate::prefix::prefix;
 use crate::remove::{lower, remove_in};
+use crate::starts::{odd_slots, start};
 use crate::taking::take_in;
 use crate::walk::behind;
 use raw_nodes::{NodePtr, NodeStore, Ticks};
 use segments::Line;
 use std::alloc::{AllocError, Global};
 use std::marker::Model;
-use text_model::{MarkNo, TagSlot, WORDS};
+use text_model::{MarkNo, TagSet, TagSlot, WORDS};
 use toggle_sums::Sums;
 
 /// A list of lines with names, as a balanced tree.
@@ -60,6 +61,7 @@ impl<C: Ticks> LineTree<C> {
     ghost use Rattle.line_lists.specs.Lists.{count_of, has_marks, has_toggle, next_line, previous_line};
     ghost use Rattle.line_tree.specs.Growth.{StandsAlone};
     ghost use Rattle.line_tree.specs.Shape.{lines_in};
+    ghost use Rattle.line_lists.specs.Texts.{whole};
     ghost use Rattle.line_tree.specs.Trees.{Named, contents, total};
     ghost use Rattle.segments.specs.Columns.{line_count, plain_line};
     ghost use Rattle.line_tree.specs.Changes.{Distinct, FitsSum};
@@ -190,6 +192,22 @@ impl<C: Ticks> LineTree<C> {
         ensures ticks { C.count ticks.new ≤ C.count ticks.old + 3 * self.now.height }
     {
         behind(&self.store, self.root, self.height, name, ticks)
+    }
+
+    /// How many characters the first `k` lines have.
+    pub fn start(&self, k: usize, ticks: &mut C) -> usize
+        requires { k ≤ length self.now.lines }
+        ensures { result ≡ length (whole (take k (contents self.now.lines))).columns }
+    {
+        start(&self.store, self.root, self.height, k, ticks)
+    }
+
+    /// The slots that are toggled an odd number of times in the first `k` lines.
+    pub fn odd_slots(&self, k: usize, ticks: &mut C) -> TagSet
+        requires { k ≤ length self.now.lines }
+        ensures { result ≡ (count_of (take k (contents self.now.lines))).parity }
+    {
+        odd_slots(&self.store, self.root, self.height, k, ticks)
     }
 
     /// The sum of the first `k` lines.

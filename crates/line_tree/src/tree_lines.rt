@@ -11,7 +11,7 @@ use line_lists::LineList;
 use raw_nodes::{NodePtr, Steps};
 use segments::Line;
 use std::alloc::{AllocError, Global};
-use text_model::{MarkNo, TagSlot, WORDS};
+use text_model::{MarkNo, TagSet, TagSlot, WORDS};
 use toggle_sums::Sums;
 
 /// The lines of a text as a balanced tree, and for each mark the name of its line.
@@ -60,6 +60,14 @@ impl LineList for TreeLines {
 
     fn locate(&self, offset: usize) -> (usize, usize) {
         self.tree.locate(offset, &mut Steps::new())
+    }
+
+    fn start(&self, line: usize) -> usize {
+        self.tree.start(line, &mut Steps::new())
+    }
+
+    fn odd_slots(&self, line: usize) -> TagSet {
+        self.tree.odd_slots(line, &mut Steps::new())
     }
 
     fn prefix(&self, count: usize) -> Sums<WORDS> {

@@ -4,6 +4,7 @@ ghost use Rattle.std.specs.Prelude.{◌≤◌};
 use raw_nodes::{NodeStore, Steps};
 use segments::Line;
 use std::test::Fail;
+use text_model::TagSlot;
 
 /// Two nodes are made and given back, the first one first: the next two come in the other order.
 fn turn(store: &mut NodeStore<Steps>)
@@ -65,6 +66,9 @@ fn lines(rt: HostRuntime) -> Result<(), Fail> {
     assert!(rt; store.line(name).is_some());
     let mut steps = Steps::new();
     assert!(rt; store.lines(name, &mut steps) == 1 && store.size(name, &mut steps) == (1, 7));
+    assert!(rt; store.marks(name, &mut steps) == 0);
+    assert!(rt; !store.has_toggle(name, TagSlot(3), &mut steps));
+    assert!(rt; !store.odd_slots(name, &mut steps).has(TagSlot(3)));
     let given = store.give_back(name);
     assert!(rt; given.is_some_and(|line| line.len() == 7));
     Ok(())

@@ -1,5 +1,6 @@
 ghost use Rattle.raw_nodes.specs.Chain.{IsChain, befores_of, flag_of, marks_of, nexts_of, numbers_of, room_of, rooms_for};
 ghost use Rattle.std.specs.FinMap as finite;
+ghost use Rattle.std.specs.FinSet as set;
 ghost use Rattle.std.specs.List.{range_with_len};
 ghost use Rattle.std.specs.Prelude.{◌≡◌, ◌≢◌, ◌+◌, ◌^◌, ◌<◌, ◌≤◌, [], ◌∷◌, ◌++◌, IfSome, None, Some, OnErr, OnOk, count_by, false, is_some, length, map, max, option_map, slice_index_or, sum_by, true, vec_capacity};
 
@@ -11,7 +12,7 @@ use crate::ticks::Ticks;
 use segments::Line;
 use std::alloc::{AllocError, Global};
 use std::marker::PhantomData;
-use text_model::WORDS;
+use text_model::{TagSet, TagSlot, WORDS};
 use toggle_sums::Sums;
 
 /// Nodes in memory of their own: a finite map from names to records, and a number of spares. A node is a line, or it is
@@ -42,6 +43,7 @@ impl<C: Ticks> NodeStore<C> {
     ghost use Rattle.raw_nodes.specs.Names.{IsInner, IsName, entry, nodes, records, rooms, spares};
     ghost use Rattle.raw_nodes.specs.Records.{blank, update, with_child, with_parent, with_sum};
     ghost use Rattle.std.specs.Borrow.{sem};
+    ghost use Rattle.text_model.specs.TagBits.{slot_count};
 
     /// A store without nodes. It takes no memory.
     pub fn new(alloc: Global) -> NodeStore<C>
@@ -133,6 +135,49 @@ impl<C: Ticks> NodeStore<C> {
             Held::Line(line) => (1, line.len()),
             Held::Inner(branch) => (branch.lines, branch.characters),
             Held::Spare => (0, 0),
+        }
+    }
+
+    /// Whether a slot is toggled in the text below a node.
+    pub fn has_toggle(&self, name: NodePtr, slot: TagSlot, ticks: &mut C) -> bool
+        requires name { IsName self.now name }
+        requires slot { slot.0 < slot_count }
+        ensures value { IfSome (entry self.now name) (λ r. result ≡ set.contains r.sum.presence slot.0) }
+        ensures tick { C.count ticks.new ≡ C.count ticks.old + 1 }
+    {
+        ticks.tick();
+        match &self.heap.node(name).held {
+            Held::Line(line) => line.sum().has(slot),
+            Held::Inner(branch) => branch.room.sum.has(slot),
+            Held::Spare => false,
+        }
+    }
+
+    /// The slots that are toggled an odd number of times in the text below a node.
+    pub fn odd_slots(&self, name: NodePtr, ticks: &mut C) -> TagSet
+        requires { IsName self.now name }
+        ensures value { IfSome (entry self.now name) (λ r. result ≡ r.sum.parity) }
+        ensures tick { C.count ticks.new ≡ C.count ticks.old + 1 }
+    {
+        ticks.tick();
+        match &self.heap.node(name).held {
+            Held::Line(line) => line.sum().odd_slots(),
+            Held::Inner(branch) => branch.room.sum.odd_slots(),
+            Held::Spare => TagSet::empty(),
+        }
+    }
+
+    /// How many marks stand in the text below a node.
+    pub fn marks(&self, name: NodePtr, ticks: &mut C) -> usize
+        requires { IsName self.now name }
+        ensures value { IfSome (entry self.now name) (λ r. result ≡ r.sum.marks) }
+        ensures tick { C.count ticks.new ≡ C.count ticks.old + 1 }
+    {
+        ticks.tick();
+        match &self.heap.node(name).held {
+            Held::Line(line) => line.sum().marks(),
+            Held::Inner(branch) => branch.room.sum.marks(),
+            Held::Spare => 0,
         }
     }
 

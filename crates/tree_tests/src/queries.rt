@@ -78,7 +78,7 @@ fn count(scene: &Scene, k: usize, ticks: &mut Counter) -> Option<(usize, usize)>
         return None;
     }
     let sums = scene.tree.prefix(k, ticks);
-    Some((sums.characters(), sums.marks()))
+    Some((scene.tree.start(k, ticks), sums.marks()))
 }
 
 fn parity(scene: &Scene, k: usize, ticks: &mut Counter) -> Option<(usize, usize)> {
@@ -86,7 +86,8 @@ fn parity(scene: &Scene, k: usize, ticks: &mut Counter) -> Option<(usize, usize)
         return None;
     }
     let sums = scene.tree.prefix(k, ticks);
-    Some((sums.lines(), sums.parity(SLOT) as usize))
+    let slots = scene.tree.odd_slots(k, ticks);
+    Some((sums.lines(), slots.has(SLOT) as usize))
 }
 
 fn toggles(scene: &Scene, k: usize, ticks: &mut Counter) -> Option<(usize, usize)> {

@@ -1,7 +1,6 @@
 use Rattle.std.proofs.Common.{◌<◌, ◌∙◌, sym, ap, ap₂, subst}
 use Rattle.std.specs.Prelude.{Some}
 use Rattle.text_model.specs.SlotSets.{differing}
-use Rattle.toggle_sums.specs.Counts.{Count}
 use Rattle.line_lists.proofs.PlaceRows.{length-content, tags-at}
 use Rattle.line_lists.proofs.queries.tags_at.Goals as goal
 
@@ -14,4 +13,4 @@ pub returns : goal.returns
 returns g c =
     let list = g.L.LineList.lines c.args.list.now in
     tags-at list c.args.offset c.locate-index.result.0 c.locate-index.result.1 c.line.result.now c.locate-index.ensures c.line.ensures
-    ∙ ap (λ s. Some s) (sym (c.differing.ensures ∙ ap₂ differing (c.odd_slots.ensures ∙ ap (λ (count : Count). count.parity) c.prefix.ensures) c.tags_before-here.ensures))
+    ∙ ap (λ s. Some s) (sym (c.differing.ensures ∙ ap₂ differing c.odd_slots.ensures c.tags_before-here.ensures))

@@ -1,3 +1,4 @@
+use Rattle.std.specs.declared.option.Option.TheVariants.{None}
 use Rattle.std.proofs.Common.{◌≡◌, ◌+◌, ◌-◌, suc, sym, ap, ◌∙◌, subst, arith}
 use Rattle.raw_nodes.specs.Names.{records}
 use Rattle.raw_nodes.specs.Rows.{kids}
@@ -7,16 +8,17 @@ use Rattle.line_tree.specs.Nearest.{passes, shows}
 use Rattle.line_tree.specs.Shape.{lines_at, lines_in}
 use Rattle.line_tree.specs.Trees.{contents}
 use Rattle.line_tree.proofs.NearestLaws.{child-is, child-within, found-within, line-next, long, next-end, next-hit, next-missed, none-next, past-next}
-use Rattle.line_tree.proofs.RowLaws.{child_is, lines_is, none_of, step_no, step_yes, sum_is}
+use Rattle.line_tree.proofs.RowLaws.{child_is, lines_is, none_of, step_no, step_yes}
+use Rattle.line_tree.proofs.StartLaws.{said}
 use Rattle.line_tree.proofs.TreeLaws.{count-tree, named-tree, row-above, sum-tree}
 use Rattle.line_tree.proofs.nearest.+next.Goals as goal
-use Rattle.line_tree.proofs.nearest.+next.Goals.{in-Some+in_default-next, in_default, then-from-lines-via-then-from-lines, then-from-lines-via-else-from-lines+then-not-is_in}
+use Rattle.line_tree.proofs.nearest.+next.Goals.{else-rest-lines, in-Some, in_default, then-rest-lines+in_default-next, then-from-lines-via-then-from-lines, then-from-lines-via-else-from-lines+then-not-is_in}
 
 pub lines-requires : goal.lines-requires
 lines-requires g t c = named-tree (records c.args.store.now) c.args.height c.args.node c.requires.tree
 
-pub sum-requires : goal.sum-requires
-sum-requires g t c = named-tree (records c.args.store.now) c.args.height c.args.node c.requires.tree
+pub is_in-requires-clause-named : goal.is_in-requires-clause-named
+is_in-requires-clause-named g t c = named-tree (records c.args.store.now) c.args.height c.args.node c.requires.tree
 
 pub child-requires-clause-name : goal.child-requires-clause-name
 child-requires-clause-name g t c = named-tree (records c.args.store.now) c.args.height c.args.node c.requires.tree
@@ -29,15 +31,15 @@ returns-then-from-lines g t c = let m = records c.args.store.now in let h = c.ar
           let count = count-tree m h p c.requires.tree in let test = w.if-from-lines.true in
           sym (past-next c.args.wanted c.args.from ls (omega arith))
       | then-from-lines-via-else-from-lines+then-not-is_in w ↦
-          let s = sum_is m p w.sum.result (named-tree m h p c.requires.tree) w.sum.ensures.value in
-          sym (none-next c.args.wanted c.args.from ls (sym (w.is_in.ensures ∙ ap (shows c.args.wanted) (s ∙ sum-tree m h p c.requires.tree)) ∙ w.if-not-is_in.true))
+          let s = said (shows c.args.wanted) m p w.is_in.result (named-tree m h p c.requires.tree) w.is_in.ensures in
+          sym (none-next c.args.wanted c.args.from ls (sym (s ∙ ap (shows c.args.wanted) (sum-tree m h p c.requires.tree)) ∙ w.if-not-is_in.true))
     ]
 
 pub returns-then-height-eq0 : goal.returns-then-height-eq0
 returns-then-height-eq0 g t c = let m = records c.args.store.now in let h = c.args.height in let p = c.args.node in
-    let s = sum_is m p c.sum.result (named-tree m h p c.requires.tree) c.sum.ensures.value in
+    let s = said (shows c.args.wanted) m p c.is_in.result (named-tree m h p c.requires.tree) c.is_in.ensures in
     let n = lines_is m p c.lines.result (named-tree m h p c.requires.tree) c.lines.ensures.value in let count = count-tree m h p c.requires.tree in let test = c.if-from-lines.false in
-    sym (line-next m h p c.args.wanted c.args.from c.if-height-eq0.true (omega arith) (sym (c.is_in.ensures ∙ ap (shows c.args.wanted) (s ∙ sum-tree m h p c.requires.tree)) ∙ c.if-not-is_in.false))
+    sym (line-next m h p c.args.wanted c.args.from c.if-height-eq0.true (omega arith) (sym (s ∙ ap (shows c.args.wanted) (sum-tree m h p c.requires.tree)) ∙ c.if-not-is_in.false))
 
 pub next-requires : goal.next-requires
 next-requires g t c κs inside = let m = records c.args.store.now in let h = c.args.height in let p = c.args.node in let n = h - 1 in let not = c.if-height-eq0.false in
@@ -46,8 +48,8 @@ next-requires g t c κs inside = let m = records c.args.store.now in let h = c.a
     let inside_of = child-within m h n p c.loop-slot.slot c.loop-slot.before e c.requires.tree c.loop-slot.invariant.before c.in-Some.child here in let fits = c.requires.fits in
     (omega (arith, c.decreases), (inside, (child-is m h n p c.loop-slot.slot c.loop-slot.before e c.requires.tree c.loop-slot.invariant.before c.in-Some.child here, (omega arith, c.requires.known))))
 
-pub lines-before-requires : goal.lines-before-requires
-lines-before-requires g t c = let m = records c.args.store.now in let h = c.args.height in let p = c.args.node in let n = h - 1 in let not = c.if-height-eq0.false in
+pub lines-lines-requires : goal.lines-lines-requires
+lines-lines-requires g t c = let m = records c.args.store.now in let h = c.args.height in let p = c.args.node in let n = h - 1 in let not = c.if-height-eq0.false in
     let e : h ≡ suc n = omega arith in
     let row = row-above m h n p e c.requires.tree in
     row.each c.loop-slot.slot c.in-Some.child (sym (child_is m p row c.child.result c.loop-slot.slot c.child.ensures.value) ∙ c.in-Some.is)
@@ -67,7 +69,7 @@ overflow_add-before g t c = let m = records c.args.store.now in let h = c.args.h
     let here = sym (child_is m p row c.child.result c.loop-slot.slot c.child.ensures.value) ∙ c.in-Some.is in
     let inside = child-within m h n p c.loop-slot.slot c.loop-slot.before e c.requires.tree c.loop-slot.invariant.before c.in-Some.child here in let fits = c.requires.fits in
     let count = count-tree m n c.in-Some.child (child-is m h n p c.loop-slot.slot c.loop-slot.before e c.requires.tree c.loop-slot.invariant.before c.in-Some.child here) in
-    let s = lines_is m c.in-Some.child c.lines-before.result (row.each c.loop-slot.slot c.in-Some.child here) c.lines-before.ensures.value in omega arith
+    let s = lines_is m c.in-Some.child c.lines-lines.result (row.each c.loop-slot.slot c.in-Some.child here) c.lines-lines.ensures.value in omega arith
 
 pub returns-in-Some-next : goal.returns-in-Some-next
 returns-in-Some-next g t c = let m = records c.args.store.now in let h = c.args.height in let p = c.args.node in let n = h - 1 in let not = c.if-height-eq0.false in
@@ -85,12 +87,17 @@ loop-slot-preserved g t c = let m = records c.args.store.now in let h = c.args.h
     let child = child_is m p row c.child.result i c.child.ensures.value in
     let before = c.loop-slot.invariant.before in
     elim c.match-child.branch [
-      | in-Some+in_default-next v ↦
+      | in-Some v ↦
           let here = sym child ∙ v.in-Some.is in
           let xs = lines_in m n v.in-Some.child in
-          let asked = v.next.ensures ∙ ap (λ r. next_line (passes w) r (contents xs)) v.saturating_sub-rest.ensures in
-          let none = sym asked ∙ none_of v.next.result v.in_default-next.not-Some in
-          let s = lines_is m v.in-Some.child v.lines-before.result (row.each i v.in-Some.child here) v.lines-before.ensures.value in
+          let s = lines_is m v.in-Some.child v.lines-lines.result (row.each i v.in-Some.child here) v.lines-lines.ensures.value in
+          let count = count-tree m n v.in-Some.child (child-is m h n p i b e c.requires.tree before v.in-Some.child here) in
+          let rest = v.saturating_sub-rest.ensures in
+          let none : next_line (passes w) (from - b) (contents xs) ≡ None = elim v.if-rest-lines.branch [
+            | then-rest-lines+in_default-next u ↦
+                ap (λ r. next_line (passes w) r (contents xs)) (sym rest) ∙ sym u.next.ensures ∙ none_of u.next.result u.in_default-next.not-Some
+            | else-rest-lines u ↦ let test = u.if-rest-lines.false in past-next w (from - b) xs (omega arith)
+          ] in
           let more = step_yes (lines_at m) (kids m p) i v.in-Some.child here in
           let now = v.before-is in
           let end : b + lines_at m v.in-Some.child ≡ c.match-child.before = omega arith in

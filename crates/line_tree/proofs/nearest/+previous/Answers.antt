@@ -8,12 +8,13 @@ use Rattle.line_tree.specs.Shape.{lines_at, lines_in}
 use Rattle.line_tree.specs.Trees.{contents}
 use Rattle.line_tree.proofs.NearestLaws.{child-is, first-previous, last-before, line-previous, none-previous, previous-end, previous-hit, previous-missed, reaches}
 use Rattle.line_tree.proofs.RowLaws.{child_is, lines_is, none_of, step_no, step_yes, sum_is}
+use Rattle.line_tree.proofs.StartLaws.{said}
 use Rattle.line_tree.proofs.TreeLaws.{count-tree, named-tree, row-above, sum-tree}
 use Rattle.line_tree.proofs.nearest.+previous.Goals as goal
 use Rattle.line_tree.proofs.nearest.+previous.Goals.{then-to-eq0-via-then-to-eq0, then-to-eq0-via-else-to-eq0+then-not-is_in}
 
-pub sum-requires : goal.sum-requires
-sum-requires g t c = named-tree (records c.args.store.now) c.args.height c.args.node c.requires.tree
+pub is_in-requires-clause-named : goal.is_in-requires-clause-named
+is_in-requires-clause-named g t c = named-tree (records c.args.store.now) c.args.height c.args.node c.requires.tree
 
 pub child-requires-clause-name : goal.child-requires-clause-name
 child-requires-clause-name g t c = named-tree (records c.args.store.now) c.args.height c.args.node c.requires.tree
@@ -23,15 +24,15 @@ returns-then-to-eq0 g t c = let m = records c.args.store.now in let h = c.args.h
     elim c.then-to-eq0.branch [
       | then-to-eq0-via-then-to-eq0 w ↦ sym (first-previous c.args.wanted c.args.to ls w.if-to-eq0.true)
       | then-to-eq0-via-else-to-eq0+then-not-is_in w ↦
-          let s = sum_is m p w.sum.result (named-tree m h p c.requires.tree) w.sum.ensures.value in
-          sym (none-previous c.args.wanted c.args.to ls c.requires.within (sym (w.is_in.ensures ∙ ap (shows c.args.wanted) (s ∙ sum-tree m h p c.requires.tree)) ∙ w.if-not-is_in.true))
+          let s = said (shows c.args.wanted) m p w.is_in.result (named-tree m h p c.requires.tree) w.is_in.ensures in
+          sym (none-previous c.args.wanted c.args.to ls c.requires.within (sym (s ∙ ap (shows c.args.wanted) (sum-tree m h p c.requires.tree)) ∙ w.if-not-is_in.true))
     ]
 
 pub returns-then-height-eq0 : goal.returns-then-height-eq0
 returns-then-height-eq0 g t c = let m = records c.args.store.now in let h = c.args.height in let p = c.args.node in
-    let s = sum_is m p c.sum.result (named-tree m h p c.requires.tree) c.sum.ensures.value in
+    let s = said (shows c.args.wanted) m p c.is_in.result (named-tree m h p c.requires.tree) c.is_in.ensures in
     let not = c.if-to-eq0.false in
-    sym (line-previous m h p c.args.wanted c.args.to c.if-height-eq0.true (omega arith) c.requires.within (sym (c.is_in.ensures ∙ ap (shows c.args.wanted) (s ∙ sum-tree m h p c.requires.tree)) ∙ c.if-not-is_in.false))
+    sym (line-previous m h p c.args.wanted c.args.to c.if-height-eq0.true (omega arith) c.requires.within (sym (s ∙ ap (shows c.args.wanted) (sum-tree m h p c.requires.tree)) ∙ c.if-not-is_in.false))
 
 pub loop-slot-init : goal.loop-slot-init
 loop-slot-init g t c = let m = records c.args.store.now in let h = c.args.height in let p = c.args.node in let n = h - 1 in let not = c.if-height-eq0.false in
@@ -109,6 +110,27 @@ loop-slot-preserved-in_default-previous g t c = let m = records c.args.store.now
       few = omega arith;
       before = before;
       free = previous-missed m h n p i b e c.requires.tree before c.in-Some.child here c.args.wanted c.args.to c.min-rest.result reach free (sym c.previous.ensures ∙ none_of c.previous.result c.in_default-previous.not-Some);
+    }
+
+pub loop-slot-preserved-else-rest-gt0 : goal.loop-slot-preserved-else-rest-gt0
+loop-slot-preserved-else-rest-gt0 g t c = let m = records c.args.store.now in let h = c.args.height in let p = c.args.node in let n = h - 1 in let not = c.if-height-eq0.false in
+    let e : h ≡ suc n = omega arith in let i = c.loop-slot.slot - 1 in
+    let row = row-above m h n p e c.requires.tree in
+    let here = sym (child_is m p row c.child.result i c.child.ensures.value) ∙ c.in-Some.is in
+    let s = lines_is m c.in-Some.child c.lines-lines.result (row.each i c.in-Some.child here) c.lines-lines.ensures.value in
+    let some : i + 1 ≡ c.loop-slot.slot = omega (arith, c.loop-slot-test.true) in
+    let more = step_yes (lines_at m) (kids m p) i c.in-Some.child here in
+    let old = c.loop-slot.invariant.before ∙ ap (lines_before m p) (sym some) in
+    let b = c.loop-slot.before - c.lines-lines.result in
+    let before : b ≡ lines_before m p i = omega arith in
+    let reach = reaches c.args.to b (lines_at m c.in-Some.child) c.saturating_sub.result c.min-rest.result c.saturating_sub.ensures (c.min-rest.ensures ∙ ap (min c.saturating_sub.result) s) in
+    let same : c.loop-slot.before ≡ b + lines_at m c.in-Some.child = omega arith in
+    let free = subst (λ z. FailFrom (passes c.args.wanted) (contents (lines_in m h p)) z c.args.to) same c.loop-slot.invariant.free in
+    let few = c.loop-slot.invariant.few in let none : c.min-rest.result ≡ 0 = omega (arith, c.if-rest-gt0.false) in
+    record {
+      few = omega arith;
+      before = before;
+      free = previous-missed m h n p i b e c.requires.tree before c.in-Some.child here c.args.wanted c.args.to c.min-rest.result reach free (first-previous c.args.wanted c.min-rest.result (lines_in m n c.in-Some.child) none);
     }
 
 pub loop-slot-preserved : goal.loop-slot-preserved

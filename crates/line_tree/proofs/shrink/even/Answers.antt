@@ -49,7 +49,7 @@ plus-requires g c = let m = records c.args.store.now in let a = c.args.left in l
 pub refill-requires : goal.refill-requires
 refill-requires g c = let m = records c.args.store.now in let a = c.args.left in let b = c.args.right in let all = kids m a ++ kids m b in let n = length-append (kids m a) (kids m b) in
     let na = count-row m a c.children-first.result c.requires.left c.children-first.ensures in let nb = count-row m b c.children.result c.requires.right c.children.ensures in
-    let few : length all ≤ 12 = omega (arith, c.if-count-le12.true) in
+    let few : length all ≤ 12 = omega (arith, c.if-count-lt12.true) in
     record {
       fill = (all, c.part_pair-all.ensures ∙ whole all few, fill-whole m a b c.requires few);
       from = omega (arith, c.requires.left.few);
@@ -65,8 +65,8 @@ sum_halves-sum_front-requires-clause-rest g c = let m = records c.args.store.now
     let na = count-row m a c.children-first.result c.requires.left c.children-first.ensures in let nb = count-row m b c.children.result c.requires.right c.children.ensures in
     omega (arith, c.requires.left.few, c.requires.right.few)
 
-pub refill-requires-else-count-le12 : goal.refill-requires-else-count-le12
-refill-requires-else-count-le12 g c = let m = records c.args.store.now in let a = c.args.left in let b = c.args.right in let all = kids m a ++ kids m b in let n = length-append (kids m a) (kids m b) in
+pub refill-requires-else-count-lt12 : goal.refill-requires-else-count-lt12
+refill-requires-else-count-lt12 g c = let m = records c.args.store.now in let a = c.args.left in let b = c.args.right in let all = kids m a ++ kids m b in let n = length-append (kids m a) (kids m b) in
     let na = count-row m a c.children-first.result c.requires.left c.children-first.ensures in let nb = count-row m b c.children.result c.requires.right c.children.ensures in
     let half = (c.children-first.result + c.children.result) / 2 in let small : half ≤ 12 = omega (arith, c.requires.left.few, c.requires.right.few) in
     record {
@@ -78,12 +78,12 @@ refill-requires-else-count-le12 g c = let m = records c.args.store.now in let a 
       sum = c.sum_halves-sum_front.ensures.first ∙ sym (ap (sums m) c.part_pair-front.ensures ∙ sums-row m (take half all));
     }
 
-pub refill-requires-else-count-le12-2 : goal.refill-requires-else-count-le12-2
-refill-requires-else-count-le12-2 g c = let m = records c.args.store.now in let a = c.args.left in let b = c.args.right in let all = kids m a ++ kids m b in let n = length-append (kids m a) (kids m b) in
+pub refill-requires-else-count-lt12-2 : goal.refill-requires-else-count-lt12-2
+refill-requires-else-count-lt12-2 g c = let m = records c.args.store.now in let a = c.args.left in let b = c.args.right in let all = kids m a ++ kids m b in let n = length-append (kids m a) (kids m b) in
     let na = count-row m a c.children-first.result c.requires.left c.children-first.ensures in let nb = count-row m b c.children.result c.requires.right c.children.ensures in
     let half = (c.children-first.result + c.children.result) / 2 in let count = (c.children-first.result + c.children.result) - half in
     let few : length all ≤ half + 12 = omega (arith, c.requires.left.few, c.requires.right.few) in let end : length all ≤ half + count = omega arith in
-    let now = c.refill-else-count-le12.ensures.records ∙ ap (refilled m a) c.part_pair-front.ensures in
+    let now = c.refill-else-count-lt12.ensures.records ∙ ap (refilled m a) c.part_pair-front.ensures in
     record {
       fill = (drop half all, c.part_pair-back.ensures ∙ rest all half count end, subst (λ x. CanFill x b (drop half all)) (sym now) (fill-back m a b c.requires half few));
       from = omega arith;
@@ -92,24 +92,24 @@ refill-requires-else-count-le12-2 g c = let m = records c.args.store.now in let 
           ∙ sym (ap (λ n. sums n c.part_pair-back.result) now ∙ ap (sums (refilled m a (row (take half all)))) (c.part_pair-back.ensures ∙ rest all half count end) ∙ back-sums m a b c.requires half);
     }
 
-pub returns-then-count-le12-clause-evens : goal.returns-then-count-le12-clause-evens
-returns-then-count-le12-clause-evens g c = let m = records c.args.store.now in let a = c.args.left in let b = c.args.right in let all = kids m a ++ kids m b in let n = length-append (kids m a) (kids m b) in
+pub returns-then-count-lt12-clause-evens : goal.returns-then-count-lt12-clause-evens
+returns-then-count-lt12-clause-evens g c = let m = records c.args.store.now in let a = c.args.left in let b = c.args.right in let all = kids m a ++ kids m b in let n = length-append (kids m a) (kids m b) in
     let na = count-row m a c.children-first.result c.requires.left c.children-first.ensures in let nb = count-row m b c.children.result c.requires.right c.children.ensures in
-    let few : length all ≤ 12 = omega (arith, c.if-count-le12.true) in
+    let few : length all ≤ 12 = omega (arith, c.if-count-lt12.true) in
     record { few = few; same = c.refill.ensures.records ∙ ap (refilled m a) (c.part_pair-all.ensures ∙ whole all few) }
 
-pub returns-else-count-le12-clause-evens : goal.returns-else-count-le12-clause-evens
-returns-else-count-le12-clause-evens g c = let m = records c.args.store.now in let a = c.args.left in let b = c.args.right in let all = kids m a ++ kids m b in let n = length-append (kids m a) (kids m b) in
+pub returns-else-count-lt12-clause-evens : goal.returns-else-count-lt12-clause-evens
+returns-else-count-lt12-clause-evens g c = let m = records c.args.store.now in let a = c.args.left in let b = c.args.right in let all = kids m a ++ kids m b in let n = length-append (kids m a) (kids m b) in
     let na = count-row m a c.children-first.result c.requires.left c.children-first.ensures in let nb = count-row m b c.children.result c.requires.right c.children.ensures in
     let half = (c.children-first.result + c.children.result) / 2 in let count = (c.children-first.result + c.children.result) - half in
     let end : length all ≤ half + count = omega arith in
     record {
       half = half;
-      many = omega (arith, c.if-count-le12.false);
-      low = omega (arith, c.if-count-le12.false);
+      many = omega (arith, c.if-count-lt12.false);
+      low = omega (arith, c.if-count-lt12.false);
       high = omega (arith, c.requires.left.few, c.requires.right.few);
-      rest_low = omega (arith, c.if-count-le12.false);
+      rest_low = omega (arith, c.if-count-lt12.false);
       rest_high = omega (arith, c.requires.left.few, c.requires.right.few);
-      same = c.refill-else-count-le12-2.ensures.records ∙ ap (λ x. refilled x b c.part_pair-back.result) (c.refill-else-count-le12.ensures.records ∙ ap (refilled m a) c.part_pair-front.ensures)
+      same = c.refill-else-count-lt12-2.ensures.records ∙ ap (λ x. refilled x b c.part_pair-back.result) (c.refill-else-count-lt12.ensures.records ∙ ap (refilled m a) c.part_pair-front.ensures)
           ∙ ap (refilled (refilled m a (row (take half all))) b) (c.part_pair-back.ensures ∙ rest all half count end);
     }

@@ -1,7 +1,6 @@
-use Rattle.std.proofs.Common.{inl, inr, take, sym, ap, ◌∙◌, arith}
-use Rattle.toggle_sums.specs.Counts.{Count}
+use Rattle.std.proofs.Common.{◌≡◌, ◌+◌, ◌-◌, inl, inr, sym, ap, ◌∙◌, arith}
 use Rattle.line_lists.proofs.CountRows.{count-characters}
-use Rattle.line_lists.proofs.FindLaws.{begin-rises}
+use Rattle.line_lists.proofs.FindLaws.{begin, begin-more}
 use Rattle.line_lists.proofs.StandLaws.{kept-before, kept-behind, kept-counted, kept-none, kept-there, line-some, stands-kept}
 use Rattle.line_lists.proofs.drafts.Draft.find_kept.Goals as goal
 
@@ -27,24 +26,19 @@ returns-in_err-column-clause-none g c =
     λ _. absurd (kept-there c.args.number.0 c.in_ok-index.index (g.L.LineList.lines c.args.self.now.list.now) c.line.result.now (sym c.requires.marked ∙ c.in_ok-index.was) c.line.ensures
     (c.mark_column.ensures.none c.in_err-column.was))
 
-pub overflow_sub-result : goal.overflow_sub-result
-overflow_sub-result g c =
-    let lines = g.L.LineList.lines c.args.self.now.list.now in
-    let start = c.characters-start.ensures ∙ ap (λ (x : Count). x.characters) c.prefix.ensures ∙ count-characters (take c.args.from lines) in
-    let count = c.characters.ensures ∙ ap (λ (x : Count). x.characters) c.prefix-2.ensures ∙ count-characters (take c.in_ok-index.index lines) in
-    omega (arith, start, count, begin-rises lines c.args.from c.in_ok-index.index c.if-index-from.false)
+pub span-requires : goal.span-requires
+span-requires g c =
+    omega (arith, c.if-index-from.false, c.if-to-index.false, c.requires.within)
 
 pub overflow_add-result : goal.overflow_add-result
 overflow_add-result g c =
     let lines = g.L.LineList.lines c.args.self.now.list.now in
-    let count = c.characters.ensures ∙ ap (λ (x : Count). x.characters) c.prefix-2.ensures ∙ count-characters (take c.in_ok-index.index lines) in
     let few = (g.L.LineList.are_lines c.args.self.now.list.now).counted.characters in
-    omega (arith, few, count-characters lines, count, kept-counted lines c.in_ok-index.index c.in_ok-column.column c.line.result.now c.line.ensures c.in_ok-column.ensures.inside)
+    let index = c.in_ok-index.index in
+    let same = ap (begin lines) (let n : c.args.from + (index - c.args.from) ≡ index = omega (arith, c.if-index-from.false) in n) in
+    omega (arith, few, count-characters lines, c.span.ensures, same, begin-more lines c.args.from (index - c.args.from), kept-counted lines index c.in_ok-column.column c.line.result.now c.line.ensures c.in_ok-column.ensures.inside)
 
 pub returns-clause-some : goal.returns-clause-some
 returns-clause-some g c =
-    let lines = g.L.LineList.lines c.args.self.now.list.now in
-    let start = c.characters-start.ensures ∙ ap (λ (x : Count). x.characters) c.prefix.ensures ∙ count-characters (take c.args.from lines) in
-    let count = c.characters.ensures ∙ ap (λ (x : Count). x.characters) c.prefix-2.ensures ∙ count-characters (take c.in_ok-index.index lines) in
-    stands-kept c.args.number.0 c.args.from c.args.to c.in_ok-index.index c.characters-start.result c.characters.result c.in_ok-column.column lines c.line.result.now
-    c.if-index-from.false c.if-to-index.false c.line.ensures start count c.in_ok-column.ensures.some
+    stands-kept c.args.number.0 c.args.from c.args.to c.in_ok-index.index c.span.result c.in_ok-column.column (g.L.LineList.lines c.args.self.now.list.now) c.line.result.now
+    c.if-index-from.false c.if-to-index.false c.line.ensures c.span.ensures c.in_ok-column.ensures.some

@@ -1,5 +1,4 @@
-use Rattle.std.proofs.Common.{◌+◌, ◌-◌, take, ap, ◌∙◌, arith}
-use Rattle.toggle_sums.specs.Counts.{Count}
+use Rattle.std.proofs.Common.{◌+◌, ◌-◌, ap, arith}
 use Rattle.line_lists.proofs.CountRows.{count-characters}
 use Rattle.line_lists.proofs.FindLaws.{found}
 use Rattle.line_lists.proofs.drafts.Draft.find_line.Goals as goal
@@ -8,17 +7,17 @@ pub overflow_add-offset : goal.overflow_add-offset
 overflow_add-offset g c =
     let lines = g.L.LineList.lines c.args.self.now.list.now in
     let all = (g.L.LineList.are_lines c.args.self.now.list.now).counted.characters in
-    let before = c.characters-before.ensures ∙ ap (λ (n : Count). n.characters) c.prefix.ensures ∙ count-characters (take c.args.reached.now.used lines) in
+    let before = c.start-before.ensures in
     omega (arith, all, before, count-characters lines, c.requires.within)
 
 pub locate-requires : goal.locate-requires
 locate-requires g c =
     let lines = g.L.LineList.lines c.args.self.now.list.now in
-    let before = c.characters-before.ensures ∙ ap (λ (n : Count). n.characters) c.prefix.ensures ∙ count-characters (take c.args.reached.now.used lines) in
+    let before = c.start-before.ensures in
     omega (arith, before, c.requires.within, c.requires.behind)
 
 pub returns : goal.returns
 returns g c =
     let lines = g.L.LineList.lines c.args.self.now.list.now in
-    let before = c.characters-before.ensures ∙ ap (λ (n : Count). n.characters) c.prefix.ensures ∙ count-characters (take c.args.reached.now.used lines) in
+    let before = c.start-before.ensures in
     found c.args.reached.now lines c.args.offset _ _ _ c.requires.behind (ap (λ n. (c.args.offset - c.args.reached.now.characters) + n) before) c.locate.ensures

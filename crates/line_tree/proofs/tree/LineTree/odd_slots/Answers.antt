@@ -1,0 +1,12 @@
+use Rattle.std.proofs.Common.{take, sym, ap, ◌∙◌}
+use Rattle.toggle_sums.specs.Counts.{Count}
+use Rattle.raw_nodes.specs.Names.{records}
+use Rattle.line_lists.specs.Lists.{count_of}
+use Rattle.line_tree.specs.Shape.{lines_in}
+use Rattle.line_tree.specs.Trees.{contents}
+use Rattle.line_tree.proofs.PrefixLaws.{count-first}
+use Rattle.line_tree.proofs.tree.LineTree.odd_slots.Goals as goal
+
+pub returns : goal.returns
+returns g c = let ls = lines_in (records c.self.inside.store) c.self.inside.height c.self.inside.root in
+    c.odd_slots.ensures ∙ ap (λ (s : Count). s.parity) (sym (count-first c.args.k ls)) ∙ ap (λ v. (count_of (take c.args.k (contents v.lines))).parity) c.self.view_is
