@@ -7,12 +7,7 @@ use crate::find::{Found, find};
 use raw_nodes::{NodePtr, NodeStore, Ticks};
 
 /// The child that has the line from which on so many stand below a node: from the last child back.
-fn find_back<C: Ticks>(
-    store: &NodeStore<C>,
-    node: NodePtr,
-    behind: usize,
-    ticks: &mut C,
-) -> Found
+fn find_back<C: Ticks>(store: &NodeStore<C>, node: NodePtr, behind: usize, ticks: &mut C) -> Found
     requires row { HasRow (records store.now) node }
     requires some { 0 < behind }
     requires within { behind ≤ lines_below (records store.now) node }
@@ -41,12 +36,7 @@ fn find_back<C: Ticks>(
 }
 
 /// The child that has line `k` of those below a node, looked for from the end that is nearer.
-pub fn find_near<C: Ticks>(
-    store: &NodeStore<C>,
-    node: NodePtr,
-    k: usize,
-    ticks: &mut C,
-) -> Found
+pub fn find_near<C: Ticks>(store: &NodeStore<C>, node: NodePtr, k: usize, ticks: &mut C) -> Found
     requires row { HasRow (records store.now) node }
     requires within { k < lines_below (records store.now) node }
     requires whole { lines_at (records store.now) node ≡ lines_below (records store.now) node }

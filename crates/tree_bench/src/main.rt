@@ -158,11 +158,13 @@ fn main(rt: HostRuntime) -> io::Result<ExitCode> {
     };
     match run(rt.alloc(), work, count, length)? {
         Outcome::Done { lines, done } => println!(&rt; "{lines} {done}")?,
-        Outcome::Refused(Refusals {
-            trees,
-            rooms,
-            differences,
-        }) => println!(&rt; "{trees} {rooms} {differences}")?,
+        Outcome::Refused(
+            Refusals {
+                trees,
+                rooms,
+                differences,
+            },
+        ) => println!(&rt; "{trees} {rooms} {differences}")?,
     }
     Ok(ExitCode::SUCCESS)
 }

@@ -104,12 +104,7 @@ fn child_in(
 }
 
 /// A line, which is to be the next one of a list.
-fn walk_line(
-    store: &NodeStore<Counter>,
-    name: NodePtr,
-    plain: &[usize],
-    walk: &mut Walk,
-) -> Size
+fn walk_line(store: &NodeStore<Counter>, name: NodePtr, plain: &[usize], walk: &mut Walk) -> Size
     requires { IsName store.now name }
 {
     let next = walk.lines;
