@@ -1,5 +1,5 @@
 -- Ways down with the characters or the slots before a line alone.
-use Rattle.std.proofs.Common.{◌≡◌, ℕ, zero, suc, ◌+◌, ◌^◌, ◌<◌, ◌≤◌, List, [], ◌∷◌, length, take, refl, sym, ap, ◌∙◌, arith}
+use Rattle.std.proofs.Common.{◌≡◌, ℕ, zero, suc, ◌+◌, ◌^◌, ◌<◌, List, [], ◌∷◌, length, take, refl, sym, ap, ◌∙◌, arith}
 use Rattle.std.specs.Prelude.{IfSome, IsSome}
 use Rattle.std.specs.FinMap as finite
 use Rattle.std.specs.FinSet as set
@@ -20,7 +20,7 @@ use Rattle.line_tree.specs.Trees.{Named, total}
 use Rattle.line_tree.specs.declared.prefix.Front.{Front}
 use Rattle.line_tree.specs.declared.starts.Behind.{Behind}
 use Rattle.line_tree.specs.declared.starts.Opened.{Opened}
-use Rattle.line_tree.proofs.PrefixLaws.{Leaves, all-lines, leaves-fits, leaves-line, leaves-start, leaves-step, some-left}
+use Rattle.line_tree.proofs.PrefixLaws.{Leaves, leaves-fits, leaves-line, leaves-start, leaves-step}
 
 -- what a call answers of a node's sum
 pub said : {T : Type 0} (of : Count → T) (m : Records) (q : NodePtr) (x : T) → IsSome (finite.get m q) → IfSome (finite.get m q) (λ r. x ≡ of r.sum) → x ≡ of (sum_at m q)

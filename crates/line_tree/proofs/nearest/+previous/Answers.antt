@@ -7,7 +7,7 @@ use Rattle.line_tree.specs.Places.{lines_before}
 use Rattle.line_tree.specs.Shape.{lines_at, lines_in}
 use Rattle.line_tree.specs.Trees.{contents}
 use Rattle.line_tree.proofs.NearestLaws.{child-is, first-previous, last-before, line-previous, none-previous, previous-end, previous-hit, previous-missed, reaches}
-use Rattle.line_tree.proofs.RowLaws.{child_is, lines_is, none_of, step_no, step_yes, sum_is}
+use Rattle.line_tree.proofs.RowLaws.{child_is, lines_is, none_of, step_no, step_yes}
 use Rattle.line_tree.proofs.StartLaws.{said}
 use Rattle.line_tree.proofs.TreeLaws.{count-tree, named-tree, row-above, sum-tree}
 use Rattle.line_tree.proofs.nearest.+previous.Goals as goal
