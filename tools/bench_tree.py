@@ -46,13 +46,14 @@ What is done at a random place of a million lines waits for memory, and for the 
 nodes on the way is in a cache. By valgrind's model of 32 KB and 32 MB of cache a line that is taken out misses the
 first 63 times and the second 11 times; it takes 2,500 instructions, and 1,900 where there are 10,000 lines. With
 pages of 2 MB (GLIBC_TUNABLES=glibc.malloc.hugetlb=1, which a program can't ask for itself) the same takes 63 to 82
-percent of the time. At each level three or four children are asked for their lines, each in a node of its own. One
-place in memory a level would do if a node kept beside each link how many lines that child has; the map of records,
-which is all that is known of the nodes, has each number at the child alone.
+percent of the time. (These are counts of a day when a line was looked for from the first child of a node on, and not
+from the nearer end.) At each level some children are asked for their lines, each in a node of its own. One place in
+memory a level would do if a node kept beside each link how many lines that child has; the map of records, which is all
+that is known of the nodes, has each number at the child alone.
 
-Of the bytes a line that is put in with a thousand others 8 are in spare nodes and rooms for the next thousand,
-whatever would split (27 of each for each line), 48 in one inner node for every six lines, and 144 in the line's own
-node and text.
+Of the bytes a line that is put in with a thousand others 3 are in spare nodes and rooms for the next thousand,
+whatever would split (as many of each for a line as such a tree can have levels, and two), 48 in one inner node for
+every six lines, and 144 in the line's own node and text.
 """
 
 
