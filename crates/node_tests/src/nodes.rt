@@ -66,11 +66,20 @@ fn lines(rt: HostRuntime) -> Result<(), Fail> {
     assert!(rt; store.line(name).is_some());
     let mut steps = Steps::new();
     assert!(rt; store.lines(name, &mut steps) == 1 && store.size(name, &mut steps) == (1, 7));
+    let given = store.give_back(name);
+    assert!(rt; given.is_some_and(|line| line.len() == 7));
+    Ok(())
+}
+
+#[test]
+fn marks_and_toggles(rt: HostRuntime) -> Result<(), Fail> {
+    let mut store: NodeStore<Steps> = NodeStore::new(rt.alloc());
+    store.reserve_lines(1)?;
+    let name = store.make(Some(Line::new(rt.alloc(), "a line\n")?));
+    let mut steps = Steps::new();
     assert!(rt; store.marks(name, &mut steps) == 0);
     assert!(rt; !store.has_toggle(name, TagSlot(3), &mut steps));
     assert!(rt; !store.odd_slots(name, &mut steps).has(TagSlot(3)));
-    let given = store.give_back(name);
-    assert!(rt; given.is_some_and(|line| line.len() == 7));
     Ok(())
 }
 
