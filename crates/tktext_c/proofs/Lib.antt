@@ -1,0 +1,4 @@
+mod KeptSteps
+mod RoomLaws
+mod Values
+mod WordLaws
