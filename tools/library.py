@@ -340,11 +340,18 @@ proc give_refused {words growth} {
         incr ::refused
         set code [catch {give $words} answer]
     }
-    return [expr {$code ? "error: $answer" : $answer}]
+    return [line $code $answer]
+}
+# What the program prints.  No `expr`, which would read an answer as a number.
+proc line {code answer} {
+    if {$code} {
+        return "error: $answer"
+    }
+    return $answer
 }
 proc run {commands} {
     foreach words $commands {
-        puts [expr {[catch {give $words} answer] ? "error: $answer" : $answer}]
+        puts [line [catch {give $words} answer] $answer]
     }
     forget
 }
@@ -394,7 +401,7 @@ puts [.t get 1.0 end]
 TCL_PRINTS = """{line 1} {line 3} {line 5}
 70
 line 2
-2.0
+1.0
 1bad text index "nowhere"
 .p {} {} {}
 2.0 1

@@ -1,3 +1,4 @@
+mod CallLaws
 mod KeptSteps
 mod RoomLaws
 mod Values

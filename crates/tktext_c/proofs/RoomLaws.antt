@@ -38,3 +38,7 @@ copied-more text more start room new total at later before most place copied sam
 
 pub grouped : (a b c d e : List ℕ) → (((([] ++ a) ++ b) ++ c) ++ d) ++ e ≡ (a ++ b) ++ ((c ++ d) ++ e)
 grouped a b c d e = append_assoc ((a ++ b) ++ c) d e ∙ append_assoc (a ++ b) c (d ++ e) ∙ ap (λ xs. (a ++ b) ++ xs) (sym (append_assoc c d e))
+
+-- the same of a text that is written otherwise
+pub copied-text : (text other start : List ℕ) (total : ℕ) (room : List ℕ) → text ≡ other → Copied text start total room → Copied other start total room
+copied-text text other start total room same is = rw same at is
