@@ -1,6 +1,8 @@
 # make try     a script before anything is proved: standard input, SCRIPT=file, or with neither examples/first.tcl
 # make run     the same by the proved program, which is proved and built first where it isn't yet
 # make build   the proved program alone: crates/tktext/out/tktext
+# make lib     the library for C, Python and Tcl: out/libtktext.a and out/libtktext.so, proved where it isn't yet
+# make examples  its examples in C, Python and Tcl, and what is missing for one that can't be run
 # make test    the gate, and then the checks that the gate can't do; the last line counts them
 # make fuzz    the program against the plain model on random scripts: SEEDS=300 of them, FIRST=0 on
 # make tk      the program against real Tk, where that is installed: the rows of docs/differences.md, and random scripts
@@ -13,6 +15,7 @@ PROGRAM = crates/tktext/out/tktext
 LINE_BENCH = crates/line_bench/out/line_bench
 TREE_BENCH = crates/tree_bench/out/tree_bench
 NODE_MEMORY = crates/node_memory/out/node_memory
+LIBRARY = out/libtktext.a
 SHIM = out/refuse.so
 WEIGH = out/weigh.so
 SEEDS ?= 300
@@ -30,6 +33,15 @@ build: $(PROGRAM)
 $(PROGRAM): $(SOURCES)
 	@python3 tools/build.py
 	@touch $@
+
+lib: $(LIBRARY)
+
+$(LIBRARY): $(SOURCES)
+	@python3 tools/build_library.py
+	@touch $@
+
+examples: $(LIBRARY)
+	@python3 tools/examples.py
 
 $(SHIM): tools/refuse.c
 	mkdir -p out
@@ -53,7 +65,8 @@ test: $(SHIM) $(WEIGH)
 	  'python3 tools/own_counter.py' \
 	  'python3 tools/manual.py --program $(PROGRAM)' \
 	  'python3 tools/tk.py --program $(PROGRAM)' \
-	  'python3 tools/editor_test.py --program $(PROGRAM)'
+	  'python3 tools/editor_test.py --program $(PROGRAM)' \
+	  'python3 tools/library.py --build'
 
 fuzz: $(PROGRAM)
 	python3 tools/fuzz.py --program $(PROGRAM) --seeds $(SEEDS) --first $(FIRST)
@@ -81,4 +94,4 @@ tk: $(PROGRAM)
 	python3 tools/tk.py --program $(PROGRAM)
 	python3 tools/tk.py --program $(PROGRAM) --scripts $(SEEDS) --first $(FIRST)
 
-.PHONY: try run build test fuzz bench counts gate tk
+.PHONY: try run build lib examples test fuzz bench counts gate tk

@@ -5,9 +5,7 @@
 package require tktext
 
 tktext::text .a -undo 1
-foreach word {one two three} {
-    .a insert end $word\n
-}
+.a insert 1.0 [join {one two three} \n]
 .a peer create .b -startline 2
 .b tag add bold 1.0 1.end
 .b insert 1.0 "number "

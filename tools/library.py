@@ -3,8 +3,8 @@
 
     python3 tools/library.py [--seeds 1000] [--build]
 
-out/libtktext.a and out/libtktext.so are what `make lib` makes; with `--build` what is missing of them is made first, from the
-crates that a gate has just proved (tools/build_library.py).  Where they can't be made, one line says so, and nothing is tried.
+out/libtktext.a and out/libtktext.so are what `make lib` makes; with `--build` they are made first, from the crates that a gate
+has just proved (tools/build_library.py).  Without a C compiler one line says so, and nothing is tried.
 
 - C (tools/library.c): worked and random scripts, fed in pieces and word by word, answer as the model does; calls that a
   caller may get wrong; valgrind finds no leak and no wrong access in 10,000 commands and a drop.
@@ -27,6 +27,8 @@ import subprocess
 import sys
 import tempfile
 
+import build_library
+import examples
 import model
 import scripts
 import worked
@@ -40,7 +42,6 @@ EXTENSION = os.path.join(OUT, "tktext.so")
 CLIENT = os.path.join(OUT, "library_client")
 REFUSED = os.path.join(OUT, "refused.so")
 REFUSED_EXTENSION = os.path.join(OUT, "refused_tktext.so")
-TCL_INCLUDE = "/usr/include/tcl8.6"
 FLAGS = ["-Wall", "-Wextra", "-O2", "-fPIC", "-I" + os.path.join(TOP, "include")]
 PIECES = (1, 7, 4096)
 LEAK_COMMANDS = 10_000
@@ -66,7 +67,7 @@ def compile_all(has_tcl):
     subprocess.run(["cc", *FLAGS, "-o", CLIENT, source("tools", "library.c"), ARCHIVE], check=True)
     subprocess.run(["cc", *FLAGS, *wraps, "-o", REFUSED, "-Wl,--whole-archive", ARCHIVE, "-Wl,--no-whole-archive"], check=True)
     if has_tcl:
-        tcl = ["-DUSE_TCL_STUBS", "-I" + TCL_INCLUDE, source("tcl", "tktext.c")]
+        tcl = ["-DUSE_TCL_STUBS", "-I" + examples.TCL_INCLUDE, source("tcl", "tktext.c")]
         subprocess.run(["cc", *FLAGS, "-shared", *tcl, "-o", EXTENSION, ARCHIVE, "-ltclstub8.6"], check=True)
         # The words of Tcl's glue are Tcl's own growths, which Tcl doesn't survive: only those of the library are counted.
         subprocess.run(["cc", *FLAGS, *tcl, "-c", "-o", EXTENSION + ".o"], check=True)
@@ -494,6 +495,40 @@ def check_tcl(seeds, tally):
 
 
 # ---------------------------------------------------------------------------------------------------
+# The examples
+
+# The commands of examples/peers.c, and what the others do by other names.
+EXAMPLE = r"""
+text .a -undo 1
+.a insert 1.0 "one\ntwo\nthree"
+.a peer create .b -startline 2
+.b tag add bold 1.0 1.end
+.b insert 1.0 "number "
+.a dump 1.0 end
+.b dump 1.0 end
+.b index nowhere
+"""
+
+
+def check_examples(has_tcl, tally):
+    """Each example prints what the model says, in its own way."""
+    commands, _ = model.reads_script(EXAMPLE.encode())
+    world, answers = model.World(), []
+    for words in commands:
+        world, text, _ = model.piece(world, words, False)
+        answers.append(text)
+    given = {name: run_it() for name, can_run, run_it, _ in examples.EXAMPLES if can_run()}
+    tally.check(given["examples/peers.c"] == ("".join(answers), 0), f"the example in C: {given['examples/peers.c']!r}")
+    entries = [(name, list(zip(*[iter(model.split_list(answer[:-1]))] * 3))) for name, answer in zip((".a", ".b"), answers[5:7])]
+    fault = answers[7].removeprefix("error: ")
+    wanted = "".join(name + "\n" + "".join(f"  {it!r}\n" for it in listed) for name, listed in entries) + fault
+    tally.check(given["examples/peers.py"] == (wanted, 0), f"the example in Python: {given['examples/peers.py']!r}")
+    if has_tcl:
+        wanted = "".join(name + "\n" + "".join(f"  {it[2]} {it[0]} {model.element_text(it[1])}\n" for it in listed) for name, listed in entries) + fault
+        tally.check(given["examples/peers.tcl"] == (wanted, 0), f"the example in Tcl: {given['examples/peers.tcl']!r}")
+
+
+# ---------------------------------------------------------------------------------------------------
 
 
 def add_counts(output, status, tally):
@@ -520,14 +555,22 @@ def check_python(seeds, tally):
 def main():
     parser = argparse.ArgumentParser(description="tries the library by clients in C, Python and Tcl")
     parser.add_argument("--seeds", type=int, default=1_000)
+    parser.add_argument("--build", action="store_true")
     parser.add_argument("--python", action="store_true")
     parser.add_argument("--refuses", action="store_true")
     options = parser.parse_args()
     if options.python:
         return try_python(options.seeds, options.refuses)
     tally = Tally()
-    has_tcl = shutil.which("tclsh8.6") is not None and os.path.exists(os.path.join(TCL_INCLUDE, "tcl.h"))
+    if shutil.which("cc") is None:
+        print("the library isn't tried: it wants a C compiler")
+        return tally.close()
+    if options.build and build_library.main([]):
+        tally.failed("the library isn't made")
+        return tally.close()
+    has_tcl = examples.has_tcl()
     compile_all(has_tcl)
+    check_examples(has_tcl, tally)
     check_uses(tally)
     for row in worked.ROWS:
         if row.limits == model.PROGRAM_LIMITS:
