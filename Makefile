@@ -8,7 +8,8 @@
 # make tk      the program against real Tk, where that is installed: the rows of docs/differences.md, and random scripts
 # make gate    the gate alone, and its processor time over that of `rt selftest`; with nothing beside it
 # make bench   the program's time per command as the text grows, and its memory as the script does, into docs/bench.txt;
-#              what is done to one long line, into docs/bench_lines.txt; and lines in the tree, into docs/bench_tree.txt
+#              what is done to one long line, into docs/bench_lines.txt; lines in the tree, into docs/bench_tree.txt; and
+#              a command through the library, into docs/bench_library.txt
 # make counts  the instructions of a command on texts of two sizes, into docs/bench_counts.txt; it needs valgrind
 
 PROGRAM = crates/tktext/out/tktext
@@ -79,10 +80,11 @@ $(TREE_BENCH): $(SOURCES)
 	cd crates/tree_bench && rt run -- mixed 100 20 > /dev/null
 	@touch $@
 
-bench: $(PROGRAM) $(LINE_BENCH) $(TREE_BENCH) $(WEIGH)
+bench: $(PROGRAM) $(LINE_BENCH) $(TREE_BENCH) $(WEIGH) $(LIBRARY)
 	python3 tools/bench.py --program $(PROGRAM) --out docs/bench.txt
 	python3 tools/bench_lines.py --program $(LINE_BENCH) --out docs/bench_lines.txt
 	python3 tools/bench_tree.py --program $(TREE_BENCH) --shim $(WEIGH) --out docs/bench_tree.txt
+	python3 tools/library.py --bench docs/bench_library.txt
 
 counts: $(PROGRAM)
 	python3 tools/bench_counts.py --program $(PROGRAM) --out docs/bench_counts.txt

@@ -3,7 +3,8 @@
        client script PIECE    runs the script on standard input, fed in pieces of so many bytes, as the program does
        client words           carries out the commands on standard input: of each how many words, their lengths, the bytes
        client uses            makes calls that a caller may get wrong
-       client time COUNT      what a command takes by its words, and by a script of such commands, in nanoseconds  */
+       client time COUNT      what a command takes by its words, and by a script of such commands, in nanoseconds of
+                              processor  */
 
 #define _POSIX_C_SOURCE 200809L
 
@@ -187,10 +188,11 @@ static int try_uses(void)
     return failed != 0;
 }
 
+/* The seconds of processor so far. */
 static double seconds(void)
 {
     struct timespec now;
-    clock_gettime(CLOCK_MONOTONIC, &now);
+    clock_gettime(CLOCK_PROCESS_CPUTIME_ID, &now);
     return (double)now.tv_sec + 1e-9 * (double)now.tv_nsec;
 }
 

@@ -2,6 +2,7 @@
 """Tries the library by real clients: C, Python and Tcl.
 
     python3 tools/library.py [--seeds 1000] [--build]
+    python3 tools/library.py --bench FILE         the time of a command alone, into a file
 
 out/libtktext.a and out/libtktext.so are what `make lib` makes; with `--build` they are made first, from the crates that a gate
 has just proved (tools/build_library.py).  Without a C compiler one line says so, and nothing is tried.
@@ -13,7 +14,7 @@ has just proved (tools/build_library.py).  Without a C compiler one line says so
 - Python and Tcl with growths of memory refused (tools/refuse_calls.c): want of memory is an error of the language, and the
   command answers as ever when it is given again.
 - The time of a command by its words and by a script.
-- The examples of three languages answer alike.
+- The examples of three languages answer alike, and README's lines run.
 
 Ends in a line `N passed, M failed`; the exit status is 1 if anything failed.
 """
@@ -61,10 +62,14 @@ def source(*names):
     return os.path.join(TOP, *names)
 
 
+def compile_client():
+    subprocess.run(["cc", *FLAGS, "-o", CLIENT, source("tools", "library.c"), ARCHIVE], check=True)
+
+
 def compile_all(has_tcl):
     """The client, and the library with growths that can be refused, for Python and for Tcl."""
     wraps = ["-shared", "-Wl,--wrap=malloc,--wrap=realloc", source("tools", "refuse_calls.c")]
-    subprocess.run(["cc", *FLAGS, "-o", CLIENT, source("tools", "library.c"), ARCHIVE], check=True)
+    compile_client()
     subprocess.run(["cc", *FLAGS, *wraps, "-o", REFUSED, "-Wl,--whole-archive", ARCHIVE, "-Wl,--no-whole-archive"], check=True)
     if has_tcl:
         tcl = ["-DUSE_TCL_STUBS", "-I" + examples.TCL_INCLUDE, source("tcl", "tktext.c")]
@@ -139,11 +144,32 @@ def check_leaks(tally):
     print(f"valgrind: {len(commands)} commands by words, and a script of {len(fed)} bytes")
 
 
-def check_time(tally):
+def times():
+    """The nanoseconds of processor that a command takes by its words, and by a script."""
     output, _, _ = run([CLIENT, "time", str(TIMED_COMMANDS)])
-    words, script = map(int, output.split())
+    return map(int, output.split())
+
+
+def check_time(tally):
+    words, script = times()
     print(f"a command of a line put in or taken out: {words} ns by its words, {script} ns by a script")
     tally.check(words < script, f"a command takes {words} ns by its words and {script} by a script")
+
+
+def write_times(file):
+    """What `make bench` does."""
+    compile_client()
+    words, script = times()
+    text = f"""The library: nanoseconds of processor for a command that puts a line of 36 characters in at the front of a text or takes
+it out, with the call that gives what was said; the least of three takes of {2 * TIMED_COMMANDS} commands each.
+
+by its words (tktext_call)               {words:6}
+by a script (tktext_feed, tktext_next)   {script:6}
+"""
+    with open(file, "w", encoding="ascii") as written:
+        written.write(text)
+    print(text, end="")
+    return 0
 
 
 # ---------------------------------------------------------------------------------------------------
@@ -531,6 +557,27 @@ def check_examples(has_tcl, tally):
 # ---------------------------------------------------------------------------------------------------
 
 
+def readme_block(language):
+    """The lines in a language that README shows."""
+    with open(source("README.md"), encoding="utf-8") as page:
+        return page.read().split(f"```{language}\n")[1].split("```")[0]
+
+
+def check_readme(has_tcl, folder, tally):
+    """README's lines run as they stand there."""
+    file, program = os.path.join(folder, "readme.c"), os.path.join(folder, "readme")
+    with open(file, "w", encoding="utf-8") as written:
+        written.write(f'#include "tktext.h"\nint main(void)\n{{\n{readme_block("c")}return code != TKTEXT_ANSWER || length != 3 || line[2] != 10;\n}}\n')
+    run(["cc", *FLAGS, file, ARCHIVE, "-o", program])
+    tally.check(run([program])[1] == 0, "README's lines in C")
+    end = 'print(peer.get("1.0", "1.end"), *text.tag_ranges("bold"))'
+    given = run([sys.executable, "-c", readme_block("python") + end], env=dict(os.environ, PYTHONPATH=source("python")))
+    tally.check(given == (b"hello, wide world 1.7 2.0\n", 0, b""), f"README's lines in Python: {given!r}")
+    if has_tcl:
+        given = run(["tclsh8.6"], readme_block("tcl").encode(), env=dict(os.environ, TCLLIBPATH=source("tcl")))
+        tally.check(given == (b"5.0\n", 0, b""), f"README's lines in Tcl: {given!r}")
+
+
 def add_counts(output, status, tally):
     """Shows what a process of its own printed, and adds what it counted."""
     lines = output.decode("utf-8", "replace").splitlines()
@@ -556,11 +603,14 @@ def main():
     parser = argparse.ArgumentParser(description="tries the library by clients in C, Python and Tcl")
     parser.add_argument("--seeds", type=int, default=1_000)
     parser.add_argument("--build", action="store_true")
+    parser.add_argument("--bench", metavar="FILE")
     parser.add_argument("--python", action="store_true")
     parser.add_argument("--refuses", action="store_true")
     options = parser.parse_args()
     if options.python:
         return try_python(options.seeds, options.refuses)
+    if options.bench:
+        return write_times(options.bench)
     tally = Tally()
     if shutil.which("cc") is None:
         print("the library isn't tried: it wants a C compiler")
@@ -571,6 +621,8 @@ def main():
     has_tcl = examples.has_tcl()
     compile_all(has_tcl)
     check_examples(has_tcl, tally)
+    with tempfile.TemporaryDirectory() as folder:
+        check_readme(has_tcl, folder, tally)
     check_uses(tally)
     for row in worked.ROWS:
         if row.limits == model.PROGRAM_LIMITS:

@@ -37,7 +37,8 @@ stepped old words = record old {
 -- From old to new a command is answered, or refused, which leaves the world as it was.
 abbrev pub Gives : State → List (List ℕ) → State → Given → Type 0
 Gives old words new given.Answer = (is_ok (step old.world words).reply ≡ true) × (new ≡ stepped old words)
-Gives old words new given.Fault = (is_err (step old.world words).reply ≡ true) × (new ≡ stepped old words) × (new.world ≡ old.world)
+Gives old words new given.Fault =
+    (is_err (step old.world words).reply ≡ true) × (new ≡ stepped old words) × (new.world ≡ old.world)
 Gives old words new given.Memory = new ≡ record old { said = memory_said }
 
 -- The same of words that stand in bytes, unless they are none, which changes nothing.
@@ -59,7 +60,8 @@ status_after given.Memory status = max status 1
 abbrev pub Turns : State → State → TurnEnd → Type 0
 Turns old new (turn.Command given) =
     (words : List (List ℕ)) × TakesCommand old.script words new.script
-    × Gives old words (record new { script = old.script; status = old.status }) given × (new.status ≡ status_after given old.status)
+    × Gives old words (record new { script = old.script; status = old.status }) given
+    × (new.status ≡ status_after given old.status)
 Turns old new turn.Fault =
     (fault : ScriptFault) × StopsAt old.script fault new.script
     × (new ≡ record old { script = new.script; said = encode_utf8_all (last_piece (Some fault)); status = 2 })

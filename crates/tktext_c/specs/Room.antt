@@ -1,5 +1,5 @@
 -- Texts that are copied over what stands in some room.
-use Rattle.std.specs.Prelude.{◌≡◌, ℕ, ◌≤◌, min, List, ◌++◌, length, take, drop}
+use Rattle.std.specs.Prelude.{◌≡◌, ℕ, min, List, ◌++◌, length, take, drop}
 
 -- the text at the front of the room, as far as it goes, and behind it what stood there
 abbrev pub over : List ℕ → List ℕ → List ℕ

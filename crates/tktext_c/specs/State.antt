@@ -1,5 +1,5 @@
 -- What a caller in C sees of a session.
-use Rattle.std.specs.Prelude.{ℕ, List, [], Option, Some, None, Err, option_map, encode_utf8_all}
+use Rattle.std.specs.Prelude.{ℕ, List, [], Some, Err, encode_utf8_all}
 use Rattle.text_model.specs.LimitTable.{LimitTable}
 use Rattle.tcl_words.specs.Unread.{Unread, nothing_fed, texts_of}
 use Rattle.command_parts.specs.declared.answers.Fault.TheVariants.{Memory}
@@ -10,7 +10,7 @@ use Rattle.tktext_c.specs.declared.session.Said.{Said}
 use Rattle.tktext_c.specs.declared.session.Said.TheVariants.{Nothing, Reply, Fault}
 use Rattle.tktext_c.specs.declared.session.Session.{Session}
 
--- the world, what is still to be read of the script that is fed, the bytes that were said last, and the script's exit status
+-- the world, what is still to be read of the script that is fed, the bytes that were said last, and the script's status
 pub record State : Type 0 where
   pub world : World
   pub script : Unread

@@ -45,7 +45,8 @@ pub extern "C" fn tktext_new(
 #[unsafe(no_mangle)]
 pub extern "C" fn tktext_new_greatest(alloc: Global, handle: &mut Handle) -> i32
     ensures { (ended : MakeEnd) × (result ≡ make_code ended) × Makes (state handle.old)
-        (record { chars = most_chars; tags = most_tags; marks = most_marks; widgets = most_widgets; reads = 0 }) (state handle.new) ended }
+        (record { chars = most_chars; tags = most_tags; marks = most_marks; widgets = most_widgets; reads = 0 })
+        (state handle.new) ended }
 {
     tktext_new(
         alloc,

@@ -19,7 +19,8 @@ pub(crate) fn copy_piece(piece: &Piece, room: &mut [u8]) -> usize
 
 /// Copies a text behind those of which so many bytes were copied, as far as the room goes, and gives the length of all.
 fn copy_next(room: &mut [u8], total: usize, text: &str) -> usize
-    ensures { (done start : List ℕ) → Copied done start total room.old → Copied (done ++ text.now) start result room.new }
+    ensures { (done start : List ℕ) → Copied done start total room.old
+        → Copied (done ++ text.now) start result room.new }
 {
     let at = total.min(room.len());
     copy_text(room, at, text.as_bytes());

@@ -117,7 +117,8 @@ impl Session {
 
     /// Says the fault of the script, which ends it.
     fn stop(&mut self, fault: ScriptFault) -> TurnEnd
-        ensures state { state_of self.new ≡ record (state_of self.old) { said = said_text [] (Said.Fault fault); status = 2 } }
+        ensures state { state_of self.new
+            ≡ record (state_of self.old) { said = said_text [] (Said.Fault fault); status = 2 } }
         ensures turn { result ≡ TurnEnd.Fault }
     {
         self.said = Said::Fault(fault);

@@ -1,5 +1,4 @@
-use Rattle.std.proofs.Common.{◌+◌, ◌∷◌, ◌++◌, [], drop, take, map, rules, refl, sym, ap, ◌∙◌}
-use Rattle.std.specs.Prelude.{chars, IsUtf8, string_bytes}
+use Rattle.std.proofs.Common.{◌+◌, drop, rules, ◌∙◌}
 use Rattle.tcl_words.specs.Unread.{texts_of}
 use Rattle.std.proofs.lemmas.List.{drop_more}
 use Rattle.tktext_c.proofs.WordLaws.{reading-more, texts-more}
