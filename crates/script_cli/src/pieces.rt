@@ -242,13 +242,7 @@ impl<'a> Piece<'a> {
     pub fn parts(&self) -> (&'a str, &'a str, &'a str, &'a str, &'a str)
         ensures { (result.0.now ++ result.1.now) ++ ((result.2.now ++ result.3.now) ++ result.4.now) ≡ self.now }
     {
-        (
-            self.before,
-            self.word,
-            self.between,
-            self.other,
-            self.after,
-        )
+        (self.before, self.word, self.between, self.other, self.after)
     }
 
     fn around(before: &'static str, word: &'a str, after: &'static str) -> Piece<'a>
