@@ -1,12 +1,15 @@
 # make try     a script before anything is proved: standard input, SCRIPT=file, or with neither examples/first.tcl
 # make run     the same by the proved program, which is proved and built first where it isn't yet
 # make build   the proved program alone: crates/tktext/out/tktext
+# make lib     the library for C, Python and Tcl: out/libtktext.a and out/libtktext.so, proved where it isn't yet
+# make examples  its examples in C, Python and Tcl, and what is missing for one that can't be run
 # make test    the gate, and then the checks that the gate can't do; the last line counts them
 # make fuzz    the program against the plain model on random scripts: SEEDS=300 of them, FIRST=0 on
 # make tk      the program against real Tk, where that is installed: the rows of docs/differences.md, and random scripts
 # make gate    the gate alone, and its processor time over that of `rt selftest`; with nothing beside it
 # make bench   the program's time per command as the text grows, and its memory as the script does, into docs/bench.txt;
-#              what is done to one long line, into docs/bench_lines.txt; and lines in the tree, into docs/bench_tree.txt
+#              what is done to one long line, into docs/bench_lines.txt; lines in the tree, into docs/bench_tree.txt; and
+#              a command through the library, into docs/bench_library.txt
 # make counts  the instructions of a command on texts of two sizes, into docs/bench_counts.txt; it needs valgrind
 
 PROGRAM = crates/tktext/out/tktext
@@ -14,6 +17,7 @@ ROWS = crates/rows/out/rows
 LINE_BENCH = crates/line_bench/out/line_bench
 TREE_BENCH = crates/tree_bench/out/tree_bench
 NODE_MEMORY = crates/node_memory/out/node_memory
+LIBRARY = out/libtktext.a
 SHIM = out/refuse.so
 WEIGH = out/weigh.so
 SEEDS ?= 300
@@ -31,6 +35,15 @@ build: $(PROGRAM)
 $(PROGRAM): $(SOURCES)
 	@python3 tools/build.py
 	@touch $@
+
+lib: $(LIBRARY)
+
+$(LIBRARY): $(SOURCES)
+	@python3 tools/build_library.py
+	@touch $@
+
+examples: $(LIBRARY)
+	@python3 tools/examples.py
 
 $(SHIM): tools/refuse.c
 	mkdir -p out
@@ -55,7 +68,8 @@ test: $(SHIM) $(WEIGH)
 	  'python3 tools/own_counter.py' \
 	  'python3 tools/manual.py --program $(PROGRAM)' \
 	  'python3 tools/tk.py --program $(PROGRAM)' \
-	  'python3 tools/editor_test.py --program $(PROGRAM)'
+	  'python3 tools/editor_test.py --program $(PROGRAM)' \
+	  'python3 tools/library.py --build'
 
 fuzz: $(PROGRAM)
 	python3 tools/fuzz.py --program $(PROGRAM) --seeds $(SEEDS) --first $(FIRST)
@@ -68,10 +82,11 @@ $(TREE_BENCH): $(SOURCES)
 	cd crates/tree_bench && rt run -- mixed 100 20 > /dev/null
 	@touch $@
 
-bench: $(PROGRAM) $(LINE_BENCH) $(TREE_BENCH) $(WEIGH)
+bench: $(PROGRAM) $(LINE_BENCH) $(TREE_BENCH) $(WEIGH) $(LIBRARY)
 	python3 tools/bench.py --program $(PROGRAM) --out docs/bench.txt
 	python3 tools/bench_lines.py --program $(LINE_BENCH) --out docs/bench_lines.txt
 	python3 tools/bench_tree.py --program $(TREE_BENCH) --shim $(WEIGH) --out docs/bench_tree.txt
+	python3 tools/library.py --bench docs/bench_library.txt
 
 counts: $(PROGRAM)
 	python3 tools/bench_counts.py --program $(PROGRAM) --out docs/bench_counts.txt
@@ -83,4 +98,4 @@ tk: $(PROGRAM)
 	python3 tools/tk.py --program $(PROGRAM)
 	python3 tools/tk.py --program $(PROGRAM) --scripts $(SEEDS) --first $(FIRST)
 
-.PHONY: try run build test fuzz bench counts gate tk
+.PHONY: try run build lib examples test fuzz bench counts gate tk

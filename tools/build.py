@@ -3,7 +3,7 @@
 
     python3 tools/build.py [--crate NAME]
 
-Proves the crates that the program stands on, lowest first, and the program last, each over what earlier runs kept.
+Proves the crates that the program (or another crate) stands on, lowest first, and it last, each over what earlier runs kept.
 Crates that share no crate below are proved side by side, since the kit's `rt` lets one run at a time work in a folder;
 what is left is proved one crate after the other, each by as many processes as there are cores.  What `rt` says is kept
 in out/build.log, and shown where a crate fails; the exit status is then 1.
@@ -54,14 +54,19 @@ def plan(crates, program):
     return [first] + [[name] for name in wanted if name not in first] + [[program]]
 
 
-def rt_words(is_program, share):
-    """The command that proves a crate and keeps it for those above, or proves and links the program.
+def is_program(name):
+    """Whether a crate is a program, and no library for the crates above it or for C."""
+    return os.path.exists(os.path.join(TOP, "crates", name, "src", "main.rt"))
+
+
+def rt_words(runs, share):
+    """The command that proves a crate and keeps it for those above or for C, or proves, links and runs the program.
 
     `share` is how many cores it has for itself.
     """
     is_chosen = share == CORES <= CHOSEN_CORES
     jobs = [] if is_chosen else ["--jobs", str(min(share, MOST_JOBS))]
-    return ["rt", "run" if is_program else "lib", *jobs]
+    return ["rt", "run" if runs else "lib", *jobs]
 
 
 class Progress:
@@ -104,18 +109,18 @@ class Progress:
             self.say(f"[{self.done}/{self.total}] {name} {word} in {seconds:.0f} s, {self.seconds():.0f} s in all")
 
 
-def prove(name, is_program, share, progress, log):
+def prove(name, runs, share, progress, log):
     """Proves one crate, and tells whether it is proved."""
     progress.start(name)
     began = time.monotonic()
     done = subprocess.run(
-        rt_words(is_program, share),
+        rt_words(runs, share),
         cwd=os.path.join(TOP, "crates", name),
         stdin=subprocess.DEVNULL,
-        stdout=subprocess.DEVNULL if is_program else subprocess.PIPE,
-        stderr=subprocess.PIPE if is_program else subprocess.STDOUT,
+        stdout=subprocess.DEVNULL if runs else subprocess.PIPE,
+        stderr=subprocess.PIPE if runs else subprocess.STDOUT,
     )
-    said = done.stderr if is_program else done.stdout
+    said = done.stderr if runs else done.stdout
     # A program that is proved is run at once, on an empty script, which ends with status 0.
     is_proved = done.returncode == 0
     progress.end(name, time.monotonic() - began, is_proved)
@@ -126,12 +131,12 @@ def prove(name, is_program, share, progress, log):
     return is_proved
 
 
-def prove_all(groups, program, progress, log):
+def prove_all(groups, progress, log):
     """Proves group after group, and tells whether all are proved."""
     with ThreadPoolExecutor(CORES) as pool:
         for group in groups:
             share = max(CORES // len(group), 1)
-            made = pool.map(lambda name: prove(name, name == program, share, progress, log), group)
+            made = pool.map(lambda name: prove(name, is_program(name), share, progress, log), group)
             if not all(list(made)):
                 return False
     return True
@@ -148,7 +153,7 @@ def main():
     os.makedirs(os.path.dirname(LOG), exist_ok=True)
     try:
         with open(LOG, "wb") as log:
-            is_proved = prove_all(groups, program, progress, log)
+            is_proved = prove_all(groups, progress, log)
     except KeyboardInterrupt:
         is_proved = False
     except OSError:

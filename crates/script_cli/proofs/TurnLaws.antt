@@ -1,7 +1,7 @@
 -- What a turn of a run prints, and what it leaves.
-use Rattle.std.proofs.Common.{◌≡◌, ◌≢◌, ◌<◌, length, ℕ, Bool, true, List, [], None, inl, inr, refl, ap, rules}
+use Rattle.std.proofs.Common.{◌≡◌, ◌≢◌, ◌<◌, length, ℕ, Bool, true, List, None, inl, inr, refl, ap, rules}
 use Rattle.std.specs.Prelude.{Result, Ok, Err, IfErr, is_err}
-use Rattle.tcl_words.specs.Unread.{Unread, TakesCommand, HasFault, HasNoCommand, StopsAt}
+use Rattle.tcl_words.specs.Unread.{Unread, TakesCommand, HasFault, StopsAt}
 use Rattle.tcl_words.specs.declared.fault.ScriptFault.{ScriptFault}
 use Rattle.command_parts.specs.declared.answers.Answer.{Answer}
 use Rattle.command_parts.specs.declared.answers.Fault.{Fault}

@@ -10,5 +10,6 @@ mod summary;
 mod turns;
 
 pub use devices::{ByteSink, ByteSource, Watched};
+pub use pieces::Piece;
 pub use running::run;
 pub use summary::{RunFault, RunSummary, outcome};

@@ -238,6 +238,13 @@ impl<'a> Piece<'a> {
         output.push(sink, self.after.as_bytes())
     }
 
+    /// The texts that it is, one behind the other.
+    pub fn parts(&self) -> (&'a str, &'a str, &'a str, &'a str, &'a str)
+        ensures { (result.0.now ++ result.1.now) ++ ((result.2.now ++ result.3.now) ++ result.4.now) ≡ self.now }
+    {
+        (self.before, self.word, self.between, self.other, self.after)
+    }
+
     fn around(before: &'static str, word: &'a str, after: &'static str) -> Piece<'a>
         ensures { result ≡ encode_utf8_all (chars before.now ++ (chars word.now ++ chars after.now)) }
     {

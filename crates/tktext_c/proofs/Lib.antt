@@ -1,0 +1,5 @@
+mod CallLaws
+mod KeptSteps
+mod RoomLaws
+mod Values
+mod WordLaws

@@ -1,0 +1,41 @@
+-- The codes that C gets.
+use Rattle.std.specs.Prelude.{ℤ, pos}
+use Rattle.tktext_c.specs.declared.ends.Given.{Given}
+use Rattle.tktext_c.specs.declared.ends.Given.TheVariants as given
+use Rattle.tktext_c.specs.declared.ends.MakeEnd.{MakeEnd}
+use Rattle.tktext_c.specs.declared.ends.MakeEnd.TheVariants as make
+use Rattle.tktext_c.specs.declared.ends.CallEnd.{CallEnd}
+use Rattle.tktext_c.specs.declared.ends.CallEnd.TheVariants as call
+use Rattle.tktext_c.specs.declared.ends.FeedEnd.{FeedEnd}
+use Rattle.tktext_c.specs.declared.ends.FeedEnd.TheVariants as feed
+use Rattle.tktext_c.specs.declared.ends.TurnEnd.{TurnEnd}
+use Rattle.tktext_c.specs.declared.ends.TurnEnd.TheVariants as turn
+
+abbrev pub given_code : Given → ℤ
+given_code given.Answer = pos 0
+given_code given.Fault = pos 1
+given_code given.Memory = pos 2
+
+abbrev pub make_code : MakeEnd → ℤ
+make_code make.Made = pos 0
+make_code make.Memory = pos 2
+make_code make.WrongLimits = pos 7
+make_code make.WrongHandle = pos 8
+
+abbrev pub call_code : CallEnd → ℤ
+call_code (call.Given given) = given_code given
+call_code call.NotText = pos 5
+call_code call.WrongLengths = pos 6
+call_code call.WrongHandle = pos 8
+
+abbrev pub feed_code : FeedEnd → ℤ
+feed_code feed.Fed = pos 0
+feed_code feed.Memory = pos 2
+feed_code feed.Finished = pos 9
+feed_code feed.WrongHandle = pos 8
+
+abbrev pub turn_code : TurnEnd → ℤ
+turn_code (turn.Command given) = given_code given
+turn_code turn.Fault = pos 3
+turn_code turn.End = pos 4
+turn_code turn.WrongHandle = pos 8

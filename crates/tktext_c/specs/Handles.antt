@@ -1,0 +1,17 @@
+-- What a handle says of its session.
+use Rattle.std.specs.Prelude.{ℕ, ℤ, pos, List, [], Option, Some, None, option_map}
+use Rattle.tktext_c.specs.declared.handle.Handle.{Handle}
+use Rattle.tktext_c.specs.State.{State, state_of}
+
+abbrev pub state : Handle → Option State
+state handle = option_map state_of handle.kept.session
+
+-- what was said last
+abbrev pub said_of : Option State → List ℕ
+said_of None = []
+said_of (Some state) = state.said
+
+-- the exit status of the script so far, 255 where there is none
+abbrev pub status_of : Option State → ℤ
+status_of None = pos 255
+status_of (Some state) = pos state.status

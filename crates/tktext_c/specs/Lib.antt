@@ -1,0 +1,7 @@
+pub mod Calls
+pub mod Codes
+pub mod Handles
+pub mod Held
+pub mod Room
+pub mod State
+pub mod Words

@@ -1,0 +1,40 @@
+-- What a caller in C sees of a session.
+use Rattle.std.specs.Prelude.{ℕ, List, [], Some, Err, encode_utf8_all}
+use Rattle.text_model.specs.LimitTable.{LimitTable}
+use Rattle.tcl_words.specs.Unread.{Unread, nothing_fed, texts_of}
+use Rattle.command_parts.specs.declared.answers.Fault.TheVariants.{Memory}
+use Rattle.peers.specs.World.{World}
+use Rattle.script_cli.specs.Pieces.{piece}
+use Rattle.script_cli.specs.Run.{last_piece, no_documents}
+use Rattle.tktext_c.specs.declared.session.Said.{Said}
+use Rattle.tktext_c.specs.declared.session.Said.TheVariants.{Nothing, Reply, Fault}
+use Rattle.tktext_c.specs.declared.session.Session.{Session}
+
+-- the world, what is still to be read of the script that is fed, the bytes that were said last, and the script's status
+pub record State : Type 0 where
+  pub world : World
+  pub script : Unread
+  pub said : List ℕ
+  pub status : ℕ
+
+-- the bytes that the program prints for it
+abbrev pub said_text : List (List ℕ) → Said → List ℕ
+said_text words Nothing = []
+said_text words (Reply reply) = encode_utf8_all (piece words reply)
+said_text words (Fault fault) = encode_utf8_all (last_piece (Some fault))
+
+-- what is said where memory is refused
+abbrev pub memory_said : List ℕ
+memory_said = encode_utf8_all (piece [] (Err Memory))
+
+abbrev pub state_of : Session → State
+state_of session = record {
+  world = session.world;
+  script = session.splitter;
+  said = said_text (texts_of session.words.items) session.said;
+  status = session.status;
+}
+
+-- a world without documents, and a script of which nothing was fed
+abbrev pub start : LimitTable → State
+start limits = record { world = no_documents limits; script = nothing_fed; said = []; status = 0 }

@@ -1,0 +1,124 @@
+//! How the calls from C end, and the codes of that.
+ghost use Rattle.std.specs.Prelude.{◌≡◌};
+ghost use Rattle.tktext_c.specs.Codes.{given_code, make_code, call_code, feed_code, turn_code};
+
+/// What a command was given.
+#[derive(Clone, Copy)]
+pub(crate) enum Given {
+    /// An answer.
+    Answer,
+    /// A fault.
+    Fault,
+    /// Memory was refused, and nothing has changed.
+    Memory,
+}
+
+impl Given {
+    pub(crate) fn code(self) -> i32
+        ensures { result ≡ given_code self }
+    {
+        match self {
+            Given::Answer => 0,
+            Given::Fault => 1,
+            Given::Memory => 2,
+        }
+    }
+}
+
+/// How the making of a world ends.
+#[derive(Clone, Copy)]
+pub(crate) enum MakeEnd {
+    Made,
+    Memory,
+    WrongLimits,
+    /// The handle is full.
+    WrongHandle,
+}
+
+impl MakeEnd {
+    pub(crate) fn code(self) -> i32
+        ensures { result ≡ make_code self }
+    {
+        match self {
+            MakeEnd::Made => 0,
+            MakeEnd::Memory => 2,
+            MakeEnd::WrongLimits => 7,
+            MakeEnd::WrongHandle => 8,
+        }
+    }
+}
+
+/// How a command ends.
+#[derive(Clone, Copy)]
+pub(crate) enum CallEnd {
+    Given(Given),
+    /// A word isn't UTF-8.
+    NotText,
+    /// There is no word, or the lengths don't add up to the bytes.
+    WrongLengths,
+    /// The handle is empty.
+    WrongHandle,
+}
+
+impl CallEnd {
+    pub(crate) fn code(self) -> i32
+        ensures { result ≡ call_code self }
+    {
+        match self {
+            CallEnd::Given(given) => given.code(),
+            CallEnd::NotText => 5,
+            CallEnd::WrongLengths => 6,
+            CallEnd::WrongHandle => 8,
+        }
+    }
+}
+
+/// How the feeding of a script ends.
+#[derive(Clone, Copy)]
+pub(crate) enum FeedEnd {
+    Fed,
+    Memory,
+    /// The script has ended.
+    Finished,
+    /// The handle is empty.
+    WrongHandle,
+}
+
+impl FeedEnd {
+    pub(crate) fn code(self) -> i32
+        ensures { result ≡ feed_code self }
+    {
+        match self {
+            FeedEnd::Fed => 0,
+            FeedEnd::Memory => 2,
+            FeedEnd::Finished => 9,
+            FeedEnd::WrongHandle => 8,
+        }
+    }
+}
+
+/// What the next turn of a fed script met.
+#[derive(Clone, Copy)]
+pub(crate) enum TurnEnd {
+    /// A command.
+    Command(Given),
+    /// A script fault.
+    Fault,
+    /// That no command is at hand.
+    End,
+    /// The handle is empty.
+    WrongHandle,
+}
+
+impl TurnEnd {
+    pub(crate) fn code(self) -> i32
+        ensures { result ≡ turn_code self }
+    {
+        match self {
+            TurnEnd::Command(given) => given.code(),
+            TurnEnd::Fault => 3,
+            TurnEnd::End => 4,
+            TurnEnd::WrongHandle => 8,
+        }
+    }
+}

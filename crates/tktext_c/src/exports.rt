@@ -1,0 +1,68 @@
+//! The calls from C, before their codes.
+ghost use Rattle.std.specs.Prelude.{◌≡◌, IfSome, IfNone};
+ghost use Rattle.tktext_c.specs.Calls.{Makes, Calls, Feeds, Takes};
+ghost use Rattle.tktext_c.specs.Handles.{state};
+ghost use Rattle.text_model.specs.LimitTable.{LimitTable, AreLimits};
+
+use crate::ends::{CallEnd, FeedEnd, MakeEnd, TurnEnd};
+use crate::handle::Handle;
+use crate::session::Session;
+use std::alloc::Global;
+use text_model::Limits;
+
+/// Makes a world of some limits in an empty handle.
+pub(crate) fn make(alloc: Global, handle: &mut Handle, limits: Limits) -> MakeEnd
+    ensures { Makes (state handle.old) limits (state handle.new) result }
+{
+    // Read first, so that every return knows that the numbers are in their bounds.
+    let _chars = limits.chars();
+    if handle.full {
+        return MakeEnd::WrongHandle;
+    }
+    match Box::new(alloc, Session::new(alloc, limits)) {
+        Ok(session) => {
+            handle.put(session);
+            MakeEnd::Made
+        }
+        Err(_) => MakeEnd::Memory,
+    }
+}
+
+/// Carries out a command.
+pub(crate) fn call(alloc: Global, handle: &mut Handle, bytes: &[u8], lengths: &[usize]) -> CallEnd
+    ensures { Calls (state handle.old) lengths.now bytes.now (state handle.new) result }
+{
+    if !handle.full {
+        return CallEnd::WrongHandle;
+    }
+    let mut session = handle.take(alloc);
+    let ended = session.call_bytes(alloc, bytes, lengths);
+    handle.put(session);
+    ended
+}
+
+/// Feeds bytes of a script.
+pub(crate) fn feed(alloc: Global, handle: &mut Handle, bytes: &[u8]) -> FeedEnd
+    ensures { Feeds (state handle.old) bytes.now (state handle.new) result }
+{
+    if !handle.full {
+        return FeedEnd::WrongHandle;
+    }
+    let mut session = handle.take(alloc);
+    let ended = session.feed(bytes);
+    handle.put(session);
+    ended
+}
+
+/// Takes the next turn of the script.
+pub(crate) fn take_turn(alloc: Global, handle: &mut Handle) -> TurnEnd
+    ensures { Takes (state handle.old) (state handle.new) result }
+{
+    if !handle.full {
+        return TurnEnd::WrongHandle;
+    }
+    let mut session = handle.take(alloc);
+    let ended = session.take_turn();
+    handle.put(session);
+    ended
+}

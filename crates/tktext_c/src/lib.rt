@@ -1,0 +1,143 @@
+//! Worlds of text widgets for C. What C owes stands in include/tktext.h.
+#![tactic(auto)]
+
+ghost use Rattle.std.specs.Prelude.{◌≡◌, None, min, length, option_map};
+ghost use Rattle.text_model.specs.LimitTable.{LimitTable, most_chars, most_tags, most_marks, most_widgets};
+ghost use Rattle.tktext_c.specs.Calls.{Makes, Calls, Feeds, Takes, finished};
+ghost use Rattle.tktext_c.specs.Codes.{make_code, call_code, feed_code, turn_code};
+ghost use Rattle.tktext_c.specs.Handles.{state, status_of, said_of};
+ghost use Rattle.tktext_c.specs.Room.{over};
+
+mod ends;
+mod exports;
+mod handle;
+mod loose;
+mod room;
+mod session;
+mod turns;
+mod words;
+
+use ends::{CallEnd, FeedEnd, MakeEnd, TurnEnd};
+use handle::Handle;
+use std::alloc::Global;
+use text_model::Limits;
+
+/// Makes a world without documents, of these limits, in an empty handle.
+#[unsafe(no_mangle)]
+pub extern "C" fn tktext_new(
+    alloc: Global,
+    handle: &mut Handle,
+    chars: usize,
+    tags: u16,
+    marks: u16,
+    widgets: u16,
+) -> i32
+    ensures { (ended : MakeEnd) × (result ≡ make_code ended) × Makes (state handle.old)
+        (record { chars = chars; tags = tags; marks = marks; widgets = widgets; reads = 0 }) (state handle.new) ended }
+{
+    match Limits::new(chars, tags, marks, widgets, 0) {
+        Some(limits) => exports::make(alloc, handle, limits).code(),
+        None => MakeEnd::WrongLimits.code(),
+    }
+}
+
+/// The same with the program's limits, each the greatest.
+#[unsafe(no_mangle)]
+pub extern "C" fn tktext_new_greatest(alloc: Global, handle: &mut Handle) -> i32
+    ensures { (ended : MakeEnd) × (result ≡ make_code ended) × Makes (state handle.old)
+        (record { chars = most_chars; tags = most_tags; marks = most_marks; widgets = most_widgets; reads = 0 })
+        (state handle.new) ended }
+{
+    tktext_new(
+        alloc,
+        handle,
+        Limits::MOST_CHARS,
+        Limits::MOST_TAGS,
+        Limits::MOST_MARKS,
+        Limits::MOST_WIDGETS,
+    )
+}
+
+/// Carries out a command, whose words stand one behind the other in the bytes.
+#[unsafe(no_mangle)]
+pub extern "C" fn tktext_call(
+    alloc: Global,
+    handle: &mut Handle,
+    bytes: &[u8],
+    lengths: &[usize],
+) -> i32
+    ensures { (ended : CallEnd) × (result ≡ call_code ended)
+        × Calls (state handle.old) lengths.now bytes.now (state handle.new) ended }
+{
+    exports::call(alloc, handle, bytes, lengths).code()
+}
+
+/// Copies what was said last to the front of the room, as far as it goes, and gives the length of all.
+#[unsafe(no_mangle)]
+pub extern "C" fn tktext_said(alloc: Global, handle: &mut Handle, room: &mut [u8]) -> usize
+    ensures length { result ≡ min (length (said_of (state handle.old))) usize.MAX }
+    ensures copied { room.new ≡ over (said_of (state handle.old)) room.old }
+    ensures unchanged { state handle.new ≡ state handle.old }
+{
+    if !handle.full {
+        return 0;
+    }
+    let session = handle.take(alloc);
+    let length = session.copy_said(room);
+    handle.put(session);
+    length
+}
+
+/// Takes the next bytes of a script.
+#[unsafe(no_mangle)]
+pub extern "C" fn tktext_feed(alloc: Global, handle: &mut Handle, bytes: &[u8]) -> i32
+    ensures { (ended : FeedEnd) × (result ≡ feed_code ended)
+        × Feeds (state handle.old) bytes.now (state handle.new) ended }
+{
+    exports::feed(alloc, handle, bytes).code()
+}
+
+/// Ends the script, and so its last command.
+#[unsafe(no_mangle)]
+pub extern "C" fn tktext_finish(alloc: Global, handle: &mut Handle)
+    ensures { state handle.new ≡ option_map finished (state handle.old) }
+{
+    if handle.full {
+        let mut session = handle.take(alloc);
+        session.finish();
+        handle.put(session);
+    }
+}
+
+/// Carries out the next command of the script that is at hand.
+#[unsafe(no_mangle)]
+pub extern "C" fn tktext_next(alloc: Global, handle: &mut Handle) -> i32
+    ensures { (ended : TurnEnd) × (result ≡ turn_code ended) × Takes (state handle.old) (state handle.new) ended }
+{
+    exports::take_turn(alloc, handle).code()
+}
+
+/// The exit status of the script so far; 255 where the handle is empty.
+#[unsafe(no_mangle)]
+pub extern "C" fn tktext_status(alloc: Global, handle: &mut Handle) -> i32
+    ensures status { result ≡ status_of (state handle.old) }
+    ensures unchanged { state handle.new ≡ state handle.old }
+{
+    if !handle.full {
+        return 255;
+    }
+    let session = handle.take(alloc);
+    let status = session.status();
+    handle.put(session);
+    i32::from(status)
+}
+
+/// Drops the world, if there is one, and leaves the handle empty.
+#[unsafe(no_mangle)]
+pub extern "C" fn tktext_drop(alloc: Global, handle: &mut Handle)
+    ensures { state handle.new ≡ None }
+{
+    if handle.full {
+        drop(handle.take(alloc));
+    }
+}

@@ -1,0 +1,167 @@
+//! What each call from C makes of a session.
+ghost use Rattle.std.specs.Prelude.{◌≡◌, ◌<◌, [], min, length, vec_len};
+ghost use Rattle.tcl_words.specs.Unread.{texts_of};
+ghost use Rattle.tktext_c.specs.Calls.{Called, Fed, Gives, Turns, finished, given_of, status_after};
+ghost use Rattle.tktext_c.specs.Room.{over};
+ghost use Rattle.tktext_c.specs.State.{said_text, start, state_of};
+
+use crate::ends::{CallEnd, FeedEnd, Given, TurnEnd};
+use crate::room::copy_piece;
+use crate::session::{Said, Session};
+use crate::words::{WordsFault, read_words};
+use peers::{Answer, Fault, World};
+use script_cli::Piece;
+use std::alloc::Global;
+use tcl_words::{ScriptFault, Splitter};
+use text_model::Limits;
+
+impl Session {
+    /// A session in a world without documents. It takes no memory.
+    pub(crate) fn new(alloc: Global, limits: Limits) -> Session
+        ensures { state_of result ≡ start limits }
+    {
+        Session {
+            world: World::new(alloc, limits),
+            splitter: Splitter::new(alloc),
+            is_finished: false,
+            words: Vec::new(alloc),
+            said: Said::Nothing,
+            status: 0,
+        }
+    }
+
+    /// Carries out the command of some words, which stand one behind the other in the bytes.
+    pub(crate) fn call_bytes(&mut self, alloc: Global, bytes: &[u8], lengths: &[usize]) -> CallEnd
+        ensures { Called (state_of self.old) lengths.now bytes.now (state_of self.new) result }
+    {
+        match read_words(alloc, bytes, lengths) {
+            Ok(words) => CallEnd::Given(self.call(words)),
+            Err(WordsFault::Memory) => {
+                self.said = Said::Reply(Err(Fault::Memory));
+                CallEnd::Given(Given::Memory)
+            }
+            Err(WordsFault::NotText) => CallEnd::NotText,
+            Err(WordsFault::Lengths) => CallEnd::WrongLengths,
+        }
+    }
+
+    /// Carries out the command of some words.
+    fn call(&mut self, words: Vec<String>) -> Given
+        requires { 0 < vec_len words }
+        ensures { Gives (state_of self.old) (texts_of words.items) (state_of self.new) result }
+    {
+        let reply = self.world.call(&words);
+        let given = given_by(&reply);
+        self.words = words;
+        self.said = Said::Reply(reply);
+        given
+    }
+
+    /// Takes the next bytes of the script.
+    pub(crate) fn feed(&mut self, bytes: &[u8]) -> FeedEnd
+        ensures { Fed (state_of self.old) bytes.now (state_of self.new) result }
+    {
+        if self.is_finished {
+            return FeedEnd::Finished;
+        }
+        match self.splitter.feed(bytes) {
+            Ok(()) => FeedEnd::Fed,
+            Err(_) => FeedEnd::Memory,
+        }
+    }
+
+    /// Ends the script.
+    pub(crate) fn finish(&mut self)
+        ensures { state_of self.new ≡ finished (state_of self.old) }
+    {
+        self.splitter.finish();
+        self.is_finished = true;
+    }
+
+    /// Takes the next command of the script that is at hand, and carries it out.
+    pub(crate) fn take_turn(&mut self) -> TurnEnd
+        ensures { Turns (state_of self.old) (state_of self.new) result }
+    {
+        match self.splitter.next_command() {
+            Ok(Some(words)) => {
+                let given = self.call(words);
+                self.note(given);
+                TurnEnd::Command(given)
+            }
+            Ok(None) => {
+                self.said = Said::Nothing;
+                TurnEnd::End
+            }
+            Err(ScriptFault::Memory) => self.skip(),
+            Err(fault) => self.stop(fault),
+        }
+    }
+
+    /// Drops a command whose words found no memory.
+    fn skip(&mut self) -> TurnEnd
+        ensures { Turns (state_of self.old) (state_of self.new) result }
+    {
+        match self.splitter.skip_command() {
+            Ok(true) => {
+                self.said = Said::Reply(Err(Fault::Memory));
+                self.note(Given::Memory);
+                TurnEnd::Command(Given::Memory)
+            }
+            Ok(false) => {
+                self.said = Said::Nothing;
+                TurnEnd::End
+            }
+            Err(fault) => self.stop(fault),
+        }
+    }
+
+    /// Says the fault of the script, which ends it.
+    fn stop(&mut self, fault: ScriptFault) -> TurnEnd
+        ensures state { state_of self.new
+            ≡ record (state_of self.old) { said = said_text [] (Said.Fault fault); status = 2 } }
+        ensures turn { result ≡ TurnEnd.Fault }
+    {
+        self.said = Said::Fault(fault);
+        self.status = 2;
+        TurnEnd::Fault
+    }
+
+    /// Notes in the script's status what a command was given.
+    fn note(&mut self, given: Given)
+        ensures { state_of self.new ≡ record (state_of self.old) { status = status_after given self.old.status } }
+    {
+        match given {
+            Given::Answer => {}
+            _ => self.status = self.status.max(1),
+        }
+    }
+
+    /// The exit status of the script so far.
+    pub(crate) fn status(&self) -> u8
+        ensures { result ≡ self.now.status }
+    {
+        self.status
+    }
+
+    /// Copies what was said last to the front of the room, as far as it goes, and gives the length of all.
+    pub(crate) fn copy_said(&self, room: &mut [u8]) -> usize
+        ensures length { result ≡ min (length (state_of self.now).said) usize.MAX }
+        ensures copied { room.new ≡ over (state_of self.now).said room.old }
+    {
+        match &self.said {
+            Said::Nothing => 0,
+            Said::Reply(reply) => copy_piece(&Piece::of_reply(&self.words, reply), room),
+            Said::Fault(fault) => copy_piece(&Piece::of_script_fault(*fault), room),
+        }
+    }
+}
+
+fn given_by(reply: &Result<Answer, Fault>) -> Given
+    ensures { result ≡ given_of reply.now }
+{
+    match reply {
+        Ok(_) => Given::Answer,
+        Err(Fault::Memory) => Given::Memory,
+        Err(_) => Given::Fault,
+    }
+}

@@ -1,0 +1,67 @@
+//! The words of a command, as C gives them.
+ghost use Rattle.std.specs.Prelude.{◌≡◌, ◌≢◌, ◌<◌, IfOk, IfErr, OnOk, IsErrOf, IsUtf8, string_bytes, vec_len};
+ghost use Rattle.tcl_words.specs.Unread.{texts_of};
+ghost use Rattle.tktext_c.specs.Words.{cut, words_at, AreLengths, AreTexts};
+
+use std::alloc::Global;
+
+/// Why there are no words.
+#[derive(Clone, Copy)]
+pub(crate) enum WordsFault {
+    /// There is no length, or the lengths don't add up to the bytes.
+    Lengths,
+    /// A word isn't UTF-8.
+    NotText,
+    /// Memory was refused.
+    Memory,
+}
+
+/// As many words as there are lengths, which stand one behind the other in the bytes.
+pub(crate) fn read_words(
+    alloc: Global,
+    bytes: &[u8],
+    lengths: &[usize],
+) -> Result<Vec<String>, WordsFault>
+    ensures words { IfOk result (λ words. texts_of words.items ≡ words_at lengths.now bytes.now) }
+    ensures some { IfOk result (λ words. 0 < vec_len words) }
+    ensures fits { OnOk result (AreLengths lengths.now bytes.now) }
+    ensures texts { OnOk result (AreTexts (cut lengths.now bytes.now)) }
+    ensures lengths { IsErrOf result WordsFault.Lengths → ¬ AreLengths lengths.now bytes.now }
+    ensures not_text { IsErrOf result WordsFault.NotText → ¬ AreTexts (cut lengths.now bytes.now) }
+{
+    if lengths.is_empty() {
+        return Err(WordsFault::Lengths);
+    }
+    let mut words = Vec::new(alloc);
+    let mut rest = bytes;
+    for length in lengths {
+        let Some((word, others)) = rest.split_at_checked(*length) else {
+            return Err(WordsFault::Lengths);
+        };
+        let word = read_word(alloc, word)?;
+        let Ok(()) = words.push(word) else {
+            return Err(WordsFault::Memory);
+        };
+        rest = others;
+    }
+    if !rest.is_empty() {
+        return Err(WordsFault::Lengths);
+    }
+    Ok(words)
+}
+
+/// The word of some bytes.
+fn read_word(alloc: Global, bytes: &[u8]) -> Result<String, WordsFault>
+    ensures word { IfOk result (λ word. string_bytes word ≡ bytes.now) }
+    ensures text { OnOk result (IsUtf8 bytes.now) }
+    ensures not_text { IsErrOf result WordsFault.NotText → ¬ IsUtf8 bytes.now }
+    ensures faults { IfErr result (λ fault. fault ≢ WordsFault.Lengths) }
+{
+    let Ok(text) = str::from_utf8(bytes) else {
+        return Err(WordsFault::NotText);
+    };
+    match String::from_str(alloc, text) {
+        Ok(word) => Ok(word),
+        Err(_) => Err(WordsFault::Memory),
+    }
+}

@@ -1,0 +1,100 @@
+/* Worlds of text widgets: the core of Tk's text widget behind a handle.
+
+   A world holds texts with the widgets on them.  It takes the commands of docs/tktext.1.md, each as a list of words, or
+   a script of them, and says the line that the program `tktext` prints for each.  Link with libtktext.a or libtktext.so.
+
+   What a caller owes; none of it is checked:
+   - A handle begins as TKTEXT_EMPTY.  A full one isn't copied, and nothing of it is written but by the calls below.
+     Each is dropped once by tktext_drop, which frees all of its memory.
+   - A handle is given to one call at a time.  Two handles share nothing, so each thread may have its own.
+   - Pointers are valid for the length that is given with them, and never null, of no length either; the buffers of a
+     call overlap neither one another nor the handle.
+   - malloc, realloc and free are those of one allocator.  No call is made in a signal handler.
+
+   What a caller gets, which is proved: any bytes, lengths and numbers are allowed.  No call ends the process.  After any
+   code but TKTEXT_ANSWER the world is as it was, want of memory among them.  A call keeps no pointer to what it was given.
+
+   Lengths and sizes are in bytes, the limit `chars` in characters; texts are UTF-8, without a byte 0 at their end.  */
+
+#ifndef TKTEXT_H
+#define TKTEXT_H
+
+#include <stdbool.h>
+#include <stddef.h>
+#include <stdint.h>
+
+#ifdef __cplusplus
+extern "C" {
+#endif
+
+/* Where a world is kept: nothing, or one world.  The caller reads `full` alone. */
+struct tktext_kept {
+    void *at;
+};
+
+typedef struct tktext {
+    bool full;
+    struct tktext_kept kept;
+} tktext;
+
+#define TKTEXT_EMPTY { false, { NULL } }
+
+enum {
+    TKTEXT_ANSWER = 0,        /* done; of a command: tktext_said has the answer */
+    TKTEXT_FAULT = 1,         /* refused: tktext_said has the fault */
+    TKTEXT_NO_MEMORY = 2,     /* refused since memory was: the call can be made again */
+    TKTEXT_SCRIPT_FAULT = 3,  /* the script can't be read on: tktext_said has the fault */
+    TKTEXT_END = 4,           /* no command of the script is at hand */
+    TKTEXT_NOT_TEXT = 5,      /* a word isn't UTF-8 */
+    TKTEXT_WRONG_LENGTHS = 6, /* there is no word, or the lengths don't add up to the bytes */
+    TKTEXT_WRONG_LIMITS = 7,  /* no characters, or a limit above its greatest */
+    TKTEXT_WRONG_HANDLE = 8,  /* the handle is full where a world is made, else it is empty */
+    TKTEXT_FINISHED = 9       /* the script has ended, so nothing can follow */
+};
+
+/* What stands before the text of a fault in what is said, and behind every text: a newline. */
+#define TKTEXT_BEFORE_FAULT (sizeof "error: " - 1)
+#define TKTEXT_BEHIND 1
+
+/* Makes a world without texts in an empty handle.  The limits, and the greatest of each: characters of a text, its last
+   newline included (1 to 16777216), tags of a text besides `sel` (192), shared marks of a text (4096), widgets (64).
+   TKTEXT_ANSWER, TKTEXT_NO_MEMORY, TKTEXT_WRONG_LIMITS or TKTEXT_WRONG_HANDLE. */
+int32_t tktext_new(tktext *handle, size_t chars, uint16_t tags, uint16_t marks, uint16_t widgets);
+
+/* The same with the greatest limits, which are the program's. */
+int32_t tktext_new_greatest(tktext *handle);
+
+/* Carries out one command.  Its words stand one behind the other in the bytes, with nothing between them, each as long as
+   its length says: `count` lengths, which add up to `size`.  TKTEXT_ANSWER, TKTEXT_FAULT or TKTEXT_NO_MEMORY, after which
+   tktext_said has a line; or, with nothing changed, TKTEXT_NOT_TEXT, TKTEXT_WRONG_LENGTHS or TKTEXT_WRONG_HANDLE. */
+int32_t tktext_call(tktext *handle, const uint8_t *bytes, size_t size, const size_t *lengths, size_t count);
+
+/* Copies what was said last to the room, as far as it goes, writes nothing behind it, and gives the length of all, whatever
+   the room.  It is the line that the program prints: an answer and a newline, or `error: `, the text of a fault and a
+   newline; nothing before the first command and after TKTEXT_END.  It can be asked again until the next command. */
+size_t tktext_said(tktext *handle, uint8_t *room, size_t size);
+
+/* Takes the next bytes of the world's script, of any number, as they come.  Nothing is carried out yet.
+   TKTEXT_ANSWER, TKTEXT_NO_MEMORY, TKTEXT_FINISHED or TKTEXT_WRONG_HANDLE. */
+int32_t tktext_feed(tktext *handle, const uint8_t *bytes, size_t size);
+
+/* Ends the script, and so its last command. */
+void tktext_finish(tktext *handle);
+
+/* Carries out the next command of the script that is at hand: before the end one that is whole however the script goes on.
+   TKTEXT_ANSWER, TKTEXT_FAULT, TKTEXT_NO_MEMORY or TKTEXT_SCRIPT_FAULT, after which tktext_said has a line, and after the
+   last of which no further command comes; TKTEXT_END or TKTEXT_WRONG_HANDLE. */
+int32_t tktext_next(tktext *handle);
+
+/* The exit status that the program has after so much of the script: 2 after a script fault, 1 after a command that was
+   refused, else 0; 255 of an empty handle. */
+int32_t tktext_status(tktext *handle);
+
+/* Drops the world, if there is one, and leaves the handle empty. */
+void tktext_drop(tktext *handle);
+
+#ifdef __cplusplus
+}
+#endif
+
+#endif

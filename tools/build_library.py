@@ -1,0 +1,131 @@
+#!/usr/bin/env python3
+"""Makes out/libtktext.a and out/libtktext.so: what `make lib` calls.
+
+    python3 tools/build_library.py
+
+The crate `tktext_c` is proved and built over those that it stands on.  Mostly this is what tools/build.py does: what has
+changed since it was proved is proved.  A gate leaves the crates below as it proved them, but without the stamps by which
+`rt` knows them, so that `rt` would prove them all again; there the compiler of the kit is called over them, and proves and
+builds the one crate.
+
+libtktext.a is this crate and the kit's few lines of C by which it asks for memory; libtktext.so the same, which shows the
+names of tktext.h alone.
+"""
+
+import os
+import shutil
+import subprocess
+import sys
+import tempfile
+
+import build
+
+CRATE = "tktext_c"
+OUT = os.path.join(build.TOP, "out")
+MADE = os.path.join(build.TOP, "crates", CRATE, "out", f"lib{CRATE}.a")
+ARCHIVE = os.path.join(OUT, "libtktext.a")
+SHARED = os.path.join(OUT, "libtktext.so")
+NAMES = "{ global: tktext_*; local: *; };\n"
+
+
+def kit_folder():
+    """The folder of the kit, which has the page that `rt doc` names."""
+    page = subprocess.run(["rt", "doc"], capture_output=True, text=True, check=True).stdout.strip()
+    return os.path.dirname(page)
+
+
+def folder_of(name):
+    return os.path.join(build.TOP, "crates", name)
+
+
+def kept_of(name):
+    """Where a library is kept for those above it."""
+    return os.path.join(folder_of(name), "out", "rlib", f"{name}.rlib")
+
+
+def newest_source(name):
+    """When the youngest file that a crate's proof reads was written."""
+    files = []
+    for part in ("src", "specs", "proofs"):
+        for folder, _, names in os.walk(os.path.join(folder_of(name), part)):
+            files += [os.path.join(folder, it) for it in names]
+    return max(map(os.path.getmtime, files))
+
+
+def is_of_a_gate(name):
+    """A gate left this library, of its sources as they are, and `rt` doesn't know it."""
+    kept = kept_of(name)
+    has_stamp = os.path.exists(os.path.join(os.path.dirname(kept), "stamp"))
+    return os.path.isdir(kept) and not has_stamp and os.path.getmtime(kept) > newest_source(name)
+
+
+def words_of(kit, crates, below):
+    """The command that builds the static crate over the libraries below, in the words of `rt lib`."""
+    words = [os.path.join(kit, "bin", "rattle"), "build", "--crate-name", CRATE, "src/lib.rt"]
+    for name in ["std", *libraries_of_kit(crates)]:
+        words += ["--extern", f"{name}={kit}/rlibs/{name}.rlib"]
+    words += ["-L", f"dependency={kit}/rlibs"]
+    for name in crates[CRATE]:
+        words += ["--extern", f"{name}={kept_of(name)}"]
+    for name in below:
+        words += ["-L", f"dependency={os.path.dirname(kept_of(name))}"]
+    words += ["--antt-project", f"{kit}/rattle/logic/antt-project.json", "--logic-built", f"{kit}/logic_built"]
+    words += ["--jobs", str(min(build.CORES, 4)), "--links", f"{CRATE}="]
+    for name in below:
+        words += ["--links", f"{name}="]
+    words += ["--crate-type", "staticlib", "--toolchain", f"{kit}/toolchain", "--backend", "llvm"]
+    return [*words, "-o", MADE]
+
+
+def libraries_of_kit(crates):
+    """The libraries of the kit that the crate's line names."""
+    with open(os.path.join(build.TOP, "crates.txt"), encoding="utf-8") as file:
+        lines = [line.partition(":") for line in file if line.split()[:1] == [CRATE]]
+    return [name for name in lines[0][2].split() if name not in crates]
+
+
+def prove(kit):
+    """Proves and builds the crate, and tells whether it is proved."""
+    crates = build.read_crates(os.path.join(build.TOP, "crates.txt"))
+    below = [name for name in crates if name in build.crates_below(crates, CRATE)]
+    if not all(map(is_of_a_gate, below)):
+        return subprocess.run([sys.executable, os.path.join(build.TOP, "tools", "build.py"), "--crate", CRATE]).returncode == 0
+    os.makedirs(os.path.dirname(MADE), exist_ok=True)
+    done = subprocess.run(words_of(kit, crates, below), cwd=folder_of(CRATE), capture_output=True, text=True, errors="replace")
+    if done.returncode:
+        print(done.stdout[-4000:], done.stderr[-4000:], sep="\n", file=sys.stderr)
+    return done.returncode == 0
+
+
+def pack(kit):
+    """Makes both libraries of the crate's archive and the kit's lines of C."""
+    with tempfile.TemporaryDirectory() as folder:
+        for archive in (MADE, os.path.join(kit, "c", "liblibc_c.a")):
+            subprocess.run(["ar", "x", archive], cwd=folder, check=True)
+        objects = sorted(os.path.join(folder, name) for name in os.listdir(folder))
+        made, names = os.path.join(folder, "libtktext.a"), os.path.join(folder, "names")
+        subprocess.run(["ar", "rcs", made, *objects], check=True)
+        with open(names, "w", encoding="ascii") as file:
+            file.write(NAMES)
+        os.makedirs(OUT, exist_ok=True)
+        shutil.copyfile(made, ARCHIVE)
+        subprocess.run(["cc", "-shared", "-o", SHARED, f"-Wl,--version-script={names}", *objects], check=True)
+
+
+def main(words):
+    if words:
+        print(__doc__)
+        return 2
+    try:
+        kit = kit_folder()
+        if not prove(kit):
+            return 1
+        pack(kit)
+    except (OSError, subprocess.CalledProcessError) as error:
+        print(f"the library isn't made: {error}; this wants the Rattle kit (`rt`) and a C compiler", file=sys.stderr)
+        return 1
+    return 0
+
+
+if __name__ == "__main__":
+    sys.exit(main(sys.argv[1:]))
