@@ -1,5 +1,6 @@
 -- What a call from C makes of a session.
-use Rattle.std.specs.Prelude.{◌≡◌, ℕ, max, true, false, List, [], Option, Some, None, IsSome, Result, Ok, Err, is_ok, is_err, encode_utf8_all}
+use Rattle.std.specs.Prelude.{◌≡◌, ℕ, max, true, false, List, [], Option, Some, None, IsSome}
+use Rattle.std.specs.Prelude.{Result, Ok, Err, is_ok, is_err, encode_utf8_all}
 use Rattle.text_model.specs.LimitTable.{LimitTable, AreLimits}
 use Rattle.tcl_words.specs.Unread.{fed, TakesCommand, StopsAt, HasNoCommand}
 use Rattle.tcl_words.specs.declared.fault.ScriptFault.{ScriptFault}
