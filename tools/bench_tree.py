@@ -50,8 +50,9 @@ percent of the time. (These are counts of a day when a line was looked for from 
 from the nearer end.) At each level some children are asked for their lines, each in a node of its own. One place in
 memory a level would do if a node kept beside each link how many lines that child has; the map of records, which is all
 that is known of the nodes, has each number at the child alone. Two nodes with 12 children in all share them rather
-than be one node, so that edits of one line don't split and merge it by turns; a line that is taken out at random costs a
-quarter more for it (2.8 s a million before), since such nodes soon want children again.
+than be one node, so that edits of one line don't split and merge it by turns. A million lines taken out at random took
+2.8 s before that and before lines were looked for from the nearer end, put in by one call and one by one more than now;
+which of the two costs the removal more was not measured apart (such nodes want children again sooner).
 
 Of the bytes a line that is put in with a thousand others 3 are in spare nodes and rooms for the next thousand,
 whatever would split (as many of each for a line as such a tree can have levels, and two), 48 in one inner node for
