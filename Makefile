@@ -10,6 +10,7 @@
 # make bench   the program's time per command as the text grows, and its memory as the script does, into docs/bench.txt;
 #              what is done to one long line, into docs/bench_lines.txt; lines in the tree, into docs/bench_tree.txt; and
 #              a command through the library, into docs/bench_library.txt
+# make versus  the program beside real Tk on the workloads of tools/workloads.py, into docs/performance.md; it needs Tk
 # make counts  the instructions of a command on texts of two sizes, into docs/bench_counts.txt; it needs valgrind
 
 PROGRAM = crates/tktext/out/tktext
@@ -57,6 +58,7 @@ $(WEIGH): tools/weigh.c
 test: $(SHIM) $(WEIGH)
 	rm -rf crates/tktext/out crates/rows/out crates/node_memory/out crates/tree_bench/out
 	python3 tools/total.py 'python3 tools/gate.py' \
+	  'python3 tools/facts.py' \
 	  'python3 tools/selftest.py' \
 	  'python3 tools/fuzz.py --program $(PROGRAM) --seeds 300' \
 	  'python3 tools/fuzz.py --program $(PROGRAM) --seeds 100 --lines' \
@@ -88,6 +90,9 @@ bench: $(PROGRAM) $(LINE_BENCH) $(TREE_BENCH) $(WEIGH) $(LIBRARY)
 	python3 tools/bench_tree.py --program $(TREE_BENCH) --shim $(WEIGH) --out docs/bench_tree.txt
 	python3 tools/library.py --bench docs/bench_library.txt
 
+versus: $(PROGRAM)
+	python3 tools/versus.py --program $(PROGRAM) --out docs/performance.md
+
 counts: $(PROGRAM)
 	python3 tools/bench_counts.py --program $(PROGRAM) --out docs/bench_counts.txt
 
@@ -98,4 +103,4 @@ tk: $(PROGRAM)
 	python3 tools/tk.py --program $(PROGRAM)
 	python3 tools/tk.py --program $(PROGRAM) --scripts $(SEEDS) --first $(FIRST)
 
-.PHONY: try run build lib examples test fuzz bench counts gate tk
+.PHONY: try run build lib examples test fuzz bench versus counts gate tk

@@ -325,7 +325,8 @@ def growth(before, now):
 
 
 HEADER = [
-    "Time of the program on generated scripts: the least of several whole runs, or of one that takes over 5 s, its start included.",
+    "Time of the program on generated scripts: the least of several whole runs, or of one that takes over 5 s, its",
+    "start included.",
     "`growth` is the time over that of the size before: 2 where both the size and the time double.",
     "",
     f"{'script':<28}{'size':>8}{'commands':>10}{'seconds':>10}{'us/command':>12}{'growth':>8}",

@@ -21,15 +21,17 @@ from harness import Tally, ask_program
 TOP = os.path.dirname(os.path.dirname(os.path.abspath(__file__)))
 TABLE = os.path.join(TOP, "docs", "differences.md")
 KINDS = ("our choice", "a bug of Tk's", "left out")
-# The words of the table for an answer that isn't a text.
+# The words of the page for an answer that isn't a text.
 EMPTY, REFUSED, NONE = "*empty*", "*refused*", "*none*"
-CELL_BREAK = "<br>"
+# How a difference is headed, and what parts the commands of a script, or answers.
+HEADING = re.compile(r"\*\*(.*)\*\* \((.*)\)")
+PART_BREAK = " · "
 # A command that stands for many, each with a number in the place of its N.
 MANY = re.compile(r"`(.*)` for N from (\d+) to (\d+)")
 
 
 class Row(NamedTuple):
-    """A difference: a script's commands, and the last answers of Tk and of the program, as the table spells them."""
+    """A difference: a script's commands, and the last answers of Tk and of the program, as the page spells them."""
 
     name: str
     commands: tuple
@@ -37,40 +39,53 @@ class Row(NamedTuple):
     ours: tuple
 
 
-def cells_of(line):
-    """The cells of a line of a table."""
-    return [cell.strip() for cell in line.strip().strip("|").split("|")]
+def items_below(lines):
+    """The items of the list that stands below a heading, each on one line: a list of texts."""
+    items = []
+    for line in lines:
+        if line.startswith("- "):
+            items.append(line[2:])
+        elif line.startswith("  "):
+            items[-1] += " " + line.strip()
+        elif line:
+            break
+    return items
 
 
-def spans_of(cell):
-    """The parts of a cell: code without its quotes, and words as they are."""
-    return tuple(re.sub(r"^`(.*)`$", r"\1", part.strip()) for part in cell.split(CELL_BREAK))
+def spans_of(item, label):
+    """The parts of an item with a label: code without its quotes, and words as they are."""
+    found, _, parts = item.partition(": ")
+    assert found == label, f"{item!r} is no {label}"
+    return tuple(re.sub(r"^`(.*)`$", r"\1", part) for part in parts.split(PART_BREAK))
 
 
-def commands_of(cell):
-    """The commands of a cell."""
+def commands_of(spans):
+    """The commands of a script."""
     commands = []
-    for part in cell.split(CELL_BREAK):
-        many = MANY.fullmatch(part.strip())
+    for span in spans:
+        many = MANY.fullmatch(span)
         numbers = range(int(many[2]), int(many[3]) + 1) if many else []
-        commands += [many[1].replace("N", str(number)) for number in numbers] or spans_of(part)
+        commands += [many[1].replace("N", str(number)) for number in numbers] or [span]
     return tuple(commands)
 
 
 def read_rows(path):
-    """The rows of all tables of differences."""
+    """All differences of the page."""
     rows = []
     with open(path, encoding="utf-8") as file:
-        for line in file:
-            cells = cells_of(line) if line.startswith("| ") else []
-            if len(cells) == 6 and cells[0] != "Name":
-                assert cells[4] in KINDS, f"{cells[0]}: no kind is {cells[4]!r}"
-                rows.append(Row(cells[0], commands_of(cells[1]), *map(spans_of, cells[2:4])))
+        lines = file.read().splitlines()
+    for number, line in enumerate(lines):
+        if heading := HEADING.fullmatch(line):
+            name, kind = heading.groups()
+            assert kind in KINDS, f"{name}: no kind is {kind!r}"
+            script, tk, ours, _ = items_below(lines[number + 1 :])
+            commands = commands_of(spans_of(script, "Script"))
+            rows.append(Row(name, commands, spans_of(tk, "Tk"), spans_of(ours, "`tktext`")))
     return rows
 
 
 def shown(answer):
-    """An answer as the table spells it."""
+    """An answer as the page spells it."""
     if answer is None:
         return NONE
     if answer.is_refused:
@@ -107,7 +122,7 @@ def check_scripts(program, tk, seeds, tally):
     met = tk_scripts.compare(program, tk, seeds, tally)
     names = {row.name for row in read_rows(TABLE)}
     for rule in sorted(set(met) - names):
-        tally.failed(f"no row of the table is called {rule}")
+        tally.failed(f"no difference of the page is called {rule}")
 
 
 def main():

@@ -1,5 +1,6 @@
 -- Whether there are more tags or characters than there may be.
-use Rattle.std.proofs.Common.{◌≡◌, ℕ, ◌+◌, ◌<◌, ◌≤◌, true, false, List, [], ◌∷◌, None, Some, length, map, refl, sym, ap, ap₂, ◌∙◌, arith}
+use Rattle.std.proofs.Common.{◌≡◌, ℕ, ◌+◌, ◌<◌, ◌≤◌, true, false, List, [], ◌∷◌, None, Some, length, map, refl, sym, ap}
+use Rattle.std.proofs.Common.{ap₂, ◌∙◌, arith}
 use Rattle.std.proofs.lemmas.Bool.Decides.{nat_tests}
 use Rattle.std.specs.Prelude.{nat_lt, if◌then◌else◌}
 use Rattle.std.proofs.lemmas.Bool.{le-ltb, lt-ltb}
@@ -15,29 +16,39 @@ use Rattle.command_parts.specs.Edits.{excess}
 use Rattle.command_parts.specs.Lists.{total}
 use Rattle.command_parts.specs.Tagging.{piece_of}
 
-pub excess-none : (limits : LimitTable) (tags chars : ℕ) → tags ≤ limits.tags + 1 → chars ≤ limits.chars → excess limits tags chars ≡ None
+pub excess-none : (limits : LimitTable) (tags chars : ℕ) → tags ≤ limits.tags + 1 → chars ≤ limits.chars →
+    excess limits tags chars ≡ None
 excess-none limits tags chars few short =
-    ap₂ (λ a b. if a then Some TooManyTags else (if b then Some TextTooLong else None)) (le-ltb (limits.tags + 1) tags few) (le-ltb limits.chars chars short)
+    ap₂ (λ a b. if a then Some TooManyTags else (if b then Some TextTooLong else None))
+    (le-ltb (limits.tags + 1) tags few) (le-ltb limits.chars chars short)
 
-pub excess-tags : (limits : LimitTable) (tags chars : ℕ) (fault : Fault) → (fault ≡ TooManyTags) × (limits.tags + 1 < tags) → excess limits tags chars ≡ Some fault
+pub excess-tags : (limits : LimitTable) (tags chars : ℕ) (fault : Fault) →
+    (fault ≡ TooManyTags) × (limits.tags + 1 < tags) → excess limits tags chars ≡ Some fault
 excess-tags limits tags chars fault why =
-    ap (λ a. if a then Some TooManyTags else (if nat_lt limits.chars chars then Some TextTooLong else None)) (lt-ltb (limits.tags + 1) tags why.1) ∙ ap Some (sym why.0)
+    ap (λ a. if a then Some TooManyTags else (if nat_lt limits.chars chars then Some TextTooLong else None))
+    (lt-ltb (limits.tags + 1) tags why.1) ∙ ap Some (sym why.0)
 
-pub excess-chars : (limits : LimitTable) (tags chars : ℕ) (fault : Fault) → tags ≤ limits.tags + 1 → (fault ≡ TextTooLong) × (limits.chars < chars) → excess limits tags chars ≡ Some fault
+pub excess-chars : (limits : LimitTable) (tags chars : ℕ) (fault : Fault) → tags ≤ limits.tags + 1 →
+    (fault ≡ TextTooLong) × (limits.chars < chars) → excess limits tags chars ≡ Some fault
 excess-chars limits tags chars fault few why =
-    ap₂ (λ a b. if a then Some TooManyTags else (if b then Some TextTooLong else None)) (le-ltb (limits.tags + 1) tags few) (lt-ltb limits.chars chars why.1) ∙ ap Some (sym why.0)
+    ap₂ (λ a b. if a then Some TooManyTags else (if b then Some TextTooLong else None))
+    (le-ltb (limits.tags + 1) tags few) (lt-ltb limits.chars chars why.1) ∙ ap Some (sym why.0)
 
 -- the pieces of some pairs have as many characters as these
-pub total-pieces : (tags : List Tag) (widget : ℕ) (pairs : List Pair) → pieces.total (map (piece_of tags widget) pairs) ≡ total pairs
+pub total-pieces : (tags : List Tag) (widget : ℕ) (pairs : List Pair) →
+    pieces.total (map (piece_of tags widget) pairs) ≡ total pairs
 total-pieces tags widget [] = refl
 total-pieces tags widget (pair ∷ pairs) =
-    sum_by-cons (λ (piece : Piece). length piece.text) (piece_of tags widget pair) (map (piece_of tags widget) pairs) ∙ ap (λ n. length pair.text + n) (total-pieces tags widget pairs)
+    sum_by-cons (λ (piece : Piece). length piece.text) (piece_of tags widget pair) (map (piece_of tags widget) pairs)
+    ∙ ap (λ n. length pair.text + n) (total-pieces tags widget pairs)
     ∙ sym (sum_by-cons (λ (p : Pair). length p.text) pair pairs)
 
 -- where there is no fault, there is room for the tags
 pub excess-few : (limits : LimitTable) (tags chars : ℕ) → excess limits tags chars ≡ None → tags ≤ limits.tags + 1
 excess-few limits tags chars none =
-    elim (nat_lt (limits.tags + 1) tags) as (λ b. nat_lt (limits.tags + 1) tags ≡ b → (if b then Some TooManyTags else (if nat_lt limits.chars chars then Some TextTooLong else None)) ≡ None → tags ≤ limits.tags + 1) [
+    elim (nat_lt (limits.tags + 1) tags) as (λ b. nat_lt (limits.tags + 1) tags ≡ b →
+    (if b then Some TooManyTags else (if nat_lt limits.chars chars then Some TextTooLong else None)) ≡ None →
+    tags ≤ limits.tags + 1) [
       | true ↦ λ _ is. absurd (let h : Some TooManyTags ≡ None = is in cc)
       | false ↦ λ few _. grind (arith, nat_tests, few)
     ] refl none

@@ -1,6 +1,8 @@
 -- Options with their values, which are taken by twos, and the words of lines.
-use Rattle.std.proofs.Common.{◌≡◌, ℕ, ℤ, ◌+◌, ◌-◌, ◌<◌, ◌≤◌, List, [], ◌∷◌, length, drop, get_or, refl, sym, ap, ◌∙◌, arith}
-use Rattle.std.specs.Prelude.{take, Option, None, Some, option_and_then, option_map, ok_or, Result, Ok, Err, String, chars, string_bytes}
+use Rattle.std.proofs.Common.{◌≡◌, ℕ, ℤ, ◌+◌, ◌-◌, ◌<◌, ◌≤◌, List, [], ◌∷◌, length, drop, get_or, refl, sym, ap, ◌∙◌}
+use Rattle.std.proofs.Common.{arith}
+use Rattle.std.specs.Prelude.{take, Option, None, Some, option_and_then, option_map, ok_or, Result, Ok, Err, String}
+use Rattle.std.specs.Prelude.{chars, string_bytes}
 use Rattle.std.proofs.lemmas.List.{take_rest, drop-map, length-map}
 use Rattle.std.proofs.lemmas.Str.{chars-nil}
 use Rattle.command_table.specs.Numbers.{integer_of}
@@ -13,30 +15,45 @@ use Rattle.command_parts.specs.Settings.{line_numbered, line_of_word, setting_re
 use Rattle.command_parts.proofs.PairLaws.{word_or}
 
 settings_read-two : (lines at : ℕ) (words : List (List ℕ)) (settings : Settings) → 2 ≤ length words
-    → settings_read lines at words settings ≡ with_value (setting_read lines (at + 1) (get_or words 0 []) (get_or words 1 []) settings) (settings_read lines (at + 2) (drop 2 words))
+    → settings_read lines at words settings
+    ≡ with_value (setting_read lines (at + 1) (get_or words 0 []) (get_or words 1 []) settings)
+    (settings_read lines (at + 2) (drop 2 words))
 settings_read-two lines at [] settings two = absurd (omega arith)
 settings_read-two lines at (option ∷ []) settings two = absurd (omega arith)
 settings_read-two lines at (option ∷ value ∷ words) settings two = refl
 
 -- the first two words of the rest are read
-settings_read-first : {Z : Type 0} (lines position : ℕ) (rest : List (String Z)) (settings : Settings) (found : Result Settings Fault) → 2 ≤ length rest
+settings_read-first : {Z : Type 0} (lines position : ℕ) (rest : List (String Z)) (settings : Settings)
+    (found : Result Settings Fault) → 2 ≤ length rest
     → found ≡ setting_read lines (position + 1) (word_or rest 0) (word_or rest 1) settings
-    → settings_read lines position (texts_of rest) settings ≡ with_value found (settings_read lines (position + 2) (texts_of (take (length rest - 2) (drop 2 rest))))
+    → settings_read lines position (texts_of rest) settings
+    ≡ with_value found (settings_read lines (position + 2) (texts_of (take (length rest - 2) (drop 2 rest))))
 settings_read-first {Z} lines position rest settings found two is =
     let many : 2 ≤ length (texts_of rest) = omega (arith, length-map rest (λ word. chars (string_bytes word))) in
-    settings_read-two lines position (texts_of rest) settings many ∙ ap (λ f. with_value f (settings_read lines (position + 2) (drop 2 (texts_of rest)))) (sym is)
-    ∙ ap (λ ws. with_value found (settings_read lines (position + 2) ws)) (drop-map (λ word. chars (string_bytes word)) 2 rest ∙ ap texts_of (sym (take_rest rest 2)))
+    settings_read-two lines position (texts_of rest) settings many
+    ∙ ap (λ f. with_value f (settings_read lines (position + 2) (drop 2 (texts_of rest)))) (sym is)
+    ∙ ap (λ ws. with_value found (settings_read lines (position + 2) ws))
+    (drop-map (λ word. chars (string_bytes word)) 2 rest ∙ ap texts_of (sym (take_rest rest 2)))
 
-pub settings_read-more : {Z : Type 0} (lines : ℕ) (all : Result Settings Fault) (position : ℕ) (rest : List (String Z)) (settings next : Settings) (found : Result Settings Fault) → 2 ≤ length rest
-    → all ≡ settings_read lines position (texts_of rest) settings → found ≡ setting_read lines (position + 1) (word_or rest 0) (word_or rest 1) settings → found ≡ Ok next
+pub settings_read-more : {Z : Type 0} (lines : ℕ) (all : Result Settings Fault) (position : ℕ) (rest : List (String Z))
+    (settings next : Settings) (found : Result Settings Fault) → 2 ≤ length rest
+    → all ≡ settings_read lines position (texts_of rest) settings →
+    found ≡ setting_read lines (position + 1) (word_or rest 0) (word_or rest 1) settings → found ≡ Ok next
     → all ≡ settings_read lines (position + 2) (texts_of (take (length rest - 2) (drop 2 rest))) next
 settings_read-more {Z} lines all position rest settings next found two is read ok =
-    is ∙ settings_read-first lines position rest settings found two read ∙ ap (λ f. with_value f (settings_read lines (position + 2) (texts_of (take (length rest - 2) (drop 2 rest))))) ok
+    is ∙ settings_read-first lines position rest settings found two read
+    ∙ ap (λ f. with_value f (settings_read lines (position + 2) (texts_of (take (length rest - 2) (drop 2 rest)))))
+    ok
 
-pub settings_read-fault : {Z : Type 0} (lines : ℕ) (all : Result Settings Fault) (position : ℕ) (rest : List (String Z)) (settings : Settings) (fault : Fault) (found : Result Settings Fault) → 2 ≤ length rest
-    → all ≡ settings_read lines position (texts_of rest) settings → found ≡ setting_read lines (position + 1) (word_or rest 0) (word_or rest 1) settings → found ≡ Err fault → all ≡ Err fault
+pub settings_read-fault : {Z : Type 0} (lines : ℕ) (all : Result Settings Fault) (position : ℕ) (rest : List (String Z))
+    (settings : Settings) (fault : Fault) (found : Result Settings Fault) → 2 ≤ length rest
+    → all ≡ settings_read lines position (texts_of rest) settings →
+    found ≡ setting_read lines (position + 1) (word_or rest 0) (word_or rest 1) settings → found ≡ Err fault →
+    all ≡ Err fault
 settings_read-fault {Z} lines all position rest settings fault found two is read err =
-    is ∙ settings_read-first lines position rest settings found two read ∙ ap (λ f. with_value f (settings_read lines (position + 2) (texts_of (take (length rest - 2) (drop 2 rest))))) err
+    is ∙ settings_read-first lines position rest settings found two read
+    ∙ ap (λ f. with_value f (settings_read lines (position + 2) (texts_of (take (length rest - 2) (drop 2 rest)))))
+    err
 
 -- ---- lines
 
@@ -51,13 +68,17 @@ line_of_word-some : (word : List ℕ) → 0 < length word → line_of_word word 
 line_of_word-some [] some = absurd (omega arith)
 line_of_word-some (c ∷ cs) some = refl
 
-same_fault : (at : ℕ) (integer : Option ℤ) (found : Result ℤ Fault) (fault : Fault) → found ≡ ok_or integer (BadInteger at) → found ≡ Err fault
+same_fault : (at : ℕ) (integer : Option ℤ) (found : Result ℤ Fault) (fault : Fault) →
+    found ≡ ok_or integer (BadInteger at) → found ≡ Err fault
     → Err fault ≡ ok_or (line_of_integer integer) (BadInteger at)
-same_fault at None found fault is err = let same : BadInteger at ≡ fault = (let h : Err (BadInteger at) ≡ Err fault = sym is ∙ err in cc) in ap Err (sym same)
+same_fault at None found fault is err = let same : BadInteger at
+    ≡ fault = (let h : Err (BadInteger at) ≡ Err fault = sym is ∙ err in cc) in ap Err (sym same)
 same_fault at (Some number) found fault is err = absurd (let h : Ok number ≡ Err fault = sym is ∙ err in cc)
 
 -- a word that is no integer is no line
-pub line_of_word-fault : (at : ℕ) (word : List ℕ) (found : Result ℤ Fault) (fault : Fault) → 0 < length word → found ≡ ok_or (integer_of word) (BadInteger at) → found ≡ Err fault
+pub line_of_word-fault : (at : ℕ) (word : List ℕ) (found : Result ℤ Fault) (fault : Fault) → 0 < length word →
+    found ≡ ok_or (integer_of word) (BadInteger at) → found ≡ Err fault
     → Err fault ≡ ok_or (line_of_word word) (BadInteger at)
 line_of_word-fault at word found fault some is err =
-    same_fault at (integer_of word) found fault is err ∙ ap (λ line. ok_or line (BadInteger at)) (sym (line_of_word-some word some))
+    same_fault at (integer_of word) found fault is err
+    ∙ ap (λ line. ok_or line (BadInteger at)) (sym (line_of_word-some word some))

@@ -1,5 +1,6 @@
 -- How two places are compared.
-use Rattle.std.specs.Prelude.{ℕ, nat_lt, nat_le, ◌==◌, Bool, not, List, Option, None, Some, Result, Ok, Err, if◌then◌else◌}
+use Rattle.std.specs.Prelude.{ℕ, nat_lt, nat_le, ◌==◌, Bool, not, List, Option, None, Some, Result, Ok, Err}
+use Rattle.std.specs.Prelude.{if◌then◌else◌}
 use Rattle.command_parts.specs.declared.answers.Fault.{Fault}
 use Rattle.command_parts.specs.declared.answers.Fault.TheVariants.{BadComparison}
 use Rattle.command_parts.specs.declared.comparisons.Comparison.{Comparison}

@@ -1,5 +1,6 @@
 -- What there is in a new store, what widgets have of their own in it, and why texts may not go in.
-use Rattle.std.specs.Prelude.{◌≡◌, ℕ, ◌+◌, ◌*◌, ◌-◌, min, nat_lt, false, if◌then◌else◌, map, List, [], ◌∷◌, Option, None, Some}
+use Rattle.std.specs.Prelude.{◌≡◌, ℕ, ◌+◌, ◌*◌, ◌-◌, min, nat_lt, false, if◌then◌else◌, map, List, [], ◌∷◌, Option}
+use Rattle.std.specs.Prelude.{None, Some}
 use Rattle.std.specs.FinMap as finite
 use Rattle.text_model.specs.Content.{Content, new_content}
 use Rattle.text_model.specs.LimitTable.{LimitTable}
@@ -38,14 +39,16 @@ abbrev pub without_widgets : List ℕ → Content → Content
 without_widgets [] content = content
 without_widgets (widget ∷ widgets) content = without_widgets widgets (without_widget widget content)
 
--- how many of so many cells are left where those from one offset to another go, both cut to the last that a widget shows
+-- how many of so many cells are left where those from one offset to another go, both cut to the last that a widget
+-- shows
 abbrev pub length_replaced : ℕ → ℕ → ℕ → ℕ → ℕ
 length_replaced len last from to = len - (min to last - min from last)
 
 -- why there may not be so many tags, `sel` among them, and so many characters
 abbrev pub excess : LimitTable → ℕ → ℕ → Option Fault
 excess limits tags chars =
-    if nat_lt (limits.tags + 1) tags then Some TooManyTags else (if nat_lt limits.chars chars then Some TextTooLong else None)
+    if nat_lt (limits.tags + 1) tags then Some TooManyTags
+    else (if nat_lt limits.chars chars then Some TextTooLong else None)
 
 -- a store, whose content a function tells, the log of its edits and the anchors are as they were
 abbrev pub AreUnchanged : {S : Type 0} → (S → Content) → S → S → Kept → Kept → List Anchors → List Anchors → Type 0

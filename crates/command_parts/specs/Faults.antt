@@ -5,7 +5,8 @@ use Rattle.command_table.specs.declared.shapes.ShapeFault.TheVariants as shape
 use Rattle.index_grammar.specs.declared.faults.IndexFault.{IndexFault}
 use Rattle.index_grammar.specs.declared.faults.IndexFault.TheVariants as index
 use Rattle.command_parts.specs.declared.answers.Fault.{Fault}
-use Rattle.command_parts.specs.declared.answers.Fault.TheVariants.{BadIndex, NoTaggedCharacters, BadOption, WrongArguments, Memory}
+use Rattle.command_parts.specs.declared.answers.Fault.TheVariants.{BadIndex, NoTaggedCharacters, BadOption}
+use Rattle.command_parts.specs.declared.answers.Fault.TheVariants.{WrongArguments, Memory}
 
 -- of an index, which stands at a position
 abbrev pub index_fault : ℕ → IndexFault → Fault

@@ -9,7 +9,8 @@ is_filled text = not (length text == 0)
 -- where ranges begin and end, as `line.char`
 abbrev pub range_words : List ℕ → List TagRange → List (List ℕ)
 range_words text [] = []
-range_words text (range ∷ ranges) = position_text text range.start ∷ position_text text range.end ∷ range_words text ranges
+range_words text (range ∷ ranges) =
+    position_text text range.start ∷ position_text text range.end ∷ range_words text ranges
 
 -- a range, if there is one and it begins as wanted
 abbrev pub begun : (ℕ → Bool) → Option TagRange → List TagRange

@@ -1,5 +1,6 @@
 -- Tag lists and pairs of a text and a tag list.
-use Rattle.std.specs.Prelude.{ℕ, ◌+◌, List, [], ◌∷◌, ◌++◌, length, sum_by, Option, None, Some, Result, Ok, Err, if◌then◌else◌}
+use Rattle.std.specs.Prelude.{ℕ, ◌+◌, List, [], ◌∷◌, ◌++◌, length, sum_by, Option, None, Some, Result, Ok, Err}
+use Rattle.std.specs.Prelude.{if◌then◌else◌}
 use Rattle.tcl_words.specs.ListText.{AtElement, read_list}
 use Rattle.command_parts.specs.declared.answers.Fault.{Fault}
 use Rattle.command_parts.specs.declared.answers.Fault.TheVariants.{BadList}
@@ -22,7 +23,8 @@ names_at position word = list_at position (read_list word 0 AtElement)
 -- a text at a position, with the list behind it where there is one
 abbrev pub pair_at : ℕ → List ℕ → Option (List ℕ) → Result Pair Fault
 pair_at position text None = Ok (record { text = text; names = None })
-pair_at position text (Some list) = with_value (names_at (position + 1) list) (λ names. Ok (record { text = text; names = Some names }))
+pair_at position text (Some list) =
+    with_value (names_at (position + 1) list) (λ names. Ok (record { text = text; names = Some names }))
 
 abbrev pub and_pairs : Result Pair Fault → Result (List Pair) Fault → Result (List Pair) Fault
 and_pairs pair pairs = with_value pair (λ pair. with_value pairs (λ pairs. Ok (pair ∷ pairs)))

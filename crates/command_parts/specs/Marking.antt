@@ -9,7 +9,8 @@ use Rattle.mark_table.specs.SharedMarks.{AreMarks, IsLeastFree, Mark, SharedMark
 use Rattle.command_parts.specs.Words.{is_among, is_same, literal}
 
 abbrev pub gravity_of : List ℕ → Option Gravity
-gravity_of word = if is_same word (literal "left") then Some Left else (if is_same word (literal "right") then Some Right else None)
+gravity_of word =
+    if is_same word (literal "left") then Some Left else (if is_same word (literal "right") then Some Right else None)
 
 abbrev pub gravity_word : Gravity → List ℕ
 gravity_word Left = literal "left"
@@ -21,7 +22,10 @@ pub record IsMadeMark (name : List ℕ) (offset : ℕ) (old new : SharedMarks) (
   pub fresh : IsLeastFree (numbers_of old.marks) number
   pub sound : AreMarks new
   pub table : new ≡ record old { marks = old.marks ++ record { name = name; number = number; gravity = Right } ∷ [] }
-  pub store : changed ≡ record content { marks = finite.insert content.marks number (record { offset = offset; gravity = Right }) }
+  pub store : changed ≡ record content {
+    marks = finite.insert content.marks number
+        (record { offset = offset; gravity = Right });
+  }
 
 -- the marks of a store without those of some numbers
 abbrev pub taken : List ℕ → Marks → Marks

@@ -1,5 +1,6 @@
 -- The options of a document, and of a widget that shows it.
-use Rattle.std.specs.Prelude.{ℕ, ◌+◌, nat_lt, nat_le, min, decimal, Bool, false, true, List, [], ◌∷◌, ℤ, pos, negsuc, ok_or, option_and_then, option_map, Option, None, Some, Result, Ok, Err, if◌then◌else◌}
+use Rattle.std.specs.Prelude.{ℕ, ◌+◌, nat_lt, nat_le, min, decimal, Bool, false, true, List, [], ◌∷◌, ℤ, pos, negsuc}
+use Rattle.std.specs.Prelude.{ok_or, option_and_then, option_map, Option, None, Some, Result, Ok, Err, if◌then◌else◌}
 use Rattle.std.specs.Fmt.{signed_decimal}
 use Rattle.command_table.specs.Numbers.{boolean_of, integer_of}
 use Rattle.undo_stack.specs.History.{History, limit_of, limited, no_history}
@@ -7,7 +8,8 @@ use Rattle.edit_ops.specs.declared.plans.Recording.{Recording}
 use Rattle.command_parts.specs.declared.answers.Answer.{Answer}
 use Rattle.command_parts.specs.declared.answers.Answer.TheVariants.{Empty, Flag, Text}
 use Rattle.command_parts.specs.declared.answers.Fault.{Fault}
-use Rattle.command_parts.specs.declared.answers.Fault.TheVariants.{BadBoolean, BadInteger, BadOption, StartLineAfterEndLine, WrongArguments}
+use Rattle.command_parts.specs.declared.answers.Fault.TheVariants.{BadBoolean, BadInteger, BadOption}
+use Rattle.command_parts.specs.declared.answers.Fault.TheVariants.{StartLineAfterEndLine, WrongArguments}
 use Rattle.command_parts.specs.declared.settings.DocumentSettings.{DocumentSettings}
 use Rattle.command_parts.specs.declared.settings.Settings.{Settings}
 use Rattle.command_parts.specs.Faults.{with_value}
@@ -49,10 +51,11 @@ line_numbered (negsuc n) = None
 abbrev pub line_of_word : List ℕ → Option (Option ℕ)
 line_of_word [] = Some None
 line_of_word (character ∷ characters) =
-    option_and_then (λ number. option_map (λ line. Some line) (line_numbered number)) (integer_of (character ∷ characters))
+    option_and_then (λ number. option_map (λ line. Some line) (line_numbered number))
+    (integer_of (character ∷ characters))
 
--- The line at which a view begins, in a document of so many lines. Where it would be above the last, the view begins behind
--- that.
+-- The line at which a view begins, in a document of so many lines. Where it would be above the last, the view begins
+-- behind that.
 abbrev pub start_bound : ℕ → Option ℕ → Option ℕ
 start_bound lines None = None
 start_bound lines (Some line) = Some (min line (lines + 1))
@@ -62,18 +65,30 @@ abbrev pub end_bound : ℕ → Option ℕ → Option ℕ
 end_bound lines None = None
 end_bound lines (Some line) = if nat_le line lines then Some line else None
 
--- the settings with the value of an option, which stands at a position, for a document of so many lines; the name is one of
--- the options
+-- the settings with the value of an option, which stands at a position, for a document of so many lines; the name is
+-- one of the options
 abbrev pub setting_read : ℕ → ℕ → List ℕ → List ℕ → Settings → Result Settings Fault
 setting_read lines at option value settings =
-    if is_same option (literal "-undo") then with_value (ok_or (boolean_of value) (BadBoolean at)) (λ undo. Ok (record settings { document = record settings.document { undo = undo } }))
-    else (if is_same option (literal "-maxundo") then with_value (ok_or (integer_of value) (BadInteger at)) (λ most. Ok (record settings { document = record settings.document { most_undo = most } }))
-    else (if is_same option (literal "-autoseparators") then with_value (ok_or (boolean_of value) (BadBoolean at)) (λ separators. Ok (record settings { document = record settings.document { separators = separators } }))
-    else (if is_same option (literal "-state") then with_value (ok_or (state_of value) (BadOption at)) (λ disabled. Ok (record settings { disabled = disabled }))
-    else (if is_same option (literal "-startline") then with_value (ok_or (line_of_word value) (BadInteger at)) (λ line. Ok (record settings { start = start_bound lines line }))
-    else with_value (ok_or (line_of_word value) (BadInteger at)) (λ line. Ok (record settings { end = end_bound lines line }))))))
+    if is_same option (literal "-undo")
+    then with_value (ok_or (boolean_of value) (BadBoolean at)) (λ undo.
+    Ok (record settings { document = record settings.document { undo = undo } }))
+    else (if is_same option (literal "-maxundo")
+    then with_value (ok_or (integer_of value) (BadInteger at)) (λ most.
+    Ok (record settings { document = record settings.document { most_undo = most } }))
+    else (if is_same option (literal "-autoseparators")
+    then with_value (ok_or (boolean_of value) (BadBoolean at)) (λ separators.
+    Ok (record settings { document = record settings.document { separators = separators } }))
+    else (if is_same option (literal "-state")
+    then with_value (ok_or (state_of value) (BadOption at)) (λ disabled.
+    Ok (record settings { disabled = disabled }))
+    else (if is_same option (literal "-startline")
+    then with_value (ok_or (line_of_word value) (BadInteger at)) (λ line.
+    Ok (record settings { start = start_bound lines line }))
+    else with_value (ok_or (line_of_word value) (BadInteger at)) (λ line.
+    Ok (record settings { end = end_bound lines line }))))))
 
--- the settings with the values of options, of which the first stands at a position, so that the last value of an option counts
+-- the settings with the values of options, of which the first stands at a position, so that the last value of an option
+-- counts
 abbrev pub settings_read : ℕ → ℕ → List (List ℕ) → Settings → Result Settings Fault
 settings_read lines at [] settings = Ok settings
 settings_read lines at (option ∷ []) settings = Err WrongArguments

@@ -1,5 +1,6 @@
 -- The tags of a table as tags are made and taken out, and the slots of tag lists.
-use Rattle.std.specs.Prelude.{◌≡◌, ℕ, ◌≤◌, ◌==◌, ◌||◌, Bool, not, if◌then◌else◌, filter, List, [], ◌∷◌, length, take, Option, None, Some, option_map}
+use Rattle.std.specs.Prelude.{◌≡◌, ℕ, ◌≤◌, ◌==◌, ◌||◌, Bool, not, if◌then◌else◌, filter, List, [], ◌∷◌, length, take}
+use Rattle.std.specs.Prelude.{Option, None, Some, option_map}
 use Rattle.std.specs.FinSet as set
 use Rattle.std.specs.List.{filter_map}
 use Rattle.text_model.specs.Content.{Slots}

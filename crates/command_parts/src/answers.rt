@@ -28,8 +28,8 @@ pub enum Fault {
     /// The word is no index.
     #[error("bad text index")]
     BadIndex(usize),
-    /// No character that the widget shows has the tag of the index at the first number; the second is the length of the tag's
-    /// name in bytes, with which the word begins.
+    /// No character that the widget shows has the tag of the index at the first number; the second is the length of the
+    /// tag's name in bytes, with which the word begins.
     #[error("text doesn't contain any characters tagged with a tag")]
     NoTaggedCharacters(usize, usize),
     /// The word names no mark.

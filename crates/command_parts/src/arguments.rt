@@ -1,12 +1,14 @@
 ghost use Rattle.std.specs.Prelude.{◌≡◌, Some, None, Ok, Err, option_map, chars, length, ◌+◌, IfOk, IfErr};
 ghost use Rattle.tcl_words.specs.Unread.{texts_of};
-ghost use Rattle.command_parts.specs.Arguments.{first_of, first_two_of, none_or_one_of, one_of, one_or_two_of, two_of, two_or_three_of, three_of};
+ghost use Rattle.command_parts.specs.Arguments.{first_of, first_two_of, none_or_one_of, one_of, one_or_two_of, two_of};
+ghost use Rattle.command_parts.specs.Arguments.{two_or_three_of, three_of};
 
 use crate::answers::Fault;
 
 /// The first argument of a command, and those behind it; "wrong # args" where there is none.
 pub fn first(arguments: &[String]) -> Result<(&str, &[String]), Fault>
-    ensures ok { IfOk result (λ parts. first_of (texts_of arguments.now) ≡ Ok (chars parts.0.now, texts_of parts.1.now)) }
+    ensures ok { IfOk result (λ parts. first_of (texts_of arguments.now)
+        ≡ Ok (chars parts.0.now, texts_of parts.1.now)) }
     ensures err { IfErr result (λ fault. first_of (texts_of arguments.now) ≡ Err fault) }
     ensures behind { IfOk result (λ parts. length parts.1.now + 1 ≡ length arguments.now) }
 {
@@ -18,7 +20,8 @@ pub fn first(arguments: &[String]) -> Result<(&str, &[String]), Fault>
 
 /// The first two arguments of a command, and those behind them; "wrong # args" where there are fewer.
 pub fn first_two(arguments: &[String]) -> Result<(&str, &str, &[String]), Fault>
-    ensures ok { IfOk result (λ parts. first_two_of (texts_of arguments.now) ≡ Ok (chars parts.0.now, chars parts.1.now, texts_of parts.2.now)) }
+    ensures ok { IfOk result (λ parts. first_two_of (texts_of arguments.now)
+        ≡ Ok (chars parts.0.now, chars parts.1.now, texts_of parts.2.now)) }
     ensures err { IfErr result (λ fault. first_two_of (texts_of arguments.now) ≡ Err fault) }
     ensures behind { IfOk result (λ parts. length parts.2.now + 2 ≡ length arguments.now) }
 {
@@ -34,7 +37,8 @@ pub fn first_two(arguments: &[String]) -> Result<(&str, &str, &[String]), Fault>
 
 /// The argument of a command that takes one or none.
 pub fn none_or_one(arguments: &[String]) -> Result<Option<&str>, Fault>
-    ensures ok { IfOk result (λ word. none_or_one_of (texts_of arguments.now) ≡ Ok (option_map (λ word. chars word.now) word)) }
+    ensures ok { IfOk result (λ word. none_or_one_of (texts_of arguments.now)
+        ≡ Ok (option_map (λ word. chars word.now) word)) }
     ensures err { IfErr result (λ fault. none_or_one_of (texts_of arguments.now) ≡ Err fault) }
 {
     match arguments.len() {
@@ -98,7 +102,8 @@ pub fn three(arguments: &[String]) -> Result<(&str, &str, &str), Fault>
 /// The arguments of a command that takes two, and perhaps another.
 pub fn two_or_three(arguments: &[String]) -> Result<(&str, &str, Option<&str>), Fault>
     ensures ok { IfOk result (λ words.
-        two_or_three_of (texts_of arguments.now) ≡ Ok (chars words.0.now, chars words.1.now, option_map (λ word. chars word.now) words.2)) }
+        two_or_three_of (texts_of arguments.now)
+        ≡ Ok (chars words.0.now, chars words.1.now, option_map (λ word. chars word.now) words.2)) }
     ensures err { IfErr result (λ fault. two_or_three_of (texts_of arguments.now) ≡ Err fault) }
 {
     match arguments.len() {

@@ -12,7 +12,8 @@ ghost use Rattle.edit_ops.specs.States.{log_of, state_of};
 ghost use Rattle.edit_ops.specs.Tagging.{SpanFits, tagged, cleared};
 ghost use Rattle.command_parts.specs.declared.answers.Fault.TheVariants.{Memory, TextTooLong};
 ghost use Rattle.command_parts.specs.Marking.{taken};
-ghost use Rattle.command_parts.specs.Edits.{first_content, length_replaced, with_own_marks, without_widgets, AreUnchanged};
+ghost use Rattle.command_parts.specs.Edits.{first_content, length_replaced, with_own_marks, without_widgets};
+ghost use Rattle.command_parts.specs.Edits.{AreUnchanged};
 
 use crate::answers::Fault;
 use edit_ops::{
@@ -38,7 +39,8 @@ fn make<S: TextStore>(store: &mut S, edit: Edit) -> Result<(), AllocError>
 fn own_marks(alloc: Global, widget: TagSlot, offset: usize) -> Result<Edit, AllocError>
     requires { widget.0 < MOST_WIDGETS }
     ensures { IfOk result (λ edit. let place : Place = record { offset = offset; gravity = Gravity.Right } in
-        edit.steps ≡ Step.PutMark (record { 0 = 2 * widget.0 }) place ∷ Step.PutMark (record { 0 = 2 * widget.0 + 1 }) place ∷ []) }
+        edit.steps ≡ Step.PutMark (record { 0 = 2 * widget.0 }) place
+        ∷ Step.PutMark (record { 0 = 2 * widget.0 + 1 }) place ∷ []) }
 {
     let place = Place {
         offset,
@@ -50,8 +52,8 @@ fn own_marks(alloc: Global, widget: TagSlot, offset: usize) -> Result<Edit, Allo
     Ok(Edit { steps })
 }
 
-/// Puts both marks of a widget's own at an offset of a store, with right gravity; the widget is known by its slot. Where memory
-/// is refused nothing changes.
+/// Puts both marks of a widget's own at an offset of a store, with right gravity; the widget is known by its slot.
+/// Where memory is refused nothing changes.
 pub fn put_widget_marks<S: TextStore>(
     alloc: Global,
     store: &mut S,
@@ -75,7 +77,8 @@ pub fn put_mark<S: TextStore>(
     place: Place,
 ) -> Result<(), AllocError>
     requires { place.offset ≤ length (S.content store.old).cells }
-    ensures ok { OnOk result (S.content store.new ≡ record (S.content store.old) { marks = finite.insert (S.content store.old).marks number.0 place }) }
+    ensures ok { OnOk result (S.content store.new
+        ≡ record (S.content store.old) { marks = finite.insert (S.content store.old).marks number.0 place }) }
     ensures err { OnErr result (S.content store.new ≡ S.content store.old) }
 {
     let mut steps = StepList::new(alloc);
@@ -89,7 +92,11 @@ pub fn take_marks<S: TextStore>(
     store: &mut S,
     numbers: &[MarkNo],
 ) -> Result<(), AllocError>
-    ensures ok { OnOk result (S.content store.new ≡ record (S.content store.old) { marks = taken (map (λ number. number.0) numbers.now) (S.content store.old).marks }) }
+    ensures ok { OnOk result (S.content store.new
+        ≡ record (S.content store.old) {
+          marks = taken (map (λ number. number.0) numbers.now)
+              (S.content store.old).marks;
+        }) }
     ensures err { OnErr result (S.content store.new ≡ S.content store.old) }
 {
     let mut steps = StepList::new(alloc);
@@ -108,8 +115,8 @@ pub fn new_store<S: TextStore>(alloc: Global) -> Result<S, AllocError>
     Ok(store)
 }
 
-/// Prepares to take what widgets have of their own out of a store: the slot of the `sel` of each off all characters, and its
-/// two marks; all in one edit.
+/// Prepares to take what widgets have of their own out of a store: the slot of the `sel` of each off all characters,
+/// and its two marks; all in one edit.
 pub fn prepare_drop<S: TextStore>(
     alloc: Global,
     store: &mut S,
@@ -144,7 +151,8 @@ pub fn put_texts<S: TextStore>(
     requires within { at < length (S.content store.old).cells }
     requires stand { All (AnchorsStand (length (S.content store.old).cells)) anchors.old }
     ensures ok { OnOk result (state_of (S.content store.new) anchors.new (log_of history.new)
-        ≡ inserted_texts recording EditKind.Insert at pieces.now (state_of (S.content store.old) anchors.old (log_of history.old))) }
+        ≡ inserted_texts recording EditKind.Insert at pieces.now
+        (state_of (S.content store.old) anchors.old (log_of history.old))) }
     ensures fits { OnOk result (length (S.content store.old).cells + total pieces.now ≤ limits.now.chars) }
     ensures err { OnErr result
         (AreUnchanged S.content store.old store.new history.old history.new anchors.old anchors.new) }
@@ -163,8 +171,8 @@ pub fn put_texts<S: TextStore>(
     }
 }
 
-/// Deletes spans of what a widget shows of a store from `start` to `end`, in any order: they may overlap or be empty, and the
-/// last character that it shows stays, though without its slots.
+/// Deletes spans of what a widget shows of a store from `start` to `end`, in any order: they may overlap or be empty,
+/// and the last character that it shows stays, though without its slots.
 pub fn delete_spans<S: TextStore>(
     alloc: Global,
     store: &mut S,
@@ -193,9 +201,9 @@ pub fn delete_spans<S: TextStore>(
     }
 }
 
-/// Puts texts in the place of the characters of a store from one offset to another, where both are cut to the last character
-/// that a widget shows. The mark of a number, if it stands before one of these, stays as far behind the place as it was, or goes
-/// to the end of the texts.
+/// Puts texts in the place of the characters of a store from one offset to another, where both are cut to the last
+/// character that a widget shows. The mark of a number, if it stands before one of these, stays as far behind the place
+/// as it was, or goes to the end of the texts.
 pub fn replace_texts<S: TextStore>(
     alloc: Global,
     limits: &Limits,
@@ -213,12 +221,15 @@ pub fn replace_texts<S: TextStore>(
     requires ordered { from ≤ to }
     requires stand { All (AnchorsStand (length (S.content store.old).cells)) anchors.old }
     ensures ok { OnOk result (state_of (S.content store.new) anchors.new (log_of history.new)
-        ≡ replaced recording mark.0 last from to pieces.now (state_of (S.content store.old) anchors.old (log_of history.old))) }
-    ensures fits { OnOk result (length_replaced (length (S.content store.old).cells) last from to + total pieces.now ≤ limits.now.chars) }
+        ≡ replaced recording mark.0 last from to pieces.now
+        (state_of (S.content store.old) anchors.old (log_of history.old))) }
+    ensures fits { OnOk result (length_replaced (length (S.content store.old).cells) last from to + total pieces.now
+        ≤ limits.now.chars) }
     ensures err { OnErr result
         (AreUnchanged S.content store.old store.new history.old history.new anchors.old anchors.new) }
     ensures fault { IfErr result (λ fault. fault ≢ Memory →
-        (fault ≡ TextTooLong) × (limits.now.chars < length_replaced (length (S.content store.old).cells) last from to + total pieces.now)) }
+        (fault ≡ TextTooLong) × (limits.now.chars < length_replaced (length (S.content store.old).cells) last from to
+        + total pieces.now)) }
 {
     match plan_replace(
         alloc, limits, store, history, anchors, last, from, to, pieces, mark, recording,

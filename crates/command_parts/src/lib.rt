@@ -1,5 +1,5 @@
-//! What the commands of a text widget are made of: their answers and faults, their words as lists, ranges and comparisons, lists
-//! as they are written, and edits of a store together with the tables of its tags and its marks.
+//! What the commands of a text widget are made of: their answers and faults, their words as lists, ranges and
+//! comparisons, lists as they are written, and edits of a store together with the tables of its tags and its marks.
 #![tactic(auto)]
 
 mod answers;

@@ -1,4 +1,5 @@
-ghost use Rattle.std.specs.Prelude.{◌+◌, ◌<◌, ◌≤◌, ◌∷◌, [], chars, filter, nat_lt, nat_le, string_bytes, OnOk, if◌then◌else◌};
+ghost use Rattle.std.specs.Prelude.{◌+◌, ◌<◌, ◌≤◌, ◌∷◌, [], chars, filter, nat_lt, nat_le, string_bytes, OnOk};
+ghost use Rattle.std.specs.Prelude.{if◌then◌else◌};
 ghost use Rattle.std.specs.FinSet as set;
 ghost use Rattle.tag_table.specs.Tags.{names_of};
 ghost use Rattle.mark_table.specs.SharedMarks.{names_of as mark_names_of};
@@ -86,7 +87,8 @@ fn push_wanted_range<S: TextStore>(
     requires start { view.now.s + range.start ≤ view.now.e }
     requires end { view.now.s + range.end ≤ view.now.e }
     ensures { OnOk result (Goes (string_bytes list.old) (string_bytes list.new)
-        (range_words (shown (S.content view.now.store.now) view.now.s view.now.e) (if is_wanted then range ∷ [] else []))) }
+        (range_words (shown (S.content view.now.store.now) view.now.s view.now.e) (if is_wanted then range ∷ []
+        else []))) }
 {
     if !is_wanted {
         return Ok(());
@@ -95,7 +97,8 @@ fn push_wanted_range<S: TextStore>(
     push_range(list, &mut word, view, range)
 }
 
-/// Appends where the first range of a tag begins and ends that begins at a place or behind it, if it begins before another.
+/// Appends where the first range of a tag begins and ends that begins at a place or behind it, if it begins before
+/// another.
 pub fn push_next<S: TextStore>(
     list: &mut String,
     view: &View<'_, S>,
@@ -108,7 +111,8 @@ pub fn push_next<S: TextStore>(
     requires within { view.now.s + from ≤ view.now.e }
     ensures { OnOk result (Goes (string_bytes list.old) (string_bytes list.new)
         (range_words (shown (S.content view.now.store.now) view.now.s view.now.e)
-        (begun (λ start. nat_lt start to) (next_range (shown_flags slot.0 (S.content view.now.store.now) view.now.s view.now.e) from)))) }
+        (begun (λ start. nat_lt start to)
+        (next_range (shown_flags slot.0 (S.content view.now.store.now) view.now.s view.now.e) from)))) }
 {
     match next_range(view, slot, from) {
         None => Ok(()),
@@ -116,7 +120,8 @@ pub fn push_next<S: TextStore>(
     }
 }
 
-/// Appends where the last range of a tag begins and ends that begins before a place, if it doesn't begin before another.
+/// Appends where the last range of a tag begins and ends that begins before a place, if it doesn't begin before
+/// another.
 pub fn push_previous<S: TextStore>(
     list: &mut String,
     view: &View<'_, S>,
@@ -129,7 +134,8 @@ pub fn push_previous<S: TextStore>(
     requires within { view.now.s + from ≤ view.now.e }
     ensures { OnOk result (Goes (string_bytes list.old) (string_bytes list.new)
         (range_words (shown (S.content view.now.store.now) view.now.s view.now.e)
-        (begun (λ start. nat_le to start) (previous_range (shown_flags slot.0 (S.content view.now.store.now) view.now.s view.now.e) from)))) }
+        (begun (λ start. nat_le to start)
+        (previous_range (shown_flags slot.0 (S.content view.now.store.now) view.now.s view.now.e) from)))) }
 {
     match previous_range(view, slot, from) {
         None => Ok(()),
@@ -170,7 +176,8 @@ pub fn push_mark_names(list: &mut String, marks: &MarkTable) -> Result<(), Alloc
 
 /// Appends a name, if it is wanted.
 fn push_wanted(list: &mut String, name: &str, is_wanted: bool) -> Result<(), AllocError>
-    ensures { OnOk result (Goes (string_bytes list.old) (string_bytes list.new) (if is_wanted then chars name.now ∷ [] else [])) }
+    ensures { OnOk result (Goes (string_bytes list.old) (string_bytes list.new) (if is_wanted then chars name.now ∷ []
+        else [])) }
 {
     if !is_wanted {
         return Ok(());
@@ -178,7 +185,8 @@ fn push_wanted(list: &mut String, name: &str, is_wanted: bool) -> Result<(), All
     push_element(list, name)
 }
 
-/// Appends the names of the tags whose slots for a widget are in a set, from the lowest: for `sel` it is the widget's own.
+/// Appends the names of the tags whose slots for a widget are in a set, from the lowest: for `sel` it is the widget's
+/// own.
 pub fn push_names_in(
     list: &mut String,
     tags: &TagTable,
@@ -201,7 +209,8 @@ pub fn push_names_in(
 
 /// Appends a text as an element, if it isn't empty.
 pub fn push_filled(list: &mut String, text: Text) -> Result<(), AllocError>
-    ensures { OnOk result (Goes (string_bytes list.old) (string_bytes list.new) (if is_filled text then text ∷ [] else [])) }
+    ensures { OnOk result (Goes (string_bytes list.old) (string_bytes list.new) (if is_filled text then text ∷ []
+        else [])) }
 {
     if text.as_str().is_empty() {
         return Ok(());

@@ -41,7 +41,8 @@ fn names_at(alloc: Global, position: usize, word: &str) -> Result<Vec<String>, F
 /// The text at a position, with the list behind it if there is one.
 fn pair_at(alloc: Global, position: usize, text: &str, list: Option<&str>) -> Result<Pair, Fault>
     requires { position + 1 ≤ usize.MAX }
-    ensures ok { IfOk result (λ pair. pair_at position (chars text.now) (option_map (λ word. chars word.now) list.entry) ≡ Ok pair) }
+    ensures ok { IfOk result (λ pair. pair_at position (chars text.now) (option_map (λ word. chars word.now) list.entry)
+        ≡ Ok pair) }
     ensures err { IfErr result (λ fault. fault ≢ Memory →
         pair_at position (chars text.now) (option_map (λ word. chars word.now) list.entry) ≡ Err fault) }
 {

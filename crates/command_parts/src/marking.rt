@@ -46,8 +46,10 @@ pub fn turn_mark<S: TextStore>(
 ) -> Result<(), AllocError>
     requires known { number_of (chars name.now) marks.old.marks ≡ Some number.0 }
     requires within { place.offset ≤ length (S.content store.old).cells }
-    ensures table { OnOk result (marks.new ≡ record marks.old { marks = turned (chars name.now) place.gravity marks.old.marks }) }
-    ensures ok { OnOk result (S.content store.new ≡ record (S.content store.old) { marks = finite.insert (S.content store.old).marks number.0 place }) }
+    ensures table { OnOk result (marks.new
+        ≡ record marks.old { marks = turned (chars name.now) place.gravity marks.old.marks }) }
+    ensures ok { OnOk result (S.content store.new
+        ≡ record (S.content store.old) { marks = finite.insert (S.content store.old).marks number.0 place }) }
     ensures sound { OnOk result (AreMarks marks.new) }
     ensures err { OnErr result ((S.content store.new ≡ S.content store.old) × (marks.new ≡ marks.old)) }
 {
@@ -68,7 +70,8 @@ pub fn make_mark<S: TextStore>(
 ) -> Result<(), Fault>
     requires new { number_of (chars name.now) marks.old.marks ≡ None }
     requires within { offset ≤ length (S.content store.old).cells }
-    ensures made { OnOk result (IsMadeMark (chars name.now) offset marks.old marks.new (S.content store.old) (S.content store.new)) }
+    ensures made { OnOk result (IsMadeMark (chars name.now) offset marks.old marks.new (S.content store.old)
+        (S.content store.new)) }
     ensures err { OnErr result ((S.content store.new ≡ S.content store.old) × (marks.new ≡ marks.old)) }
     ensures fault { IfErr result (λ fault. fault ≢ Memory → IsFull marks.old) }
 {
@@ -98,7 +101,8 @@ pub fn numbers_named(
     marks: &MarkTable,
     names: &[String],
 ) -> Result<Vec<MarkNo>, AllocError>
-    ensures { IfOk result (λ numbers. map (λ number. number.0) numbers.items ≡ numbers_named marks.now.marks (texts_of names.now)) }
+    ensures { IfOk result (λ numbers. map (λ number. number.0) numbers.items
+        ≡ numbers_named marks.now.marks (texts_of names.now)) }
 {
     let mut numbers = Vec::with_capacity(alloc, names.len())?;
     for name in names {

@@ -17,8 +17,8 @@ fn span(start: usize, from: usize, to: usize) -> Span
     }
 }
 
-/// Pairs of places as ranges of a document, of a view of so many characters that begins at an offset. A last place alone
-/// stands for one character.
+/// Pairs of places as ranges of a document, of a view of so many characters that begins at an offset. A last place
+/// alone stands for one character.
 pub fn spans_of(
     alloc: Global,
     start: usize,

@@ -59,7 +59,8 @@ pub fn undo_group<S: TextStore>(
     }
 }
 
-/// Makes the group that was undone last once more, if there is one. The mark of a number, if it stands, is then where that ends.
+/// Makes the group that was undone last once more, if there is one. The mark of a number, if it stands, is then where
+/// that ends.
 pub fn redo_group<S: TextStore>(
     alloc: Global,
     limits: &Limits,

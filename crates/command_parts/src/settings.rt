@@ -2,7 +2,10 @@ ghost use Rattle.std.specs.Prelude.{◌≡◌, ◌+◌, ◌≤◌, length, chars
 ghost use Rattle.command_table.specs.Numbers.{boolean_of, integer_of};
 ghost use Rattle.tcl_words.specs.Unread.{texts_of};
 ghost use Rattle.command_parts.specs.declared.answers.Fault.TheVariants.{BadBoolean, BadInteger, BadOption};
-ghost use Rattle.command_parts.specs.Settings.{end_bound, first_document_settings, first_settings, history_under, line_answer, line_numbered, line_of_word, recording_of, setting_answer, setting_read, settings_checked, settings_read, start_bound, state_of, state_word};
+ghost use Rattle.command_parts.specs.Settings.{end_bound, first_document_settings, first_settings, history_under};
+ghost use Rattle.command_parts.specs.Settings.{line_answer, line_numbered, line_of_word, recording_of, setting_answer};
+ghost use Rattle.command_parts.specs.Settings.{setting_read, settings_checked, settings_read, start_bound, state_of};
+ghost use Rattle.command_parts.specs.Settings.{state_word};
 ghost use Rattle.undo_stack.specs.History.{limit_of};
 ghost use Rattle.std.specs.Fmt.{signed_decimal};
 
@@ -195,8 +198,8 @@ impl Settings {
         }
     }
 
-    /// The settings with the value of an option, which stands at a position, for a document of so many lines. The name is one
-    /// of the options.
+    /// The settings with the value of an option, which stands at a position, for a document of so many lines. The name
+    /// is one of the options.
     fn read_one(
         self,
         position: usize,
@@ -223,8 +226,8 @@ impl Settings {
         Ok(settings)
     }
 
-    /// The settings with the values of options, each a name with its value behind it, for a document of so many lines. The
-    /// first stands at a position.
+    /// The settings with the values of options, each a name with its value behind it, for a document of so many lines.
+    /// The first stands at a position.
     pub fn read(self, at: usize, words: &[String], lines: usize) -> Result<Settings, Fault>
         requires { at + length words.now ≤ usize.MAX }
         ensures { result ≡ settings_read lines at (texts_of words.now) self }

@@ -1,4 +1,5 @@
-ghost use Rattle.std.specs.Prelude.{◌≡◌, ◌≢◌, true, None, Some, ◌+◌, ◌<◌, ◌≤◌, length, chars, map, option_map, IfOk, IfErr, OnOk, OnErr};
+ghost use Rattle.std.specs.Prelude.{◌≡◌, ◌≢◌, true, None, Some, ◌+◌, ◌<◌, ◌≤◌, length, chars, map, option_map, IfOk};
+ghost use Rattle.std.specs.Prelude.{IfErr, OnOk, OnErr};
 ghost use Rattle.std.specs.Char.{IsScalar};
 ghost use Rattle.std.specs.List.{All};
 ghost use Rattle.edit_ops.specs.Anchors.{AnchorsStand};
@@ -26,8 +27,8 @@ use tag_table::TagTable;
 use text_model::{Limits, MarkNo, TagSlot, TextStore};
 use undo_stack::{EditKind, UndoStack};
 
-/// Makes the tags of pairs that are new, of which there is room, and gives the texts with the slots of their lists. Where
-/// memory is refused, new tags may stand behind the others.
+/// Makes the tags of pairs that are new, of which there is room, and gives the texts with the slots of their lists.
+/// Where memory is refused, new tags may stand behind the others.
 fn make_pieces(
     alloc: Global,
     tags: &mut TagTable,
@@ -53,7 +54,8 @@ fn make_pieces(
     }
 }
 
-/// Makes the tags of pairs that are new, and puts their texts in. Where that is refused, new tags may stand behind the others.
+/// Makes the tags of pairs that are new, and puts their texts in. Where that is refused, new tags may stand behind the
+/// others.
 pub fn put_pairs<S: TextStore>(
     alloc: Global,
     limits: &Limits,
@@ -76,12 +78,14 @@ pub fn put_pairs<S: TextStore>(
     ensures scalars { All (λ pair. All IsScalar pair.text) pairs.items }
     ensures made { OnOk result (names_of tags.new.tags ≡ with_names (names_of tags.old.tags) (all_names pairs.items)) }
     ensures ok { OnOk result (state_of (S.content store.new) anchors.new (log_of history.new)
-        ≡ inserted_texts recording EditKind.Insert at (map (piece_of tags.new.tags widget.0) pairs.items) (state_of (S.content store.old) anchors.old (log_of history.old))) }
+        ≡ inserted_texts recording EditKind.Insert at (map (piece_of tags.new.tags widget.0) pairs.items)
+        (state_of (S.content store.old) anchors.old (log_of history.old))) }
     ensures room { OnOk result (excess limits.now (length (with_names (names_of tags.old.tags) (all_names pairs.items)))
         (length (S.content store.old).cells + total pairs.items) ≡ None) }
     ensures err { OnErr result
         (AreUnchanged S.content store.old store.new history.old history.new anchors.old anchors.new) }
-    ensures fault { IfErr result (λ fault. fault ≢ Memory → excess limits.now (length (with_names (names_of tags.old.tags) (all_names pairs.items)))
+    ensures fault { IfErr result (λ fault. fault ≢ Memory →
+        excess limits.now (length (with_names (names_of tags.old.tags) (all_names pairs.items)))
         (length (S.content store.old).cells + total pairs.items) ≡ Some fault) }
 {
     if let Some(fault) = excess_of(limits, tags, pairs.as_slice(), store.len()) {
@@ -93,8 +97,9 @@ pub fn put_pairs<S: TextStore>(
     )
 }
 
-/// Makes the tags of pairs that are new, and puts their texts in the place of the characters from one offset to another, where
-/// both are cut to the last character that the widget shows. Where that is refused, new tags may stand behind the others.
+/// Makes the tags of pairs that are new, and puts their texts in the place of the characters from one offset to
+/// another, where both are cut to the last character that the widget shows. Where that is refused, new tags may stand
+/// behind the others.
 pub fn replace_pairs<S: TextStore>(
     alloc: Global,
     limits: &Limits,
@@ -121,12 +126,14 @@ pub fn replace_pairs<S: TextStore>(
     ensures scalars { All (λ pair. All IsScalar pair.text) pairs.items }
     ensures made { OnOk result (names_of tags.new.tags ≡ with_names (names_of tags.old.tags) (all_names pairs.items)) }
     ensures ok { OnOk result (state_of (S.content store.new) anchors.new (log_of history.new)
-        ≡ replaced recording mark.0 last from to (map (piece_of tags.new.tags widget.0) pairs.items) (state_of (S.content store.old) anchors.old (log_of history.old))) }
+        ≡ replaced recording mark.0 last from to (map (piece_of tags.new.tags widget.0) pairs.items)
+        (state_of (S.content store.old) anchors.old (log_of history.old))) }
     ensures room { OnOk result (excess limits.now (length (with_names (names_of tags.old.tags) (all_names pairs.items)))
         (length_replaced (length (S.content store.old).cells) last from to + total pairs.items) ≡ None) }
     ensures err { OnErr result
         (AreUnchanged S.content store.old store.new history.old history.new anchors.old anchors.new) }
-    ensures fault { IfErr result (λ fault. fault ≢ Memory → excess limits.now (length (with_names (names_of tags.old.tags) (all_names pairs.items)))
+    ensures fault { IfErr result (λ fault. fault ≢ Memory →
+        excess limits.now (length (with_names (names_of tags.old.tags) (all_names pairs.items)))
         (length_replaced (length (S.content store.old).cells) last from to + total pairs.items) ≡ Some fault) }
 {
     let left = store.len() - (to.min(last) - from.min(last));
@@ -139,8 +146,8 @@ pub fn replace_pairs<S: TextStore>(
     )
 }
 
-/// Makes a tag if it is new, of which there is room, and sets it on spans. Where memory is refused, the new tag may stand
-/// behind the others.
+/// Makes a tag if it is new, of which there is room, and sets it on spans. Where memory is refused, the new tag may
+/// stand behind the others.
 pub fn tag_spans<S: TextStore>(
     alloc: Global,
     tags: &mut TagTable,
@@ -157,7 +164,8 @@ pub fn tag_spans<S: TextStore>(
     ensures front { IsFront tags.old tags.new }
     ensures sound { OnOk result (AreTags tags.new) }
     ensures made { OnOk result (names_of tags.new.tags ≡ with_name (names_of tags.old.tags) (chars name.now)) }
-    ensures ok { OnOk result (option_map (λ slot. tagged slot true spans.now (S.content store.old)) (known_tags tags.new.tags widget.0 (chars name.now))
+    ensures ok { OnOk result (option_map (λ slot. tagged slot true spans.now (S.content store.old))
+        (known_tags tags.new.tags widget.0 (chars name.now))
         ≡ Some (S.content store.new)) }
     ensures err { OnErr result (S.content store.new ≡ S.content store.old) }
     ensures log { log_of history.new ≡ log_of history.old }

@@ -1,4 +1,5 @@
-ghost use Rattle.std.specs.Prelude.{◌≡◌, ◌≢◌, ◌+◌, ◌<◌, [], length, map, Some, Err, chars, option_map, IfOk, IfErr, OnOk, IfSome};
+ghost use Rattle.std.specs.Prelude.{◌≡◌, ◌≢◌, ◌+◌, ◌<◌, [], length, map, Some, Err, chars, option_map, IfOk, IfErr};
+ghost use Rattle.std.specs.Prelude.{OnOk, IfSome};
 ghost use Rattle.std.specs.FinSet as set;
 ghost use Rattle.std.specs.List.{All};
 ghost use Rattle.index_grammar.specs.Names.{known_tags};
@@ -8,7 +9,8 @@ ghost use Rattle.text_model.specs.TagBits.{slot_count};
 ghost use Rattle.text_model.specs.declared.limits.TheConstants.Limits.{MOST_WIDGETS};
 ghost use Rattle.command_parts.specs.declared.answers.Fault.TheVariants.{Memory, TooManyTags};
 ghost use Rattle.command_parts.specs.Lists.{with_name, with_names, listed_names, all_names};
-ghost use Rattle.command_parts.specs.Tagging.{IsFront, own_slot, with_found, slots_named, piece_of, slot_taken, slots_deleted, tags_left};
+ghost use Rattle.command_parts.specs.Tagging.{IsFront, own_slot, with_found, slots_named, piece_of, slot_taken};
+ghost use Rattle.command_parts.specs.Tagging.{slots_deleted, tags_left};
 
 use crate::answers::Fault;
 use crate::lists::Pair;
@@ -40,7 +42,8 @@ fn make_tags(alloc: Global, tags: &mut TagTable, names: &[String]) -> Result<(),
     ensures front { IsFront tags.old tags.new }
     ensures made { OnOk result (names_of tags.new.tags ≡ with_names (names_of tags.old.tags) (texts_of names.now)) }
     ensures fault { IfErr result (λ fault. fault ≢ Memory →
-        (fault ≡ TooManyTags) × (tags.old.limit + 1 < length (with_names (names_of tags.old.tags) (texts_of names.now)))) }
+        (fault ≡ TooManyTags) × (tags.old.limit + 1
+        < length (with_names (names_of tags.old.tags) (texts_of names.now)))) }
 {
     for name in names {
         match make_tag(alloc, tags, name.as_str()) {
@@ -66,7 +69,8 @@ pub fn make_listed(alloc: Global, tags: &mut TagTable, pairs: &[Pair]) -> Result
     ensures front { IsFront tags.old tags.new }
     ensures made { OnOk result (names_of tags.new.tags ≡ with_names (names_of tags.old.tags) (all_names pairs.now)) }
     ensures fault { IfErr result (λ fault. fault ≢ Memory →
-        (fault ≡ TooManyTags) × (tags.old.limit + 1 < length (with_names (names_of tags.old.tags) (all_names pairs.now)))) }
+        (fault ≡ TooManyTags) × (tags.old.limit + 1
+        < length (with_names (names_of tags.old.tags) (all_names pairs.now)))) }
 {
     for pair in pairs {
         match make_tags(alloc, tags, listed_names(pair)) {
@@ -124,7 +128,8 @@ fn slots_of(tags: &TagTable, widget: TagSlot, names: &[String]) -> TagSet
 /// The slots of a list, where there is one.
 fn listed_slots(tags: &TagTable, widget: TagSlot, names: &Option<Vec<String>>) -> Option<TagSet>
     requires { widget.0 < MOST_WIDGETS }
-    ensures { result ≡ option_map (slots_named tags.now.tags widget.0) (option_map (λ names. texts_of names.items) names.now) }
+    ensures { result ≡ option_map (slots_named tags.now.tags widget.0)
+        (option_map (λ names. texts_of names.items) names.now) }
 {
     match names {
         None => None,
@@ -178,7 +183,8 @@ pub fn deleted_slots(
     tags: &TagTable,
     names: &[String],
 ) -> Result<Vec<TagSlot>, AllocError>
-    ensures value { IfOk result (λ slots. map (λ slot. slot.0) slots.items ≡ slots_deleted tags.now.tags (texts_of names.now)) }
+    ensures value { IfOk result (λ slots. map (λ slot. slot.0) slots.items
+        ≡ slots_deleted tags.now.tags (texts_of names.now)) }
     ensures bound { IfOk result (λ slots. All (λ slot. slot.0 < slot_count) slots.items) }
 {
     let mut slots = Vec::with_capacity(alloc, names.len())?;

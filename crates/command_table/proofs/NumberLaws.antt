@@ -1,9 +1,11 @@
 -- Integers of bytes are those of characters, and numbers of at most nine digits are small.
-use Rattle.std.proofs.Common.{◌≡◌, take_all, le-leb, ℕ, zero, suc, ◌^◌, ◌<◌, ◌≤◌, Bool, true, false, ◌&&◌, List, [], ◌∷◌, length, take, w32, to_z, Option, Some, None, refl, sym, ap, ap₂, ◌∙◌, arith}
+use Rattle.std.proofs.Common.{◌≡◌, take_all, le-leb, ℕ, zero, suc, ◌^◌, ◌<◌, ◌≤◌, Bool, true, false, ◌&&◌, List, []}
+use Rattle.std.proofs.Common.{◌∷◌, length, take, w32, to_z, Option, Some, None, refl, sym, ap, ap₂, ◌∙◌, arith}
 use Rattle.std.specs.Str.{chars}
 use Rattle.std.specs.Char.{is_ascii_digit}
 use Rattle.std.specs.List.{list_all}
-use Rattle.std.specs.Prelude.{IsAscii, IsUtf8, slice_index, ℤ, pos, neg_ℤ, nat_lt, nat_le, fold, option_map, ◌==◌, if◌then◌else◌}
+use Rattle.std.specs.Prelude.{IsAscii, IsUtf8, slice_index, ℤ, pos, neg_ℤ, nat_lt, nat_le, fold, option_map, ◌==◌}
+use Rattle.std.specs.Prelude.{if◌then◌else◌}
 use Rattle.std.proofs.Math.Facts.{to_z_pos}
 use Rattle.std.proofs.Math.Nat.{pow-le-pow_right}
 use Rattle.std.proofs.lemmas.Bool.{false≢true}
@@ -26,7 +28,8 @@ low_digit c digit = grind (arith, nat_tests)
 low_digits : (text : List ℕ) → list_all is_ascii_digit text ≡ true → list_all is_low text ≡ true
 low_digits [] digits = refl
 low_digits (c ∷ text) digits =
-    elim (is_ascii_digit c) as (λ b. is_ascii_digit c ≡ b → (b && list_all is_ascii_digit text) ≡ true → (is_low c && list_all is_low text) ≡ true) [
+    elim (is_ascii_digit c) as (λ b. is_ascii_digit c ≡ b → (b && list_all is_ascii_digit text) ≡ true →
+    (is_low c && list_all is_low text) ≡ true) [
       | true ↦ λ here rest. ap (λ b. b && list_all is_low text) (low_digit c here) ∙ low_digits text rest
       | false ↦ λ _ none. absurd (false≢true none)
     ] refl digits
@@ -37,17 +40,22 @@ and_last true false c is = refl
 and_last false b c is = refl
 
 low_number : (text : List ℕ) (n : ℕ) → number_of text ≡ Some n → list_all is_low text ≡ true
-low_number text n is = elim (list_all is_ascii_digit text) as (λ b. list_all is_ascii_digit text ≡ b → list_all is_low text ≡ true) [
-  | true ↦ λ digits. low_digits text digits
-  | false ↦ λ others. absurd (let h : None ≡ Some n =
-      sym (ap (λ b. if b then Some (fold add_digit 0 text) else None) (and_last (nat_lt 0 (length text)) (nat_le (length text) 9) (list_all is_ascii_digit text) others)) ∙ is in cc)
-] refl
+low_number text n is =
+    elim (list_all is_ascii_digit text) as (λ b. list_all is_ascii_digit text ≡ b → list_all is_low text ≡ true) [
+      | true ↦ λ digits. low_digits text digits
+      | false ↦ λ others. absurd (let h : None ≡ Some n =
+          sym (ap (λ b. if b then Some (fold add_digit 0 text)
+          else None) (and_last (nat_lt 0 (length text)) (nat_le (length text) 9) (list_all is_ascii_digit text) others))
+          ∙ is in cc)
+    ] refl
 
-low_mapped : (f : ℕ → ℤ) (text : List ℕ) (found : Option ℕ) (z : ℤ) → number_of text ≡ found → option_map f found ≡ Some z → list_all is_low text ≡ true
+low_mapped : (f : ℕ → ℤ) (text : List ℕ) (found : Option ℕ) (z : ℤ) → number_of text ≡ found →
+    option_map f found ≡ Some z → list_all is_low text ≡ true
 low_mapped f text None z number is = absurd (let h : None ≡ Some z = is in cc)
 low_mapped f text (Some n) z number is = low_number text n number
 
-low_signed : (c sign : ℕ) (text : List ℕ) → sign < 128 → (c == sign) ≡ true → list_all is_low text ≡ true → list_all is_low (c ∷ text) ≡ true
+low_signed : (c sign : ℕ) (text : List ℕ) → sign < 128 → (c == sign) ≡ true → list_all is_low text ≡ true →
+    list_all is_low (c ∷ text) ≡ true
 low_signed c sign text small same rest =
     let is : c ≡ sign = (Decides-eqb c sign).0 same in
     ap (λ b. b && list_all is_low text) ((Decides-ltb c 128).1 (omega (arith, is))) ∙ rest
@@ -55,12 +63,17 @@ low_signed c sign text small same rest =
 low_integer : (text : List ℕ) (z : ℤ) → integer_of text ≡ Some z → list_all is_low text ≡ true
 low_integer [] z is = refl
 low_integer (c ∷ cs) z is =
-    elim (c == 43) as (λ b. (c == 43) ≡ b → (if b then option_map (λ n. pos n) (number_of cs) else (if c == 45 then option_map (λ n. neg_ℤ (pos n)) (number_of cs) else option_map (λ n. pos n) (number_of (c ∷ cs)))) ≡ Some z → list_all is_low (c ∷ cs) ≡ true) [
+    elim (c == 43) as (λ b. (c == 43) ≡ b →
+    (if b then option_map (λ n. pos n) (number_of cs)
+    else (if c == 45 then option_map (λ n. neg_ℤ (pos n)) (number_of cs)
+    else option_map (λ n. pos n) (number_of (c ∷ cs)))) ≡ Some z → list_all is_low (c ∷ cs) ≡ true) [
       | true ↦ λ plus found. low_signed c 43 cs (omega arith) plus (low_mapped _ cs (number_of cs) z refl found)
-      | false ↦ λ _. elim (c == 45) as (λ b. (c == 45) ≡ b → (if b then option_map (λ n. neg_ℤ (pos n)) (number_of cs) else option_map (λ n. pos n) (number_of (c ∷ cs))) ≡ Some z → list_all is_low (c ∷ cs) ≡ true) [
-        | true ↦ λ minus found. low_signed c 45 cs (omega arith) minus (low_mapped _ cs (number_of cs) z refl found)
-        | false ↦ λ _ found. low_mapped _ (c ∷ cs) (number_of (c ∷ cs)) z refl found
-      ] refl
+      | false ↦ λ _. elim (c == 45) as (λ b. (c == 45) ≡ b →
+          (if b then option_map (λ n. neg_ℤ (pos n)) (number_of cs) else option_map (λ n. pos n) (number_of (c ∷ cs)))
+          ≡ Some z → list_all is_low (c ∷ cs) ≡ true) [
+            | true ↦ λ minus found. low_signed c 45 cs (omega arith) minus (low_mapped _ cs (number_of cs) z refl found)
+            | false ↦ λ _ found. low_mapped _ (c ∷ cs) (number_of (c ∷ cs)) z refl found
+          ] refl
     ] refl is
 
 ascii_of : (text : List ℕ) → list_all is_low text ≡ true → IsAscii text
@@ -88,8 +101,10 @@ integer_of-chars bytes text =
     ] refl
 
 -- digits of which a loop has seen all
-pub number_of-digits : (digits : List ℕ) (seen number : ℕ) → 0 < length digits → length digits ≤ 9 → length digits ≤ seen
-    → list_all is_ascii_digit (take seen digits) ≡ true → number ≡ fold add_digit 0 (take seen digits) → number < 10 ^ seen → seen ≤ length digits
+pub number_of-digits : (digits : List ℕ) (seen number : ℕ) → 0 < length digits → length digits ≤ 9 →
+    length digits ≤ seen
+    → list_all is_ascii_digit (take seen digits) ≡ true → number ≡ fold add_digit 0 (take seen digits) →
+    number < 10 ^ seen → seen ≤ length digits
     → Some (to_z w32 number) ≡ option_map (λ n. pos n) (number_of digits)
 number_of-digits digits seen number some few all are is small within =
     let whole : take seen digits ≡ digits = take_all seen digits all in
@@ -98,4 +113,5 @@ number_of-digits digits seen number some few all are is small within =
     ap₂ (λ a b. a && b) ((Decides-ltb 0 (length digits)).1 some) (le-leb (length digits) 9 few) in
     ap Some (to_z_pos w32 (omega (arith, small, ten_to_small seen (omega arith))))
     ∙ ap (λ n. Some (pos n)) (is ∙ ap (fold add_digit 0) whole)
-    ∙ sym (ap (λ b. option_map (λ n. pos n) (if b then Some (fold add_digit 0 digits) else None)) (ap₂ (λ a b. a && b) counted pass))
+    ∙ sym (ap (λ b. option_map (λ n. pos n) (if b then Some (fold add_digit 0 digits) else None))
+    (ap₂ (λ a b. a && b) counted pass))

@@ -1,5 +1,6 @@
 -- Which words are booleans, and which are integers.
-use Rattle.std.specs.Prelude.{ℕ, ◌+◌, ◌-◌, ◌*◌, nat_lt, nat_le, Bool, true, false, ◌&&◌, ◌==◌, [], ◌∷◌, length, fold, Option, None, Some, option_map, if◌then◌else◌, ℤ, pos, neg_ℤ}
+use Rattle.std.specs.Prelude.{ℕ, ◌+◌, ◌-◌, ◌*◌, nat_lt, nat_le, Bool, true, false, ◌&&◌, ◌==◌, [], ◌∷◌, length, fold}
+use Rattle.std.specs.Prelude.{Option, None, Some, option_map, if◌then◌else◌, ℤ, pos, neg_ℤ}
 use Rattle.std.specs.List.{list_all}
 use Rattle.std.specs.Char.{is_ascii_digit}
 use Rattle.command_table.specs.Words.{Word, is_among, literal}
@@ -17,7 +18,8 @@ add_digit number digit = number * 10 + (digit - 48)
 -- the number that one to nine decimal digits spell
 abbrev pub number_of : Word → Option ℕ
 number_of digits =
-    if nat_lt 0 (length digits) && nat_le (length digits) 9 && list_all is_ascii_digit digits then Some (fold add_digit 0 digits) else None
+    if nat_lt 0 (length digits) && nat_le (length digits) 9 && list_all is_ascii_digit digits
+    then Some (fold add_digit 0 digits) else None
 
 -- perhaps a sign, `+` or `-`, and then a number
 abbrev pub integer_of : Word → Option ℤ

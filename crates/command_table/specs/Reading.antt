@@ -1,5 +1,6 @@
 -- What the words of a command are: the command, and where its switches, its arguments and its options stand.
-use Rattle.std.specs.Prelude.{ℕ, ◌+◌, Bool, List, [], ◌∷◌, length, take, drop, Option, None, Some, Result, Ok, Err, if◌then◌else◌}
+use Rattle.std.specs.Prelude.{ℕ, ◌+◌, Bool, List, [], ◌∷◌, length, take, drop, Option, None, Some, Result, Ok, Err}
+use Rattle.std.specs.Prelude.{if◌then◌else◌}
 use Rattle.std.specs.List.{find, list_any}
 use Rattle.command_table.specs.Words.{Word, is_same, literal}
 use Rattle.command_table.specs.Rows.{RowRule, begins, switch_words, bad_switch, bad_option, fits, before_options}

@@ -1,5 +1,6 @@
 -- What a row of the command table says, and which words it fits.
-use Rattle.std.specs.Prelude.{ℕ, ◌+◌, ◌-◌, ◌%◌, ◌==◌, nat_le, Bool, true, false, ◌&&◌, List, [], ◌∷◌, length, filter, Option, None, Some, option_map, if◌then◌else◌}
+use Rattle.std.specs.Prelude.{ℕ, ◌+◌, ◌-◌, ◌%◌, ◌==◌, nat_le, Bool, true, false, ◌&&◌, List, [], ◌∷◌, length, filter}
+use Rattle.std.specs.Prelude.{Option, None, Some, option_map, if◌then◌else◌}
 use Rattle.std.specs.List.{starts_with, find, position_from, enumerate_from}
 use mathlib.Core.Bool.{not}
 use Rattle.command_table.specs.Words.{Word, is_same, is_character, is_dashed, is_among, literal}
@@ -72,7 +73,8 @@ is_bad_option rule entry = is_option_place rule entry.0 && not (is_among rule.na
 -- the position of the first such word; the arguments stand from a position on
 abbrev pub bad_option : Option OptionRule → ℕ → List Word → Option ℕ
 bad_option None at words = None
-bad_option (Some rule) at words = option_map (λ entry. at + entry.0) (find (is_bad_option rule) (enumerate_from 0 words))
+bad_option (Some rule) at words =
+    option_map (λ entry. at + entry.0) (find (is_bad_option rule) (enumerate_from 0 words))
 
 -- ---- how many words
 

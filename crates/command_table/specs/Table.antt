@@ -1,13 +1,22 @@
 -- The commands: the words of each subcommand, and how many words may stand behind it (text(n), "WIDGET COMMAND").
-use Rattle.std.specs.Prelude.{ℕ, List, [], ◌∷◌, true, false, Option, None, Some}
-use Rattle.command_table.specs.Words.{literal}
-use Rattle.command_table.specs.Rows.{RowRule, SwitchRule}
+use Rattle.std.specs.Prelude.{ℕ, ◌-◌, List, [], ◌∷◌, take, drop, true, false, Option, None, Some}
+use Rattle.std.specs.List.{find}
+use Rattle.command_table.specs.Words.{Word, literal}
+use Rattle.command_table.specs.Rows.{RowRule, SwitchRule, begins}
 use Rattle.command_table.specs.declared.commands.Command.{Command}
-use Rattle.command_table.specs.declared.commands.Command.TheVariants.{Text, Insert, Delete, Replace, Get, Index, Compare, MarkGravity, MarkNames, MarkNext, MarkPrevious, MarkSet, MarkUnset, TagAdd, TagRemove, TagDelete, TagNames, TagRanges, TagNextRange, TagPreviousRange, TagRaise, TagLower, EditModified, EditUndo, EditRedo, EditReset, EditSeparator, Configure, Cget, Search, Count, Dump, Destroy, PeerCreate, PeerNames}
+use Rattle.command_table.specs.declared.commands.Command.TheVariants.{Text, Insert, Delete, Replace, Get, Index}
+use Rattle.command_table.specs.declared.commands.Command.TheVariants.{Compare, MarkGravity, MarkNames, MarkNext}
+use Rattle.command_table.specs.declared.commands.Command.TheVariants.{MarkPrevious, MarkSet, MarkUnset, TagAdd}
+use Rattle.command_table.specs.declared.commands.Command.TheVariants.{TagRemove, TagDelete, TagNames, TagRanges}
+use Rattle.command_table.specs.declared.commands.Command.TheVariants.{TagNextRange, TagPreviousRange, TagRaise}
+use Rattle.command_table.specs.declared.commands.Command.TheVariants.{TagLower, EditModified, EditUndo, EditRedo}
+use Rattle.command_table.specs.declared.commands.Command.TheVariants.{EditReset, EditSeparator, Configure, Cget, Search}
+use Rattle.command_table.specs.declared.commands.Command.TheVariants.{Count, Dump, Destroy, PeerCreate, PeerNames}
 
 -- the options of a widget and of its document
 abbrev pub option_names : List (List ℕ)
-option_names = literal "-undo" ∷ literal "-maxundo" ∷ literal "-autoseparators" ∷ literal "-state" ∷ literal "-startline" ∷ literal "-endline" ∷ []
+option_names = literal "-undo" ∷ literal "-maxundo" ∷ literal "-autoseparators" ∷ literal "-state"
+    ∷ literal "-startline" ∷ literal "-endline" ∷ []
 
 -- `text W ?option value ..?`
 abbrev pub text_row : RowRule
@@ -82,7 +91,8 @@ switched name command switches least greatest = record {
 -- the switches of `search`, of `count` and of `dump`
 abbrev pub search_switches : SwitchRule
 search_switches = record {
-  names = literal "-all" ∷ literal "-backwards" ∷ literal "-exact" ∷ literal "-forwards" ∷ literal "-nocase" ∷ literal "-overlap" ∷ literal "-strictlimits"
+  names = literal "-all" ∷ literal "-backwards" ∷ literal "-exact" ∷ literal "-forwards" ∷ literal "-nocase"
+      ∷ literal "-overlap" ∷ literal "-strictlimits"
       ∷ literal "--" ∷ [];
   abbreviated = true;
 }
@@ -91,7 +101,8 @@ abbrev pub count_switches : SwitchRule
 count_switches = record { names = literal "-chars" ∷ literal "-indices" ∷ literal "-lines" ∷ []; abbreviated = false }
 
 abbrev pub dump_switches : SwitchRule
-dump_switches = record { names = literal "-all" ∷ literal "-mark" ∷ literal "-tag" ∷ literal "-text" ∷ []; abbreviated = true }
+dump_switches =
+    record { names = literal "-all" ∷ literal "-mark" ∷ literal "-tag" ∷ literal "-text" ∷ []; abbreviated = true }
 
 abbrev pub alone : List ℕ → Command → ℕ → Option ℕ → RowRule
 alone name command least greatest = plain (name ∷ []) command least greatest
@@ -135,3 +146,11 @@ table =
     ∷ peer_create_row
     ∷ member (literal "peer") (literal "names") PeerNames 0 (Some 0)
     ∷ []
+
+-- the first of some rows whose subcommand begins the words
+abbrev pub find_in : List RowRule → List Word → Option RowRule
+find_in rows words = find (λ row. begins row.spelling words) rows
+
+-- the rows from one place to before another
+abbrev pub rows_within : ℕ → ℕ → List RowRule → List RowRule
+rows_within from to rows = take (to - from) (drop from rows)

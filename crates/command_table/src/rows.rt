@@ -1,9 +1,8 @@
-ghost use Rattle.std.specs.Prelude.{◌≡◌, ◌≤◌, ◌+◌, length, take, map, true, option_map, IfSome, IfOk};
-ghost use Rattle.std.specs.List.{find};
-ghost use Rattle.command_table.specs.Words.{texts_of};
-ghost use Rattle.command_table.specs.Rows.{begins, switch_words, bad_switch, bad_option, fits, before_options};
+ghost use Rattle.std.specs.Prelude.{◌≡◌, ◌≤◌, ◌+◌, List, ◌∷◌, chars, length, take, map, true, option_map, IfSome, IfOk};
+ghost use Rattle.command_table.specs.Words.{texts_of, Word};
+ghost use Rattle.command_table.specs.Rows.{switch_words, bad_switch, bad_option, fits, before_options};
 ghost use Rattle.command_table.specs.Reading.{decided, behind, go_on};
-ghost use Rattle.command_table.specs.Table.{destroy_row, table, text_row};
+ghost use Rattle.command_table.specs.Table.{destroy_row, table, text_row, rows_within, find_in};
 ghost use Rattle.command_table.specs.Spelled.{spelled, row_rule};
 
 use crate::commands::Command;
@@ -202,10 +201,11 @@ static ROWS: [Row; 33] = [
 
 impl Row {
     /// How many words stand in place of switches.
-    fn count_switches(self, words: &[String]) -> usize
-        ensures value { result ≡ length (switch_words (row_rule self).switches (texts_of words.now)) }
+    fn count_switches(&self, words: &[String]) -> usize
+        ensures value { result ≡ length (switch_words (row_rule self.now).switches (texts_of words.now)) }
         ensures bound { result ≤ length words.now }
-        ensures front { take result (texts_of words.now) ≡ switch_words (row_rule self).switches (texts_of words.now) }
+        ensures front { take result (texts_of words.now)
+            ≡ switch_words (row_rule self.now).switches (texts_of words.now) }
     {
         match self.switches {
             None => 0,
@@ -214,9 +214,9 @@ impl Row {
     }
 
     /// The position of the first word that is no switch. The words stand from a position on.
-    fn first_bad_switch(self, at: usize, words: &[String]) -> Option<usize>
+    fn first_bad_switch(&self, at: usize, words: &[String]) -> Option<usize>
         requires { at + length words.now ≤ usize.MAX }
-        ensures { result ≡ bad_switch (row_rule self).switches at (texts_of words.now) }
+        ensures { result ≡ bad_switch (row_rule self.now).switches at (texts_of words.now) }
     {
         match self.switches {
             None => None,
@@ -226,9 +226,9 @@ impl Row {
 
     /// The position of the first word that stands in place of an option and is none. The arguments stand from a
     /// position on.
-    fn first_bad_option(self, at: usize, arguments: &[String]) -> Option<usize>
+    fn first_bad_option(&self, at: usize, arguments: &[String]) -> Option<usize>
         requires { at + length arguments.now ≤ usize.MAX }
-        ensures { result ≡ bad_option (row_rule self).options at (texts_of arguments.now) }
+        ensures { result ≡ bad_option (row_rule self.now).options at (texts_of arguments.now) }
     {
         match self.options {
             None => None,
@@ -237,9 +237,9 @@ impl Row {
     }
 
     /// Whether so many words may stand behind the switches.
-    fn fits(self, count: usize) -> bool
-        ensures value { result ≡ fits (row_rule self) count }
-        ensures enough { result ≡ true → before_options (row_rule self).options count ≤ count }
+    fn fits(&self, count: usize) -> bool
+        ensures value { result ≡ fits (row_rule self.now) count }
+        ensures enough { result ≡ true → before_options (row_rule self.now).options count ≤ count }
     {
         let is_few = match self.greatest {
             None => true,
@@ -253,8 +253,8 @@ impl Row {
     }
 
     /// How many of so many words behind the switches stand before the options.
-    fn before_options(self, count: usize) -> usize
-        ensures { result ≡ before_options (row_rule self).options count }
+    fn before_options(&self, count: usize) -> usize
+        ensures { result ≡ before_options (row_rule self.now).options count }
     {
         match self.options {
             None => count,
@@ -264,14 +264,15 @@ impl Row {
 
     /// What switches and arguments are that stand behind the subcommand from a position on.
     fn decide(
-        self,
+        &self,
         at: usize,
         switches: &[String],
         arguments: &[String],
     ) -> Result<Shape, ShapeFault>
         requires { at + length switches.now + length arguments.now ≤ usize.MAX }
-        ensures value { result ≡ decided (row_rule self) at (texts_of switches.now) (texts_of arguments.now) }
-        ensures within { IfOk result (λ shape. shape.arguments + shape.count ≤ at + length switches.now + length arguments.now) }
+        ensures value { result ≡ decided (row_rule self.now) at (texts_of switches.now) (texts_of arguments.now) }
+        ensures within { IfOk result (λ shape. shape.arguments + shape.count
+            ≤ at + length switches.now + length arguments.now) }
         ensures ordered { IfOk result (λ shape. shape.switches ≤ shape.arguments) }
     {
         let from = at + switches.len();
@@ -293,9 +294,9 @@ impl Row {
     }
 
     /// What the words behind the subcommand are. They stand from a position on.
-    pub fn read(self, at: usize, words: &[String]) -> Result<Shape, ShapeFault>
+    pub fn read(&self, at: usize, words: &[String]) -> Result<Shape, ShapeFault>
         requires { at + length words.now ≤ usize.MAX }
-        ensures value { result ≡ behind (row_rule self) at (texts_of words.now) }
+        ensures value { result ≡ behind (row_rule self.now) at (texts_of words.now) }
         ensures within { IfOk result (λ shape. shape.arguments + shape.count ≤ at + length words.now) }
         ensures ordered { IfOk result (λ shape. shape.switches ≤ shape.arguments) }
     {
@@ -325,14 +326,55 @@ pub fn destroy_row() -> Row
     DESTROY
 }
 
-/// The first row whose subcommand begins the words.
-pub fn find_row(words: &[String]) -> Option<Row>
-    ensures first { option_map row_rule result ≡ find (λ row. begins row.spelling (texts_of words.now)) table }
-    ensures short { IfSome result (λ row. length (spelled row.spelling) ≤ length words.now) }
+/// Where the rows stand, one behind the other, whose subcommands begin with the word, if there are some: from the
+/// first place to before the second.
+fn places_of(word: &str) -> (usize, usize)
+    ensures value { (rest : List Word) → find_in (rows_within result.0 result.1 table) (chars word.now ∷ rest)
+        ≡ find_in table (chars word.now ∷ rest) }
+    ensures order { result.0 ≤ result.1 }
+    ensures within { result.1 ≤ length table }
 {
-    for row in rows() {
+    match word {
+        "insert" => (0, 1),
+        "delete" => (1, 2),
+        "replace" => (2, 3),
+        "get" => (3, 4),
+        "index" => (4, 5),
+        "compare" => (5, 6),
+        "mark" => (6, 12),
+        "tag" => (12, 21),
+        "edit" => (21, 26),
+        "configure" => (26, 27),
+        "cget" => (27, 28),
+        "search" => (28, 29),
+        "count" => (29, 30),
+        "dump" => (30, 31),
+        "peer" => (31, 33),
+        _ => (0, 33),
+    }
+}
+
+/// Rows among which the first is whose subcommand begins the words, if there is one.
+fn rows_for(words: &[String]) -> &'static [Row]
+    ensures { find_in (map row_rule result.now) (texts_of words.now) ≡ find_in table (texts_of words.now) }
+{
+    match words {
+        [first, ..] => {
+            let (from, to) = places_of(first.as_str());
+            &rows()[from..to]
+        }
+        [] => rows(),
+    }
+}
+
+/// The first row whose subcommand begins the words.
+pub fn find_row(words: &[String]) -> Option<&'static Row>
+    ensures first { option_map (λ row. row_rule row.now) result ≡ find_in table (texts_of words.now) }
+    ensures short { IfSome result (λ row. length (spelled row.now.spelling) ≤ length words.now) }
+{
+    for row in rows_for(words) {
         if row.spelling.begins(words) {
-            return Some(*row);
+            return Some(row);
         }
     }
     None

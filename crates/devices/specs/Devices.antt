@@ -1,5 +1,6 @@
 -- The bytes that pass through a device.
-use Rattle.std.specs.Prelude.{◌≡◌, ℕ, ◌+◌, Bool, true, false, ◌&&◌, ◌==◌, ◌||◌, nat_lt, if◌then◌else◌, Result, Ok, Err, List, [], ◌++◌, length, take, Option, None, Some, ⊤}
+use Rattle.std.specs.Prelude.{◌≡◌, ℕ, ◌+◌, Bool, true, false, ◌&&◌, ◌==◌, ◌||◌, nat_lt, if◌then◌else◌, Result, Ok, Err}
+use Rattle.std.specs.Prelude.{List, [], ◌++◌, length, take, Option, None, Some, ⊤}
 
 -- What came of a reader's reads: how many were made, how many of these brought the end, all the bytes that they handed
 -- out, and those that the device has left, where it tells them.
@@ -31,7 +32,8 @@ HandsOut old new bytes ended =
     (new.bytes ≡ old.bytes ++ bytes) × (new.ends ≡ old.ends + (if ended then 1 else 0))
     × Consumes old.left new.left bytes × LeavesNone ended new.left
 
--- A read of so many bytes into a buffer. None into a buffer with room says that the end is reached; a failure hands out none.
+-- A read of so many bytes into a buffer. None into a buffer with room says that the end is reached; a failure hands out
+-- none.
 abbrev pub Reads : ReadLog → ReadLog → ℕ → List ℕ → Bool → Type 0
 Reads old new count buffer true = HandsOut old new [] false
 Reads old new count buffer false = HandsOut old new (take count buffer) (count == 0 && nat_lt 0 (length buffer))

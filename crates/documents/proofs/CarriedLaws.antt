@@ -22,7 +22,8 @@ use Rattle.documents.specs.View.{is_idle, shown, view_end}
 
 -- ---- what may follow, or not
 
-pub carried-with : {A : Type 0} (P : Document → Type 0) (document : Document) (value : Result A Fault) (next : A → Change) → P document
+pub carried-with : {A : Type 0} (P : Document → Type 0) (document : Document) (value : Result A Fault) (next : A →
+    Change) → P document
     → ((given : A) → value ≡ Ok given → P (next given).document) → P (change_with document value next).document
 carried-with P document (Err fault) next same goes = same
 carried-with P document (Ok given) next same goes = goes given refl
@@ -30,24 +31,29 @@ carried-with P document (Ok given) next same goes = goes given refl
 pub carried-active : (P : Document → Type 0) (document : Document) (widget : Widget) (change : Change) → P document
     → (is_idle document widget ≡ false → P change.document) → P (unless_idle widget document change).document
 carried-active P document widget change same next =
-    elim (is_idle document widget) as (λ b. is_idle document widget ≡ b → P (if b then answered document Empty else change).document) [
+    elim (is_idle document widget) as (λ b. is_idle document widget ≡ b →
+    P (if b then answered document Empty else change).document) [
       | true ↦ λ _. same
       | false ↦ λ busy. next busy
     ] refl
 
-pub carried-limited : (P : Document → Type 0) (limits : LimitTable) (document : Document) (tags chars : ℕ) (change : Change) → P document
+pub carried-limited : (P : Document → Type 0) (limits : LimitTable) (document : Document) (tags chars : ℕ)
+    (change : Change) → P document
     → (chars ≤ limits.chars → P change.document) → P (within_limits limits document tags chars change).document
 carried-limited P limits document tags chars change same next =
     elim (nat_lt (limits.tags + 1) tags) as
-    (λ b. P (if b then refused document TooManyTags else if nat_lt limits.chars chars then refused document TextTooLong else change).document) [
+    (λ b. P (if b then refused document TooManyTags else if nat_lt limits.chars chars then refused document TextTooLong
+    else change).document) [
       | true ↦ same
-      | false ↦ elim (nat_lt limits.chars chars) as (λ b. nat_lt limits.chars chars ≡ b → P (if b then refused document TextTooLong else change).document) [
-        | true ↦ λ _. same
-        | false ↦ λ few. next (ltb-false limits.chars chars few)
-      ] refl
+      | false ↦ elim (nat_lt limits.chars chars) as (λ b. nat_lt limits.chars chars ≡ b →
+          P (if b then refused document TextTooLong else change).document) [
+            | true ↦ λ _. same
+            | false ↦ λ few. next (ltb-false limits.chars chars few)
+          ] refl
     ]
 
-known-carried : (P : Document → Type 0) (document : Document) (at : ℕ) (name : List ℕ) (change : Change) → P document → P change.document
+known-carried : (P : Document → Type 0) (document : Document) (at : ℕ) (name : List ℕ) (change : Change) → P document →
+    P change.document
     → P (known_or document at name change).document
 known-carried P document at name change same next =
     elim (is_among name document.tags) as (λ b. P (if b then change else refused document (NoSuchTag at)).document) [
@@ -58,9 +64,11 @@ known-carried P document at name change same next =
 -- tags in another order
 pub carried-reordered : (P : Document → Type 0) (document : Document) (at : ℕ)
     (order : List (List ℕ) → List ℕ → Option (List ℕ) → List (List ℕ)) (words : List ℕ × Option (List ℕ))
-    → P document → ((tags : List (List ℕ)) → P (record document { tags = tags })) → P (reordered document at order words).document
+    → P document → ((tags : List (List ℕ)) → P (record document { tags = tags })) →
+    P (reordered document at order words).document
 carried-reordered P document at order (name, None) same next =
-    known-carried P document at name (answered (record document { tags = order document.tags name None }) Empty) same (next (order document.tags name None))
+    known-carried P document at name (answered (record document { tags = order document.tags name None }) Empty) same
+    (next (order document.tags name None))
 carried-reordered P document at order (name, Some other) same next =
     let change : Change = answered (record document { tags = order document.tags name (Some other) }) Empty in
     known-carried P document at name (known_or document (at + 1) other change) same
@@ -69,22 +77,27 @@ carried-reordered P document at order (name, Some other) same next =
 -- ---- edits
 
 -- It holds of a document, and after each edit of a widget that a command may make.
-pub record IsCarried (limits : LimitTable) (document : Document) (widget : Widget) (P : Document → Type 0) : Type 0 where
+pub record IsCarried (limits : LimitTable) (document : Document) (widget : Widget) (P : Document →
+    Type 0) : Type 0 where
   pub same : P document
   pub inserted : (place : ℕ) (pairs : List Pair) → is_idle document widget ≡ false
       → P (insert_at limits document widget (insertion_offset document widget place) pairs).document
   pub replaced : (from to : ℕ) (pairs : List Pair) → is_idle document widget ≡ false → from ≤ to
-      → P (replace_span limits document widget (insertion_offset document widget from) (insertion_offset document widget to) pairs).document
+      → P (replace_span limits document widget (insertion_offset document widget from)
+      (insertion_offset document widget to) pairs).document
   pub deleted : (places : List ℕ) → is_idle document widget ≡ false
-      → (view_end document widget ≤ length document.cells → All (λ place. place ≤ length (shown document widget)) places)
+      → (view_end document widget ≤ length document.cells →
+      All (λ place. place ≤ length (shown document widget)) places)
       → P (delete_places document widget places).document
-  pub set : (name : List ℕ) (offset : ℕ) (found : Option Place) → P (set_found limits document widget name offset found).document
+  pub set : (name : List ℕ) (offset : ℕ) (found : Option Place) →
+      P (set_found limits document widget name offset found).document
   pub turned : (name : List ℕ) (place : Place) → P (with_mark document widget name place)
   pub unset : (names : List (List ℕ)) → P (mark_unset document names).document
   pub added : (name places : List ℕ) → P (add_spans limits document widget name places).document
   pub removed : (name places : List ℕ) → P (remove_spans document widget name places).document
   pub untagged : (names : List (List ℕ)) → P (tag_delete document names).document
-  pub ordered : (at : ℕ) (order : List (List ℕ) → List ℕ → Option (List ℕ) → List (List ℕ)) (words : List ℕ × Option (List ℕ))
+  pub ordered : (at : ℕ) (order : List (List ℕ) → List ℕ → Option (List ℕ) →
+      List (List ℕ)) (words : List ℕ × Option (List ℕ))
       → P (reordered document at order words).document
   pub modified : (flag : Bool) → P (modified_set document flag).document
   pub separated : P (edit_separator document).document

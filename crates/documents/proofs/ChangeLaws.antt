@@ -27,7 +27,8 @@ stands-same old new document stands same = subst (λ parts. Stands parts documen
 abbrev failed : Fault → Result Answer Fault
 failed fault = Err fault
 
-pub does-left : (limits : LimitTable) (old new : Document) (fault : Fault) (change : Change) → new ≡ old → (fault ≢ Memory → change ≡ refused old fault) → Does limits old new (Err fault) change
+pub does-left : (limits : LimitTable) (old new : Document) (fault : Fault) (change : Change) → new ≡ old →
+    (fault ≢ Memory → change ≡ refused old fault) → Does limits old new (Err fault) change
 does-left limits old new fault change same is = record {
   reply = λ other. ap (λ (c : Change). c.reply) (sym (is (λ memory. other (ap failed memory))));
   document = λ other. same ∙ ap (λ (c : Change). c.document) (sym (is (λ memory. other (ap failed memory))));
@@ -37,14 +38,17 @@ does-left limits old new fault change same is = record {
 }
 
 -- the tags that were made are taken back
-pub table-back : (old new back : Tags) (front : ℕ) → front ≡ length old.tags → IsFront old new → back ≡ record new { tags = take front new.tags } → back ≡ old
+pub table-back : (old new back : Tags) (front : ℕ) → front ≡ length old.tags → IsFront old new →
+    back ≡ record new { tags = take front new.tags } → back ≡ old
 table-back old new back front here is made =
     made ∙ ap₂ (λ tags limit. record { tags = tags; limit = limit }) (ap (λ n. take n new.tags) here ∙ is.tags) is.limit
 
 -- ---- what is answered
 
-pub does-answered : (limits : LimitTable) (old new made : Document) (change : Change) → new ≡ made → change ≡ answered made Empty
-    → (IsWellFormedDocument limits old → IsWellFormedDocument limits new) → window_names new ≡ window_names old → Does limits old new (Ok Empty) change
+pub does-answered : (limits : LimitTable) (old new made : Document) (change : Change) → new ≡ made →
+    change ≡ answered made Empty
+    → (IsWellFormedDocument limits old → IsWellFormedDocument limits new) → window_names new ≡ window_names old →
+    Does limits old new (Ok Empty) change
 does-answered limits old new made change is same formed windows = record {
   reply = λ _. ap (λ (c : Change). c.reply) (sym same);
   document = λ _. is ∙ ap (λ (c : Change). c.document) (sym same);
@@ -54,24 +58,29 @@ does-answered limits old new made change is same formed windows = record {
 }
 
 -- a document that goes on as it is
-pub does-nothing : (limits : LimitTable) (document : Document) (change : Change) → change ≡ answered document Empty → Does limits document document (Ok Empty) change
-does-nothing limits document change same = does-answered limits document document document change refl same (λ formed. formed) refl
+pub does-nothing : (limits : LimitTable) (document : Document) (change : Change) → change ≡ answered document Empty →
+    Does limits document document (Ok Empty) change
+does-nothing limits document change same =
+    does-answered limits document document document change refl same (λ formed. formed) refl
 
 -- what has to be shown of the parts after a change that keeps the widgets
 pub record IsChanged (limits : LimitTable) (old new : Parts) (document : Document) (change : Change) : Type 0 where
   pub sound : IsSound new
   pub is : change ≡ answered (document_of new) Empty
-  pub fits : FitsText limits.chars (model.characters old.content.cells) old.journal.log.history → FitsText limits.chars (model.characters new.content.cells) new.journal.log.history
+  pub fits : FitsText limits.chars (model.characters old.content.cells) old.journal.log.history →
+      FitsText limits.chars (model.characters new.content.cells) new.journal.log.history
   pub tags : length old.tags.tags ≤ limits.tags + 1 → length new.tags.tags ≤ limits.tags + 1
   pub marks : length old.marks.marks ≤ limits.marks → length new.marks.marks ≤ limits.marks
   pub seats : new.seats.entries ≡ old.seats.entries
 
 -- what a change leaves is sound, and it does what the definition says
-pub record Leaves (limits : LimitTable) (new : Parts) (document : Document) (result : Result Answer Fault) (change : Change) : Type 0 where
+pub record Leaves (limits : LimitTable) (new : Parts) (document : Document) (result : Result Answer Fault)
+    (change : Change) : Type 0 where
   pub sound : IsSound new
   pub does : Does limits document (document_of new) result change
 
-pub does-changed : (limits : LimitTable) (old new : Parts) (document : Document) (change : Change) → Stands old document → IsChanged limits old new document change
+pub does-changed : (limits : LimitTable) (old new : Parts) (document : Document) (change : Change) →
+    Stands old document → IsChanged limits old new document change
     → Leaves limits new document (Ok Empty) change
 does-changed limits old new document change stands changed =
     record {
@@ -82,6 +91,8 @@ does-changed limits old new document change stands changed =
           let many = formed.mark_count in
           let tags = tags-kept old document stands.is in
           let marks = marks-kept old document stands.is in
-          IsWellFormedDocument-kept limits new changed.sound (changed.fits (fits-kept limits old document stands.is formed)) (changed.tags (omega (arith, few, tags))) (changed.marks (omega (arith, many, marks))))
+          IsWellFormedDocument-kept limits new changed.sound
+          (changed.fits (fits-kept limits old document stands.is formed)) (changed.tags (omega (arith, few, tags)))
+          (changed.marks (omega (arith, many, marks))))
           (windows-kept new ∙ ap names_of changed.seats ∙ sym (windows-kept old) ∙ ap window_names stands.is);
     }

@@ -1,5 +1,6 @@
 -- The widgets of a document by their names.
-use Rattle.std.proofs.Common.{◌≡◌, ℕ, suc, ◌+◌, Bool, true, false, cond, List, [], ◌∷◌, map, refl, sym, ap, ◌∙◌, arith, inl, inr, ◌⊎◌, true≢false}
+use Rattle.std.proofs.Common.{◌≡◌, ℕ, suc, ◌+◌, Bool, true, false, cond, List, [], ◌∷◌, map, refl, sym, ap, ◌∙◌, arith}
+use Rattle.std.proofs.Common.{inl, inr, ◌⊎◌, true≢false}
 use Rattle.std.specs.Prelude.{IfSome, bytes_eq, find, slice_get, Option, None, Some, is_some, ◌||◌}
 use Rattle.std.specs.List.{position_from}
 use Rattle.std.proofs.lemmas.Bool.{false_from_ne_true}
@@ -18,10 +19,12 @@ use Rattle.documents.proofs.WellFormedLaws.{windows-kept}
 pub bytes_eq-turned : (a b : List ℕ) → bytes_eq a b ≡ bytes_eq b a
 bytes_eq-turned a b = elim (bytes_eq b a) as (λ v. bytes_eq b a ≡ v → bytes_eq a b ≡ v) [
   | true ↦ λ same. (bytes_eq-Decides a b).1 (sym ((bytes_eq-Decides b a).0 same))
-  | false ↦ λ other. false_from_ne_true (bytes_eq a b) (λ same. true≢false (sym ((bytes_eq-Decides b a).1 (sym ((bytes_eq-Decides a b).0 same))) ∙ other))
+  | false ↦ λ other. false_from_ne_true (bytes_eq a b) (λ same.
+      true≢false (sym ((bytes_eq-Decides b a).1 (sym ((bytes_eq-Decides a b).0 same))) ∙ other))
 ] refl
 
-module _ (name : List ℕ) (widget_for : Named → Widget) (named_so : (seat : Named) → (widget_for seat).name ≡ seat.name) where
+module _ (name : List ℕ) (widget_for : Named → Widget) (named_so : (seat : Named) →
+    (widget_for seat).name ≡ seat.name) where
   abbrev test : Named → Bool
   test seat = bytes_eq name seat.name
 
@@ -29,11 +32,13 @@ module _ (name : List ℕ) (widget_for : Named → Widget) (named_so : (seat : N
   sought seats = find (λ (widget : Widget). is_same widget.name name) (map widget_for seats)
 
   abbrev IsNowhere : ℕ → List Named → Type 0
-  IsNowhere from seats = (position_from test from seats ≡ None) × (sought seats ≡ None) × (is_among name (names_of seats) ≡ false)
+  IsNowhere from seats =
+      (position_from test from seats ≡ None) × (sought seats ≡ None) × (is_among name (names_of seats) ≡ false)
 
   abbrev IsSomewhere : ℕ → List Named → Type 0
   IsSomewhere from seats =
-      (at : ℕ) × (seat : Named) × (position_from test from seats ≡ Some (from + at)) × (slice_get seats at ≡ Some seat) × (sought seats ≡ Some (widget_for seat)) × (is_among name (names_of seats) ≡ true)
+      (at : ℕ) × (seat : Named) × (position_from test from seats ≡ Some (from + at)) × (slice_get seats at ≡ Some seat)
+      × (sought seats ≡ Some (widget_for seat)) × (is_among name (names_of seats) ≡ true)
 
   test-is : (seat : Named) → is_same (widget_for seat).name name ≡ test seat
   test-is seat = ap (λ n. bytes_eq n name) (named_so seat) ∙ bytes_eq-turned seat.name name
@@ -45,7 +50,8 @@ module _ (name : List ℕ) (widget_for : Named → Widget) (named_so : (seat : N
         | true ↦ λ same. inr (
           0,
           seat,
-          ap (λ b. cond b (Some from) (position_from test (from + 1) seats)) same ∙ ap Some (let h : from ≡ from + 0 = omega arith in h),
+          ap (λ b. cond b (Some from) (position_from test (from + 1) seats)) same
+              ∙ ap Some (let h : from ≡ from + 0 = omega arith in h),
           refl,
           ap (λ b. cond b (Some (widget_for seat)) (sought seats)) (test-is seat ∙ same),
           ap (λ b. b || is_among name (names_of seats)) same,
@@ -89,17 +95,20 @@ module _ (parts : Parts) (document : Document) (name : List ℕ) (stands : Stand
     | inr there ↦ absurd (none-some (0 + there.0) (sym none ∙ is ∙ place-from ∙ there.2))
   ]
 
-  pub widget-some : (found : Option ℕ) → found ≡ place_of name seats → IfSome found (λ at. widget_named name document ≡ Some (widget_at document at))
+  pub widget-some : (found : Option ℕ) → found ≡ place_of name seats →
+      IfSome found (λ at. widget_named name document ≡ Some (widget_at document at))
   widget-some None is = tt
   widget-some (Some at) is = elim (found_seat name held same_name 0 seats) [
     | inl nowhere ↦ absurd (none-some at (sym (is ∙ place-from ∙ nowhere.0)))
     | inr there ↦
         let same : 0 + there.0 ≡ at = same_Some (0 + there.0) at (sym (is ∙ place-from ∙ there.2)) in
         let here : there.0 ≡ at = omega (arith, same) in
-        named-is ∙ there.4 ∙ ap Some (sym (widget-is parts document at there.1 stands.is (ap (slice_get seats) (sym here) ∙ there.3)))
+        named-is ∙ there.4
+        ∙ ap Some (sym (widget-is parts document at there.1 stands.is (ap (slice_get seats) (sym here) ∙ there.3)))
   ]
 
-  pub widget-among : (found : Option ℕ) → found ≡ place_of name seats → is_some found ≡ is_among name (window_names document)
+  pub widget-among : (found : Option ℕ) → found ≡ place_of name seats →
+      is_some found ≡ is_among name (window_names document)
   widget-among found is =
       let names : window_names document ≡ names_of seats = ap window_names (sym stands.is) ∙ windows-kept parts in
       ap is_some (is ∙ place-from)

@@ -1,5 +1,6 @@
 -- A new document.
-use Rattle.std.proofs.Common.{◌≡◌, ◌≢◌, ℕ, zero, suc, ◌+◌, ◌<◌, ◌≤◌, cond, List, [], ◌∷◌, refl, sym, ap, ◌∙◌, true≢false, arith}
+use Rattle.std.proofs.Common.{◌≡◌, ◌≢◌, ℕ, zero, suc, ◌+◌, ◌<◌, ◌≤◌, cond, List, [], ◌∷◌, refl, sym, ap, ◌∙◌}
+use Rattle.std.proofs.Common.{true≢false, arith}
 use Rattle.std.specs.Prelude.{Some, None, slice_get, option_map}
 use Rattle.std.specs.Ordering.{nat_cmp}
 use Rattle.std.specs.FinMap as finite
@@ -32,7 +33,12 @@ bare_parts = record {
   seats = record { entries = []; limit = MOST_WIDGETS };
   tags = record { tags = sel_alone; limit = MOST_TAGS };
   marks = record { marks = []; limit = MOST_MARKS };
-  journal = record { settings = first_document_settings; disabled = []; anchors = []; log = record { history = no_history; modified = unmodified; most = 0 } };
+  journal = record {
+    settings = first_document_settings;
+    disabled = [];
+    anchors = [];
+    log = record { history = no_history; modified = unmodified; most = 0 };
+  };
   content = new_content;
 }
 
@@ -44,7 +50,8 @@ apart_one x zero zero y is also = refl
 apart_one x zero (suc j) y is also = absurd (none-some y also)
 apart_one x (suc i) j y is also = absurd (none-some y is)
 
-others_first : (at slot : ℕ) → slice_get (0 ∷ []) at ≡ Some slot → slot ≢ 0 → (first_slot ≤ slot) × (slot < first_slot + MOST_TAGS)
+others_first : (at slot : ℕ) → slice_get (0 ∷ []) at ≡ Some slot → slot ≢ 0 →
+    (first_slot ≤ slot) × (slot < first_slot + MOST_TAGS)
 others_first zero slot is other = absurd (other (sym (same_Some 0 slot is)))
 others_first (suc at) slot is other = absurd (none-some slot is)
 
@@ -52,7 +59,8 @@ sound-tags : AreTags bare_parts.tags
 sound-tags = record {
   names_apart = apart_one sel;
   slots_apart = apart_one 0;
-  selection = ap (λ b. option_map (λ (tag : Tag). tag.slot) (cond b (Some (record { name = sel; slot = 0 })) None)) ((bytes_eq-Decides sel sel).1 refl);
+  selection = ap (λ b. option_map (λ (tag : Tag). tag.slot) (cond b (Some (record { name = sel; slot = 0 })) None))
+      ((bytes_eq-Decides sel sel).1 refl);
   others = others_first;
   room = omega arith;
   limit = omega arith;
@@ -85,7 +93,8 @@ sound-bare = record {
     short = omega arith;
     marks = stand-new;
     own = tt;
-    known = All-cons (HasKnownSlots [] sel_alone) _ [] (λ slot there. absurd (true≢false (sym there ∙ set.contains-empty nat_cmp slot))) (All-nil (HasKnownSlots [] sel_alone));
+    known = All-cons (HasKnownSlots [] sel_alone) _ [] (λ slot there.
+        absurd (true≢false (sym there ∙ set.contains-empty nat_cmp slot))) (All-nil (HasKnownSlots [] sel_alone));
     tags = sound-tags;
     roomy = refl;
   };
@@ -97,4 +106,6 @@ sound-bare = record {
 pub formed-bare : (limits : LimitTable) → AreLimits limits → IsWellFormedDocument limits (document_of bare_parts)
 formed-bare limits are =
     let some = are.some in
-    IsWellFormedDocument-kept limits bare_parts sound-bare (record { short = omega (arith, some); filled = tt; undone_filled = tt; reverts = refl; repeats = refl }) (omega arith) (omega arith)
+    IsWellFormedDocument-kept limits bare_parts sound-bare
+    (record { short = omega (arith, some); filled = tt; undone_filled = tt; reverts = refl; repeats = refl })
+    (omega arith) (omega arith)

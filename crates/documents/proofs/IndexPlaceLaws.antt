@@ -16,7 +16,8 @@ use Rattle.documents.specs.Names.{key_of, mark_place, meanings, place_of}
 use Rattle.documents.specs.View.{shown, view_end, view_start}
 use Rattle.documents.proofs.ViewLaws.{part-length}
 
-mark-within : (document : Document) (widget : Widget) (number place : ℕ) → mark_place document widget number ≡ Some place
+mark-within : (document : Document) (widget : Widget) (number place : ℕ) →
+    mark_place document widget number ≡ Some place
     → place ≤ view_end document widget - view_start widget
 mark-within document widget zero place is =
     let start = view_start widget in
@@ -31,7 +32,8 @@ mark-within document widget (suc zero) place is =
 mark-within document widget (suc (suc k)) place is =
     let start = view_start widget in
     let end = view_end document widget in
-    option_and_then_some (λ (mark : SharedMark). shared_place start end mark.place) (slice_get document.marks k) place is
+    option_and_then_some (λ (mark : SharedMark). shared_place start end mark.place) (slice_get document.marks k) place
+    is
     (λ mark there one. shared-within start end mark.place place one)
 
 meant-within : (document : Document) (widget : Widget) → view_end document widget ≤ length document.cells
@@ -41,7 +43,8 @@ meant-within document widget within =
     let end = view_end document widget in
     let text = characters document.cells in
     let long : length text ≡ length document.cells = length-map document.cells (λ (cell : KeyedCell). cell.character) in
-    let seen : length (shown document widget) ≡ end - start = part-length text start end (omega (arith, within, long)) in
+    let seen : length (shown document widget)
+    ≡ end - start = part-length text start end (omega (arith, within, long)) in
     record {
       places = λ number place is. omega (arith, seen, mark-within document widget number place is);
       flags = λ slot.
@@ -51,12 +54,14 @@ meant-within document widget within =
           omega (arith, seen, part-length (map has document.cells) start end (omega (arith, within, count)));
     }
 
-pub place-within : (document : Document) (widget : Widget) (at : ℕ) (word : List ℕ) (place : ℕ) → view_end document widget ≤ length document.cells
+pub place-within : (document : Document) (widget : Widget) (at : ℕ) (word : List ℕ) (place : ℕ) →
+    view_end document widget ≤ length document.cells
     → place_at document widget at word ≡ Ok place → place ≤ length (shown document widget)
 place-within document widget at word place within is =
     let meant = meanings document widget in
     let text = shown document widget in
-    elim (place_of document widget word) as (λ r. ((p : ℕ) → r ≡ Ok p → p ≤ length text) → at_position at r ≡ Ok place → place ≤ length text) [
+    elim (place_of document widget word) as (λ r. ((p : ℕ) → r ≡ Ok p → p ≤ length text) → at_position at r ≡ Ok place →
+    place ≤ length text) [
       | Err fault ↦ λ _ none. absurd (let h : Err (index_fault at fault) ≡ Ok place = none in cc)
       | Ok found ↦ λ bound there. let same : found ≡ place = cc in bound place (ap Ok same)
     ] (value_of-le is_word meant text (index_of meant.marks meant.tags word) (meant-within document widget within)) is

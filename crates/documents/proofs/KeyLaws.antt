@@ -9,7 +9,8 @@ use Rattle.std.proofs.lemmas.Map.Lookups.{CmpEqualImpliesEq, exact_pairs, exact_
 use Rattle.documents.specs.Keys.{Key, key_cmp, rank}
 
 pub key_cmp_total : IsTotalOrder key_cmp
-key_cmp_total = then_total (on_total (λ (key : Key). rank key.selects) nat_cmp_total) (on_total (λ (key : Key). key.name) nat_list_cmp_total)
+key_cmp_total = then_total (on_total (λ (key : Key). rank key.selects) nat_cmp_total)
+    (on_total (λ (key : Key). key.name) nat_list_cmp_total)
 
 is_above : ℕ → Bool
 is_above zero = false
@@ -23,7 +24,9 @@ back false = refl
 -- keys that compare alike are one
 pub key_cmp_exact : CmpEqualImpliesEq key_cmp
 key_cmp_exact a b alike =
-    let pairs = exact_pairs nat_cmp (slice_cmp nat_cmp) exact_unsigned (slice_cmp-IsAntisymmetric nat_cmp-IsAntisymmetric) (rank a.selects, a.name) (rank b.selects, b.name) alike in
-    let selects : a.selects ≡ b.selects = sym (back a.selects) ∙ ap (λ (p : ℕ × List ℕ). is_above p.0) pairs ∙ back b.selects in
+    let pairs = exact_pairs nat_cmp (slice_cmp nat_cmp) exact_unsigned
+    (slice_cmp-IsAntisymmetric nat_cmp-IsAntisymmetric) (rank a.selects, a.name) (rank b.selects, b.name) alike in
+    let selects : a.selects ≡ b.selects = sym (back a.selects) ∙ ap (λ (p : ℕ × List ℕ). is_above p.0) pairs
+    ∙ back b.selects in
     let name : a.name ≡ b.name = ap (λ (p : ℕ × List ℕ). p.1) pairs in
     λ i. record { selects = selects i; name = name i }

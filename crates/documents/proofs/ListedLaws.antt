@@ -15,26 +15,34 @@ use Rattle.documents.specs.Marks.{mark_names}
 use Rattle.documents.proofs.PlacedLaws.{placed-names}
 
 -- the text of a list that was begun with nothing
-pub written : (bytes : List ℕ) (elements : List (List ℕ)) → IsUtf8 bytes → Goes [] bytes elements → chars bytes ≡ list_text elements
+pub written : (bytes : List ℕ) (elements : List (List ℕ)) → IsUtf8 bytes → Goes [] bytes elements →
+    chars bytes ≡ list_text elements
 written bytes elements text goes = sym (chars_from_encodes (list_text elements) bytes text (sym (goes [] refl)))
 
-pub tags-listed : (parts : Parts) (document : Document) → Stands parts document → tag_names parts.tags.tags ≡ document.tags
+pub tags-listed : (parts : Parts) (document : Document) → Stands parts document →
+    tag_names parts.tags.tags ≡ document.tags
 tags-listed parts document stands = ap (λ (d : Document). d.tags) stands.is
 
-pub marks-listed : (parts : Parts) (document : Document) → Stands parts document → literal "insert" ∷ literal "current" ∷ names_of parts.marks.marks ≡ mark_names document
-marks-listed parts document stands = ap (λ names. literal "insert" ∷ literal "current" ∷ names) (sym (placed-names parts.content.marks parts.marks.marks)) ∙ ap mark_names stands.is
+pub marks-listed : (parts : Parts) (document : Document) → Stands parts document →
+    literal "insert" ∷ literal "current" ∷ names_of parts.marks.marks ≡ mark_names document
+marks-listed parts document stands = ap (λ names. literal "insert" ∷ literal "current" ∷ names)
+    (sym (placed-names parts.content.marks parts.marks.marks)) ∙ ap mark_names stands.is
 
 -- the name of a shared mark by its place, and where there is none
-pub name-shared : (parts : Parts) (document : Document) (place : ℕ) (word : List ℕ) → Stands parts document → slice_get (names_of parts.marks.marks) place ≡ Some word
+pub name-shared : (parts : Parts) (document : Document) (place : ℕ) (word : List ℕ) → Stands parts document →
+    slice_get (names_of parts.marks.marks) place ≡ Some word
     → word ≡ slice_index_or (mark_names document) (2 + place) []
 name-shared parts document place word stands is =
     let two : 2 + place ≡ suc (suc place) = omega arith in
-    sym (get_or_from_slice_get (names_of parts.marks.marks) place word [] is) ∙ sym (ap (λ n. slice_index_or (literal "insert" ∷ literal "current" ∷ names_of parts.marks.marks) n []) two)
+    sym (get_or_from_slice_get (names_of parts.marks.marks) place word [] is)
+    ∙ sym (ap (λ n. slice_index_or (literal "insert" ∷ literal "current" ∷ names_of parts.marks.marks) n []) two)
     ∙ ap (λ names. slice_index_or names (2 + place) []) (marks-listed parts document stands)
 
-pub name-past : (parts : Parts) (document : Document) (place : ℕ) → Stands parts document → length parts.marks.marks ≤ place → [] ≡ slice_index_or (mark_names document) (2 + place) []
+pub name-past : (parts : Parts) (document : Document) (place : ℕ) → Stands parts document →
+    length parts.marks.marks ≤ place → [] ≡ slice_index_or (mark_names document) (2 + place) []
 name-past parts document place stands past =
     let two : 2 + place ≡ suc (suc place) = omega arith in
-    sym (get_or_past (names_of parts.marks.marks) place [] (omega (arith, past, length-map parts.marks.marks (λ (mark : Mark). mark.name))))
+    sym (get_or_past (names_of parts.marks.marks) place []
+    (omega (arith, past, length-map parts.marks.marks (λ (mark : Mark). mark.name))))
     ∙ sym (ap (λ n. slice_index_or (literal "insert" ∷ literal "current" ∷ names_of parts.marks.marks) n []) two)
     ∙ ap (λ names. slice_index_or names (2 + place) []) (marks-listed parts document stands)

@@ -1,6 +1,8 @@
 -- The marks that a widget can use in their order: by their places in its view, and by those in the text.
-use Rattle.std.proofs.Common.{◌≡◌, ◌≢◌, ℕ, ◌+◌, ◌-◌, ◌*◌, ◌<◌, ◌≤◌, min, max, Bool, true, false, cond, List, [], ◌∷◌, ◌++◌, map, refl, sym, ap, ap₂, ◌∙◌, arith, subst, true≢false, eqb-true, eq-eqb}
-use Rattle.std.specs.Prelude.{find, get_or, length, nat_le, nat_lt, Option, None, Some, is_some, option_map, option_and_then, unwrap_or, ◌&&◌, ◌||◌, ◌==◌, if◌then◌else◌}
+use Rattle.std.proofs.Common.{◌≡◌, ◌≢◌, ℕ, ◌+◌, ◌-◌, ◌*◌, ◌<◌, ◌≤◌, min, max, Bool, true, false, cond, List, [], ◌∷◌}
+use Rattle.std.proofs.Common.{◌++◌, map, refl, sym, ap, ap₂, ◌∙◌, arith, subst, true≢false, eqb-true, eq-eqb}
+use Rattle.std.specs.Prelude.{find, get_or, length, nat_le, nat_lt, Option, None, Some, is_some, option_map}
+use Rattle.std.specs.Prelude.{option_and_then, unwrap_or, ◌&&◌, ◌||◌, ◌==◌, if◌then◌else◌}
 use Rattle.std.specs.FinMap as finite
 use Rattle.std.specs.List.{AllByRecursion, filter, fold}
 use Rattle.std.proofs.lemmas.Bool.{false≢true}
@@ -48,23 +50,32 @@ eq-shifted a b start = elim (a == b) as (λ v. (a == b) ≡ v → (a + start == 
 ] refl
 
 earlier-shifted : (start : ℕ) (a b : Shown) → earlier (shifted start a) (shifted start b) ≡ earlier a b
-earlier-shifted start a b = ap₂ (λ l e. l || (e && nat_lt a.rank b.rank)) (lt-shifted a.place b.place start) (eq-shifted a.place b.place start)
+earlier-shifted start a b =
+    ap₂ (λ l e. l || (e && nat_lt a.rank b.rank)) (lt-shifted a.place b.place start) (eq-shifted a.place b.place start)
 
-find-shifted : (start : ℕ) (rank : ℕ) (marks : List Shown) → find (λ (mark : Shown). mark.rank == rank) (map (shifted start) marks) ≡ option_map (shifted start) (find (λ (mark : Shown). mark.rank == rank) marks)
+find-shifted : (start : ℕ) (rank : ℕ) (marks : List Shown) →
+    find (λ (mark : Shown). mark.rank == rank) (map (shifted start) marks)
+    ≡ option_map (shifted start) (find (λ (mark : Shown). mark.rank == rank) marks)
 find-shifted start rank [] = refl
 find-shifted start rank (mark ∷ marks) =
-    elim (mark.rank == rank) as (λ b. cond b (Some (shifted start mark)) (find (λ (m : Shown). m.rank == rank) (map (shifted start) marks)) ≡ option_map (shifted start) (cond b (Some mark) (find (λ (m : Shown). m.rank == rank) marks))) [
+    elim (mark.rank == rank) as (λ b. cond b (Some (shifted start mark))
+    (find (λ (m : Shown). m.rank == rank) (map (shifted start) marks))
+    ≡ option_map (shifted start) (cond b (Some mark) (find (λ (m : Shown). m.rank == rank) marks))) [
       | true ↦ refl
       | false ↦ find-shifted start rank marks
     ]
 
-filter-shifted : (start : ℕ) (wanted passes : Shown → Bool) (marks : List Shown) → AllByRecursion (λ mark. wanted (shifted start mark) ≡ passes mark) marks
+filter-shifted : (start : ℕ) (wanted passes : Shown → Bool) (marks : List Shown) →
+    AllByRecursion (λ mark. wanted (shifted start mark) ≡ passes mark) marks
     → filter wanted (map (shifted start) marks) ≡ map (shifted start) (filter passes marks)
 filter-shifted start wanted passes [] same = refl
 filter-shifted start wanted passes (mark ∷ marks) same =
     let rest = filter-shifted start wanted passes marks same.1 in
-    ap (λ b. cond b (shifted start mark ∷ filter wanted (map (shifted start) marks)) (filter wanted (map (shifted start) marks))) same.0
-    ∙ elim (passes mark) as (λ b. cond b (shifted start mark ∷ filter wanted (map (shifted start) marks)) (filter wanted (map (shifted start) marks)) ≡ map (shifted start) (cond b (mark ∷ filter passes marks) (filter passes marks))) [
+    ap (λ b. cond b (shifted start mark ∷ filter wanted (map (shifted start) marks))
+    (filter wanted (map (shifted start) marks))) same.0
+    ∙ elim (passes mark) as (λ b. cond b (shifted start mark ∷ filter wanted (map (shifted start) marks))
+    (filter wanted (map (shifted start) marks))
+    ≡ map (shifted start) (cond b (mark ∷ filter passes marks) (filter passes marks))) [
       | true ↦ ap (λ others. shifted start mark ∷ others) rest
       | false ↦ rest
     ]
@@ -73,26 +84,38 @@ every : {A : Type 0} (P : A → Type 0) → ((x : A) → P x) → (xs : List A) 
 every P each [] = tt
 every P each (x ∷ xs) = (each x, every P each xs)
 
-chosen : (start : ℕ) (b : Bool) (x y : Shown) → (if b then shifted start x else shifted start y) ≡ shifted start (if b then x else y)
+chosen : (start : ℕ) (b : Bool) (x y : Shown) → (if b then shifted start x else shifted start y)
+    ≡ shifted start (if b then x else y)
 chosen start true x y = refl
 chosen start false x y = refl
 
-fold-shifted : (start : ℕ) (pick : Shown → Shown → Shown) → ((a b : Shown) → pick (shifted start a) (shifted start b) ≡ shifted start (pick a b)) → (best : Shown) (marks : List Shown)
+fold-shifted : (start : ℕ) (pick : Shown → Shown → Shown) →
+    ((a b : Shown) → pick (shifted start a) (shifted start b) ≡ shifted start (pick a b)) →
+    (best : Shown) (marks : List Shown)
     → fold pick (shifted start best) (map (shifted start) marks) ≡ shifted start (fold pick best marks)
 fold-shifted start pick same best [] = refl
-fold-shifted start pick same best (mark ∷ marks) = ap (λ b. fold pick b (map (shifted start) marks)) (same best mark) ∙ fold-shifted start pick same (pick best mark) marks
+fold-shifted start pick same best (mark ∷ marks) = ap (λ b. fold pick b (map (shifted start) marks)) (same best mark)
+    ∙ fold-shifted start pick same (pick best mark) marks
 
-first-shifted : (start : ℕ) (marks : List Shown) → order.first (map (shifted start) marks) ≡ option_map (shifted start) (order.first marks)
+first-shifted : (start : ℕ) (marks : List Shown) → order.first (map (shifted start) marks)
+    ≡ option_map (shifted start) (order.first marks)
 first-shifted start [] = refl
 first-shifted start (mark ∷ marks) =
-    ap Some (fold-shifted start (λ a b. if earlier b a then b else a) (λ a b. ap (λ t. if t then shifted start b else shifted start a) (earlier-shifted start b a) ∙ chosen start (earlier b a) b a) mark marks)
+    ap Some (fold-shifted start (λ a b. if earlier b a then b
+    else a) (λ a b. ap (λ t. if t then shifted start b else shifted start a) (earlier-shifted start b a)
+    ∙ chosen start (earlier b a) b a) mark marks)
 
-last-shifted : (start : ℕ) (marks : List Shown) → order.last (map (shifted start) marks) ≡ option_map (shifted start) (order.last marks)
+last-shifted : (start : ℕ) (marks : List Shown) → order.last (map (shifted start) marks)
+    ≡ option_map (shifted start) (order.last marks)
 last-shifted start [] = refl
 last-shifted start (mark ∷ marks) =
-    ap Some (fold-shifted start (λ a b. if earlier a b then b else a) (λ a b. ap (λ t. if t then shifted start b else shifted start a) (earlier-shifted start a b) ∙ chosen start (earlier a b) b a) mark marks)
+    ap Some (fold-shifted start (λ a b. if earlier a b then b
+    else a) (λ a b. ap (λ t. if t then shifted start b else shifted start a) (earlier-shifted start a b)
+    ∙ chosen start (earlier a b) b a) mark marks)
 
-named-shifted : (start : ℕ) (found : Option Shown) → option_map (λ (mark : Shown). order.mark_of mark.rank) (option_map (shifted start) found) ≡ option_map (λ (mark : Shown). order.mark_of mark.rank) found
+named-shifted : (start : ℕ) (found : Option Shown) →
+    option_map (λ (mark : Shown). order.mark_of mark.rank) (option_map (shifted start) found)
+    ≡ option_map (λ (mark : Shown). order.mark_of mark.rank) found
 named-shifted start None = refl
 named-shifted start (Some mark) = refl
 
@@ -100,66 +123,96 @@ named-shifted start (Some mark) = refl
 abbrev pub AreBelow : ℕ → ℕ → List Shown → Type 0
 AreBelow most start marks = AllByRecursion (λ (mark : Shown). mark.place + start < most) marks
 
-le-bounded : (most start place at : ℕ) → at + start < most → nat_le (min (place + start) most) (at + start) ≡ nat_le place at
-le-bounded most start place at below = elim (nat_le place at) as (λ v. nat_le place at ≡ v → nat_le (min (place + start) most) (at + start) ≡ v) [
-  | true ↦ λ is. let h : place ≤ at = grind (arith, nat_tests) in let e : min (place + start) most ≤ at + start = omega (arith, h) in grind (arith, nat_tests)
-  | false ↦ λ is. let h : at < place = grind (arith, nat_tests) in let e : at + start < min (place + start) most = omega (arith, h, below) in grind (arith, nat_tests)
-] refl
+le-bounded : (most start place at : ℕ) → at + start < most →
+    nat_le (min (place + start) most) (at + start) ≡ nat_le place at
+le-bounded most start place at below =
+    elim (nat_le place at) as (λ v. nat_le place at ≡ v → nat_le (min (place + start) most) (at + start) ≡ v) [
+      | true ↦ λ is. let h : place ≤ at = grind (arith, nat_tests) in
+          let e : min (place + start) most ≤ at + start = omega (arith, h) in grind (arith, nat_tests)
+      | false ↦ λ is. let h : at < place = grind (arith, nat_tests) in
+          let e : at + start < min (place + start) most = omega (arith, h, below) in grind (arith, nat_tests)
+    ] refl
 
-lt-bounded : (most start place at : ℕ) → at + start < most → nat_lt (at + start) (min (place + start) most) ≡ nat_lt at place
-lt-bounded most start place at below = elim (nat_lt at place) as (λ v. nat_lt at place ≡ v → nat_lt (at + start) (min (place + start) most) ≡ v) [
-  | true ↦ λ is. let h : at < place = grind (arith, nat_tests) in let e : at + start < min (place + start) most = omega (arith, h, below) in grind (arith, nat_tests)
-  | false ↦ λ is. let h : place ≤ at = grind (arith, nat_tests) in let e : min (place + start) most ≤ at + start = omega (arith, h) in grind (arith, nat_tests)
-] refl
+lt-bounded : (most start place at : ℕ) → at + start < most →
+    nat_lt (at + start) (min (place + start) most) ≡ nat_lt at place
+lt-bounded most start place at below =
+    elim (nat_lt at place) as (λ v. nat_lt at place ≡ v → nat_lt (at + start) (min (place + start) most) ≡ v) [
+      | true ↦ λ is. let h : at < place = grind (arith, nat_tests) in
+          let e : at + start < min (place + start) most = omega (arith, h, below) in grind (arith, nat_tests)
+      | false ↦ λ is. let h : place ≤ at = grind (arith, nat_tests) in
+          let e : min (place + start) most ≤ at + start = omega (arith, h) in grind (arith, nat_tests)
+    ] refl
 
-all-so : (most start : ℕ) (P : Shown → Type 0) → ((mark : Shown) → mark.place + start < most → P mark) → (marks : List Shown) → AreBelow most start marks → AllByRecursion P marks
+all-so : (most start : ℕ) (P : Shown → Type 0) → ((mark : Shown) → mark.place + start < most → P mark) →
+    (marks : List Shown) → AreBelow most start marks → AllByRecursion P marks
 all-so most start P each [] below = tt
 all-so most start P each (mark ∷ marks) below = (each mark below.0, all-so most start P each marks below.1)
 
 next-shown : (most start : ℕ) (origin : Origin) (marks : List Shown) → AreBelow most start marks
-    → order.next_shown (origin_in most start origin) (map (shifted start) marks) ≡ option_map (shifted start) (order.next_shown origin marks)
+    → order.next_shown (origin_in most start origin) (map (shifted start) marks)
+    ≡ option_map (shifted start) (order.next_shown origin marks)
 next-shown most start (From mark) marks below =
-    ap (option_and_then (λ from. order.first (filter (λ other. earlier from other) (map (shifted start) marks)))) (find-shifted start (order.rank_of mark) marks)
+    ap (option_and_then (λ from. order.first (filter (λ other. earlier from other) (map (shifted start) marks))))
+    (find-shifted start (order.rank_of mark) marks)
     ∙ by (order.shown_mark mark marks)
   where
-    by : (found : Option Shown) → option_and_then (λ from. order.first (filter (λ other. earlier from other) (map (shifted start) marks))) (option_map (shifted start) found)
-        ≡ option_map (shifted start) (option_and_then (λ from. order.first (filter (λ other. earlier from other) marks)) found)
+    by : (found : Option Shown) → option_and_then (λ from.
+        order.first (filter (λ other. earlier from other) (map (shifted start) marks)))
+        (option_map (shifted start) found)
+        ≡ option_map (shifted start) (option_and_then (λ from. order.first (filter (λ other. earlier from other) marks))
+        found)
     by None = refl
     by (Some from) =
-        ap order.first (filter-shifted start (λ other. earlier (shifted start from) other) (λ other. earlier from other) marks
-        (every (λ other. earlier (shifted start from) (shifted start other) ≡ earlier from other) (λ other. earlier-shifted start from other) marks))
+        ap order.first (filter-shifted start (λ other. earlier (shifted start from) other) (λ other. earlier from other)
+        marks
+        (every (λ other. earlier (shifted start from) (shifted start other)
+        ≡ earlier from other) (λ other. earlier-shifted start from other) marks))
         ∙ first-shifted start (filter (λ other. earlier from other) marks)
 next-shown most start (Offset place) marks below =
-    ap order.first (filter-shifted start (λ (mark : Shown). nat_le (min (place + start) most) mark.place) (λ (mark : Shown). nat_le place mark.place) marks
-    (all-so most start (λ (mark : Shown). nat_le (min (place + start) most) (mark.place + start) ≡ nat_le place mark.place) (λ mark under. le-bounded most start place mark.place under) marks below))
+    ap order.first (filter-shifted start (λ (mark : Shown). nat_le (min (place + start) most) mark.place)
+    (λ (mark : Shown). nat_le place mark.place) marks
+    (all-so most start (λ (mark : Shown). nat_le (min (place + start) most) (mark.place + start)
+    ≡ nat_le place mark.place) (λ mark under. le-bounded most start place mark.place under) marks below))
     ∙ first-shifted start (filter (λ (mark : Shown). nat_le place mark.place) marks)
 
 previous-shown : (most start : ℕ) (origin : Origin) (marks : List Shown) → AreBelow most start marks
-    → order.previous_shown (origin_in most start origin) (map (shifted start) marks) ≡ option_map (shifted start) (order.previous_shown origin marks)
+    → order.previous_shown (origin_in most start origin) (map (shifted start) marks)
+    ≡ option_map (shifted start) (order.previous_shown origin marks)
 previous-shown most start (From mark) marks below =
-    ap (option_and_then (λ from. order.last (filter (λ other. earlier other from) (map (shifted start) marks)))) (find-shifted start (order.rank_of mark) marks)
+    ap (option_and_then (λ from. order.last (filter (λ other. earlier other from) (map (shifted start) marks))))
+    (find-shifted start (order.rank_of mark) marks)
     ∙ by (order.shown_mark mark marks)
   where
-    by : (found : Option Shown) → option_and_then (λ from. order.last (filter (λ other. earlier other from) (map (shifted start) marks))) (option_map (shifted start) found)
-        ≡ option_map (shifted start) (option_and_then (λ from. order.last (filter (λ other. earlier other from) marks)) found)
+    by : (found : Option Shown) → option_and_then (λ from.
+        order.last (filter (λ other. earlier other from) (map (shifted start) marks)))
+        (option_map (shifted start) found)
+        ≡ option_map (shifted start) (option_and_then (λ from. order.last (filter (λ other. earlier other from) marks))
+        found)
     by None = refl
     by (Some from) =
-        ap order.last (filter-shifted start (λ other. earlier other (shifted start from)) (λ other. earlier other from) marks
-        (every (λ other. earlier (shifted start other) (shifted start from) ≡ earlier other from) (λ other. earlier-shifted start other from) marks))
+        ap order.last (filter-shifted start (λ other. earlier other (shifted start from)) (λ other. earlier other from)
+        marks
+        (every (λ other. earlier (shifted start other) (shifted start from)
+        ≡ earlier other from) (λ other. earlier-shifted start other from) marks))
         ∙ last-shifted start (filter (λ other. earlier other from) marks)
 previous-shown most start (Offset place) marks below =
-    ap order.last (filter-shifted start (λ (mark : Shown). nat_lt mark.place (min (place + start) most)) (λ (mark : Shown). nat_lt mark.place place) marks
-    (all-so most start (λ (mark : Shown). nat_lt (mark.place + start) (min (place + start) most) ≡ nat_lt mark.place place) (λ mark under. lt-bounded most start place mark.place under) marks below))
+    ap order.last (filter-shifted start (λ (mark : Shown). nat_lt mark.place (min (place + start) most))
+    (λ (mark : Shown). nat_lt mark.place place) marks
+    (all-so most start (λ (mark : Shown). nat_lt (mark.place + start) (min (place + start) most)
+    ≡ nat_lt mark.place place) (λ mark under. lt-bounded most start place mark.place under) marks below))
     ∙ last-shifted start (filter (λ (mark : Shown). nat_lt mark.place place) marks)
 
-pub next-shifted : (most start : ℕ) (origin : Origin) (marks : List Shown) → AreBelow most start marks → order.next_mark (origin_in most start origin) (map (shifted start) marks) ≡ order.next_mark origin marks
+pub next-shifted : (most start : ℕ) (origin : Origin) (marks : List Shown) → AreBelow most start marks →
+    order.next_mark (origin_in most start origin) (map (shifted start) marks) ≡ order.next_mark origin marks
 next-shifted most start origin marks below =
-    ap (option_map (λ (mark : Shown). order.mark_of mark.rank)) (next-shown most start origin marks below) ∙ named-shifted start (order.next_shown origin marks)
+    ap (option_map (λ (mark : Shown). order.mark_of mark.rank)) (next-shown most start origin marks below)
+    ∙ named-shifted start (order.next_shown origin marks)
 
 pub previous-shifted : (most start : ℕ) (origin : Origin) (marks : List Shown) → AreBelow most start marks
     → order.previous_mark (origin_in most start origin) (map (shifted start) marks) ≡ order.previous_mark origin marks
 previous-shifted most start origin marks below =
-    ap (option_map (λ (mark : Shown). order.mark_of mark.rank)) (previous-shown most start origin marks below) ∙ named-shifted start (order.previous_shown origin marks)
+    ap (option_map (λ (mark : Shown). order.mark_of mark.rank)) (previous-shown most start origin marks below)
+    ∙ named-shifted start (order.previous_shown origin marks)
 
 -- ---- the marks that are usable
 
@@ -167,22 +220,31 @@ module _ (start end : ℕ) (ordered : start ≤ end) (slot : ℕ) where
   abbrev bounds : MarkView
   bounds = record { widget = record { 0 = slot }; start = start; end = end }
 
-  own-places : (offset : ℕ) → (if start == end then start else max start (min offset (end - 1))) ≡ min (offset - start) (end - start - 1) + start
-  own-places offset = elim (start == end) as (λ b. (start == end) ≡ b → (if b then start else max start (min offset (end - 1))) ≡ min (offset - start) (end - start - 1) + start) [
-    | true ↦ λ same. let h : start ≡ end = eqb-true start end same in omega (arith, h)
-    | false ↦ λ other. let h : start ≢ end = λ is. true≢false (sym (eq-eqb start end is) ∙ other) in omega (arith, h, ordered)
-  ] refl
+  own-places : (offset : ℕ) → (if start == end then start else max start (min offset (end - 1)))
+      ≡ min (offset - start) (end - start - 1) + start
+  own-places offset = elim (start == end) as (λ b. (start == end) ≡ b →
+      (if b then start else max start (min offset (end - 1))) ≡ min (offset - start) (end - start - 1) + start) [
+        | true ↦ λ same. let h : start ≡ end = eqb-true start end same in omega (arith, h)
+        | false ↦ λ other. let h : start ≢ end = λ is. true≢false (sym (eq-eqb start end is) ∙ other) in
+            omega (arith, h, ordered)
+      ] refl
 
-  own-shown : (rank : ℕ) (found : Option Place) → is_some found ≡ true → order.own_mark bounds rank found ≡ map (shifted start) (shown_at rank (Some (view.own_place start end (unwrap_or found new_mark))))
+  own-shown : (rank : ℕ) (found : Option Place) → is_some found ≡ true →
+      order.own_mark bounds rank found ≡ map (shifted start)
+      (shown_at rank (Some (view.own_place start end (unwrap_or found new_mark))))
   own-shown rank None there = absurd (false≢true there)
   own-shown rank (Some place) there = ap (λ (p : ℕ). record { place = p; rank = rank } ∷ []) (own-places place.offset)
 
-  shared-one : (rank : ℕ) (found : Option Place) → is_some found ≡ true → order.shared_mark bounds rank found ≡ map (shifted start) (shown_at rank (view.shared_place start end (unwrap_or found new_mark)))
+  shared-one : (rank : ℕ) (found : Option Place) → is_some found ≡ true →
+      order.shared_mark bounds rank found ≡ map (shifted start)
+      (shown_at rank (view.shared_place start end (unwrap_or found new_mark)))
   shared-one rank None there = absurd (false≢true there)
   shared-one rank (Some place) there =
       elim (nat_le start place.offset) as (λ b. nat_le start place.offset ≡ b
-      → ◌≡◌ {A = List Shown} (if b && nat_le place.offset end then record { place = place.offset; rank = rank } ∷ [] else [])
-      (map (shifted start) (shown_at rank (if b && nat_le place.offset end then Some (place.offset - start) else None)))) [
+      → ◌≡◌ {A = List Shown} (if b && nat_le place.offset end then record { place = place.offset; rank = rank } ∷ []
+      else [])
+      (map (shifted start) (shown_at rank (if b && nat_le place.offset end then Some (place.offset - start)
+      else None)))) [
         | true ↦ λ after.
             let h : start ≤ place.offset = grind (arith, nat_tests) in
             by (let e : place.offset ≡ place.offset - start + start = omega (arith, h) in e) (nat_le place.offset end)
@@ -190,16 +252,21 @@ module _ (start end : ℕ) (ordered : start ≤ end) (slot : ℕ) where
       ] refl
     where
       by : place.offset ≡ place.offset - start + start → (b : Bool)
-          → ◌≡◌ {A = List Shown} (if b then record { place = place.offset; rank = rank } ∷ [] else []) (map (shifted start) (shown_at rank (if b then Some (place.offset - start) else None)))
+          → ◌≡◌ {A = List Shown} (if b then record { place = place.offset; rank = rank } ∷ []
+          else []) (map (shifted start) (shown_at rank (if b then Some (place.offset - start) else None)))
       by same true = ap (λ (p : ℕ). record { place = p; rank = rank } ∷ []) same
       by same false = refl
 
   shared-shown : (places : Marks) (rank : ℕ) (marks : List Mark) → AllByRecursion (IsMarked places) marks
-      → order.shared_marks bounds places rank (numbers_of marks) ≡ map (shifted start) (shared_from start end rank (placed places marks))
+      → order.shared_marks bounds places rank (numbers_of marks)
+      ≡ map (shifted start) (shared_from start end rank (placed places marks))
   shared-shown places rank [] each = refl
   shared-shown places rank (mark ∷ marks) each =
-      ap₂ (λ (some others : List Shown). some ++ others) (shared-one rank (finite.get places mark.number) (marked-there places mark each.0)) (shared-shown places (rank + 1) marks each.1)
-      ∙ sym (map-append (shifted start) (shown_at rank (view.shared_place start end (mark_of places mark.number))) (shared_from start end (rank + 1) (placed places marks)))
+      ap₂ (λ (some others : List Shown). some ++ others)
+      (shared-one rank (finite.get places mark.number) (marked-there places mark each.0))
+      (shared-shown places (rank + 1) marks each.1)
+      ∙ sym (map-append (shifted start) (shown_at rank (view.shared_place start end (mark_of places mark.number)))
+      (shared_from start end (rank + 1) (placed places marks)))
 
   -- none stands behind the end
   abbrev IsIn : Shown → Type 0
@@ -210,31 +277,38 @@ module _ (start end : ℕ) (ordered : start ≤ end) (slot : ℕ) where
   both-in (x ∷ xs) ys in_xs in_ys = (in_xs.0, both-in xs ys in_xs.1 in_ys)
 
   own-in : (rank : ℕ) (place : Place) → AllByRecursion IsIn (shown_at rank (Some (view.own_place start end place)))
-  own-in rank place = (let h : min (place.offset - start) (end - start - 1) + start ≤ end = omega (arith, ordered) in h, tt)
+  own-in rank place =
+      (let h : min (place.offset - start) (end - start - 1) + start ≤ end = omega (arith, ordered) in h, tt)
 
   one-in : (rank : ℕ) (place : Place) → AllByRecursion IsIn (shown_at rank (view.shared_place start end place))
   one-in rank place =
-      elim (nat_le start place.offset) as (λ b. nat_le start place.offset ≡ b → AllByRecursion IsIn (shown_at rank (if b && nat_le place.offset end then Some (place.offset - start) else None))) [
-        | true ↦ λ after. elim (nat_le place.offset end) as (λ b. nat_le place.offset end ≡ b → AllByRecursion IsIn (shown_at rank (if b then Some (place.offset - start) else None))) [
-          | true ↦ λ before.
-              let low : start ≤ place.offset = grind (arith, nat_tests) in
-              let high : place.offset ≤ end = grind (arith, nat_tests) in
-              (let h : place.offset - start + start ≤ end = omega (arith, low, high) in h, tt)
-          | false ↦ λ _. tt
-        ] refl
+      elim (nat_le start place.offset) as (λ b. nat_le start place.offset ≡ b →
+      AllByRecursion IsIn (shown_at rank (if b && nat_le place.offset end then Some (place.offset - start)
+      else None))) [
+        | true ↦ λ after. elim (nat_le place.offset end) as (λ b. nat_le place.offset end ≡ b →
+            AllByRecursion IsIn (shown_at rank (if b then Some (place.offset - start) else None))) [
+              | true ↦ λ before.
+                  let low : start ≤ place.offset = grind (arith, nat_tests) in
+                  let high : place.offset ≤ end = grind (arith, nat_tests) in
+                  (let h : place.offset - start + start ≤ end = omega (arith, low, high) in h, tt)
+              | false ↦ λ _. tt
+            ] refl
         | false ↦ λ _. tt
       ] refl
 
   shared-in : (rank : ℕ) (marks : List SharedMark) → AllByRecursion IsIn (shared_from start end rank marks)
   shared-in rank [] = tt
-  shared-in rank (mark ∷ marks) = both-in (shown_at rank (view.shared_place start end mark.place)) (shared_from start end (rank + 1) marks) (one-in rank mark.place) (shared-in (rank + 1) marks)
+  shared-in rank (mark ∷ marks) = both-in (shown_at rank (view.shared_place start end mark.place))
+      (shared_from start end (rank + 1) marks) (one-in rank mark.place) (shared-in (rank + 1) marks)
 
 -- the marks of a widget's own and the shared ones, between two bounds
 abbrev listed : ℕ → ℕ → Place → Place → List SharedMark → List Shown
 listed start end insert current marks =
-    shown_at 0 (Some (view.own_place start end insert)) ++ (shown_at 1 (Some (view.own_place start end current)) ++ shared_from start end 2 marks)
+    shown_at 0 (Some (view.own_place start end insert))
+    ++ (shown_at 1 (Some (view.own_place start end current)) ++ shared_from start end 2 marks)
 
-module _ (parts : Parts) (document : Document) (place slot : ℕ) (stands : Stands parts document) (sits : Sits parts document place slot) where
+module _ (parts : Parts) (document : Document) (place slot : ℕ) (stands : Stands parts document)
+    (sits : Sits parts document place slot) where
   abbrev widget : Widget
   widget = widget_at document place
 
@@ -250,21 +324,27 @@ module _ (parts : Parts) (document : Document) (place slot : ℕ) (stands : Stan
   abbrev shared : List SharedMark
   shared = placed places parts.marks.marks
 
-  listed-is : listed start end (mark_of places (2 * slot)) (mark_of places (2 * slot + 1)) shared ≡ usable_marks document widget
+  listed-is : listed start end (mark_of places (2 * slot)) (mark_of places (2 * slot + 1)) shared
+      ≡ usable_marks document widget
   listed-is =
-      sym (λ i. listed (start-is parts document place slot stands sits i) (end-is parts document place slot stands sits i) (insert-is parts document place slot stands sits i)
+      sym (λ i. listed (start-is parts document place slot stands sits i)
+      (end-is parts document place slot stands sits i) (insert-is parts document place slot stands sits i)
       (current-is parts document place slot stands sits i) (sym stands.is i).marks)
 
-  pub usable-is : usable (record { widget = record { 0 = slot }; start = start; end = end }) places (numbers_of parts.marks.marks) ≡ map (shifted start) (usable_marks document widget)
+  pub usable-is : usable (record { widget = record { 0 = slot }; start = start; end = end }) places
+      (numbers_of parts.marks.marks) ≡ map (shifted start) (usable_marks document widget)
   usable-is =
       let ordered = ordered-is parts document place slot stands sits in
       let first = shown_at 0 (Some (view.own_place start end (mark_of places (2 * slot)))) in
       let second = shown_at 1 (Some (view.own_place start end (mark_of places (2 * slot + 1)))) in
       let others = shared_from start end 2 shared in
-      ap₂ (λ (some others : List Shown). some ++ others) (own-shown start end ordered slot 0 (finite.get places (2 * slot)) sits.insert)
-      (ap₂ (λ (some others : List Shown). some ++ others) (own-shown start end ordered slot 1 (finite.get places (2 * slot + 1)) sits.current)
+      ap₂ (λ (some others : List Shown). some ++ others)
+      (own-shown start end ordered slot 0 (finite.get places (2 * slot)) sits.insert)
+      (ap₂ (λ (some others : List Shown). some ++ others)
+      (own-shown start end ordered slot 1 (finite.get places (2 * slot + 1)) sits.current)
       (shared-shown start end ordered slot places 2 parts.marks.marks stands.sound.marked.each))
-      ∙ sym (map-append (shifted start) first (second ++ others) ∙ ap (λ marks. map (shifted start) first ++ marks) (map-append (shifted start) second others))
+      ∙ sym (map-append (shifted start) first (second ++ others)
+      ∙ ap (λ marks. map (shifted start) first ++ marks) (map-append (shifted start) second others))
       ∙ ap (map (shifted start)) listed-is
 
   pub usable-below : (most : ℕ) → MOST_CHARS < most → AreBelow most start (usable_marks document widget)
@@ -274,33 +354,82 @@ module _ (parts : Parts) (document : Document) (place slot : ℕ) (stands : Stan
       let short = stands.sound.kept.short in
       let insert = mark_of places (2 * slot) in
       let current = mark_of places (2 * slot + 1) in
-      let inside = both-in start end ordered slot (shown_at 0 (Some (view.own_place start end insert))) (shown_at 1 (Some (view.own_place start end current)) ++ shared_from start end 2 shared)
+      let inside = both-in start end ordered slot (shown_at 0 (Some (view.own_place start end insert)))
+      (shown_at 1 (Some (view.own_place start end current)) ++ shared_from start end 2 shared)
       (own-in start end ordered slot 0 insert)
-      (both-in start end ordered slot (shown_at 1 (Some (view.own_place start end current))) (shared_from start end 2 shared) (own-in start end ordered slot 1 current) (shared-in start end ordered slot 2 shared)) in
-      subst (AreBelow most start) listed-is (lower (listed start end insert current shared) inside (omega (arith, within, short, room)))
+      (both-in start end ordered slot (shown_at 1 (Some (view.own_place start end current)))
+      (shared_from start end 2 shared) (own-in start end ordered slot 1 current)
+      (shared-in start end ordered slot 2 shared)) in
+      subst (AreBelow most start) listed-is (lower (listed start end insert current shared) inside
+      (omega (arith, within, short, room)))
     where
-      lower : (marks : List Shown) → AllByRecursion (λ (mark : Shown). mark.place + start ≤ end) marks → end < most → AreBelow most start marks
+      lower : (marks : List Shown) → AllByRecursion (λ (mark : Shown). mark.place + start ≤ end) marks → end < most →
+          AreBelow most start marks
       lower [] each under = tt
       lower (mark ∷ marks) each under = (omega (arith, each.0, under), lower marks each.1 under)
 
-pub next-found : (parts : Parts) (document : Document) (place slot : ℕ) → Stands parts document → Sits parts document place slot → (origin : Origin) (anchors : List Anchors) (bounds : MarkView) (from : Origin) (long most : ℕ)
+pub next-found : (parts : Parts) (document : Document) (place slot : ℕ) → Stands parts document →
+    Sits parts document place slot → (origin : Origin) (anchors : List Anchors) (bounds : MarkView) (from : Origin)
+    (long most : ℕ)
     → anchors ≡ parts.journal.anchors → long ≡ length parts.content.cells
-    → bounds ≡ record { widget = record { 0 = slot }; start = unwrap_or (get_or anchors slot whole).start 0; end = unwrap_or (get_or anchors slot whole).end long } → from ≡ origin_in most bounds.start origin → MOST_CHARS < most
-    → (found : Option WidgetMark) → found ≡ order.next_mark from (usable bounds parts.content.marks (numbers_of parts.marks.marks)) → found ≡ order.next_mark origin (usable_marks document (widget_at document place))
-next-found parts document place slot stands sits origin anchors bounds from long most held counts bound moved room found is =
-    let view_is : bounds ≡ record { widget = record { 0 = slot }; start = start_in parts slot; end = end_in parts slot } = bound ∙ (λ i. record { widget = record { 0 = slot }; start = unwrap_or (get_or (held i) slot whole).start 0; end = unwrap_or (get_or (held i) slot whole).end (counts i) }) in
+    → bounds ≡ record {
+      widget = record { 0 = slot };
+      start = unwrap_or (get_or anchors slot whole).start 0;
+      end = unwrap_or (get_or anchors slot whole).end long;
+    } → from ≡ origin_in most bounds.start origin →
+    MOST_CHARS < most
+    → (found : Option WidgetMark) → found ≡ order.next_mark from
+    (usable bounds parts.content.marks (numbers_of parts.marks.marks)) →
+    found ≡ order.next_mark origin (usable_marks document (widget_at document place))
+next-found parts document place slot stands sits origin anchors bounds from long most held counts bound moved room found
+    is =
+    let view_is : bounds ≡ record {
+      widget = record { 0 = slot };
+      start = start_in parts slot;
+      end = end_in parts slot;
+    } = bound
+    ∙ (λ i. record {
+      widget = record { 0 = slot };
+      start = unwrap_or (get_or (held i) slot whole).start 0;
+      end = unwrap_or (get_or (held i) slot whole).end (counts i);
+    }) in
     is ∙ ap (λ o. order.next_mark o (usable bounds parts.content.marks (numbers_of parts.marks.marks))) moved
-    ∙ ap (λ (b : MarkView). order.next_mark (origin_in most b.start origin) (usable b parts.content.marks (numbers_of parts.marks.marks))) view_is
-    ∙ ap (order.next_mark (origin_in most (start_in parts slot) origin)) (usable-is parts document place slot stands sits)
-    ∙ next-shifted most (start_in parts slot) origin (usable_marks document (widget_at document place)) (usable-below parts document place slot stands sits most room)
+    ∙ ap (λ (b : MarkView). order.next_mark (origin_in most b.start origin)
+    (usable b parts.content.marks (numbers_of parts.marks.marks))) view_is
+    ∙ ap (order.next_mark (origin_in most (start_in parts slot) origin))
+    (usable-is parts document place slot stands sits)
+    ∙ next-shifted most (start_in parts slot) origin (usable_marks document (widget_at document place))
+    (usable-below parts document place slot stands sits most room)
 
-pub previous-found : (parts : Parts) (document : Document) (place slot : ℕ) → Stands parts document → Sits parts document place slot → (origin : Origin) (anchors : List Anchors) (bounds : MarkView) (from : Origin) (long most : ℕ)
+pub previous-found : (parts : Parts) (document : Document) (place slot : ℕ) → Stands parts document →
+    Sits parts document place slot → (origin : Origin) (anchors : List Anchors) (bounds : MarkView) (from : Origin)
+    (long most : ℕ)
     → anchors ≡ parts.journal.anchors → long ≡ length parts.content.cells
-    → bounds ≡ record { widget = record { 0 = slot }; start = unwrap_or (get_or anchors slot whole).start 0; end = unwrap_or (get_or anchors slot whole).end long } → from ≡ origin_in most bounds.start origin → MOST_CHARS < most
-    → (found : Option WidgetMark) → found ≡ order.previous_mark from (usable bounds parts.content.marks (numbers_of parts.marks.marks)) → found ≡ order.previous_mark origin (usable_marks document (widget_at document place))
-previous-found parts document place slot stands sits origin anchors bounds from long most held counts bound moved room found is =
-    let view_is : bounds ≡ record { widget = record { 0 = slot }; start = start_in parts slot; end = end_in parts slot } = bound ∙ (λ i. record { widget = record { 0 = slot }; start = unwrap_or (get_or (held i) slot whole).start 0; end = unwrap_or (get_or (held i) slot whole).end (counts i) }) in
+    → bounds ≡ record {
+      widget = record { 0 = slot };
+      start = unwrap_or (get_or anchors slot whole).start 0;
+      end = unwrap_or (get_or anchors slot whole).end long;
+    } → from ≡ origin_in most bounds.start origin →
+    MOST_CHARS < most
+    → (found : Option WidgetMark) → found ≡ order.previous_mark from
+    (usable bounds parts.content.marks (numbers_of parts.marks.marks)) →
+    found ≡ order.previous_mark origin (usable_marks document (widget_at document place))
+previous-found parts document place slot stands sits origin anchors bounds from long most held counts bound moved room
+    found is =
+    let view_is : bounds ≡ record {
+      widget = record { 0 = slot };
+      start = start_in parts slot;
+      end = end_in parts slot;
+    } = bound
+    ∙ (λ i. record {
+      widget = record { 0 = slot };
+      start = unwrap_or (get_or (held i) slot whole).start 0;
+      end = unwrap_or (get_or (held i) slot whole).end (counts i);
+    }) in
     is ∙ ap (λ o. order.previous_mark o (usable bounds parts.content.marks (numbers_of parts.marks.marks))) moved
-    ∙ ap (λ (b : MarkView). order.previous_mark (origin_in most b.start origin) (usable b parts.content.marks (numbers_of parts.marks.marks))) view_is
-    ∙ ap (order.previous_mark (origin_in most (start_in parts slot) origin)) (usable-is parts document place slot stands sits)
-    ∙ previous-shifted most (start_in parts slot) origin (usable_marks document (widget_at document place)) (usable-below parts document place slot stands sits most room)
+    ∙ ap (λ (b : MarkView). order.previous_mark (origin_in most b.start origin)
+    (usable b parts.content.marks (numbers_of parts.marks.marks))) view_is
+    ∙ ap (order.previous_mark (origin_in most (start_in parts slot) origin))
+    (usable-is parts document place slot stands sits)
+    ∙ previous-shifted most (start_in parts slot) origin (usable_marks document (widget_at document place))
+    (usable-below parts document place slot stands sits most room)

@@ -1,6 +1,8 @@
 -- What is found of the marks of a document.
-use Rattle.std.proofs.Common.{◌≡◌, ℕ, zero, suc, ◌+◌, ◌-◌, ◌*◌, ◌<◌, ◌≤◌, Bool, true, false, List, [], ◌∷◌, length, refl, sym, ap, ap₂, ◌∙◌, arith, inl, inr}
-use Rattle.std.specs.Prelude.{Contains, IfSome, find, slice_get, nat_le, Option, None, Some, is_some, option_map, option_and_then, unwrap_or, ◌&&◌, if◌then◌else◌}
+use Rattle.std.proofs.Common.{◌≡◌, ℕ, zero, suc, ◌+◌, ◌-◌, ◌*◌, ◌<◌, ◌≤◌, Bool, true, false, List, [], ◌∷◌, length}
+use Rattle.std.proofs.Common.{refl, sym, ap, ap₂, ◌∙◌, arith, inl, inr}
+use Rattle.std.specs.Prelude.{Contains, IfSome, find, slice_get, nat_le, Option, None, Some, is_some, option_map}
+use Rattle.std.specs.Prelude.{option_and_then, unwrap_or, ◌&&◌, if◌then◌else◌}
 use Rattle.std.specs.FinMap as finite
 use Rattle.std.specs.List.{AllByRecursion, position_from}
 use Rattle.std.proofs.lemmas.Bool.{false≢true}
@@ -44,44 +46,59 @@ module _ (parts : Parts) (document : Document) (stands : Stands parts document) 
 
   -- ---- the mark of a name
 
-  number-shared : (word : List ℕ) → IsShared word → mark_number document word ≡ option_map (λ k. suc (suc k)) (position_from (λ (mark : SharedMark). is_same word mark.name) 0 listed)
+  number-shared : (word : List ℕ) → IsShared word → mark_number document word
+      ≡ option_map (λ k. suc (suc k)) (position_from (λ (mark : SharedMark). is_same word mark.name) 0 listed)
   number-shared word shared =
-      ap₂ (λ b c. if b then Some 0 else (if c then Some 1 else option_map (λ k. suc (suc k)) (position_from (λ (mark : SharedMark). is_same word mark.name) 0 document.marks)))
+      ap₂ (λ b c. if b then Some 0 else (if c then Some 1
+      else option_map (λ k. suc (suc k))
+      (position_from (λ (mark : SharedMark). is_same word mark.name) 0 document.marks)))
       shared.insert shared.current
-      ∙ ap (λ ms. option_map (λ k. suc (suc k)) (position_from (λ (mark : SharedMark). is_same word mark.name) 0 ms)) marks-are
+      ∙ ap (λ ms. option_map (λ k. suc (suc k)) (position_from (λ (mark : SharedMark). is_same word mark.name) 0 ms))
+      marks-are
 
-  pub number-none : (word : List ℕ) → IsShared word → number_of word parts.marks.marks ≡ None → None ≡ mark_number document word
+  pub number-none : (word : List ℕ) → IsShared word → number_of word parts.marks.marks ≡ None →
+      None ≡ mark_number document word
   number-none word shared none = elim (found_mark places word parts.marks.marks 0 stands.sound.marked.each) [
     | inl unknown ↦ sym (ap (option_map (λ k. suc (suc k))) unknown.1) ∙ sym (number-shared word shared)
     | inr there ↦ absurd (none-some there.mark.number (sym none ∙ there.number))
   ]
 
   -- the place in the order, by the number
-  place-of : (word : List ℕ) (number place : ℕ) → number_of word parts.marks.marks ≡ Some number → slice_get (numbers_of parts.marks.marks) place ≡ Some number
+  place-of : (word : List ℕ) (number place : ℕ) → number_of word parts.marks.marks ≡ Some number →
+      slice_get (numbers_of parts.marks.marks) place ≡ Some number
       → (there : StandsMark places word parts.marks.marks 0) → there.place ≡ place
   place-of word number place known numbered there =
-      stands.sound.marked.marks.numbers_apart there.place place number (there.numbered ∙ sym there.number ∙ known) numbered
+      stands.sound.marked.marks.numbers_apart there.place place number (there.numbered ∙ sym there.number
+      ∙ known) numbered
 
-  pub number-known : (word : List ℕ) (number place : ℕ) → IsShared word → number_of word parts.marks.marks ≡ Some number → slice_get (numbers_of parts.marks.marks) place ≡ Some number
+  pub number-known : (word : List ℕ) (number place : ℕ) → IsShared word →
+      number_of word parts.marks.marks ≡ Some number → slice_get (numbers_of parts.marks.marks) place ≡ Some number
       → Some (2 + place) ≡ mark_number document word
-  number-known word number place shared known numbered = elim (found_mark places word parts.marks.marks 0 stands.sound.marked.each) [
-    | inl unknown ↦ absurd (none-some number (sym unknown.0 ∙ known))
-    | inr there ↦
-        let same = place-of word number place known numbered there in
-        let two : 2 + place ≡ suc (suc (0 + there.place)) = omega (arith, same) in
-        ap Some two ∙ sym (ap (option_map (λ k. suc (suc k))) there.found) ∙ sym (number-shared word shared)
-  ]
+  number-known word number place shared known numbered =
+      elim (found_mark places word parts.marks.marks 0 stands.sound.marked.each) [
+        | inl unknown ↦ absurd (none-some number (sym unknown.0 ∙ known))
+        | inr there ↦
+            let same = place-of word number place known numbered there in
+            let two : 2 + place ≡ suc (suc (0 + there.place)) = omega (arith, same) in
+            ap Some two ∙ sym (ap (option_map (λ k. suc (suc k))) there.found) ∙ sym (number-shared word shared)
+      ]
 
-  pub number-there : (word : List ℕ) (number : ℕ) → number_of word parts.marks.marks ≡ Some number → Contains (numbers_of parts.marks.marks) number
+  pub number-there : (word : List ℕ) (number : ℕ) → number_of word parts.marks.marks ≡ Some number →
+      Contains (numbers_of parts.marks.marks) number
   number-there word number known = elim (found_mark places word parts.marks.marks 0 stands.sound.marked.each) [
     | inl unknown ↦ absurd (none-some number (sym unknown.0 ∙ known))
-    | inr there ↦ Contains-from_stands (numbers_of parts.marks.marks) number (there.place, there.numbered ∙ sym there.number ∙ known)
+    | inr there ↦ Contains-from_stands (numbers_of parts.marks.marks) number (
+      there.place,
+      there.numbered
+          ∙ sym there.number ∙ known,
+    )
   ]
 
   -- ---- what a widget shows of the shared marks
 
   listed-at : (marks : List Mark) (place number : ℕ) → slice_get (numbers_of marks) place ≡ Some number
-      → option_map (λ (mark : SharedMark). mark.place) (slice_get (placed places marks) place) ≡ Some (mark_of places number)
+      → option_map (λ (mark : SharedMark). mark.place) (slice_get (placed places marks) place)
+      ≡ Some (mark_of places number)
   listed-at [] place number is = absurd (none-some number is)
   listed-at (mark ∷ marks) zero number is = ap (λ n. Some (mark_of places n)) (same_Some mark.number number is)
   listed-at (mark ∷ marks) (suc place) number is = listed-at marks place number is
@@ -91,12 +108,16 @@ module _ (parts : Parts) (document : Document) (stands : Stands parts document) 
   past-listed (mark ∷ marks) zero past = absurd (omega (arith, past))
   past-listed (mark ∷ marks) (suc place) past = past-listed marks place (omega (arith, past))
 
-  marked-at : (marks : List Mark) (place number : ℕ) → AllByRecursion (IsMarked places) marks → slice_get (numbers_of marks) place ≡ Some number → is_some (finite.get places number) ≡ true
+  marked-at : (marks : List Mark) (place number : ℕ) → AllByRecursion (IsMarked places) marks →
+      slice_get (numbers_of marks) place ≡ Some number → is_some (finite.get places number) ≡ true
   marked-at [] place number each is = absurd (none-some number is)
-  marked-at (mark ∷ marks) zero number each is = ap (λ n. is_some (finite.get places n)) (sym (same_Some mark.number number is)) ∙ marked-there places mark each.0
+  marked-at (mark ∷ marks) zero number each is =
+      ap (λ n. is_some (finite.get places n)) (sym (same_Some mark.number number is)) ∙ marked-there places mark each.0
   marked-at (mark ∷ marks) (suc place) number each is = marked-at marks place number each.1 is
 
-  twice : (found : Option SharedMark) (f : Place → Option ℕ) → option_and_then (λ (mark : SharedMark). f mark.place) found ≡ option_and_then f (option_map (λ (mark : SharedMark). mark.place) found)
+  twice : (found : Option SharedMark) (f : Place → Option ℕ) →
+      option_and_then (λ (mark : SharedMark). f mark.place) found
+      ≡ option_and_then f (option_map (λ (mark : SharedMark). mark.place) found)
   twice None f = refl
   twice (Some mark) f = refl
 
@@ -104,71 +125,90 @@ module _ (parts : Parts) (document : Document) (stands : Stands parts document) 
     abbrev widget : Widget
     widget = widget_at document at
 
-    pub mark-past : (place : ℕ) → length parts.marks.marks ≤ place → false ≡ is_some (mark_place document widget (2 + place))
+    pub mark-past : (place : ℕ) → length parts.marks.marks ≤ place →
+        false ≡ is_some (mark_place document widget (2 + place))
     mark-past place past =
         let two : 2 + place ≡ suc (suc place) = omega arith in
         sym (ap (λ n. is_some (mark_place document widget n)) two
-        ∙ ap (λ found. is_some (option_and_then (λ (mark : SharedMark). shared_place (view_start widget) (view_end document widget) mark.place) found))
+        ∙ ap (λ found. is_some (option_and_then (λ (mark : SharedMark).
+        shared_place (view_start widget) (view_end document widget) mark.place) found))
         (ap (λ ms. slice_get ms place) marks-are ∙ past-listed parts.marks.marks place past))
 
     -- a shared mark that stands in a store is shown between the bounds
-    pub mark-between : (place number : ℕ) (found : Place) → slice_get (numbers_of parts.marks.marks) place ≡ Some number → finite.get places number ≡ Some found
-        → (nat_le (view_start widget) found.offset && nat_le found.offset (view_end document widget)) ≡ is_some (mark_place document widget (2 + place))
+    pub mark-between : (place number : ℕ) (found : Place) →
+        slice_get (numbers_of parts.marks.marks) place ≡ Some number → finite.get places number ≡ Some found
+        → (nat_le (view_start widget) found.offset && nat_le found.offset (view_end document widget))
+        ≡ is_some (mark_place document widget (2 + place))
     mark-between place number found numbered stored =
         let two : 2 + place ≡ suc (suc place) = omega arith in
         let shown_so : Place → Option ℕ = shared_place (view_start widget) (view_end document widget) in
         sym (ap (λ n. is_some (mark_place document widget n)) two
-        ∙ ap (λ ms. is_some (option_and_then (λ (mark : SharedMark). shown_so mark.place) (slice_get ms place))) marks-are
+        ∙ ap (λ ms. is_some (option_and_then (λ (mark : SharedMark). shown_so mark.place) (slice_get ms place)))
+        marks-are
         ∙ ap is_some (twice (slice_get listed place) shown_so)
-        ∙ ap (λ o. is_some (option_and_then shown_so o)) (listed-at parts.marks.marks place number numbered ∙ ap (λ o. Some (unwrap_or o new_mark)) stored)
-        ∙ some-if (nat_le (view_start widget) found.offset && nat_le found.offset (view_end document widget)) (found.offset - view_start widget))
+        ∙ ap (λ o. is_some (option_and_then shown_so o)) (listed-at parts.marks.marks place number numbered
+        ∙ ap (λ o. Some (unwrap_or o new_mark)) stored)
+        ∙ some-if (nat_le (view_start widget) found.offset && nat_le found.offset (view_end document widget))
+        (found.offset - view_start widget))
       where
         some-if : (b : Bool) (n : ℕ) → is_some (if b then Some n else None) ≡ b
         some-if true n = refl
         some-if false n = refl
 
     -- by bounds as they were found: one that stands behind the start, and one that doesn't
-    pub mark-behind : (place number first behind : ℕ) (found : Place) → first ≡ view_start widget → behind ≡ view_end document widget → slice_get (numbers_of parts.marks.marks) place ≡ Some number
-        → finite.get places number ≡ Some found → first ≤ found.offset → nat_le found.offset behind ≡ is_some (mark_place document widget (2 + place))
+    pub mark-behind : (place number first behind : ℕ) (found : Place) → first ≡ view_start widget →
+        behind ≡ view_end document widget → slice_get (numbers_of parts.marks.marks) place ≡ Some number
+        → finite.get places number ≡ Some found → first ≤ found.offset →
+        nat_le found.offset behind ≡ is_some (mark_place document widget (2 + place))
     mark-behind place number first behind found starts ends numbered stored after =
         let test : nat_le first found.offset ≡ true = grind (arith, nat_tests) in
         sym (ap (λ b. b && nat_le found.offset behind) test)
         ∙ (λ i. nat_le (starts i) found.offset && nat_le found.offset (ends i))
         ∙ mark-between place number found numbered stored
 
-    pub mark-before : (place number first : ℕ) (found : Place) → first ≡ view_start widget → slice_get (numbers_of parts.marks.marks) place ≡ Some number
-        → finite.get places number ≡ Some found → found.offset < first → nat_le first found.offset ≡ is_some (mark_place document widget (2 + place))
+    pub mark-before : (place number first : ℕ) (found : Place) → first ≡ view_start widget →
+        slice_get (numbers_of parts.marks.marks) place ≡ Some number
+        → finite.get places number ≡ Some found → found.offset < first →
+        nat_le first found.offset ≡ is_some (mark_place document widget (2 + place))
     mark-before place number first found starts numbered stored before =
         let test : nat_le first found.offset ≡ false = grind (arith, nat_tests) in
         test ∙ sym (ap (λ b. b && nat_le found.offset (view_end document widget)) test)
         ∙ (λ i. nat_le (starts i) found.offset && nat_le found.offset (view_end document widget))
         ∙ mark-between place number found numbered stored
 
-    pub mark-unknown : (place number : ℕ) → slice_get (numbers_of parts.marks.marks) place ≡ Some number → finite.get places number ≡ None → ⊥
+    pub mark-unknown : (place number : ℕ) → slice_get (numbers_of parts.marks.marks) place ≡ Some number →
+        finite.get places number ≡ None → ⊥
     mark-unknown place number numbered stored =
-        false≢true (sym (ap is_some stored) ∙ marked-at parts.marks.marks place number stands.sound.marked.each numbered)
+        false≢true (sym (ap is_some stored)
+        ∙ marked-at parts.marks.marks place number stands.sound.marked.each numbered)
 
   -- ---- the place of a name
 
   -- a place that is found is one of the text
-  pub place-within : (number : ℕ) (found : Option Place) → found ≡ finite.get places number → IfSome found (λ place. place.offset ≤ length document.cells)
+  pub place-within : (number : ℕ) (found : Option Place) → found ≡ finite.get places number →
+      IfSome found (λ place. place.offset ≤ length document.cells)
   place-within number None is = tt
-  place-within number (Some place) is = omega (arith, cells-kept parts document stands.is, stands.sound.kept.marks number place (sym is))
+  place-within number (Some place) is =
+      omega (arith, cells-kept parts document stands.is, stands.sound.kept.marks number place (sym is))
 
   module _ (at slot : ℕ) (sits : Sits parts document at slot) where
     abbrev actor : Widget
     actor = widget_at document at
 
     abbrev sought : List ℕ → Option Place
-    sought word = option_map (λ (mark : SharedMark). mark.place) (find (λ (mark : SharedMark). is_same word mark.name) document.marks)
+    sought word = option_map (λ (mark : SharedMark). mark.place)
+        (find (λ (mark : SharedMark). is_same word mark.name) document.marks)
 
-    pub place-insert : (word : List ℕ) → is_same word (literal "insert") ≡ true → finite.get places (2 * slot) ≡ place_named document actor word
+    pub place-insert : (word : List ℕ) → is_same word (literal "insert") ≡ true →
+        finite.get places (2 * slot) ≡ place_named document actor word
     place-insert word is =
         there_is (finite.get places (2 * slot)) sits.insert
         ∙ ap Some (sym (insert-is parts document at slot stands sits))
-        ∙ sym (ap (λ b. if b then Some actor.insert else (if is_same word (literal "current") then Some actor.current else sought word)) is)
+        ∙ sym (ap (λ b. if b then Some actor.insert
+        else (if is_same word (literal "current") then Some actor.current else sought word)) is)
 
-    pub place-current : (word : List ℕ) → is_same word (literal "insert") ≡ false → is_same word (literal "current") ≡ true → finite.get places (2 * slot + 1) ≡ place_named document actor word
+    pub place-current : (word : List ℕ) → is_same word (literal "insert") ≡ false →
+        is_same word (literal "current") ≡ true → finite.get places (2 * slot + 1) ≡ place_named document actor word
     place-current word other is =
         there_is (finite.get places (2 * slot + 1)) sits.current
         ∙ ap Some (sym (current-is parts document at slot stands sits))
@@ -179,19 +219,25 @@ module _ (parts : Parts) (document : Document) (stands : Stands parts document) 
     asker = widget_at document at
 
     place-shared : (word : List ℕ) → IsShared word
-        → place_named document asker word ≡ option_map (λ (mark : SharedMark). mark.place) (find (λ (mark : SharedMark). is_same word mark.name) listed)
+        → place_named document asker word ≡ option_map (λ (mark : SharedMark). mark.place)
+        (find (λ (mark : SharedMark). is_same word mark.name) listed)
     place-shared word shared =
         ap₂ (λ b c. if b then Some asker.insert else (if c then Some asker.current
-        else option_map (λ (mark : SharedMark). mark.place) (find (λ (mark : SharedMark). is_same word mark.name) document.marks))) shared.insert shared.current
-        ∙ ap (λ ms. option_map (λ (mark : SharedMark). mark.place) (find (λ (mark : SharedMark). is_same word mark.name) ms)) marks-are
+        else option_map (λ (mark : SharedMark). mark.place)
+        (find (λ (mark : SharedMark). is_same word mark.name) document.marks))) shared.insert shared.current
+        ∙ ap (λ ms. option_map (λ (mark : SharedMark). mark.place)
+        (find (λ (mark : SharedMark). is_same word mark.name) ms)) marks-are
 
-    pub place-none : (word : List ℕ) → IsShared word → number_of word parts.marks.marks ≡ None → None ≡ place_named document asker word
+    pub place-none : (word : List ℕ) → IsShared word → number_of word parts.marks.marks ≡ None →
+        None ≡ place_named document asker word
     place-none word shared none = elim (found_mark places word parts.marks.marks 0 stands.sound.marked.each) [
-      | inl unknown ↦ sym (ap (option_map (λ (mark : SharedMark). mark.place)) unknown.2) ∙ sym (place-shared word shared)
+      | inl unknown ↦ sym (ap (option_map (λ (mark : SharedMark). mark.place)) unknown.2)
+          ∙ sym (place-shared word shared)
       | inr there ↦ absurd (none-some there.mark.number (sym none ∙ there.number))
     ]
 
-    pub place-known : (word : List ℕ) (number : ℕ) → IsShared word → number_of word parts.marks.marks ≡ Some number → finite.get places number ≡ place_named document asker word
+    pub place-known : (word : List ℕ) (number : ℕ) → IsShared word → number_of word parts.marks.marks ≡ Some number →
+        finite.get places number ≡ place_named document asker word
     place-known word number shared known = elim (found_mark places word parts.marks.marks 0 stands.sound.marked.each) [
       | inl unknown ↦ absurd (none-some number (sym unknown.0 ∙ known))
       | inr there ↦

@@ -1,6 +1,8 @@
 -- What names mean to a widget, and the places of its words.
-use Rattle.std.proofs.Common.{◌≡◌, ◌≢◌, ℕ, suc, [], ◌+◌, ◌-◌, ◌*◌, ◌<◌, ◌≤◌, true, false, List, refl, sym, ap, ◌∙◌, arith, inl, inr}
-use Rattle.std.specs.Prelude.{IfOk, slice_get, Option, None, Some, Result, Ok, Err, is_some, option_map, option_and_then, unwrap_or, codes, bytes_eq, get_or, nat_lt, if◌then◌else◌, ◌==◌}
+use Rattle.std.proofs.Common.{◌≡◌, ◌≢◌, ℕ, suc, [], ◌+◌, ◌-◌, ◌*◌, ◌<◌, ◌≤◌, true, false, List, refl, sym, ap, ◌∙◌}
+use Rattle.std.proofs.Common.{arith, inl, inr}
+use Rattle.std.specs.Prelude.{IfOk, slice_get, Option, None, Some, Result, Ok, Err, is_some, option_map}
+use Rattle.std.specs.Prelude.{option_and_then, unwrap_or, codes, bytes_eq, get_or, nat_lt, if◌then◌else◌, ◌==◌}
 use Rattle.std.specs.Str.{chars}
 use Rattle.std.specs.FinMap as finite
 use Rattle.std.specs.List.{position_from}
@@ -45,22 +47,29 @@ current_bytes = refl
 -- ---- marks
 
 own-shown : (start end number : ℕ) (found : Option Place) → nat_lt number first_number ≡ true → is_some found ≡ true
-    → option_and_then (λ place. if nat_lt number first_number then Some (own_place start end place) else shared_place start end place) found ≡ Some (own_place start end (unwrap_or found new_mark))
+    → option_and_then (λ place. if nat_lt number first_number then Some (own_place start end place)
+    else shared_place start end place) found ≡ Some (own_place start end (unwrap_or found new_mark))
 own-shown start end number None own there = absurd (false≢true there)
-own-shown start end number (Some place) own there = ap (λ b. if b then Some (own_place start end place) else shared_place start end place) own
+own-shown start end number (Some place) own there =
+    ap (λ b. if b then Some (own_place start end place) else shared_place start end place) own
 
 shared-shown : (start end number : ℕ) (found : Option Place) → nat_lt number first_number ≡ false → is_some found ≡ true
-    → option_and_then (λ place. if nat_lt number first_number then Some (own_place start end place) else shared_place start end place) found ≡ shared_place start end (unwrap_or found new_mark)
+    → option_and_then (λ place. if nat_lt number first_number then Some (own_place start end place)
+    else shared_place start end place) found ≡ shared_place start end (unwrap_or found new_mark)
 shared-shown start end number None other there = absurd (false≢true there)
-shared-shown start end number (Some place) other there = ap (λ b. if b then Some (own_place start end place) else shared_place start end place) other
+shared-shown start end number (Some place) other there =
+    ap (λ b. if b then Some (own_place start end place) else shared_place start end place) other
 
 -- a shared mark is shown by its number as it is by its place among the shared ones
 shared-same : (content : Content) (table : SharedMarks) (start end : ℕ) (word : List ℕ) → AreMarked table content.marks
     → option_map (shown_mark content start end) (number_of word table.marks)
-    ≡ option_map (λ k. option_and_then (λ (mark : SharedMark). shared_place start end mark.place) (slice_get (placed content.marks table.marks) k))
+    ≡ option_map (λ k. option_and_then (λ (mark : SharedMark). shared_place start end mark.place)
+    (slice_get (placed content.marks table.marks) k))
     (position_from (λ (mark : SharedMark). is_same word mark.name) 0 (placed content.marks table.marks))
 shared-same content table start end word marked =
-    let P : Option ℕ → Option (Option ℕ) = option_map (λ k. option_and_then (λ (mark : SharedMark). shared_place start end mark.place) (slice_get (placed content.marks table.marks) k)) in
+    let P : Option ℕ → Option (Option ℕ) = option_map (λ k.
+    option_and_then (λ (mark : SharedMark). shared_place start end mark.place)
+    (slice_get (placed content.marks table.marks) k)) in
     elim (found_mark content.marks word table.marks 0 marked.each) [
       | inl none ↦ ap (option_map (shown_mark content start end)) none.0 ∙ sym (ap P none.1)
       | inr there ↦
@@ -68,7 +77,8 @@ shared-same content table start end word marked =
           let least : first_number ≤ number = (marked.marks.numbers there.place number there.numbered).0 in
           let other : nat_lt number first_number ≡ false = grind (arith, nat_tests) in
           ap (option_map (shown_mark content start end)) there.number
-          ∙ ap Some (shared-shown start end number (finite.get content.marks number) other (marked-there content.marks there.mark there.marked)
+          ∙ ap Some (shared-shown start end number (finite.get content.marks number) other
+          (marked-there content.marks there.mark there.marked)
           ∙ sym (ap (option_and_then (λ (mark : SharedMark). shared_place start end mark.place)) there.stands))
           ∙ sym (ap P (there.found ∙ ap Some (let h : 0 + there.place ≡ there.place = omega arith in h)))
     ]
@@ -79,12 +89,14 @@ own-first slot below = grind (arith, nat_tests)
 own-second : (slot : ℕ) → slot < MOST_WIDGETS → nat_lt (2 * slot + 1) first_number ≡ true
 own-second slot below = grind (arith, nat_tests)
 
-twice : (found : Option ℕ) (f : ℕ → Option ℕ) → option_map (λ k. f (suc (suc k))) found ≡ option_map f (option_map (λ k. suc (suc k)) found)
+twice : (found : Option ℕ) (f : ℕ → Option ℕ) → option_map (λ k. f (suc (suc k))) found
+    ≡ option_map f (option_map (λ k. suc (suc k)) found)
 twice None f = refl
 twice (Some k) f = refl
 
 -- a document as it is kept, and one of its widgets with its slot
-module _ (parts : Parts) (document : Document) (place slot : ℕ) (stands : Stands parts document) (sits : Sits parts document place slot) where
+module _ (parts : Parts) (document : Document) (place slot : ℕ) (stands : Stands parts document)
+    (sits : Sits parts document place slot) where
   abbrev widget : Widget
   widget = widget_at document place
 
@@ -99,36 +111,56 @@ module _ (parts : Parts) (document : Document) (place slot : ℕ) (stands : Stan
   insert-is = ap (λ (w : Widget). w.insert) sits.widget ∙ ap (λ n. mark_of parts.content.marks (2 * n)) sits.number
 
   pub current-is : widget.current ≡ mark_of parts.content.marks (2 * slot + 1)
-  current-is = ap (λ (w : Widget). w.current) sits.widget ∙ ap (λ n. mark_of parts.content.marks (2 * n + 1)) sits.number
+  current-is =
+      ap (λ (w : Widget). w.current) sits.widget ∙ ap (λ n. mark_of parts.content.marks (2 * n + 1)) sits.number
 
-  pub insert-shown : shown_mark parts.content start end (2 * slot) ≡ Some (own_place (view_start widget) (view_end document widget) widget.insert)
+  pub insert-shown : shown_mark parts.content start end (2 * slot)
+      ≡ Some (own_place (view_start widget) (view_end document widget) widget.insert)
   insert-shown =
       own-shown start end (2 * slot) (finite.get parts.content.marks (2 * slot)) (own-first slot sits.below) sits.insert
-      ∙ sym (λ i. Some (own_place (start-is parts document place slot stands sits i) (end-is parts document place slot stands sits i) (insert-is i)))
+      ∙ sym (λ i. Some (own_place (start-is parts document place slot stands sits i)
+      (end-is parts document place slot stands sits i) (insert-is i)))
 
-  pub current-shown : shown_mark parts.content start end (2 * slot + 1) ≡ Some (own_place (view_start widget) (view_end document widget) widget.current)
+  pub current-shown : shown_mark parts.content start end (2 * slot + 1)
+      ≡ Some (own_place (view_start widget) (view_end document widget) widget.current)
   current-shown =
-      own-shown start end (2 * slot + 1) (finite.get parts.content.marks (2 * slot + 1)) (own-second slot sits.below) sits.current
-      ∙ sym (λ i. Some (own_place (start-is parts document place slot stands sits i) (end-is parts document place slot stands sits i) (current-is i)))
+      own-shown start end (2 * slot + 1) (finite.get parts.content.marks (2 * slot + 1)) (own-second slot sits.below)
+      sits.current
+      ∙ sym (λ i. Some (own_place (start-is parts document place slot stands sits i)
+      (end-is parts document place slot stands sits i) (current-is i)))
 
   shared-shown-is : (word : List ℕ) → option_map (shown_mark parts.content start end) (number_of word parts.marks.marks)
-      ≡ option_map (mark_place document widget) (option_map (λ k. suc (suc k)) (position_from (λ (mark : SharedMark). is_same word mark.name) 0 document.marks))
+      ≡ option_map (mark_place document widget)
+      (option_map (λ k. suc (suc k)) (position_from (λ (mark : SharedMark). is_same word mark.name) 0
+      document.marks))
   shared-shown-is word =
       shared-same parts.content parts.marks start end word stands.sound.marked
-      ∙ sym (λ i. option_map (λ k. option_and_then (λ (mark : SharedMark). shared_place (start-is parts document place slot stands sits i) (end-is parts document place slot stands sits i) mark.place) (slice_get (sym stands.is i).marks k))
+      ∙ sym (λ i. option_map (λ k. option_and_then (λ (mark : SharedMark).
+      shared_place (start-is parts document place slot stands sits i)
+      (end-is parts document place slot stands sits i) mark.place) (slice_get (sym stands.is i).marks k))
       (position_from (λ (mark : SharedMark). is_same word mark.name) 0 (sym stands.is i).marks))
-      ∙ twice (position_from (λ (mark : SharedMark). is_same word mark.name) 0 document.marks) (mark_place document widget)
+      ∙ twice (position_from (λ (mark : SharedMark). is_same word mark.name) 0 document.marks)
+      (mark_place document widget)
 
-  pub marks-mean : (word : List ℕ) → option_map (shown_mark parts.content start end) (known_marks parts.marks.marks slot word) ≡ option_map (mark_place document widget) (mark_number document word)
+  pub marks-mean : (word : List ℕ) → option_map (shown_mark parts.content start end)
+      (known_marks parts.marks.marks slot word) ≡ option_map (mark_place document widget) (mark_number document word)
   marks-mean word =
       let shown_so : Option ℕ → Option (Option ℕ) = option_map (shown_mark parts.content start end) in
-      let shared : Option ℕ = option_map (λ k. suc (suc k)) (position_from (λ (mark : SharedMark). is_same word mark.name) 0 document.marks) in
-      ap (λ w. shown_so (if bytes_eq word w then Some (2 * slot) else (if bytes_eq word (codes "current") then Some (2 * slot + 1) else number_of word parts.marks.marks))) (sym insert_bytes)
-      ∙ ap (λ w. shown_so (if bytes_eq word (literal "insert") then Some (2 * slot) else (if bytes_eq word w then Some (2 * slot + 1) else number_of word parts.marks.marks))) (sym current_bytes)
-      ∙ elim (bytes_eq word (literal "insert")) as (λ b. shown_so (if b then Some (2 * slot) else (if bytes_eq word (literal "current") then Some (2 * slot + 1) else number_of word parts.marks.marks))
-      ≡ option_map (mark_place document widget) (if b then Some 0 else (if bytes_eq word (literal "current") then Some 1 else shared))) [
+      let shared : Option ℕ = option_map (λ k. suc (suc k))
+      (position_from (λ (mark : SharedMark). is_same word mark.name) 0 document.marks) in
+      ap (λ w. shown_so (if bytes_eq word w then Some (2 * slot)
+      else (if bytes_eq word (codes "current") then Some (2 * slot + 1) else number_of word parts.marks.marks)))
+      (sym insert_bytes)
+      ∙ ap (λ w. shown_so (if bytes_eq word (literal "insert") then Some (2 * slot)
+      else (if bytes_eq word w then Some (2 * slot + 1) else number_of word parts.marks.marks))) (sym current_bytes)
+      ∙ elim (bytes_eq word (literal "insert")) as (λ b.
+      shown_so (if b then Some (2 * slot)
+      else (if bytes_eq word (literal "current") then Some (2 * slot + 1) else number_of word parts.marks.marks))
+      ≡ option_map (mark_place document widget) (if b then Some 0
+      else (if bytes_eq word (literal "current") then Some 1 else shared))) [
         | true ↦ ap Some insert-shown
-        | false ↦ elim (bytes_eq word (literal "current")) as (λ b. shown_so (if b then Some (2 * slot + 1) else number_of word parts.marks.marks)
+        | false ↦ elim (bytes_eq word (literal "current")) as (λ b.
+            shown_so (if b then Some (2 * slot + 1) else number_of word parts.marks.marks)
             ≡ option_map (mark_place document widget) (if b then Some 1 else shared)) [
               | true ↦ ap Some current-shown
               | false ↦ shared-shown-is word
@@ -138,7 +170,8 @@ module _ (parts : Parts) (document : Document) (place slot : ℕ) (stands : Stan
   pub name-is : widget.name ≡ sits.seat.name
   name-is = ap (λ (w : Widget). w.name) sits.widget
 
-  pub tags-mean : (word : List ℕ) → option_map (λ tag. view.shown_flags tag parts.content start end) (known_tags parts.tags.tags slot word) ≡ option_map (tag_flags document widget) (tag_number document word)
+  pub tags-mean : (word : List ℕ) → option_map (λ tag. view.shown_flags tag parts.content start end)
+      (known_tags parts.tags.tags slot word) ≡ option_map (tag_flags document widget) (tag_number document word)
   tags-mean word =
       let flags_so : Option ℕ → Option _ = option_map (λ tag. view.shown_flags tag parts.content start end) in
       let known_so : Option ℕ → Option ℕ = option_map (λ tag. if tag == 0 then slot else tag) in
@@ -146,40 +179,54 @@ module _ (parts : Parts) (document : Document) (place slot : ℕ) (stands : Stan
       let tags : document.tags ≡ names = ap (λ (d : Document). d.tags) (sym stands.is) in
       elim (found_tag word parts.tags.tags 0) [
         | inl none ↦ ap (λ found. flags_so (known_so found)) none.0
-            ∙ sym (ap (λ ts. option_map (tag_flags document widget) (position_from (is_same word) 0 ts)) tags ∙ ap (option_map (tag_flags document widget)) none.1)
+            ∙ sym (ap (λ ts. option_map (tag_flags document widget) (position_from (is_same word) 0 ts)) tags
+            ∙ ap (option_map (tag_flags document widget)) none.1)
         | inr there ↦
             let tag : ℕ = if there.tag_slot == 0 then slot else there.tag_slot in
             ap (λ found. flags_so (known_so found)) there.slot
             ∙ ap Some (sym (flags-is parts document place slot stands sits word tag (ap known_so there.slot)))
             ∙ ap (λ n. Some (shown_flags document widget (key_named n word))) (sym name-is)
-            ∙ ap (λ w. Some (shown_flags document widget (key_named widget.name w))) (sym (ap (λ ts. get_or ts there.place []) tags ∙ get_or_from_slice_get names there.place word [] there.named))
+            ∙ ap (λ w. Some (shown_flags document widget (key_named widget.name w)))
+            (sym (ap (λ ts. get_or ts there.place []) tags
+            ∙ get_or_from_slice_get names there.place word [] there.named))
             ∙ sym (ap (λ ts. option_map (tag_flags document widget) (position_from (is_same word) 0 ts)) tags
-            ∙ ap (option_map (tag_flags document widget)) (there.found ∙ ap Some (let h : 0 + there.place ≡ there.place = omega arith in h)))
+            ∙ ap (option_map (tag_flags document widget)) (there.found
+            ∙ ap Some (let h : 0 + there.place ≡ there.place = omega arith in h)))
       ]
 
-  pub meanings-same : MeanTheSame (shown_meanings parts.marks.marks parts.tags.tags slot parts.content start end) (meanings document widget)
+  pub meanings-same : MeanTheSame (shown_meanings parts.marks.marks parts.tags.tags slot parts.content start end)
+      (meanings document widget)
   meanings-same = record { marks = marks-mean; tags = tags-mean }
 
   -- the place of a word is the one of the definition
   pub place-is : (word : List ℕ)
-      → word_value is_word (shown_meanings parts.marks.marks parts.tags.tags slot parts.content start end) (view.shown parts.content start end) word ≡ place_of document widget word
+      → word_value is_word (shown_meanings parts.marks.marks parts.tags.tags slot parts.content start end)
+      (view.shown parts.content start end) word ≡ place_of document widget word
   place-is word =
-      ap (λ text. word_value is_word (shown_meanings parts.marks.marks parts.tags.tags slot parts.content start end) text word) (sym (shown-is parts document place slot stands sits))
+      ap (λ text. word_value is_word (shown_meanings parts.marks.marks parts.tags.tags slot parts.content start end)
+      text word) (sym (shown-is parts document place slot stands sits))
       ∙ word_value-same is_word _ _ (shown document widget) word meanings-same
 
-pub place-found : (parts : Parts) (document : Document) (place slot : ℕ) (content : Content) (first behind : ℕ) (word : List ℕ) → IsSeen parts document place slot content first behind
-    → word_value is_word (shown_meanings parts.marks.marks parts.tags.tags slot content first behind) (view.shown content first behind) word ≡ place_of document (widget_at document place) word
+pub place-found : (parts : Parts) (document : Document) (place slot : ℕ) (content : Content) (first behind : ℕ)
+    (word : List ℕ) → IsSeen parts document place slot content first behind
+    → word_value is_word (shown_meanings parts.marks.marks parts.tags.tags slot content first behind)
+    (view.shown content first behind) word ≡ place_of document (widget_at document place) word
 place-found parts document place slot content first behind word seen =
-    (λ i. word_value is_word (shown_meanings parts.marks.marks parts.tags.tags slot (seen.held i) (seen.starts i) (seen.ends i)) (view.shown (seen.held i) (seen.starts i) (seen.ends i)) word)
+    (λ i. word_value is_word (shown_meanings parts.marks.marks parts.tags.tags slot (seen.held i) (seen.starts i)
+    (seen.ends i)) (view.shown (seen.held i) (seen.starts i) (seen.ends i)) word)
     ∙ place-is parts document place slot seen.stands seen.sits word
 
 -- want of memory is want of memory
-pub gives-place : (position : ℕ) (found defined : Result ℕ IndexFault) → (found ≢ Err index.Memory → found ≡ defined) → Gives (at_position position found) (at_position position defined)
-gives-place position (Ok place) defined same other = ap (at_position position) (same (λ is. let h : Ok place ≡ Err index.Memory = is in absurd (cc)))
+pub gives-place : (position : ℕ) (found defined : Result ℕ IndexFault) → (found ≢ Err index.Memory → found ≡ defined) →
+    Gives (at_position position found) (at_position position defined)
+gives-place position (Ok place) defined same other =
+    ap (at_position position) (same (λ is. let h : Ok place ≡ Err index.Memory = is in absurd (cc)))
 gives-place position (Err fault) defined same other =
-    ap (at_position position) (same (λ is. let h : fault ≡ index.Memory = cc in other (ap (λ f. Err (index_fault position f)) h)))
+    ap (at_position position) (same (λ is. let h : fault ≡ index.Memory = cc in
+    other (ap (λ f. Err (index_fault position f)) h)))
 
 -- a place that is found within a view is within what it shows
-pub found-within : (found : Result ℕ IndexFault) (first behind long : ℕ) → long ≡ behind - first → IfOk found (λ at. first + at ≤ behind) → IfOk found (λ at. at ≤ long)
+pub found-within : (found : Result ℕ IndexFault) (first behind long : ℕ) → long ≡ behind - first →
+    IfOk found (λ at. first + at ≤ behind) → IfOk found (λ at. at ≤ long)
 found-within (Ok at) first behind long is within = omega (arith, is, within)
 found-within (Err fault) first behind long is within = tt

@@ -1,5 +1,6 @@
 -- Edits leave a document its widgets, by their names.
-use Rattle.std.proofs.Common.{◌≡◌, ℕ, ◌+◌, ◌-◌, ◌==◌, true, false, List, [], ◌∷◌, ◌++◌, Option, Some, None, map, length, refl, ◌∙◌}
+use Rattle.std.proofs.Common.{◌≡◌, ℕ, ◌+◌, ◌-◌, ◌==◌, true, false, List, [], ◌∷◌, ◌++◌, Option, Some, None, map, length}
+use Rattle.std.proofs.Common.{refl, ◌∙◌}
 use Rattle.std.specs.Prelude.{nat_le, nat_lt, slice_range, if◌then◌else◌}
 use Rattle.text_model.specs.LimitTable.{LimitTable}
 use Rattle.text_model.specs.declared.places.Gravity.TheVariants.{Right}
@@ -19,13 +20,16 @@ use Rattle.command_parts.specs.Lists.{Pair, total, with_name}
 use Rattle.command_parts.specs.Words.{is_among, is_same, literal}
 use Rattle.documents.specs.Deletions.{delete_spans, deleted_runs, last_bare, replace_span, with_clipped}
 use Rattle.documents.specs.Documents.{Document, Widget, KeyedCell, characters}
-use Rattle.documents.specs.Edits.{KeyedText, keys_between, keys_or, widget_drawn, widget_moved, with_action, with_bare, with_cells, with_tag, with_text, with_texts, without_cells, without_span, without_spans}
+use Rattle.documents.specs.Edits.{KeyedText, keys_between, keys_or, widget_drawn, widget_moved, with_action, with_bare}
+use Rattle.documents.specs.Edits.{with_cells, with_tag, with_text, with_texts, without_cells, without_span}
+use Rattle.documents.specs.Edits.{without_spans}
 use Rattle.documents.specs.Marks.{set_found, with_current, with_insert, with_mark, with_shared, with_widget}
 use Rattle.documents.specs.Names.{key_of}
 use Rattle.documents.specs.Options.{widget_set, with_settings}
 use Rattle.documents.specs.Promise.{answered, refused}
 use Rattle.documents.specs.Ranges.{spans_shown}
-use Rattle.documents.specs.Reversals.{action_again, action_back, edit_redo, edit_undo, group_again, group_back, redo_found, redone, text_back, undo_found, undone, with_end}
+use Rattle.documents.specs.Reversals.{action_again, action_back, edit_redo, edit_undo, group_again, group_back}
+use Rattle.documents.specs.Reversals.{redo_found, redone, text_back, undo_found, undone, with_end}
 use Rattle.documents.specs.Tags.{add_spans, remove_spans}
 use Rattle.documents.specs.Texts.{insert_at, keyed_text, tags_with}
 use Rattle.documents.specs.View.{is_idle, view_end}
@@ -49,58 +53,80 @@ cells-put at cells document = along (widget_moved at (length cells)) (λ widget.
 cells-out : (from to : ℕ) (document : Document) → HasNamesOf document (without_cells from to document)
 cells-out from to document = along (widget_drawn (characters document.cells) from to) (λ widget. refl) document.widgets
 
-text-put : (kind : EditKind) (at : ℕ) (text : KeyedText) (document : Document) → HasNamesOf document (with_text kind at text document)
+text-put : (kind : EditKind) (at : ℕ) (text : KeyedText) (document : Document) →
+    HasNamesOf document (with_text kind at text document)
 text-put kind at text document =
-    let cell : ℕ → KeyedCell = λ character. record { character = character; keys = keys_or text.keys (keys_between document.cells at) } in
+    let cell : ℕ → KeyedCell = λ character. record {
+      character = character;
+      keys = keys_or text.keys (keys_between document.cells at);
+    } in
     let cells = map cell text.text in
     let action : Action = record { inserts = true; at = at; text = text.text } in
-    elim (length text.text == 0) as (λ b. HasNamesOf document (if b then document else with_action kind action (with_cells at cells document))) [
+    elim (length text.text == 0) as (λ b. HasNamesOf document (if b then document
+    else with_action kind action (with_cells at cells document))) [
       | true ↦ refl
       | false ↦ cells-put at cells document
     ]
 
-texts-put : (kind : EditKind) (at : ℕ) (texts : List KeyedText) (document : Document) → HasNamesOf document (with_texts kind at texts document)
+texts-put : (kind : EditKind) (at : ℕ) (texts : List KeyedText) (document : Document) →
+    HasNamesOf document (with_texts kind at texts document)
 texts-put kind at [] document = refl
-texts-put kind at (text ∷ texts) document = texts-put kind (at + length text.text) texts (with_text kind at text document) ∙ text-put kind at text document
+texts-put kind at (text ∷ texts) document =
+    texts-put kind (at + length text.text) texts (with_text kind at text document) ∙ text-put kind at text document
 
-span-out : (kind : EditKind) (from to : ℕ) (document : Document) → HasNamesOf document (without_span kind from to document)
+span-out : (kind : EditKind) (from to : ℕ) (document : Document) →
+    HasNamesOf document (without_span kind from to document)
 span-out kind from to document =
-    let action : Action = record { inserts = false; at = from; text = slice_range (characters document.cells) from to } in
-    elim (from == to) as (λ b. HasNamesOf document (if b then document else with_action kind action (without_cells from to document))) [
+    let action : Action = record {
+      inserts = false;
+      at = from;
+      text = slice_range (characters document.cells) from to;
+    } in
+    elim (from == to) as (λ b. HasNamesOf document (if b then document
+    else with_action kind action (without_cells from to document))) [
       | true ↦ refl
       | false ↦ cells-out from to document
     ]
 
-spans-out : (kind : EditKind) (spans : List Span) (document : Document) → HasNamesOf document (without_spans kind spans document)
+spans-out : (kind : EditKind) (spans : List Span) (document : Document) →
+    HasNamesOf document (without_spans kind spans document)
 spans-out kind [] document = refl
-spans-out kind (span ∷ spans) document = spans-out kind spans (without_span kind span.from span.to document) ∙ span-out kind span.from span.to document
+spans-out kind (span ∷ spans) document =
+    spans-out kind spans (without_span kind span.from span.to document) ∙ span-out kind span.from span.to document
 
 -- ---- widgets
 
-widget-changed : (document : Document) (widget : Widget) (change : Widget → Widget) → ((other : Widget) → (change other).name ≡ other.name)
+widget-changed : (document : Document) (widget : Widget) (change : Widget → Widget) →
+    ((other : Widget) → (change other).name ≡ other.name)
     → HasNamesOf document (with_widget document widget change)
 widget-changed document widget change keeps =
     along (λ other. if is_same widget.name other.name then change other else other)
     (λ other. elim (is_same widget.name other.name) as
     (λ b. (if b then change other else other).name ≡ other.name) [ true ↦ keeps other | false ↦ refl ]) document.widgets
 
-clipped-kept : (widget : Widget) (place : Option Place) (document : Document) → HasNamesOf document (with_clipped widget place document)
+clipped-kept : (widget : Widget) (place : Option Place) (document : Document) →
+    HasNamesOf document (with_clipped widget place document)
 clipped-kept widget None document = refl
-clipped-kept widget (Some place) document = widget-changed document widget (λ (other : Widget). record other { insert = place }) (λ other. refl)
+clipped-kept widget (Some place) document =
+    widget-changed document widget (λ (other : Widget). record other { insert = place }) (λ other. refl)
 
-pub mark-kept : (document : Document) (widget : Widget) (name : List ℕ) (place : Place) → HasNamesOf document (with_mark document widget name place)
+pub mark-kept : (document : Document) (widget : Widget) (name : List ℕ) (place : Place) →
+    HasNamesOf document (with_mark document widget name place)
 mark-kept document widget name place =
     elim (is_same name (literal "insert")) as (λ b. HasNamesOf document (if b then with_insert document widget place
-    else (if is_same name (literal "current") then with_current document widget place else with_shared document name place))) [
+    else (if is_same name (literal "current") then with_current document widget place
+    else with_shared document name place))) [
       | true ↦ widget-changed document widget (λ (other : Widget). record other { insert = place }) (λ other. refl)
       | false ↦ elim (is_same name (literal "current")) as
           (λ b. HasNamesOf document (if b then with_current document widget place else with_shared document name place)) [
-            | true ↦ widget-changed document widget (λ (other : Widget). record other { current = place }) (λ other. refl)
+            | true ↦ widget-changed document widget (λ (other : Widget). record other { current = place }) (λ other.
+                refl)
             | false ↦ refl
           ]
     ]
 
-pub settings-kept : (widget : Widget) (settings : Settings) (document : Document) → HasNamesOf document (with_settings widget settings document)
+pub settings-kept : (widget : Widget) (settings : Settings) (document : Document) →
+    HasNamesOf document (with_settings widget settings document)
 settings-kept widget settings document = widget-changed document widget (widget_set document settings) (λ other. refl)
 
 -- ---- edits
@@ -108,18 +134,23 @@ settings-kept widget settings document = widget-changed document widget (widget_
 pub insert-kept : (limits : LimitTable) (document : Document) (widget : Widget) (at : ℕ) (pairs : List Pair)
     → HasNamesOf document (insert_at limits document widget at pairs).document
 insert-kept limits document widget at pairs =
-    carried-limited (HasNamesOf document) limits document (length (tags_with document pairs)) (length document.cells + total pairs) _ refl
-    (λ _. texts-put kind.Insert at (map (keyed_text widget) pairs) (record document { tags = tags_with document pairs }))
+    carried-limited (HasNamesOf document) limits document (length (tags_with document pairs))
+    (length document.cells + total pairs) _ refl
+    (λ _. texts-put kind.Insert at (map (keyed_text widget) pairs)
+    (record document { tags = tags_with document pairs }))
 
 pub replace-kept : (limits : LimitTable) (document : Document) (widget : Widget) (from to : ℕ) (pairs : List Pair)
     → HasNamesOf document (replace_span limits document widget from to pairs).document
 replace-kept limits document widget from to pairs =
     let tagged : Document = record document { tags = tags_with document pairs } in
-    carried-limited (HasNamesOf document) limits document (length (tags_with document pairs)) (length document.cells - (to - from) + total pairs) _ refl
-    (λ _. clipped-kept widget (clipped from to (total pairs) widget.insert) _ ∙ texts-put kind.Replace from (map (keyed_text widget) pairs) _
+    carried-limited (HasNamesOf document) limits document (length (tags_with document pairs))
+    (length document.cells - (to - from) + total pairs) _ refl
+    (λ _. clipped-kept widget (clipped from to (total pairs) widget.insert) _
+    ∙ texts-put kind.Replace from (map (keyed_text widget) pairs) _
     ∙ span-out kind.Replace from to tagged)
 
-pub delete-kept : (document : Document) (widget : Widget) (spans : List Span) → HasNamesOf document (delete_spans document widget spans).document
+pub delete-kept : (document : Document) (widget : Widget) (spans : List Span) →
+    HasNamesOf document (delete_spans document widget spans).document
 delete-kept document widget spans =
     spans-out kind.Delete (deleted_runs document widget spans) (last_bare widget spans document)
     ∙ elim (in_spans spans (view_end document widget - 1)) as
@@ -128,11 +159,15 @@ delete-kept document widget spans =
       | false ↦ refl
     ]
 
-pub set-kept : (limits : LimitTable) (document : Document) (widget : Widget) (name : List ℕ) (offset : ℕ) (found : Option Place)
+pub set-kept : (limits : LimitTable) (document : Document) (widget : Widget) (name : List ℕ) (offset : ℕ)
+    (found : Option Place)
     → HasNamesOf document (set_found limits document widget name offset found).document
 set-kept limits document widget name offset (Some old) = mark-kept document widget name (record old { offset = offset })
 set-kept limits document widget name offset None =
-    let made : Document = record document { marks = document.marks ++ record { name = name; place = record { offset = offset; gravity = Right } } ∷ [] } in
+    let made : Document = record document {
+      marks = document.marks
+          ++ record { name = name; place = record { offset = offset; gravity = Right } } ∷ [];
+    } in
     elim (nat_le limits.marks (length document.marks)) as
     (λ b. HasNamesOf document (if b then refused document TooManyMarks else answered made Empty).document) [
       | true ↦ refl
@@ -143,15 +178,23 @@ pub add-kept : (limits : LimitTable) (document : Document) (widget : Widget) (na
     → HasNamesOf document (add_spans limits document widget name places).document
 add-kept limits document widget name places =
     let tags = with_name document.tags name in
-    let made : Document = record document { tags = tags; cells = with_tag (key_of widget name) true (spans_shown document widget places) document.cells } in
-    elim (nat_lt (limits.tags + 1) (length tags)) as (λ b. HasNamesOf document (if b then refused document TooManyTags else answered made Empty).document) [
+    let made : Document = record document {
+      tags = tags;
+      cells = with_tag (key_of widget name) true (spans_shown document widget places) document.cells;
+    } in
+    elim (nat_lt (limits.tags + 1) (length tags)) as (λ b.
+    HasNamesOf document (if b then refused document TooManyTags else answered made Empty).document) [
       | true ↦ refl
       | false ↦ refl
     ]
 
-pub remove-kept : (document : Document) (widget : Widget) (name places : List ℕ) → HasNamesOf document (remove_spans document widget name places).document
+pub remove-kept : (document : Document) (widget : Widget) (name places : List ℕ) →
+    HasNamesOf document (remove_spans document widget name places).document
 remove-kept document widget name places =
-    let made : Document = record document { cells = with_tag (key_of widget name) false (spans_shown document widget places) document.cells } in
+    let made : Document = record document {
+      cells = with_tag (key_of widget name) false
+          (spans_shown document widget places) document.cells;
+    } in
     elim (is_among name document.tags) as (λ b. HasNamesOf document (if b then made else document)) [
       | true ↦ refl
       | false ↦ refl
@@ -165,7 +208,8 @@ text-back at text document = cells-put at _ document
 back-kept : (action : Action) (document : Document) → HasNamesOf document (action_back action document)
 back-kept action document =
     elim action.inserts as
-    (λ b. HasNamesOf document (if b then without_cells action.at (action.at + length action.text) document else text_back action.at action.text document)) [
+    (λ b. HasNamesOf document (if b then without_cells action.at (action.at + length action.text) document
+    else text_back action.at action.text document)) [
       | true ↦ cells-out action.at (action.at + length action.text) document
       | false ↦ text-back action.at action.text document
     ]
@@ -173,24 +217,28 @@ back-kept action document =
 again-kept : (action : Action) (document : Document) → HasNamesOf document (action_again action document)
 again-kept action document =
     elim action.inserts as
-    (λ b. HasNamesOf document (if b then text_back action.at action.text document else without_cells action.at (action.at + length action.text) document)) [
+    (λ b. HasNamesOf document (if b then text_back action.at action.text document
+    else without_cells action.at (action.at + length action.text) document)) [
       | true ↦ text-back action.at action.text document
       | false ↦ cells-out action.at (action.at + length action.text) document
     ]
 
 group-back-kept : (group : List Action) (document : Document) → HasNamesOf document (group_back group document)
 group-back-kept [] document = refl
-group-back-kept (action ∷ actions) document = back-kept action (group_back actions document) ∙ group-back-kept actions document
+group-back-kept (action ∷ actions) document =
+    back-kept action (group_back actions document) ∙ group-back-kept actions document
 
 group-again-kept : (group : List Action) (document : Document) → HasNamesOf document (group_again group document)
 group-again-kept [] document = refl
-group-again-kept (action ∷ actions) document = group-again-kept actions (action_again action document) ∙ again-kept action document
+group-again-kept (action ∷ actions) document =
+    group-again-kept actions (action_again action document) ∙ again-kept action document
 
 end-kept : (widget : Widget) (end : Option ℕ) (document : Document) → HasNamesOf document (with_end widget end document)
 end-kept widget None document = refl
 end-kept widget (Some at) document = clipped-kept widget (Some (record widget.insert { offset = at })) document
 
-undo-found-kept : (document : Document) (widget : Widget) (group : Option (List Action)) → HasNamesOf document (undo_found document widget group).document
+undo-found-kept : (document : Document) (widget : Widget) (group : Option (List Action)) →
+    HasNamesOf document (undo_found document widget group).document
 undo-found-kept document widget None = refl
 undo-found-kept document widget (Some group) =
     elim (is_idle document widget) as (λ b. HasNamesOf document (if b then document else undone widget group document)) [
@@ -200,12 +248,14 @@ undo-found-kept document widget (Some group) =
 
 pub undo-kept : (document : Document) (widget : Widget) → HasNamesOf document (edit_undo document widget).document
 undo-kept document widget =
-    elim document.undo as (λ b. HasNamesOf document (if b then undo_found document widget (next_undo document.history) else answered document Empty).document) [
+    elim document.undo as (λ b. HasNamesOf document (if b then undo_found document widget (next_undo document.history)
+    else answered document Empty).document) [
       | true ↦ undo-found-kept document widget (next_undo document.history)
       | false ↦ refl
     ]
 
-redo-found-kept : (document : Document) (widget : Widget) (group : Option (List Action)) → HasNamesOf document (redo_found document widget group).document
+redo-found-kept : (document : Document) (widget : Widget) (group : Option (List Action)) →
+    HasNamesOf document (redo_found document widget group).document
 redo-found-kept document widget None = refl
 redo-found-kept document widget (Some group) =
     elim (is_idle document widget) as (λ b. HasNamesOf document (if b then document else redone widget group document)) [
@@ -215,7 +265,8 @@ redo-found-kept document widget (Some group) =
 
 pub redo-kept : (document : Document) (widget : Widget) → HasNamesOf document (edit_redo document widget).document
 redo-kept document widget =
-    elim document.undo as (λ b. HasNamesOf document (if b then redo_found document widget (next_redo document.history) else answered document Empty).document) [
+    elim document.undo as (λ b. HasNamesOf document (if b then redo_found document widget (next_redo document.history)
+    else answered document Empty).document) [
       | true ↦ redo-found-kept document widget (next_redo document.history)
       | false ↦ refl
     ]

@@ -1,5 +1,6 @@
 -- The names of the widgets that a document has after a command.
-use Rattle.std.proofs.Common.{◌≡◌, ℕ, ◌<◌, ◌||◌, Bool, true, false, List, [], ◌∷◌, ◌++◌, length, refl, sym, ap, ◌∙◌, arith, ◌⊎◌, inl, inr}
+use Rattle.std.proofs.Common.{◌≡◌, ℕ, ◌<◌, ◌||◌, Bool, true, false, List, [], ◌∷◌, ◌++◌, length, refl, sym, ap, ◌∙◌}
+use Rattle.std.proofs.Common.{arith, ◌⊎◌, inl, inr}
 use Rattle.std.specs.Prelude.{if◌then◌else◌}
 use Rattle.std.proofs.lemmas.List.{length-append, length-map, map-append}
 use Rattle.std.proofs.lemmas.Slice.Eq.{bytes_eq-Decides}
@@ -15,7 +16,8 @@ use Rattle.documents.specs.Texts.{insertion_offset}
 use Rattle.documents.specs.WellFormed.{window_names}
 use Rattle.documents.specs.Widgets.{new_widget, with_peer}
 use Rattle.documents.proofs.CarriedLaws.{IsCarried, carried-reordered}
-use Rattle.documents.proofs.NamesKeptLaws.{HasNamesOf, add-kept, delete-kept, insert-kept, mark-kept, redo-kept, remove-kept, replace-kept, set-kept, undo-kept}
+use Rattle.documents.proofs.NamesKeptLaws.{HasNamesOf, add-kept, delete-kept, insert-kept, mark-kept, redo-kept}
+use Rattle.documents.proofs.NamesKeptLaws.{remove-kept, replace-kept, set-kept, undo-kept}
 
 -- each widget is one from before, or a window with a name that none had, and there are no fewer
 pub record AreNamed (windows : List (List ℕ)) (old new : Document) : Type 0 where
@@ -36,12 +38,15 @@ named-same windows old new same = record {
 pub named-carried : (limits : LimitTable) (windows : List (List ℕ)) (document : Document) (widget : Widget)
     → IsCarried limits document widget (AreNamed windows document)
 named-carried limits windows document widget =
-    let kept : (new : Document) → HasNamesOf document new → AreNamed windows document new = named-same windows document in
+    let kept : (new : Document) → HasNamesOf document new →
+    AreNamed windows document new = named-same windows document in
     record {
       same = kept document refl;
-      inserted = λ place pairs _. kept _ (insert-kept limits document widget (insertion_offset document widget place) pairs);
+      inserted =
+          λ place pairs _. kept _ (insert-kept limits document widget (insertion_offset document widget place) pairs);
       replaced = λ from to pairs _ _.
-          kept _ (replace-kept limits document widget (insertion_offset document widget from) (insertion_offset document widget to) pairs);
+          kept _ (replace-kept limits document widget (insertion_offset document widget from)
+          (insertion_offset document widget to) pairs);
       deleted = λ places _ _. kept _ (delete-kept document widget (spans_shown document widget places));
       set = λ name offset found. kept _ (set-kept limits document widget name offset found);
       turned = λ name place. kept _ (mark-kept document widget name place);
@@ -49,10 +54,12 @@ named-carried limits windows document widget =
       added = λ name places. kept _ (add-kept limits document widget name places);
       removed = λ name places. kept _ (remove-kept document widget name places);
       untagged = λ names. kept _ refl;
-      ordered = λ at order words. carried-reordered (AreNamed windows document) document at order words (kept document refl) (λ tags. kept _ refl);
+      ordered = λ at order words. carried-reordered (AreNamed windows document) document at order words
+          (kept document refl) (λ tags. kept _ refl);
       modified = λ flag. kept _ refl;
       separated = kept _ (elim document.undo as
-          (λ b. HasNamesOf document (if b then record document { history = separated document.history } else document)) [ true ↦ refl | false ↦ refl ]);
+          (λ b. HasNamesOf document (if b then record document { history = separated document.history } else document))
+          [ true ↦ refl | false ↦ refl ]);
       undone = kept _ (undo-kept document widget);
       redone = kept _ (redo-kept document widget);
     }
@@ -64,7 +71,8 @@ either true c is = inl refl
 either false true is = inr refl
 either false false is = absurd (let h : false ≡ true = is in cc)
 
-pub named-peer : (windows : List (List ℕ)) (document : Document) (name : List ℕ) (settings : Settings) → is_window_name name ≡ true
+pub named-peer : (windows : List (List ℕ)) (document : Document) (name : List ℕ) (settings : Settings) →
+    is_window_name name ≡ true
     → is_among name windows ≡ false
     → AreNamed windows document (with_peer name settings document)
 named-peer windows document name settings is new =
@@ -73,7 +81,8 @@ named-peer windows document name settings is new =
     map-append (λ (w : Widget). w.name) document.widgets (widget ∷ []) in
     record {
       known = λ other there.
-          elim (either (is_among other (window_names document)) (is_same other name) (sym (among-append other (window_names document) (name ∷ []))
+          elim (either (is_among other (window_names document)) (is_same other name)
+          (sym (among-append other (window_names document) (name ∷ []))
           ∙ ap (is_among other) (sym names) ∙ there)) [
             | inl was ↦ inl was
             | inr same ↦

@@ -1,5 +1,7 @@
--- Options that still keep all actions, and widgets that come and go, leave what a document leads back to; and so it begins.
-use Rattle.std.proofs.Common.{◌≡◌, ℕ, ◌<◌, ◌≤◌, Bool, true, false, cond, List, [], ◌∷◌, map, length, refl, sym, ap, ap₂, ◌∙◌, arith, subst, true≢false}
+-- Options that still keep all actions, and widgets that come and go, leave what a document leads back to; and so it
+-- begins.
+use Rattle.std.proofs.Common.{◌≡◌, ℕ, ◌<◌, ◌≤◌, Bool, true, false, cond, List, [], ◌∷◌, map, length, refl, sym, ap, ap₂}
+use Rattle.std.proofs.Common.{◌∙◌, arith, subst, true≢false}
 use Rattle.std.specs.Prelude.{filter, unwrap_or, if◌then◌else◌}
 use Rattle.std.specs.List.{All, AllByRecursion}
 use Rattle.std.proofs.lemmas.List.{length-map, map-append}
@@ -25,24 +27,34 @@ use Rattle.documents.proofs.WidgetLaws.{anchor-line, lines-anchored}
 -- ---- options
 
 -- all is kept of a history
-history-kept : (settings : DocumentSettings) (history : History) → settings.undo ≡ true → limit_of settings.most_undo ≡ 0
+history-kept : (settings : DocumentSettings) (history : History) → settings.undo ≡ true →
+    limit_of settings.most_undo ≡ 0
     → history_under settings history ≡ history
 history-kept settings history undo most = ap₂ (λ n b. limited n (if b then history else no_history)) most undo
 
 -- the options of a widget name lines of its text
-pub own-lines : (document : Document) (widget : Widget) → AreLines (lines (characters document.cells)) (settings_of document widget)
-own-lines document widget = record { start = anchor-line (characters document.cells) widget.start; end = anchor-line (characters document.cells) widget.end }
+pub own-lines : (document : Document) (widget : Widget) →
+    AreLines (lines (characters document.cells)) (settings_of document widget)
+own-lines document widget = record {
+  start = anchor-line (characters document.cells) widget.start;
+  end = anchor-line (characters document.cells) widget.end;
+}
 
 all-changed : (text : List ℕ) (change : Widget → Widget)
     → ((widget : Widget) → AreAnchored text (anchors_of widget) → AreAnchored text (anchors_of (change widget)))
-    → (widgets : List Widget) → All (AreAnchored text) (map anchors_of widgets) → All (AreAnchored text) (map anchors_of (map change widgets))
+    → (widgets : List Widget) → All (AreAnchored text) (map anchors_of widgets) →
+    All (AreAnchored text) (map anchors_of (map change widgets))
 all-changed text change keeps [] all = All-nil (AreAnchored text)
 all-changed text change keeps (widget ∷ widgets) all =
-    All-cons (AreAnchored text) (anchors_of (change widget)) (map anchors_of (map change widgets)) (keeps widget (all 0 (anchors_of widget) (omega arith)))
-    (all-changed text change keeps widgets (All-tail (AreAnchored text) (anchors_of widget) (map anchors_of widgets) all))
+    All-cons (AreAnchored text) (anchors_of (change widget)) (map anchors_of (map change widgets))
+    (keeps widget (all 0 (anchors_of widget) (omega arith)))
+    (all-changed text change keeps widgets (All-tail (AreAnchored text) (anchors_of widget) (map anchors_of widgets)
+    all))
 
-pub leads-settings : (limit : ℕ) (start : List ℕ) (document : Document) (widget : Widget) (settings : Settings) → Leads limit start document
-    → AreLines (lines (characters document.cells)) settings → is_behind settings.start settings.end ≡ false → settings.document.undo ≡ true
+pub leads-settings : (limit : ℕ) (start : List ℕ) (document : Document) (widget : Widget) (settings : Settings) →
+    Leads limit start document
+    → AreLines (lines (characters document.cells)) settings → is_behind settings.start settings.end ≡ false →
+    settings.document.undo ≡ true
     → limit_of settings.document.most_undo ≡ 0
     → Leads limit start (with_settings widget settings document)
 leads-settings limit start document widget settings leads are before undo most =
@@ -55,7 +67,8 @@ leads-settings limit start document widget settings leads are before undo most =
       page = record {
         some = page.some;
         ends = page.ends;
-        anchored = all-changed text (λ other. if is_same widget.name other.name then widget_set document settings other else other)
+        anchored = all-changed text (λ other. if is_same widget.name other.name then widget_set document settings other
+            else other)
             (λ other anchored. elim (is_same widget.name other.name) as
             (λ b. AreAnchored text (anchors_of (if b then widget_set document settings other else other))) [
               | true ↦ lines-anchored text settings are before
@@ -68,8 +81,10 @@ leads-settings limit start document widget settings leads are before undo most =
 
 -- ---- widgets
 
-pub leads-peer : (limit : ℕ) (start : List ℕ) (document : Document) (name : List ℕ) (settings : Settings) → Leads limit start document
-    → AreLines (lines (characters document.cells)) settings → is_behind settings.start settings.end ≡ false → settings.document.undo ≡ true
+pub leads-peer : (limit : ℕ) (start : List ℕ) (document : Document) (name : List ℕ) (settings : Settings) →
+    Leads limit start document
+    → AreLines (lines (characters document.cells)) settings → is_behind settings.start settings.end ≡ false →
+    settings.document.undo ≡ true
     → limit_of settings.document.most_undo ≡ 0
     → Leads limit start (with_peer name settings document)
 leads-peer limit start document name settings leads are before undo most =
@@ -77,7 +92,8 @@ leads-peer limit start document name settings leads are before undo most =
     let same = history-kept settings.document document.history undo most in
     let page = leads.page in
     let widget = new_widget document name settings in
-    let lone = All-cons (AreAnchored text) (anchors_of widget) [] (lines-anchored text settings are before) (All-nil (AreAnchored text)) in
+    let lone = All-cons (AreAnchored text) (anchors_of widget) [] (lines-anchored text settings are before)
+    (All-nil (AreAnchored text)) in
     record {
       undo = undo;
       most = most;
@@ -85,23 +101,29 @@ leads-peer limit start document name settings leads are before undo most =
         some = page.some;
         ends = page.ends;
         anchored = subst (All (AreAnchored text)) (sym (map-append anchors_of document.widgets (widget ∷ [])))
-            (All-append (AreAnchored text) (map anchors_of document.widgets) (anchors_of widget ∷ []) page.anchored lone);
+            (All-append (AreAnchored text) (map anchors_of document.widgets) (anchors_of widget ∷ []) page.anchored
+            lone);
       };
       fits = subst (FitsText limit text) (sym same) leads.fits;
       back = ap (λ (h : History). reverted_groups limit h.groups text) same ∙ leads.back;
     }
 
-text-left : (names : List (List ℕ)) (cells : List KeyedCell) → characters (map (without_selections names) cells) ≡ characters cells
+text-left : (names : List (List ℕ)) (cells : List KeyedCell) →
+    characters (map (without_selections names) cells) ≡ characters cells
 text-left names [] = refl
 text-left names (cell ∷ cells) = ap (λ text. cell.character ∷ text) (text-left names cells)
 
-all-left : (text : List ℕ) (keeps : Widget → Bool) (widgets : List Widget) → All (AreAnchored text) (map anchors_of widgets)
+all-left : (text : List ℕ) (keeps : Widget → Bool) (widgets : List Widget) →
+    All (AreAnchored text) (map anchors_of widgets)
     → All (AreAnchored text) (map anchors_of (filter keeps widgets))
 all-left text keeps [] all = All-nil (AreAnchored text)
 all-left text keeps (widget ∷ widgets) all =
-    let rest = all-left text keeps widgets (All-tail (AreAnchored text) (anchors_of widget) (map anchors_of widgets) all) in
-    elim (keeps widget) as (λ b. All (AreAnchored text) (map anchors_of (cond b (widget ∷ filter keeps widgets) (filter keeps widgets)))) [
-      | true ↦ All-cons (AreAnchored text) (anchors_of widget) (map anchors_of (filter keeps widgets)) (all 0 (anchors_of widget) (omega arith)) rest
+    let rest = all-left text keeps widgets (All-tail (AreAnchored text) (anchors_of widget) (map anchors_of widgets)
+    all) in
+    elim (keeps widget) as (λ b. All (AreAnchored text)
+    (map anchors_of (cond b (widget ∷ filter keeps widgets) (filter keeps widgets)))) [
+      | true ↦ All-cons (AreAnchored text) (anchors_of widget) (map anchors_of (filter keeps widgets))
+          (all 0 (anchors_of widget) (omega arith)) rest
       | false ↦ rest
     ]
 
@@ -134,13 +156,19 @@ all-placed document [] placed = All-nil (AreAnchored (characters document.cells)
 all-placed document (widget ∷ widgets) placed =
     let text = characters document.cells in
     let one = placed.0 in
-    let long : length document.cells ≡ length text = sym (length-map document.cells (λ (cell : KeyedCell). cell.character)) in
+    let long : length document.cells ≡ length text = sym
+    (length-map document.cells (λ (cell : KeyedCell). cell.character)) in
     All-cons (AreAnchored text) (anchors_of widget) (map anchors_of widgets)
-    (record { start = one.start; end = one.end; ordered = subst (λ n. unwrap_or widget.start 0 ≤ unwrap_or widget.end n) long one.ordered })
+    (record {
+      start = one.start;
+      end = one.end;
+      ordered = subst (λ n. unwrap_or widget.start 0 ≤ unwrap_or widget.end n) long one.ordered;
+    })
     (all-placed document widgets placed.1)
 
 -- a document that keeps all its actions, and has none yet
-pub leads-first : (limits : LimitTable) (document : Document) → IsWellFormedDocument limits document → document.undo ≡ true → limit_of document.most_undo ≡ 0
+pub leads-first : (limits : LimitTable) (document : Document) → IsWellFormedDocument limits document →
+    document.undo ≡ true → limit_of document.most_undo ≡ 0
     → document.history.groups ≡ []
     → Leads limits.chars (characters document.cells) document
 leads-first limits document formed undo most none =

@@ -1,5 +1,6 @@
 -- A document as it is kept: its characters, its widgets, and what of it a change leaves.
-use Rattle.std.proofs.Common.{◌≡◌, ℕ, zero, suc, ◌+◌, ◌*◌, ◌<◌, true, List, [], ◌∷◌, length, map, refl, sym, ap, subst, ◌∙◌}
+use Rattle.std.proofs.Common.{◌≡◌, ℕ, zero, suc, ◌+◌, ◌*◌, ◌<◌, true, List, [], ◌∷◌, length, map, refl, sym, ap, subst}
+use Rattle.std.proofs.Common.{◌∙◌}
 use Rattle.std.specs.Prelude.{slice_get, option_map, Some, is_some}
 use Rattle.std.specs.FinMap as finite
 use Rattle.std.specs.List.{AllByRecursion}
@@ -12,14 +13,16 @@ use Rattle.text_model.specs.Content.{Content, Marks}
 use Rattle.name_list.specs.Names.{Named, numbers_of}
 use Rattle.tag_table.specs.Tags.{Tag}
 use Rattle.edit_ops.specs.Anchors.{AreAnchored}
-use Rattle.documents.specs.Documents.{Document, Parts, anchors_at, characters, document_of, no_widget, whole, widget_at, widget_of}
+use Rattle.documents.specs.Documents.{Document, Parts, anchors_at, characters, document_of, no_widget, whole, widget_at}
+use Rattle.documents.specs.Documents.{widget_of}
 use Rattle.documents.specs.Kept.{HasOwnMarks, IsSeated, Stands}
 use Rattle.documents.specs.Keys.{Key, key_pairs, keyed}
 use Rattle.documents.proofs.PlacedLaws.{placed-length}
 
 -- ---- its characters and counts
 
-pub characters-keyed : (pairs : List (ℕ × Key)) (cells : List Cell) → characters (keyed pairs cells) ≡ model.characters cells
+pub characters-keyed : (pairs : List (ℕ × Key)) (cells : List Cell) →
+    characters (keyed pairs cells) ≡ model.characters cells
 characters-keyed pairs [] = refl
 characters-keyed pairs (cell ∷ cells) = ap (λ cs. cell.character ∷ cs) (characters-keyed pairs cells)
 
@@ -29,20 +32,30 @@ length-keyed pairs cells = length-map cells _
 abbrev pub pairs_of : Parts → List (ℕ × Key)
 pairs_of parts = key_pairs parts.seats.entries parts.tags.tags
 
-pub characters-kept : (parts : Parts) (document : Document) → document_of parts ≡ document → characters document.cells ≡ model.characters parts.content.cells
-characters-kept parts document is = ap (λ (d : Document). characters d.cells) (sym is) ∙ characters-keyed (pairs_of parts) parts.content.cells
+pub characters-kept : (parts : Parts) (document : Document) → document_of parts ≡ document →
+    characters document.cells ≡ model.characters parts.content.cells
+characters-kept parts document is =
+    ap (λ (d : Document). characters d.cells) (sym is) ∙ characters-keyed (pairs_of parts) parts.content.cells
 
-pub cells-kept : (parts : Parts) (document : Document) → document_of parts ≡ document → length document.cells ≡ length parts.content.cells
-cells-kept parts document is = ap (λ (d : Document). length d.cells) (sym is) ∙ length-keyed (pairs_of parts) parts.content.cells
+pub cells-kept : (parts : Parts) (document : Document) → document_of parts ≡ document →
+    length document.cells ≡ length parts.content.cells
+cells-kept parts document is =
+    ap (λ (d : Document). length d.cells) (sym is) ∙ length-keyed (pairs_of parts) parts.content.cells
 
-pub marks-kept : (parts : Parts) (document : Document) → document_of parts ≡ document → length document.marks ≡ length parts.marks.marks
-marks-kept parts document is = ap (λ (d : Document). length d.marks) (sym is) ∙ placed-length parts.content.marks parts.marks.marks
+pub marks-kept : (parts : Parts) (document : Document) → document_of parts ≡ document →
+    length document.marks ≡ length parts.marks.marks
+marks-kept parts document is =
+    ap (λ (d : Document). length d.marks) (sym is) ∙ placed-length parts.content.marks parts.marks.marks
 
-pub tags-kept : (parts : Parts) (document : Document) → document_of parts ≡ document → length document.tags ≡ length parts.tags.tags
-tags-kept parts document is = ap (λ (d : Document). length d.tags) (sym is) ∙ length-map parts.tags.tags (λ (tag : Tag). tag.name)
+pub tags-kept : (parts : Parts) (document : Document) → document_of parts ≡ document →
+    length document.tags ≡ length parts.tags.tags
+tags-kept parts document is =
+    ap (λ (d : Document). length d.tags) (sym is) ∙ length-map parts.tags.tags (λ (tag : Tag). tag.name)
 
-pub widgets-kept : (parts : Parts) (document : Document) → document_of parts ≡ document → length document.widgets ≡ length parts.seats.entries
-widgets-kept parts document is = ap (λ (d : Document). length d.widgets) (sym is) ∙ length-map parts.seats.entries (widget_of parts.journal parts.content.marks)
+pub widgets-kept : (parts : Parts) (document : Document) → document_of parts ≡ document →
+    length document.widgets ≡ length parts.seats.entries
+widgets-kept parts document is = ap (λ (d : Document). length d.widgets) (sym is)
+    ∙ length-map parts.seats.entries (widget_of parts.journal parts.content.marks)
 
 -- ---- one of its widgets
 
@@ -60,30 +73,38 @@ pub record Sits (parts : Parts) (document : Document) (place slot : ℕ) : Type 
   pub current : is_some (finite.get parts.content.marks (2 * slot + 1)) ≡ true
 
 -- what holds of each element holds of the one at a place
-pub at-place : {A : Type 0} (P : A → Type 0) (xs : List A) (place : ℕ) (x : A) → AllByRecursion P xs → slice_get xs place ≡ Some x → P x
+pub at-place : {A : Type 0} (P : A → Type 0) (xs : List A) (place : ℕ) (x : A) → AllByRecursion P xs →
+    slice_get xs place ≡ Some x → P x
 at-place P [] place x each is = absurd (none-some x is)
 at-place P (y ∷ ys) zero x each is = subst P (same_Some y x is) each.0
 at-place P (y ∷ ys) (suc place) x each is = at-place P ys place x each.1 is
 
-pub mapped-at : {A B : Type 0} (f : A → B) (xs : List A) (place : ℕ) (x : A) → slice_get xs place ≡ Some x → slice_get (map f xs) place ≡ Some (f x)
+pub mapped-at : {A B : Type 0} (f : A → B) (xs : List A) (place : ℕ) (x : A) → slice_get xs place ≡ Some x →
+    slice_get (map f xs) place ≡ Some (f x)
 mapped-at f xs place x is = slice_get-map f xs place ∙ ap (option_map f) is
 
-seat-at : (entries : List Named) (place slot : ℕ) → slice_get (numbers_of entries) place ≡ Some slot → (seat : Named) × (slice_get entries place ≡ Some seat) × (seat.number ≡ slot)
+seat-at : (entries : List Named) (place slot : ℕ) → slice_get (numbers_of entries) place ≡ Some slot →
+    (seat : Named) × (slice_get entries place ≡ Some seat) × (seat.number ≡ slot)
 seat-at [] place slot is = absurd (none-some slot is)
 seat-at (seat ∷ seats) zero slot is = (seat, refl, same_Some seat.number slot is)
 seat-at (seat ∷ seats) (suc place) slot is = seat-at seats place slot is
 
-pub widget-is : (parts : Parts) (document : Document) (place : ℕ) (seat : Named) → document_of parts ≡ document → slice_get parts.seats.entries place ≡ Some seat
+pub widget-is : (parts : Parts) (document : Document) (place : ℕ) (seat : Named) → document_of parts ≡ document →
+    slice_get parts.seats.entries place ≡ Some seat
     → widget_at document place ≡ widget_of parts.journal parts.content.marks seat
 widget-is parts document place seat is stands =
     ap (λ (d : Document). widget_at d place) (sym is)
-    ∙ get_or_from_slice_get (document_of parts).widgets place (widget_of parts.journal parts.content.marks seat) no_widget (mapped-at (widget_of parts.journal parts.content.marks) parts.seats.entries place seat stands)
+    ∙ get_or_from_slice_get (document_of parts).widgets place (widget_of parts.journal parts.content.marks seat)
+    no_widget (mapped-at (widget_of parts.journal parts.content.marks) parts.seats.entries place seat stands)
 
-pub sits : (parts : Parts) (document : Document) (place slot : ℕ) → Stands parts document → slice_get (numbers_of parts.seats.entries) place ≡ Some slot → Sits parts document place slot
+pub sits : (parts : Parts) (document : Document) (place slot : ℕ) → Stands parts document →
+    slice_get (numbers_of parts.seats.entries) place ≡ Some slot → Sits parts document place slot
 sits parts document place slot stands is =
     let found = seat-at parts.seats.entries place slot is in
-    let own = at-place (HasOwnMarks parts.content.marks) parts.seats.entries place found.0 stands.sound.kept.own found.1 in
-    let seated = at-place (IsSeated parts.journal.anchors parts.journal.disabled) parts.seats.entries place found.0 stands.sound.views.seated found.1 in
+    let own = at-place (HasOwnMarks parts.content.marks) parts.seats.entries place found.0 stands.sound.kept.own found.1
+    in
+    let seated = at-place (IsSeated parts.journal.anchors parts.journal.disabled) parts.seats.entries place found.0
+    stands.sound.views.seated found.1 in
     let same = found.2 in
     record {
       seat = found.0;
@@ -93,7 +114,8 @@ sits parts document place slot stands is =
       below = stands.sound.kept.seats.below place slot is;
       anchors = subst (λ n. n < length parts.journal.anchors) same seated.anchored;
       disabled = subst (λ n. n < length parts.journal.disabled) same seated.flagged;
-      anchored = stands.sound.views.anchored slot whole (subst (λ n. n < length parts.journal.anchors) same seated.anchored);
+      anchored =
+          stands.sound.views.anchored slot whole (subst (λ n. n < length parts.journal.anchors) same seated.anchored);
       insert = subst (λ n. is_some (finite.get parts.content.marks (2 * n)) ≡ true) same own.insert;
       current = subst (λ n. is_some (finite.get parts.content.marks (2 * n + 1)) ≡ true) same own.current;
     }

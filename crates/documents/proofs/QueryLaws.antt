@@ -5,5 +5,7 @@ use Rattle.std.proofs.lemmas.Str.{IsUtf8-string_bytes, chars_from_encodes}
 use Rattle.tcl_words.specs.ListText.{list_text}
 
 -- a text that spells a list
-pub spelled : {Z : Type 0} (text : String Z) (elements : List (List ℕ)) → string_bytes text ≡ encode_utf8_all (list_text elements) → chars (string_bytes text) ≡ list_text elements
-spelled text elements is = sym (chars_from_encodes (list_text elements) (string_bytes text) (IsUtf8-string_bytes text) (sym is))
+pub spelled : {Z : Type 0} (text : String Z) (elements : List (List ℕ)) →
+    string_bytes text ≡ encode_utf8_all (list_text elements) → chars (string_bytes text) ≡ list_text elements
+spelled text elements is =
+    sym (chars_from_encodes (list_text elements) (string_bytes text) (IsUtf8-string_bytes text) (sym is))

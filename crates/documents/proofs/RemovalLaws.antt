@@ -1,5 +1,6 @@
 -- A document after spans of what a widget shows are deleted.
-use Rattle.std.proofs.Common.{◌≡◌, ℕ, ◌+◌, ◌-◌, ◌<◌, ◌≤◌, Bool, true, false, List, [], ◌∷◌, Ok, map, length, take, drop, ◌++◌, refl, sym, ap, ap₂, subst, ◌∙◌, arith}
+use Rattle.std.proofs.Common.{◌≡◌, ℕ, ◌+◌, ◌-◌, ◌<◌, ◌≤◌, Bool, true, false, List, [], ◌∷◌, Ok, map, length, take, drop}
+use Rattle.std.proofs.Common.{◌++◌, refl, sym, ap, ap₂, subst, ◌∙◌, arith}
 use Rattle.std.specs.Prelude.{slice_range, if◌then◌else◌}
 use Rattle.std.specs.List.{All}
 use Rattle.std.proofs.lemmas.List.Elements.{All-append, All-drop, All-map, All-take}
@@ -39,28 +40,36 @@ use Rattle.documents.proofs.ViewLaws.{active-is, end-is, end_in, start-is, start
 
 -- ---- spans that stand apart, the last first
 
-stands-spans : (parts : Parts) (document : Document) (kind : EditKind) (border : ℕ) (spans : List Span) → Stands parts document → AreApart border spans → border ≤ length parts.content.cells
-    → Stands (with_state parts (removed_spans (recording_of parts.journal.settings) kind spans (state_in parts))) (without_spans kind spans document)
+stands-spans : (parts : Parts) (document : Document) (kind : EditKind) (border : ℕ) (spans : List Span) →
+    Stands parts document → AreApart border spans → border ≤ length parts.content.cells
+    → Stands (with_state parts (removed_spans (recording_of parts.journal.settings) kind spans (state_in parts)))
+    (without_spans kind spans document)
 stands-spans parts document kind border [] stands apart within = stands
 stands-spans parts document kind border (span ∷ spans) stands apart within =
     let some = apart.0 in let below = apart.1 in
     let state : State = removed_span (recording_of parts.journal.settings) kind span.from span.to (state_in parts) in
-    let long = length-span (recording_of parts.journal.settings) kind span.from span.to (state_in parts) (omega (arith, some)) (omega (arith, below, within)) in
+    let long = length-span (recording_of parts.journal.settings) kind span.from span.to (state_in parts)
+    (omega (arith, some)) (omega (arith, below, within)) in
     stands-spans (with_state parts state) _ kind span.from spans
-    (stands-span parts document kind span.from span.to stands (omega (arith, some)) (omega (arith, below, within))) apart.2 (omega (arith, long, some, below, within))
+    (stands-span parts document kind span.from span.to stands (omega (arith, some)) (omega (arith, below, within)))
+    apart.2 (omega (arith, long, some, below, within))
 
 -- ---- the last cell that a widget shows, which loses its keys
 
 abbrev bared : ℕ → State → State
 bared at state = record state { content = after_step (ClearTags at) state.content }
 
-known-bare : (parts : Parts) (from to : ℕ) (cells : List Cell) → All (HasKnownSlots parts.seats.entries parts.tags.tags) cells
+known-bare : (parts : Parts) (from to : ℕ) (cells : List Cell) →
+    All (HasKnownSlots parts.seats.entries parts.tags.tags) cells
     → All (HasKnownSlots parts.seats.entries parts.tags.tags) (changed without_slots from to cells)
 known-bare parts from to cells known =
     let P = HasKnownSlots parts.seats.entries parts.tags.tags in
     let part = slice_range cells from to in
-    let new : All P (map without_slots part) = All-map P without_slots part (λ k cell within. known-empty parts.seats.entries parts.tags.tags) in
-    All-append P (take from cells ++ map without_slots part) (drop to cells) (All-append P (take from cells) (map without_slots part) (All-take P from cells known) new) (All-drop P to cells known)
+    let new : All P (map without_slots part) = All-map P without_slots part (λ k cell within.
+    known-empty parts.seats.entries parts.tags.tags) in
+    All-append P (take from cells ++ map without_slots part) (drop to cells)
+    (All-append P (take from cells) (map without_slots part) (All-take P from cells known) new)
+    (All-drop P to cells known)
 
 stands-bare : (parts : Parts) (document : Document) (at : ℕ) → Stands parts document → at < length parts.content.cells
     → Stands (with_state parts (bared at (state_in parts))) (with_bare at document)
@@ -88,16 +97,24 @@ stands-bare parts document at stands within =
         };
         marked = sound.marked;
         orderly = record { most = sound.orderly.most; groups = sound.orderly.groups; undone = sound.orderly.undone };
-        views = record { anchored = subst (λ t. All (AreAnchored t) parts.journal.anchors) (sym text_is) sound.views.anchored; seated = sound.views.seated };
+        views = record {
+          anchored = subst (λ t. All (AreAnchored t) parts.journal.anchors) (sym text_is)
+              sound.views.anchored;
+          seated = sound.views.seated;
+        };
       };
       is = (λ i. record before { cells = cells i }) ∙ ap (with_bare at) stands.is;
     }
 
-stands-if : (parts : Parts) (document : Document) (at : ℕ) (b : Bool) → Stands parts document → at < length parts.content.cells
-    → Stands (with_state parts (if b then bared at (state_in parts) else state_in parts)) (if b then with_bare at document else document)
+stands-if : (parts : Parts) (document : Document) (at : ℕ) (b : Bool) → Stands parts document →
+    at < length parts.content.cells
+    → Stands (with_state parts (if b then bared at (state_in parts) else state_in parts)) (if b
+    then with_bare at document else document)
     × (length (if b then bared at (state_in parts) else state_in parts).content.cells ≡ length parts.content.cells)
-stands-if parts document at true stands within =
-    (stands-bare parts document at stands within, length-changed without_slots at (at + 1) parts.content.cells (omega arith) (omega (arith, within)))
+stands-if parts document at true stands within = (
+  stands-bare parts document at stands within,
+  length-changed without_slots at (at + 1) parts.content.cells (omega arith) (omega (arith, within)),
+)
 stands-if parts document at false stands within = (stands, refl)
 
 -- ---- a deletion
@@ -105,8 +122,10 @@ stands-if parts document at false stands within = (stands, refl)
 to-end : (end : ℕ) (spans : List Span) → All (SpanFits end) spans → All (λ (span : Span). span.to ≤ end) spans
 to-end end spans fit = λ k d before. (fit k d before).within
 
-pub leaves-deleted : (limits : LimitTable) (old : Parts) (state : State) (document : Document) (place slot : ℕ) (spans : List Span) → Stands old document → Sits old document place slot
-    → start_in old slot < end_in old slot → All (SpanFits (end_in old slot)) spans → state ≡ deleted (recording_of old.journal.settings) (start_in old slot) (end_in old slot) spans (state_in old)
+pub leaves-deleted : (limits : LimitTable) (old : Parts) (state : State) (document : Document) (place slot : ℕ)
+    (spans : List Span) → Stands old document → Sits old document place slot
+    → start_in old slot < end_in old slot → All (SpanFits (end_in old slot)) spans →
+    state ≡ deleted (recording_of old.journal.settings) (start_in old slot) (end_in old slot) spans (state_in old)
     → Leaves limits (with_state old state) document (Ok Empty) (delete_spans document (widget_at document place) spans)
 leaves-deleted limits old state document place slot spans stands sits shows fit is =
     let widget : Widget = widget_at document place in
@@ -125,31 +144,43 @@ leaves-deleted limits old state document place slot spans stands sits shows fit 
     let bare = stands-if old document (end - 1) b stands (omega (arith, shows, within)) in
     let same = bare.1 in
     let first : State = if b then bared (end - 1) (state_in old) else state_in old in
-    let rest = stands-spans (with_state old first) (if b then with_bare (end - 1) document else document) Delete len runs bare.0
-    (deleted-runs text start end len spans (omega (arith, shows)) within (to-end end spans fit)) (omega (arith, same)) in
+    let rest = stands-spans (with_state old first) (if b then with_bare (end - 1) document
+    else document) Delete len runs bare.0
+    (deleted-runs text start end len spans (omega (arith, shows)) within (to-end end spans fit)) (omega (arith, same))
+    in
     let made : State = deleted recording start end spans (state_in old) in
-    let result : Document = without_spans Delete (deleted_runs document widget spans) (last_bare widget spans document) in
+    let result : Document = without_spans Delete (deleted_runs document widget spans) (last_bare widget spans document)
+    in
     let again : (if b then with_bare (end - 1) document else document) ≡ last_bare widget spans document =
     ap (λ n. if in_spans spans (n - 1) then with_bare (n - 1) document else document) (sym end_same) in
     let same_runs : runs ≡ deleted_runs document widget spans =
-    λ i. runs_below (sym long i) (delete_set (sym (characters-kept old document stands.is) i) (sym start_same i) (sym end_same i) (in_spans spans)) in
-    let all_is : document_of (with_state old made) ≡ result = rest.is ∙ ap₂ (λ rs d. without_spans Delete rs d) same_runs again in
-    subst (λ (s : State). Leaves limits (with_state old s) document (Ok Empty) (delete_spans document widget spans)) (sym is)
+    λ i. runs_below (sym long i) (delete_set (sym (characters-kept old document stands.is) i) (sym start_same i)
+    (sym end_same i) (in_spans spans)) in
+    let all_is : document_of (with_state old made) ≡ result = rest.is
+    ∙ ap₂ (λ rs d. without_spans Delete rs d) same_runs again in
+    subst (λ (s : State). Leaves limits (with_state old s) document (Ok Empty) (delete_spans document widget spans))
+    (sym is)
     (does-changed limits old (with_state old made) document (delete_spans document widget spans) stands (record {
       sound = rest.sound;
       is = ap (λ d. answered d Empty) (sym all_is);
       fits = λ fits. (deleted-kept limits.chars start end recording spans (state_in old)
-          (record { fits = fits; groups = stands.sound.orderly.groups; undone = stands.sound.orderly.undone }) shows within (to-end end spans fit)).fits;
+          (record { fits = fits; groups = stands.sound.orderly.groups; undone = stands.sound.orderly.undone }) shows
+          within (to-end end spans fit)).fits;
       tags = λ few. few;
       marks = λ few. few;
       seats = refl;
     }))
 
-pub leaves-places : (limits : LimitTable) (old : Parts) (state : State) (document : Document) (place slot start end : ℕ) (places : List ℕ) (spans : List Span) → Stands old document → Sits old document place slot
+pub leaves-places : (limits : LimitTable) (old : Parts) (state : State) (document : Document) (place slot start end : ℕ)
+    (places : List ℕ) (spans : List Span) → Stands old document → Sits old document place slot
     → is_idle document (widget_at document place) ≡ false → start ≡ start_in old slot → end ≡ end_in old slot
-    → (spans ≡ spans_shown document (widget_at document place) places) × All (SpanFits (end_in old slot)) spans → state ≡ deleted (recording_of old.journal.settings) start end spans (state_in old)
-    → Leaves limits (with_state old state) document (Ok Empty) (delete_places document (widget_at document place) places)
+    → (spans ≡ spans_shown document (widget_at document place) places) × All (SpanFits (end_in old slot)) spans →
+    state ≡ deleted (recording_of old.journal.settings) start end spans (state_in old)
+    → Leaves limits (with_state old state) document (Ok Empty)
+    (delete_places document (widget_at document place) places)
 leaves-places limits old state document place slot start end places spans stands sits active begins ends within is =
-    subst (λ ss. Leaves limits (with_state old state) document (Ok Empty) (delete_spans document (widget_at document place) ss)) within.0
-    (leaves-deleted limits old state document place slot spans stands sits (active-is old document place slot stands sits active).1 within.1
+    subst (λ ss. Leaves limits (with_state old state) document (Ok Empty)
+    (delete_spans document (widget_at document place) ss)) within.0
+    (leaves-deleted limits old state document place slot spans stands sits
+    (active-is old document place slot stands sits active).1 within.1
     (is ∙ ap₂ (λ s e. deleted (recording_of old.journal.settings) s e spans (state_in old)) begins ends))

@@ -1,6 +1,8 @@
 -- A document after texts have taken the place of cells, or where that is refused.
-use Rattle.std.proofs.Common.{◌≡◌, ◌≢◌, ℕ, ◌+◌, ◌-◌, ◌*◌, ◌<◌, ◌≤◌, true, min, List, Ok, Err, map, length, refl, sym, ap, ap₂, subst, ◌∙◌, arith}
-use Rattle.std.specs.Prelude.{None, Option, Result, Some, is_some, nat_lt, option_and_then, option_map, slice_get, unwrap_or}
+use Rattle.std.proofs.Common.{◌≡◌, ◌≢◌, ℕ, ◌+◌, ◌-◌, ◌*◌, ◌<◌, ◌≤◌, true, min, List, Ok, Err, map, length, refl, sym}
+use Rattle.std.proofs.Common.{ap, ap₂, subst, ◌∙◌, arith}
+use Rattle.std.specs.Prelude.{None, Option, Result, Some, is_some, nat_lt, option_and_then, option_map, slice_get}
+use Rattle.std.specs.Prelude.{unwrap_or}
 use Rattle.std.specs.FinMap as finite
 use Rattle.std.specs.List.{All}
 use Rattle.std.proofs.lemmas.Bool.{false≢true}
@@ -35,7 +37,8 @@ use Rattle.documents.specs.Marks.{with_insert}
 use Rattle.documents.specs.Promise.{Change, answered, refused}
 use Rattle.documents.specs.Texts.{insertion_offset, tags_with}
 use Rattle.documents.proofs.ChangeLaws.{Leaves, does-changed}
-use Rattle.documents.proofs.InsertionLaws.{IsListed, IsWithin, count-made, excess-none, few_enough, limits-made, limits-refused, ready, with_tags}
+use Rattle.documents.proofs.InsertionLaws.{IsListed, IsWithin, count-made, excess-none, few_enough, limits-made}
+use Rattle.documents.proofs.InsertionLaws.{limits-refused, ready, with_tags}
 use Rattle.documents.proofs.KnownLaws.{IsKnownPiece}
 use Rattle.documents.proofs.MarkLaws.{leaves-insert}
 use Rattle.documents.proofs.NamedLaws.{keyed_piece, total-pieces}
@@ -56,41 +59,54 @@ well-done : done_well ≢ Err Memory
 well-done is = cc
 
 -- where the widget's own first mark stands
-pub insert-there : (parts : Parts) (document : Document) (place slot : ℕ) → Sits parts document place slot → finite.get parts.content.marks (2 * slot) ≡ Some (widget_at document place).insert
+pub insert-there : (parts : Parts) (document : Document) (place slot : ℕ) → Sits parts document place slot →
+    finite.get parts.content.marks (2 * slot) ≡ Some (widget_at document place).insert
 insert-there parts document place slot sits =
     there_is (finite.get parts.content.marks (2 * slot)) sits.insert
-    ∙ ap Some (ap (λ n. mark_of parts.content.marks (2 * n)) (sym sits.number) ∙ ap (λ (w : Widget). w.insert) (sym sits.widget))
+    ∙ ap Some (ap (λ n. mark_of parts.content.marks (2 * n)) (sym sits.number)
+    ∙ ap (λ (w : Widget). w.insert) (sym sits.widget))
 
-pub stands-clipped : (limits : LimitTable) (parts : Parts) (document : Document) (place slot : ℕ) (widget : Widget) (found : Option Place) → Stands parts document → Sits parts document place slot
-    → widget.name ≡ (widget_at document place).name → ((target : Place) → found ≡ Some target → target.offset ≤ length parts.content.cells)
+pub stands-clipped : (limits : LimitTable) (parts : Parts) (document : Document) (place slot : ℕ) (widget : Widget)
+    (found : Option Place) → Stands parts document → Sits parts document place slot
+    → widget.name ≡ (widget_at document place).name →
+    ((target : Place) → found ≡ Some target → target.offset ≤ length parts.content.cells)
     → Stands (record parts { content = with_mark (2 * slot) found parts.content }) (with_clipped widget found document)
 stands-clipped limits parts document place slot widget None stands sits named within = stands
 stands-clipped limits parts document place slot widget (Some target) stands sits named within =
-    let put = leaves-insert limits parts document place slot target (with_mark (2 * slot) (Some target) parts.content) stands sits (within target refl) refl in
+    let put = leaves-insert limits parts document place slot target (with_mark (2 * slot) (Some target) parts.content)
+    stands sits (within target refl) refl in
     record {
       sound = put.sound;
-      is = put.does.document well-done ∙ ap (λ name. with_insert document (record (widget_at document place) { name = name }) target) (sym named);
+      is = put.does.document well-done
+          ∙ ap (λ name. with_insert document (record (widget_at document place) { name = name }) target) (sym named);
     }
 
 -- a widget has its name after any change of the rest
-pub name-stays : (old new : Parts) (before after : Document) (place slot : ℕ) → Sits old before place slot → Stands new after → new.seats.entries ≡ old.seats.entries
+pub name-stays : (old new : Parts) (before after : Document) (place slot : ℕ) → Sits old before place slot →
+    Stands new after → new.seats.entries ≡ old.seats.entries
     → (widget_at before place).name ≡ (widget_at after place).name
 name-stays old new before after place slot sits stands same =
     let there = ap (λ (entries : List Named). slice_get entries place) same ∙ sits.stands in
-    ap (λ (w : Widget). w.name) sits.widget ∙ sym (ap (λ (w : Widget). w.name) (widget-is new after place sits.seat stands.is there))
+    ap (λ (w : Widget). w.name) sits.widget
+    ∙ sym (ap (λ (w : Widget). w.name) (widget-is new after place sits.seat stands.is there))
 
-pub sits-yet : (old new : Parts) (before after : Document) (place slot : ℕ) → Sits old before place slot → Stands new after → new.seats.entries ≡ old.seats.entries → Sits new after place slot
+pub sits-yet : (old new : Parts) (before after : Document) (place slot : ℕ) → Sits old before place slot →
+    Stands new after → new.seats.entries ≡ old.seats.entries → Sits new after place slot
 sits-yet old new before after place slot seated stands same =
     sits new after place slot stands
-    (ap (λ (entries : List Named). slice_get (numbers_of entries) place) same ∙ slice_get-map (λ (s : Named). s.number) old.seats.entries place
+    (ap (λ (entries : List Named). slice_get (numbers_of entries) place) same
+    ∙ slice_get-map (λ (s : Named). s.number) old.seats.entries place
     ∙ ap (option_map (λ (s : Named). s.number)) seated.stands ∙ ap Some seated.number)
 
 -- ---- texts in the place of cells
 
-stands-replaced : (limits : LimitTable) (parts : Parts) (document : Document) (place slot from to : ℕ) (pieces : List Piece) → Stands parts document → Sits parts document place slot
-    → from ≤ to → to < length parts.content.cells → length parts.content.cells - (to - from) + insertions.total pieces ≤ MOST_CHARS → All (IsKnownPiece parts.seats.entries parts.tags.tags) pieces
+stands-replaced : (limits : LimitTable) (parts : Parts) (document : Document) (place slot from to : ℕ)
+    (pieces : List Piece) → Stands parts document → Sits parts document place slot
+    → from ≤ to → to < length parts.content.cells → length parts.content.cells - (to - from) + insertions.total pieces
+    ≤ MOST_CHARS → All (IsKnownPiece parts.seats.entries parts.tags.tags) pieces
     → let widget = widget_at document place in
-    Stands (with_state parts (replaced_span (recording_of parts.journal.settings) (2 * slot) from to pieces (state_in parts)))
+    Stands (with_state parts (replaced_span (recording_of parts.journal.settings) (2 * slot) from to pieces
+    (state_in parts)))
     (with_clipped widget (clipped from to (insertions.total pieces) widget.insert)
     (with_texts Replace from (map (keyed_piece (pairs_of parts)) pieces) (without_span Replace from to document)))
 stands-replaced limits parts document place slot from to pieces stands seated ordered within short known =
@@ -103,33 +119,42 @@ stands-replaced limits parts document place slot from to pieces stands seated or
     let below : from < length out.content.cells = omega (arith, long, ordered, within) in
     let made : State = inserted_texts recording Replace from pieces out in
     let document_made : Document = with_texts Replace from (map (keyed_piece (pairs_of parts)) pieces) without in
-    let all = stands-texts (with_state parts out) without Replace from pieces first below (omega (arith, long, ordered, within, short)) known in
+    let all = stands-texts (with_state parts out) without Replace from pieces first below
+    (omega (arith, long, ordered, within, short)) known in
     let longer = length-texts recording Replace from pieces out below in
     let count = insertions.total pieces in
     let found = option_and_then (clipped from to count) (finite.get parts.content.marks (2 * slot)) in
-    let same : found ≡ clipped from to count widget.insert = ap (option_and_then (clipped from to count)) (insert-there parts document place slot seated) in
-    let put = stands-clipped limits (with_state parts made) document_made place slot widget found all (sits-yet parts (with_state parts made) document document_made place slot seated all refl)
+    let same : found ≡ clipped from to count widget.insert = ap (option_and_then (clipped from to count))
+    (insert-there parts document place slot seated) in
+    let put = stands-clipped limits (with_state parts made) document_made place slot widget found all
+    (sits-yet parts (with_state parts made) document document_made place slot seated all refl)
     (name-stays parts (with_state parts made) document document_made place slot seated all refl)
-    (λ target is. let near = found-within from to count (finite.get parts.content.marks (2 * slot)) target is in omega (arith, near, longer, below)) in
-    subst (λ o. Stands (with_state parts (replaced_span recording (2 * slot) from to pieces (state_in parts))) (with_clipped widget o document_made)) same put
+    (λ target is. let near = found-within from to count (finite.get parts.content.marks (2 * slot)) target is in
+    omega (arith, near, longer, below)) in
+    subst (λ o. Stands (with_state parts (replaced_span recording (2 * slot) from to pieces (state_in parts)))
+    (with_clipped widget o document_made)) same put
 
 -- ---- the whole command
 
 -- a place of the view, cut to its last character, is where texts go that are put in there
-cut-at : (parts : Parts) (document : Document) (place slot given : ℕ) → Stands parts document → Sits parts document place slot → start_in parts slot < end_in parts slot
-    → min (start_in parts slot + given) (end_in parts slot - 1) ≡ insertion_offset document (widget_at document place) given
+cut-at : (parts : Parts) (document : Document) (place slot given : ℕ) → Stands parts document →
+    Sits parts document place slot → start_in parts slot < end_in parts slot
+    → min (start_in parts slot + given) (end_in parts slot - 1)
+    ≡ insertion_offset document (widget_at document place) given
 cut-at parts document place slot given stands sits shows =
     let start = start_in parts slot in
     let end = end_in parts slot in
     (let h : min (start + given) (end - 1) ≡ start + min given ((end - start) - 1) = omega (arith, shows) in h)
-    ∙ sym (ap₂ (λ s n. s + min given (n - 1)) (start-is parts document place slot stands sits) (shown-length parts document place slot stands sits))
+    ∙ sym (ap₂ (λ s n. s + min given (n - 1)) (start-is parts document place slot stands sits)
+    (shown-length parts document place slot stands sits))
 
 abbrev replacement_size : Document → ℕ → ℕ → List Pair → ℕ
 replacement_size document from to pairs = length document.cells - (to - from) + total pairs
 
 abbrev pub replaced_at : LimitTable → Document → Widget → ℕ → ℕ → List Pair → Change
 replaced_at limits document widget from to pairs =
-    replace_span limits document widget (insertion_offset document widget from) (insertion_offset document widget to) pairs
+    replace_span limits document widget (insertion_offset document widget from) (insertion_offset document widget to)
+    pairs
 
 -- the offsets of two places of a view, behind whose last character none is, as they are held
 pub record AreCut (parts : Parts) (slot from to last first second : ℕ) : Type 0 where
@@ -139,10 +164,14 @@ pub record AreCut (parts : Parts) (slot from to last first second : ℕ) : Type 
   pub first_is : first ≡ start_in parts slot + from
   pub second_is : second ≡ start_in parts slot + to
 
-pub leaves-replaced : (limits : LimitTable) (old : Parts) (tags : Tags) (state : State) (document : Document) (place slot from to last first second : ℕ) (pairs : List Pair) → Stands old document
-    → Sits old document place slot → AreCut old slot from to last first second → IsListed limits old.tags tags pairs (length_replaced (length old.content.cells) last first second)
-    → state ≡ removals.replaced (recording_of old.journal.settings) (2 * slot) last first second (map (piece_of tags.tags slot) pairs) (state_in old)
-    → Leaves limits (with_state (with_tags tags old) state) document (Ok Empty) (replaced_at limits document (widget_at document place) from to pairs)
+pub leaves-replaced : (limits : LimitTable) (old : Parts) (tags : Tags) (state : State) (document : Document)
+    (place slot from to last first second : ℕ) (pairs : List Pair) → Stands old document
+    → Sits old document place slot → AreCut old slot from to last first second →
+    IsListed limits old.tags tags pairs (length_replaced (length old.content.cells) last first second)
+    → state ≡ removals.replaced (recording_of old.journal.settings) (2 * slot) last first second
+    (map (piece_of tags.tags slot) pairs) (state_in old)
+    → Leaves limits (with_state (with_tags tags old) state) document (Ok Empty)
+    (replaced_at limits document (widget_at document place) from to pairs)
 leaves-replaced limits old tags state document place slot from to last first second pairs stands seated cut listed is =
     let widget : Widget = widget_at document place in
     let recording = recording_of old.journal.settings in
@@ -157,49 +186,71 @@ leaves-replaced limits old tags state document place slot from to last first sec
     let first_is = cut.first_is in
     let second_is = cut.second_is in
     let long = cells-kept old document stands.is in
-    let begins : min first last ≡ insertion_offset document widget from = ap₂ min first_is last_is ∙ cut-at old document place slot from stands seated shows in
-    let ends : min second last ≡ insertion_offset document widget to = ap₂ min second_is last_is ∙ cut-at old document place slot to stands seated shows in
+    let begins : min first last ≡ insertion_offset document widget from = ap₂ min first_is last_is
+    ∙ cut-at old document place slot from stands seated shows in
+    let ends : min second last ≡ insertion_offset document widget to = ap₂ min second_is last_is
+    ∙ cut-at old document place slot to stands seated shows in
     let below : last < len = omega (arith, last_is, within, shows) in
     let inside : min second last < len = omega (arith, below) in
     let straight : first ≤ second = omega (arith, ordered, first_is, second_is) in
     let straight_cut : min first last ≤ min second last = omega (arith, straight) in
     let counted = total-pieces tags.tags slot pairs in
-    let room = excess-none limits (length (with_names (names_of old.tags.tags) (all_names pairs))) (size + total pairs) listed.room in
+    let room = excess-none limits (length (with_names (names_of old.tags.tags) (all_names pairs))) (size + total pairs)
+    listed.room in
     let short = few_enough limits.chars (size + total pairs) room.chars in
     let bounds = listed.bounds.chars in
     let set = ready limits old document place slot tags pairs size stands seated listed in
     let counts = count-made limits old document tags pairs size stands listed in
     let document_tagged : Document = record document { tags = tags_with document pairs } in
-    let all = stands-replaced limits (with_tags tags old) document_tagged place slot (min first last) (min second last) pieces set.stands
-    (sits-yet old (with_tags tags old) document document_tagged place slot seated set.stands refl) straight_cut inside (omega (arith, short, counted, bounds)) set.known in
-    let result : Document = replaced document widget (insertion_offset document widget from) (insertion_offset document widget to) pairs in
+    let all = stands-replaced limits (with_tags tags old) document_tagged place slot (min first last) (min second last)
+    pieces set.stands
+    (sits-yet old (with_tags tags old) document document_tagged place slot seated set.stands refl) straight_cut inside
+    (omega (arith, short, counted, bounds)) set.known in
+    let result : Document = replaced document widget (insertion_offset document widget from)
+    (insertion_offset document widget to) pairs in
     let texts = set.texts in
     let all_is : document_of (with_state (with_tags tags old) made) ≡ result =
-    all.is ∙ λ i. with_clipped widget (clipped (begins i) (ends i) (counted i) widget.insert) (with_texts Replace (begins i) (texts i) (without_span Replace (begins i) (ends i) document_tagged)) in
-    let size_made = replacement_size document (insertion_offset document widget from) (insertion_offset document widget to) pairs in
+    all.is ∙ λ i. with_clipped widget (clipped (begins i) (ends i) (counted i) widget.insert)
+    (with_texts Replace (begins i) (texts i) (without_span Replace (begins i) (ends i) document_tagged)) in
+    let size_made = replacement_size document (insertion_offset document widget from)
+    (insertion_offset document widget to) pairs in
     let within_both : IsWithin limits (length (tags_with document pairs)) size_made =
-    record { tags = ap (nat_lt (limits.tags + 1)) counts.1 ∙ room.tags; chars = (λ i. nat_lt limits.chars (long i - (sym ends i - sym begins i) + total pairs)) ∙ room.chars } in
-    subst (λ (s : State). Leaves limits (with_state (with_tags tags old) s) document (Ok Empty) (replaced_at limits document widget from to pairs)) (sym is)
-    (does-changed limits old (with_state (with_tags tags old) made) document (replaced_at limits document widget from to pairs) stands (record {
+    record {
+      tags = ap (nat_lt (limits.tags + 1)) counts.1 ∙ room.tags;
+      chars = (λ i. nat_lt limits.chars (long i - (sym ends i - sym begins i) + total pairs)) ∙ room.chars;
+    } in
+    subst (λ (s : State). Leaves limits (with_state (with_tags tags old) s) document (Ok Empty)
+    (replaced_at limits document widget from to pairs)) (sym is)
+    (does-changed limits old (with_state (with_tags tags old) made) document
+    (replaced_at limits document widget from to pairs) stands (record {
       sound = all.sound;
-      is = limits-made limits document (length (tags_with document pairs)) size_made (answered result Empty) within_both ∙ ap (λ d. answered d Empty) (sym all_is);
+      is = limits-made limits document (length (tags_with document pairs)) size_made (answered result Empty) within_both
+          ∙ ap (λ d. answered d Empty) (sym all_is);
       fits = λ fits. (replaced-kept limits.chars (2 * slot) last first second recording pieces (state_in old)
-          (record { fits = fits; groups = stands.sound.orderly.groups; undone = stands.sound.orderly.undone }) below straight (omega (arith, short, counted))).fits;
+          (record { fits = fits; groups = stands.sound.orderly.groups; undone = stands.sound.orderly.undone }) below
+          straight (omega (arith, short, counted))).fits;
       tags = λ _. counts.0;
       marks = λ few. few;
       seats = refl;
     }))
 
-pub replace-left : (limits : LimitTable) (old : Parts) (document : Document) (place slot from to last first second : ℕ) (pairs : List Pair) (fault : Fault) → Stands old document
+pub replace-left : (limits : LimitTable) (old : Parts) (document : Document) (place slot from to last first second : ℕ)
+    (pairs : List Pair) (fault : Fault) → Stands old document
     → Sits old document place slot → AreCut old slot from to last first second
-    → excess limits (length (with_names (names_of old.tags.tags) (all_names pairs))) (length_replaced (length old.content.cells) last first second + total pairs) ≡ Some fault
+    → excess limits (length (with_names (names_of old.tags.tags) (all_names pairs)))
+    (length_replaced (length old.content.cells) last first second + total pairs) ≡ Some fault
     → replaced_at limits document (widget_at document place) from to pairs ≡ refused document fault
 replace-left limits old document place slot from to last first second pairs fault stands seated cut is =
     let widget : Widget = widget_at document place in
     let long = cells-kept old document stands.is in
-    let begins : min first last ≡ insertion_offset document widget from = ap₂ min cut.first_is cut.bound_is ∙ cut-at old document place slot from stands seated cut.shows in
-    let ends : min second last ≡ insertion_offset document widget to = ap₂ min cut.second_is cut.bound_is ∙ cut-at old document place slot to stands seated cut.shows in
+    let begins : min first last ≡ insertion_offset document widget from = ap₂ min cut.first_is cut.bound_is
+    ∙ cut-at old document place slot from stands seated cut.shows in
+    let ends : min second last ≡ insertion_offset document widget to = ap₂ min cut.second_is cut.bound_is
+    ∙ cut-at old document place slot to stands seated cut.shows in
     let names = ap (λ (d : Document). d.tags) stands.is in
-    limits-refused limits document (length (tags_with document pairs)) (replacement_size document (insertion_offset document widget from) (insertion_offset document widget to) pairs)
-    (answered (replaced document widget (insertion_offset document widget from) (insertion_offset document widget to) pairs) Empty) fault
-    ((λ i. excess limits (length (with_names (sym names i) (all_names pairs))) (long i - (sym ends i - sym begins i) + total pairs)) ∙ is)
+    limits-refused limits document (length (tags_with document pairs))
+    (replacement_size document (insertion_offset document widget from) (insertion_offset document widget to) pairs)
+    (answered (replaced document widget (insertion_offset document widget from) (insertion_offset document widget to)
+    pairs) Empty) fault
+    ((λ i. excess limits (length (with_names (sym names i) (all_names pairs)))
+    (long i - (sym ends i - sym begins i) + total pairs)) ∙ is)

@@ -1,5 +1,6 @@
 -- A document after a group is undone or redone.
-use Rattle.std.proofs.Common.{◌≡◌, ℕ, ◌+◌, ◌*◌, ◌<◌, ◌≤◌, ◌&&◌, Bool, true, false, List, [], ◌∷◌, Option, None, Some, Ok, length, refl, sym, ap, subst, ◌∙◌, arith, true≢false}
+use Rattle.std.proofs.Common.{◌≡◌, ℕ, ◌+◌, ◌*◌, ◌<◌, ◌≤◌, ◌&&◌, Bool, true, false, List, [], ◌∷◌, Option, None, Some}
+use Rattle.std.proofs.Common.{Ok, length, refl, sym, ap, subst, ◌∙◌, arith, true≢false}
 use Rattle.std.specs.Prelude.{slice_range, bytes_eq, nat_lt, nat_le, option_map, option_and_then, IfSome, if◌then◌else◌}
 use Rattle.std.specs.Char.{IsScalar}
 use Rattle.std.specs.FinMap as finite
@@ -23,9 +24,11 @@ use Rattle.undo_stack.specs.Modified.{counted_down, counted_up, times}
 use Rattle.undo_stack.specs.declared.actions.Action.{Action}
 use Rattle.undo_stack.proofs.FitsLaws.{redo-goes, undo-goes}
 use Rattle.edit_ops.specs.Reversals as edits
-use Rattle.edit_ops.specs.Reversals.{action_redone, action_undone, group_redone, group_undone, log_redone, log_undone, put_back, redo_end, taken_back, undo_end}
+use Rattle.edit_ops.specs.Reversals.{action_redone, action_undone, group_redone, group_undone, log_redone, log_undone}
+use Rattle.edit_ops.specs.Reversals.{put_back, redo_end, taken_back, undo_end}
 use Rattle.edit_ops.specs.States.{Log, State}
-use Rattle.edit_ops.proofs.ReversalLaws.{group-redone-text, group-undone-text, guarded, redone-kept, redone-text, undone-kept}
+use Rattle.edit_ops.proofs.ReversalLaws.{group-redone-text, group-undone-text, guarded, redone-kept, redone-text}
+use Rattle.edit_ops.proofs.ReversalLaws.{undone-kept}
 use Rattle.text_cursor.specs.Around.{shared_slots}
 use Rattle.command_parts.specs.declared.answers.Answer.TheVariants.{Empty}
 use Rattle.command_parts.specs.Settings.{recording_of}
@@ -34,7 +37,8 @@ use Rattle.documents.specs.Documents.{Document, Parts, Widget, document_of, widg
 use Rattle.documents.specs.Edits.{keys_between, without_cells}
 use Rattle.documents.specs.Kept.{Stands}
 use Rattle.documents.specs.Promise.{answered}
-use Rattle.documents.specs.Reversals.{action_again, action_back, edit_redo, edit_undo, group_again, group_back, redo_found, redone, text_back, undo_found, undone, with_end}
+use Rattle.documents.specs.Reversals.{action_again, action_back, edit_redo, edit_undo, group_again, group_back}
+use Rattle.documents.specs.Reversals.{redo_found, redone, text_back, undo_found, undone, with_end}
 use Rattle.documents.specs.View.{is_idle}
 use Rattle.documents.specs.WellFormed.{IsWellFormedDocument}
 use Rattle.documents.proofs.ChangeLaws.{Leaves, does-changed}
@@ -59,7 +63,8 @@ record CanPut (limit at : ℕ) (text : List ℕ) (content : Content) : Type 0 wh
   pub within : at < length content.cells
   pub short : length content.cells + length text ≤ limit
 
-can-put : (limit at : ℕ) (text found : List ℕ) (content : Content) → put_in limit at text (model.characters content.cells) ≡ Some found → CanPut limit at text content
+can-put : (limit at : ℕ) (text found : List ℕ) (content : Content) →
+    put_in limit at text (model.characters content.cells) ≡ Some found → CanPut limit at text content
 can-put limit at text found content is =
     let all = model.characters content.cells in
     let count = count-characters content in
@@ -69,12 +74,15 @@ can-put limit at text found content is =
     let second : length all + length text ≤ limit = grind (arith, nat_tests, parts.1) in
     record { within = omega (arith, first, count); short = omega (arith, second, count) }
 
-can-take : (at : ℕ) (text found : List ℕ) (content : Content) → take_out at text (model.characters content.cells) ≡ Some found → at + length text < length content.cells
+can-take : (at : ℕ) (text found : List ℕ) (content : Content) →
+    take_out at text (model.characters content.cells) ≡ Some found → at + length text < length content.cells
 can-take at text found content is =
     let all = model.characters content.cells in
     let count = count-characters content in
-    let parts = and_parts (nat_lt (at + length text) (length all)) (bytes_eq (slice_range all at (at + length text)) text)
-    (open_test (nat_lt (at + length text) (length all) && bytes_eq (slice_range all at (at + length text)) text) (removed at (at + length text) all) found is) in
+    let parts = and_parts (nat_lt (at + length text) (length all))
+    (bytes_eq (slice_range all at (at + length text)) text)
+    (open_test (nat_lt (at + length text) (length all) && bytes_eq (slice_range all at (at + length text)) text)
+    (removed at (at + length text) all) found is) in
     let first : at + length text < length all = grind (arith, nat_tests, parts.0) in
     omega (arith, first, count)
 
@@ -86,66 +94,89 @@ module _ (limit : ℕ) (parts : Parts) (bound : limit ≤ MOST_CHARS) where
   abbrev StandsAs : State → Document → Type 0
   StandsAs state document = Stands (with_state parts state) document
 
-  stands-back : (at : ℕ) (text found : List ℕ) (state : State) (document : Document) → All IsScalar text → StandsAs state document → put_in limit at text (model.characters state.content.cells) ≡ Some found
+  stands-back : (at : ℕ) (text found : List ℕ) (state : State) (document : Document) → All IsScalar text →
+      StandsAs state document → put_in limit at text (model.characters state.content.cells) ≡ Some found
       → StandsAs (put_back at text state) (text_back at text document)
   stands-back at text found state document scalars stands is =
       let can = can-put limit at text found state.content is in
       let within = can.within in
       let short = can.short in
-      stands-put (with_state parts state) document at text (shared_slots at state.content.cells) (keys_between document.cells at) stands within (omega (arith, short, bound)) scalars
-      (known-shared parts.seats.entries parts.tags.tags at state.content.cells stands.sound.kept.known within) (keys-put (with_state parts state) document at None stands within)
+      stands-put (with_state parts state) document at text (shared_slots at state.content.cells)
+      (keys_between document.cells at) stands within (omega (arith, short, bound)) scalars
+      (known-shared parts.seats.entries parts.tags.tags at state.content.cells stands.sound.kept.known within)
+      (keys-put (with_state parts state) document at None stands within)
 
-  stands-taken : (at : ℕ) (text found : List ℕ) (state : State) (document : Document) → StandsAs state document → take_out at text (model.characters state.content.cells) ≡ Some found
+  stands-taken : (at : ℕ) (text found : List ℕ) (state : State) (document : Document) → StandsAs state document →
+      take_out at text (model.characters state.content.cells) ≡ Some found
       → StandsAs (taken_back at (at + length text) state) (without_cells at (at + length text) document)
   stands-taken at text found state document stands is =
-      stands-out (with_state parts state) document at (at + length text) stands (omega arith) (can-take at text found state.content is)
+      stands-out (with_state parts state) document at (at + length text) stands (omega arith)
+      (can-take at text found state.content is)
 
-  stands-again : (action : Action) (found : List ℕ) (state : State) (document : Document) → All IsScalar action.text → StandsAs state document → repeated limit action (model.characters state.content.cells) ≡ Some found
+  stands-again : (action : Action) (found : List ℕ) (state : State) (document : Document) → All IsScalar action.text →
+      StandsAs state document → repeated limit action (model.characters state.content.cells) ≡ Some found
       → StandsAs (action_redone action state) (action_again action document)
   stands-again action found state document scalars stands is =
-      elim action.inserts as (λ b. (if b then put_in limit action.at action.text (model.characters state.content.cells) else take_out action.at action.text (model.characters state.content.cells)) ≡ Some found
-      → StandsAs (if b then put_back action.at action.text state else taken_back action.at (action.at + length action.text) state)
-      (if b then text_back action.at action.text document else without_cells action.at (action.at + length action.text) document)) [
+      elim action.inserts as (λ b. (if b then put_in limit action.at action.text (model.characters state.content.cells)
+      else take_out action.at action.text (model.characters state.content.cells)) ≡ Some found
+      → StandsAs (if b then put_back action.at action.text state
+      else taken_back action.at (action.at + length action.text) state)
+      (if b then text_back action.at action.text document
+      else without_cells action.at (action.at + length action.text) document)) [
         | true ↦ stands-back action.at action.text found state document scalars stands
         | false ↦ stands-taken action.at action.text found state document stands
       ] is
 
-  stands-reverted : (action : Action) (found : List ℕ) (state : State) (document : Document) → All IsScalar action.text → StandsAs state document → reverted limit action (model.characters state.content.cells) ≡ Some found
+  stands-reverted : (action : Action) (found : List ℕ) (state : State) (document : Document) →
+      All IsScalar action.text → StandsAs state document →
+      reverted limit action (model.characters state.content.cells) ≡ Some found
       → StandsAs (action_undone action state) (action_back action document)
   stands-reverted action found state document scalars stands is =
-      elim action.inserts as (λ b. (if b then take_out action.at action.text (model.characters state.content.cells) else put_in limit action.at action.text (model.characters state.content.cells)) ≡ Some found
-      → StandsAs (if b then taken_back action.at (action.at + length action.text) state else put_back action.at action.text state)
-      (if b then without_cells action.at (action.at + length action.text) document else text_back action.at action.text document)) [
+      elim action.inserts as (λ b. (if b then take_out action.at action.text (model.characters state.content.cells)
+      else put_in limit action.at action.text (model.characters state.content.cells)) ≡ Some found
+      → StandsAs (if b then taken_back action.at (action.at + length action.text) state
+      else put_back action.at action.text state)
+      (if b then without_cells action.at (action.at + length action.text) document
+      else text_back action.at action.text document)) [
         | true ↦ stands-taken action.at action.text found state document stands
         | false ↦ stands-back action.at action.text found state document scalars stands
       ] is
 
   -- ---- groups
 
-  group-back : (group : List Action) (found : List ℕ) (state : State) (document : Document) → AreScalars group → StandsAs state document
-      → reverted_group limit group (model.characters state.content.cells) ≡ Some found → StandsAs (group_undone group state) (group_back group document)
+  group-back : (group : List Action) (found : List ℕ) (state : State) (document : Document) → AreScalars group →
+      StandsAs state document
+      → reverted_group limit group (model.characters state.content.cells) ≡ Some found →
+      StandsAs (group_undone group state) (group_back group document)
   group-back [] found state document scalars stands is = stands
   group-back (action ∷ actions) found state document scalars stands is =
       let P = λ (a : Action). All IsScalar a.text in
-      option_and_then_some (reverted limit action) (reverted_group limit actions (model.characters state.content.cells)) found is (λ between others one.
-      stands-reverted action found (group_undone actions state) (group_back actions document) (All-head P action actions scalars)
+      option_and_then_some (reverted limit action) (reverted_group limit actions (model.characters state.content.cells))
+      found is (λ between others one.
+      stands-reverted action found (group_undone actions state) (group_back actions document)
+      (All-head P action actions scalars)
       (group-back actions between state document (All-tail P action actions scalars) stands others)
       (ap (reverted limit action) (group-undone-text limit actions between state others) ∙ one))
 
-  group-again : (group : List Action) (found : List ℕ) (state : State) (document : Document) → AreScalars group → StandsAs state document
-      → repeated_group limit group (model.characters state.content.cells) ≡ Some found → StandsAs (group_redone group state) (group_again group document)
+  group-again : (group : List Action) (found : List ℕ) (state : State) (document : Document) → AreScalars group →
+      StandsAs state document
+      → repeated_group limit group (model.characters state.content.cells) ≡ Some found →
+      StandsAs (group_redone group state) (group_again group document)
   group-again [] found state document scalars stands is = stands
   group-again (action ∷ actions) found state document scalars stands is =
       let P = λ (a : Action). All IsScalar a.text in
-      option_and_then_some (repeated_group limit actions) (repeated limit action (model.characters state.content.cells)) found is (λ between one others.
-      group-again actions found (action_redone action state) (action_again action document) (All-tail P action actions scalars)
+      option_and_then_some (repeated_group limit actions) (repeated limit action (model.characters state.content.cells))
+      found is (λ between one others.
+      group-again actions found (action_redone action state) (action_again action document)
+      (All-tail P action actions scalars)
       (stands-again action between state document (All-head P action actions scalars) stands one)
       (ap (repeated_group limit actions) (redone-text limit action between state one) ∙ others))
 
 -- ---- where a group ends
 
 stood-within : (end : Option ℕ) (old : Option Place) (len : ℕ) → IfSome end (λ at. at ≤ len) → (place : Place)
-    → option_and_then (λ (p : Place). option_map (λ at. record p { offset = at }) end) old ≡ Some place → place.offset ≤ len
+    → option_and_then (λ (p : Place). option_map (λ at. record p { offset = at }) end) old ≡ Some place →
+    place.offset ≤ len
 stood-within end None len within place is = absurd (let h : None ≡ Some place = is in cc)
 stood-within None (Some old) len within place is = absurd (let h : None ≡ Some place = is in cc)
 stood-within (Some at) (Some old) len within place is =
@@ -153,24 +184,32 @@ stood-within (Some at) (Some old) len within place is =
     omega (arith, same, within)
 
 -- the widget's `insert` stands there
-ended : (limits : LimitTable) (parts : Parts) (made : State) (before document : Document) (place slot : ℕ) (end : Option ℕ) → Sits parts before place slot → Stands (with_state parts made) document
+ended : (limits : LimitTable) (parts : Parts) (made : State) (before document : Document) (place slot : ℕ)
+    (end : Option ℕ) → Sits parts before place slot → Stands (with_state parts made) document
     → IfSome end (λ at. at ≤ length made.content.cells)
-    → Stands (with_state parts (record made { content = edits.stood (2 * slot) end parts.content made.content })) (with_end (widget_at before place) end document)
+    → Stands (with_state parts (record made { content = edits.stood (2 * slot) end parts.content made.content }))
+    (with_end (widget_at before place) end document)
 ended limits parts made before document place slot end seated stands within =
     let widget : Widget = widget_at before place in
     let at_end : Place → Option Place = λ p. option_map (λ at. record p { offset = at }) end in
     let found = option_and_then at_end (finite.get parts.content.marks (2 * slot)) in
-    let same : found ≡ at_end widget.insert = ap (option_and_then at_end) (insert-there parts before place slot seated) in
-    let put = stands-clipped limits (with_state parts made) document place slot widget found stands (sits-yet parts (with_state parts made) before document place slot seated stands refl)
+    let same : found ≡ at_end widget.insert = ap (option_and_then at_end) (insert-there parts before place slot seated)
+    in
+    let put = stands-clipped limits (with_state parts made) document place slot widget found stands
+    (sits-yet parts (with_state parts made) before document place slot seated stands refl)
     (name-stays parts (with_state parts made) before document place slot seated stands refl)
     (stood-within end (finite.get parts.content.marks (2 * slot)) (length made.content.cells) within) in
-    subst (λ o. Stands (with_state parts (record made { content = edits.stood (2 * slot) end parts.content made.content })) (with_clipped widget o document)) same put
+    subst (λ o.
+    Stands (with_state parts (record made { content = edits.stood (2 * slot) end parts.content made.content }))
+    (with_clipped widget o document)) same put
 
 -- an action that was reverted, or made again, ends in the text
-put-end : (limit at : ℕ) (new text found : List ℕ) → put_in limit at new text ≡ Some found → at + length new ≤ length found
+put-end : (limit at : ℕ) (new text found : List ℕ) → put_in limit at new text ≡ Some found →
+    at + length new ≤ length found
 put-end limit at new text found is =
     let test = nat_lt at (length text) && nat_le (length text + length new) limit in
-    let parts = and_parts (nat_lt at (length text)) (nat_le (length text + length new) limit) (open_test test (inserted at new text) found is) in
+    let parts = and_parts (nat_lt at (length text)) (nat_le (length text + length new) limit)
+    (open_test test (inserted at new text) found is) in
     let first : at < length text = grind (arith, nat_tests, parts.0) in
     let made = guarded test (inserted at new text) found is in
     let long = length-inserted at new text (omega (arith, first)) in
@@ -180,45 +219,56 @@ put-end limit at new text found is =
 take-end : (at : ℕ) (gone text found : List ℕ) → take_out at gone text ≡ Some found → at ≤ length found
 take-end at gone text found is =
     let test = nat_lt (at + length gone) (length text) && bytes_eq (slice_range text at (at + length gone)) gone in
-    let parts = and_parts (nat_lt (at + length gone) (length text)) (bytes_eq (slice_range text at (at + length gone)) gone) (open_test test (removed at (at + length gone) text) found is) in
+    let parts = and_parts (nat_lt (at + length gone) (length text))
+    (bytes_eq (slice_range text at (at + length gone)) gone)
+    (open_test test (removed at (at + length gone) text) found is) in
     let first : at + length gone < length text = grind (arith, nat_tests, parts.0) in
     let made = guarded test (removed at (at + length gone) text) found is in
     let long = length-removed at (at + length gone) text (omega arith) (omega (arith, first)) in
     let same = ap length made in
     omega (arith, first, long, same)
 
-reverted-end : (limit : ℕ) (action : Action) (text found : List ℕ) → reverted limit action text ≡ Some found → (if action.inserts then action.at else action.at + length action.text) ≤ length found
+reverted-end : (limit : ℕ) (action : Action) (text found : List ℕ) → reverted limit action text ≡ Some found →
+    (if action.inserts then action.at else action.at + length action.text) ≤ length found
 reverted-end limit action text found is =
-    elim action.inserts as (λ b. (if b then take_out action.at action.text text else put_in limit action.at action.text text) ≡ Some found
+    elim action.inserts as (λ b. (if b then take_out action.at action.text text
+    else put_in limit action.at action.text text) ≡ Some found
     → (if b then action.at else action.at + length action.text) ≤ length found) [
       | true ↦ take-end action.at action.text text found
       | false ↦ put-end limit action.at action.text text found
     ] is
 
-repeated-end : (limit : ℕ) (action : Action) (text found : List ℕ) → repeated limit action text ≡ Some found → (if action.inserts then action.at + length action.text else action.at) ≤ length found
+repeated-end : (limit : ℕ) (action : Action) (text found : List ℕ) → repeated limit action text ≡ Some found →
+    (if action.inserts then action.at + length action.text else action.at) ≤ length found
 repeated-end limit action text found is =
-    elim action.inserts as (λ b. (if b then put_in limit action.at action.text text else take_out action.at action.text text) ≡ Some found
+    elim action.inserts as (λ b. (if b then put_in limit action.at action.text text
+    else take_out action.at action.text text) ≡ Some found
     → (if b then action.at + length action.text else action.at) ≤ length found) [
       | true ↦ put-end limit action.at action.text text found
       | false ↦ take-end action.at action.text text found
     ] is
 
-undo-end-within : (limit : ℕ) (group : List Action) (text found : List ℕ) → reverted_group limit group text ≡ Some found → IfSome (undo_end group) (λ at. at ≤ length found)
+undo-end-within : (limit : ℕ) (group : List Action) (text found : List ℕ) →
+    reverted_group limit group text ≡ Some found → IfSome (undo_end group) (λ at. at ≤ length found)
 undo-end-within limit [] text found is = tt
 undo-end-within limit (action ∷ actions) text found is =
-    option_and_then_some (reverted limit action) (reverted_group limit actions text) found is (λ between others one. reverted-end limit action between found one)
+    option_and_then_some (reverted limit action) (reverted_group limit actions text) found is (λ between others one.
+    reverted-end limit action between found one)
 
-redo-end-within : (limit : ℕ) (group : List Action) (text found : List ℕ) → repeated_group limit group text ≡ Some found → IfSome (redo_end group) (λ at. at ≤ length found)
+redo-end-within : (limit : ℕ) (group : List Action) (text found : List ℕ) →
+    repeated_group limit group text ≡ Some found → IfSome (redo_end group) (λ at. at ≤ length found)
 redo-end-within limit [] text found is = tt
 redo-end-within limit (action ∷ []) text found is =
     option_and_then_some (repeated_group limit []) (repeated limit action text) found is (λ between one others.
     repeated-end limit action text found (one ∙ others))
 redo-end-within limit (action ∷ next ∷ actions) text found is =
-    option_and_then_some (repeated_group limit (next ∷ actions)) (repeated limit action text) found is (λ between one others. redo-end-within limit (next ∷ actions) between found others)
+    option_and_then_some (repeated_group limit (next ∷ actions)) (repeated limit action text) found is
+    (λ between one others. redo-end-within limit (next ∷ actions) between found others)
 
 -- ---- what is kept of the edits then
 
-stands-log : (parts : Parts) (document : Document) (log : Log) → Stands parts document → parts.journal.settings.undo ≡ true → log.most ≡ limit_of parts.journal.settings.most_undo
+stands-log : (parts : Parts) (document : Document) (log : Log) → Stands parts document →
+    parts.journal.settings.undo ≡ true → log.most ≡ limit_of parts.journal.settings.most_undo
     → Stands (with_log log parts) (record document { history = log.history; modified = log.modified })
 stands-log parts document log stands on most =
     let sound = stands.sound in
@@ -226,7 +276,11 @@ stands-log parts document log stands on most =
       sound = record {
         kept = sound.kept;
         marked = sound.marked;
-        orderly = record { most = most; groups = λ off. absurd (true≢false (sym on ∙ off)); undone = λ off. absurd (true≢false (sym on ∙ off)) };
+        orderly = record {
+          most = most;
+          groups = λ off. absurd (true≢false (sym on ∙ off));
+          undone = λ off. absurd (true≢false (sym on ∙ off));
+        };
         views = record { anchored = sound.views.anchored; seated = sound.views.seated };
       };
       is = ap (λ (d : Document). record d { history = log.history; modified = log.modified }) stands.is;
@@ -246,20 +300,26 @@ pub record CanRevert (parts : Parts) (document : Document) (place slot : ℕ) : 
   pub on : parts.journal.settings.undo ≡ true
   pub active : is_idle document (widget_at document place) ≡ false
 
-undo-done : (document : Document) (widget : Widget) (group : List Action) → document.undo ≡ true → next_undo document.history ≡ Some group → is_idle document widget ≡ false
+undo-done : (document : Document) (widget : Widget) (group : List Action) → document.undo ≡ true →
+    next_undo document.history ≡ Some group → is_idle document widget ≡ false
     → edit_undo document widget ≡ answered (undone widget group document) Empty
 undo-done document widget group on is active =
-    ap (λ b. if b then undo_found document widget (next_undo document.history) else answered document Empty) on ∙ ap (undo_found document widget) is
+    ap (λ b. if b then undo_found document widget (next_undo document.history) else answered document Empty) on
+    ∙ ap (undo_found document widget) is
     ∙ ap (λ b. answered (if b then document else undone widget group document) Empty) active
 
-redo-done : (document : Document) (widget : Widget) (group : List Action) → document.undo ≡ true → next_redo document.history ≡ Some group → is_idle document widget ≡ false
+redo-done : (document : Document) (widget : Widget) (group : List Action) → document.undo ≡ true →
+    next_redo document.history ≡ Some group → is_idle document widget ≡ false
     → edit_redo document widget ≡ answered (redone widget group document) Empty
 redo-done document widget group on is active =
-    ap (λ b. if b then redo_found document widget (next_redo document.history) else answered document Empty) on ∙ ap (redo_found document widget) is
+    ap (λ b. if b then redo_found document widget (next_redo document.history) else answered document Empty) on
+    ∙ ap (redo_found document widget) is
     ∙ ap (λ b. answered (if b then document else redone widget group document) Empty) active
 
-pub leaves-undone : (limits : LimitTable) (old : Parts) (state : State) (document : Document) (place slot : ℕ) (group : List Action) → CanRevert old document place slot
-    → next_undo old.journal.log.history ≡ Some group → IsReverted limits group → IsWellFormedDocument limits document → state ≡ edits.undone (2 * slot) (state_in old)
+pub leaves-undone : (limits : LimitTable) (old : Parts) (state : State) (document : Document) (place slot : ℕ)
+    (group : List Action) → CanRevert old document place slot
+    → next_undo old.journal.log.history ≡ Some group → IsReverted limits group → IsWellFormedDocument limits document →
+    state ≡ edits.undone (2 * slot) (state_in old)
     → Leaves limits (with_state old state) document (Ok Empty) (edit_undo document (widget_at document place))
 leaves-undone limits old state document place slot group can is reverts formed state_is =
     let widget : Widget = widget_at document place in
@@ -270,34 +330,46 @@ leaves-undone limits old state document place slot group can is reverts formed s
     let bounds = reverts.bounds.chars in
     let fits = fits-kept limits old document stands.is formed in
     let goes = undo-goes limits.chars log.history text group fits is in
-    let back = group-back limits.chars old (omega (arith, bounds)) group goes.0 before document reverts.scalars stands goes.1 in
+    let back = group-back limits.chars old (omega (arith, bounds)) group goes.0 before document reverts.scalars stands
+    goes.1 in
     let left : State = group_undone group before in
-    let within = subst (λ n. IfSome (undo_end group) (λ at. at ≤ n)) (sym (ap length (group-undone-text limits.chars group goes.0 before goes.1)) ∙ count-characters left.content)
+    let within = subst (λ n. IfSome (undo_end group) (λ at. at ≤ n))
+    (sym (ap length (group-undone-text limits.chars group goes.0 before goes.1)) ∙ count-characters left.content)
     (undo-end-within limits.chars group text goes.0 goes.1) in
-    let end = ended limits old left document (group_back group document) place slot (undo_end group) can.sits back within in
+    let end = ended limits old left document (group_back group document) place slot (undo_end group) can.sits back
+    within in
     let at_end : Content = edits.stood (2 * slot) (undo_end group) old.content left.content in
-    let all = stands-log (with_state old (record left { content = at_end })) (with_end widget (undo_end group) (group_back group document)) (log_undone group log) end can.on stands.sound.orderly.most in
+    let all = stands-log (with_state old (record left { content = at_end }))
+    (with_end widget (undo_end group) (group_back group document)) (log_undone group log) end can.on
+    stands.sound.orderly.most in
     let made : State = edits.undone_group (2 * slot) (Some group) before in
     let made_is : edits.undone (2 * slot) before ≡ made = ap (λ g. edits.undone_group (2 * slot) g before) is in
     let histories = ap (λ (d : Document). d.history) stands.is in
     let counts = ap (λ (d : Document). d.modified) stands.is in
     let result : Document = undone widget group document in
     let all_is : document_of (with_state old made) ≡ result =
-    all.is ∙ λ i. record (with_end widget (undo_end group) (group_back group document)) { history = after_undo group (histories i); modified = times (length group) counted_down (counts i) } in
-    let fitting = (undone-kept limits.chars (2 * slot) (recording_of old.journal.settings) before (record { fits = fits; groups = stands.sound.orderly.groups; undone = stands.sound.orderly.undone })).fits in
+    all.is ∙ λ i. record (with_end widget (undo_end group) (group_back group document))
+    { history = after_undo group (histories i); modified = times (length group) counted_down (counts i) } in
+    let fitting = (undone-kept limits.chars (2 * slot) (recording_of old.journal.settings) before
+    (record { fits = fits; groups = stands.sound.orderly.groups; undone = stands.sound.orderly.undone })).fits in
     let kept_on = ap (λ (d : Document). d.undo) (sym stands.is) ∙ can.on in
-    subst (λ (s : State). Leaves limits (with_state old s) document (Ok Empty) (edit_undo document widget)) (sym (state_is ∙ made_is))
+    subst (λ (s : State). Leaves limits (with_state old s) document (Ok Empty) (edit_undo document widget))
+    (sym (state_is ∙ made_is))
     (does-changed limits old (with_state old made) document (edit_undo document widget) stands (record {
       sound = all.sound;
-      is = undo-done document widget group kept_on (ap next_undo (sym histories) ∙ is) can.active ∙ ap (λ d. answered d Empty) (sym all_is);
-      fits = λ _. subst (λ (s : State). FitsText limits.chars (model.characters s.content.cells) s.log.history) made_is fitting;
+      is = undo-done document widget group kept_on (ap next_undo (sym histories) ∙ is) can.active
+          ∙ ap (λ d. answered d Empty) (sym all_is);
+      fits = λ _. subst (λ (s : State). FitsText limits.chars (model.characters s.content.cells) s.log.history) made_is
+          fitting;
       tags = λ few. few;
       marks = λ few. few;
       seats = refl;
     }))
 
-pub leaves-redone : (limits : LimitTable) (old : Parts) (state : State) (document : Document) (place slot : ℕ) (group : List Action) → CanRevert old document place slot
-    → next_redo old.journal.log.history ≡ Some group → IsReverted limits group → IsWellFormedDocument limits document → state ≡ edits.redone (2 * slot) (state_in old)
+pub leaves-redone : (limits : LimitTable) (old : Parts) (state : State) (document : Document) (place slot : ℕ)
+    (group : List Action) → CanRevert old document place slot
+    → next_redo old.journal.log.history ≡ Some group → IsReverted limits group → IsWellFormedDocument limits document →
+    state ≡ edits.redone (2 * slot) (state_in old)
     → Leaves limits (with_state old state) document (Ok Empty) (edit_redo document (widget_at document place))
 leaves-redone limits old state document place slot group can is reverts formed state_is =
     let widget : Widget = widget_at document place in
@@ -308,28 +380,39 @@ leaves-redone limits old state document place slot group can is reverts formed s
     let bounds = reverts.bounds.chars in
     let fits = fits-kept limits old document stands.is formed in
     let goes = redo-goes limits.chars log.history text group fits is in
-    let again = group-again limits.chars old (omega (arith, bounds)) group goes.0 before document reverts.scalars stands goes.1 in
+    let again = group-again limits.chars old (omega (arith, bounds)) group goes.0 before document reverts.scalars stands
+    goes.1 in
     let left : State = group_redone group before in
-    let within = subst (λ n. IfSome (redo_end group) (λ at. at ≤ n)) (sym (ap length (group-redone-text limits.chars group goes.0 before goes.1)) ∙ count-characters left.content)
+    let within = subst (λ n. IfSome (redo_end group) (λ at. at ≤ n))
+    (sym (ap length (group-redone-text limits.chars group goes.0 before goes.1)) ∙ count-characters left.content)
     (redo-end-within limits.chars group text goes.0 goes.1) in
-    let end = ended limits old left document (group_again group document) place slot (redo_end group) can.sits again within in
+    let end = ended limits old left document (group_again group document) place slot (redo_end group) can.sits again
+    within in
     let at_end : Content = edits.stood (2 * slot) (redo_end group) old.content left.content in
-    let all = stands-log (with_state old (record left { content = at_end })) (with_end widget (redo_end group) (group_again group document)) (log_redone group log) end can.on stands.sound.orderly.most in
+    let all = stands-log (with_state old (record left { content = at_end }))
+    (with_end widget (redo_end group) (group_again group document)) (log_redone group log) end can.on
+    stands.sound.orderly.most in
     let made : State = edits.redone_group (2 * slot) (Some group) before in
     let made_is : edits.redone (2 * slot) before ≡ made = ap (λ g. edits.redone_group (2 * slot) g before) is in
     let histories = ap (λ (d : Document). d.history) stands.is in
     let counts = ap (λ (d : Document). d.modified) stands.is in
-    let most : log.most ≡ limit_of document.most_undo = stands.sound.orderly.most ∙ ap (λ (d : Document). limit_of d.most_undo) stands.is in
+    let most : log.most ≡ limit_of document.most_undo = stands.sound.orderly.most
+    ∙ ap (λ (d : Document). limit_of d.most_undo) stands.is in
     let result : Document = redone widget group document in
     let all_is : document_of (with_state old made) ≡ result =
-    all.is ∙ λ i. record (with_end widget (redo_end group) (group_again group document)) { history = after_redo group (most i) (histories i); modified = times (length group) counted_up (counts i) } in
-    let fitting = (redone-kept limits.chars (2 * slot) (recording_of old.journal.settings) before (record { fits = fits; groups = stands.sound.orderly.groups; undone = stands.sound.orderly.undone })).fits in
+    all.is ∙ λ i. record (with_end widget (redo_end group) (group_again group document))
+    { history = after_redo group (most i) (histories i); modified = times (length group) counted_up (counts i) } in
+    let fitting = (redone-kept limits.chars (2 * slot) (recording_of old.journal.settings) before
+    (record { fits = fits; groups = stands.sound.orderly.groups; undone = stands.sound.orderly.undone })).fits in
     let kept_on = ap (λ (d : Document). d.undo) (sym stands.is) ∙ can.on in
-    subst (λ (s : State). Leaves limits (with_state old s) document (Ok Empty) (edit_redo document widget)) (sym (state_is ∙ made_is))
+    subst (λ (s : State). Leaves limits (with_state old s) document (Ok Empty) (edit_redo document widget))
+    (sym (state_is ∙ made_is))
     (does-changed limits old (with_state old made) document (edit_redo document widget) stands (record {
       sound = all.sound;
-      is = redo-done document widget group kept_on (ap next_redo (sym histories) ∙ is) can.active ∙ ap (λ d. answered d Empty) (sym all_is);
-      fits = λ _. subst (λ (s : State). FitsText limits.chars (model.characters s.content.cells) s.log.history) made_is fitting;
+      is = redo-done document widget group kept_on (ap next_redo (sym histories) ∙ is) can.active
+          ∙ ap (λ d. answered d Empty) (sym all_is);
+      fits = λ _. subst (λ (s : State). FitsText limits.chars (model.characters s.content.cells) s.log.history) made_is
+          fitting;
       tags = λ few. few;
       marks = λ few. few;
       seats = refl;

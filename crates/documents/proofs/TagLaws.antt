@@ -1,5 +1,6 @@
 -- A document after its tags are put in another order or deleted.
-use Rattle.std.proofs.Common.{◌≡◌, ℕ, ◌≤◌, Bool, true, false, List, [], ◌∷◌, Option, Err, Ok, cond, filter, length, map, refl, sym, ap, subst, ◌∙◌, arith}
+use Rattle.std.proofs.Common.{◌≡◌, ℕ, ◌≤◌, Bool, true, false, List, [], ◌∷◌, Option, Err, Ok, cond, filter, length, map}
+use Rattle.std.proofs.Common.{refl, sym, ap, subst, ◌∙◌, arith}
 use Rattle.std.proofs.lemmas.List.{length-map}
 use Rattle.text_model.proofs.SpliceLaws.{map-map}
 use Rattle.tag_table.specs.declared.faults.NoSuchTag as table_fault
@@ -26,30 +27,46 @@ use Rattle.documents.proofs.TableLaws.{leaves-relogged, leaves-retagged, relogge
 
 -- ---- another order
 
-pub leaves-ordered : (limits : LimitTable) (old : Parts) (new : Tags) (document : Document) (at : ℕ) (order : Order) (word : List ℕ) (other : Option (List ℕ)) → Stands old document
-    → IsOrdered order word other old.tags.tags new.tags → AreTags new → new.limit ≡ old.tags.limit → length (order (names_of old.tags.tags) word other) ≡ length (names_of old.tags.tags)
+pub leaves-ordered : (limits : LimitTable) (old : Parts) (new : Tags) (document : Document) (at : ℕ) (order : Order)
+    (word : List ℕ) (other : Option (List ℕ)) → Stands old document
+    → IsOrdered order word other old.tags.tags new.tags → AreTags new → new.limit ≡ old.tags.limit →
+    length (order (names_of old.tags.tags) word other) ≡ length (names_of old.tags.tags)
     → Leaves limits (record old { tags = new }) document (Ok Empty) (reordered document at order (word, other))
 leaves-ordered limits old new document at order word other stands ordered sound limit many =
     let seats = old.seats.entries in
     let kept = stands.sound.kept in
-    let cells = keyed-reordered seats old.tags.tags new.tags old.content.cells kept.seats.names_apart kept.tags.names_apart sound.names_apart ordered.slots in
+    let cells = keyed-reordered seats old.tags.tags new.tags old.content.cells kept.seats.names_apart
+    kept.tags.names_apart sound.names_apart ordered.slots in
     let tags : document.tags ≡ names_of old.tags.tags = ap (λ (d : Document). d.tags) (sym stands.is) in
-    let count : length new.tags ≡ length old.tags.tags = sym (length-map new.tags (λ (tag : Tag). tag.name)) ∙ ap length ordered.names ∙ many ∙ length-map old.tags.tags (λ (tag : Tag). tag.name) in
-    let whole = retagged-is old new old.content (document_of old).cells refl cells ∙ ap (λ (d : Document). record d { tags = names_of new.tags }) stands.is in
+    let count : length new.tags ≡ length old.tags.tags = sym (length-map new.tags (λ (tag : Tag). tag.name))
+    ∙ ap length ordered.names ∙ many ∙ length-map old.tags.tags (λ (tag : Tag). tag.name) in
+    let whole = retagged-is old new old.content (document_of old).cells refl cells
+    ∙ ap (λ (d : Document). record d { tags = names_of new.tags }) stands.is in
     leaves-retagged limits old new old.content document (reordered document at order (word, other)) stands
-    (record { tags = sound; limit = limit; known = known-reordered seats old.tags new.tags kept.seats kept.tags ordered.slots old.content.cells kept.known; marks = refl; same = refl })
-    (λ few. omega (arith, count, few)) (reordered-made document at order word other old.tags.tags new.tags tags ordered ∙ ap (λ (d : Document). answered d Empty) (sym whole))
+    (record {
+      tags = sound;
+      limit = limit;
+      known = known-reordered seats old.tags new.tags kept.seats kept.tags ordered.slots old.content.cells kept.known;
+      marks = refl;
+      same = refl;
+    })
+    (λ few. omega (arith, count, few)) (reordered-made document at order word other old.tags.tags new.tags tags ordered
+    ∙ ap (λ (d : Document). answered d Empty) (sym whole))
 
 -- one that isn't known
-pub does-unordered : (limits : LimitTable) (old : Parts) (new : Tags) (document : Document) (at : ℕ) (order : Order) (word : List ℕ) (other : Option (List ℕ)) (fault : table_fault.NoSuchTag) → Stands old document
+pub does-unordered : (limits : LimitTable) (old : Parts) (new : Tags) (document : Document) (at : ℕ) (order : Order)
+    (word : List ℕ) (other : Option (List ℕ)) (fault : table_fault.NoSuchTag) → Stands old document
     → new ≡ old.tags → IsUnknown word other old.tags.tags fault
-    → Leaves limits (record old { tags = new }) document (Err (NoSuchTag (unknown_at at fault))) (reordered document at order (word, other))
+    → Leaves limits (record old { tags = new }) document (Err (NoSuchTag (unknown_at at fault)))
+    (reordered document at order (word, other))
 does-unordered limits old new document at order word other fault stands same unknown =
-    let left = stands-same old (record old { tags = new }) document stands (ap (λ (t : Tags). record old { tags = t }) same) in
+    let left = stands-same old (record old { tags = new }) document stands
+    (ap (λ (t : Tags). record old { tags = t }) same) in
     let tags : document.tags ≡ names_of old.tags.tags = ap (λ (d : Document). d.tags) (sym stands.is) in
     record {
       sound = left.sound;
-      does = does-left limits document (document_of (record old { tags = new })) (NoSuchTag (unknown_at at fault)) (reordered document at order (word, other)) left.is
+      does = does-left limits document (document_of (record old { tags = new })) (NoSuchTag (unknown_at at fault))
+          (reordered document at order (word, other)) left.is
           (λ _. reordered-unknown document at order word other old.tags.tags fault tags unknown);
     }
 
@@ -64,8 +81,10 @@ filter-shorter p (x ∷ xs) =
       | false ↦ omega (arith, rest)
     ]
 
-pub leaves-deleted : (limits : LimitTable) (old : Parts) (new : Tags) (content : Content) (log : Log) (document : Document) (names : List (List ℕ)) (slots : List ℕ) → Stands old document → AreTags new
-    → new ≡ record old.tags { tags = tags_left names old.tags.tags } → slots ≡ slots_deleted old.tags.tags names → content ≡ cleared slots old.content → log ≡ old.journal.log
+pub leaves-deleted : (limits : LimitTable) (old : Parts) (new : Tags) (content : Content) (log : Log)
+    (document : Document) (names : List (List ℕ)) (slots : List ℕ) → Stands old document → AreTags new
+    → new ≡ record old.tags { tags = tags_left names old.tags.tags } → slots ≡ slots_deleted old.tags.tags names →
+    content ≡ cleared slots old.content → log ≡ old.journal.log
     → Leaves limits (relogged (retagged old new content) log) document (Ok Empty) (tag_delete document names)
 leaves-deleted limits old new content log document names slots stands sound table gone clear same =
     let seats = old.seats.entries in
@@ -75,20 +94,28 @@ leaves-deleted limits old new content log document names slots stands sound tabl
     let content_is : content ≡ store = clear ∙ ap (λ ss. cleared ss old.content) gone in
     let lone : Document = document_of old in
     let cells = keyed-deleted seats old.tags names old.content.cells kept.seats kept.tags in
-    let with_left : Document → Document = λ document. record document { tags = filter (stays names) document.tags; cells = map (without_tags names) document.cells } in
+    let with_left : Document → Document = λ document.
+    record document {
+      tags = filter (stays names) document.tags;
+      cells = map (without_tags names) document.cells;
+    } in
     let made : document_of (retagged old left store) ≡ with_left lone =
     retagged-is old left store (map (without_tags names) lone.cells) refl cells
-    ∙ ap (λ ts. record lone { tags = ts; cells = map (without_tags names) lone.cells }) (names_left names old.tags.tags) in
+    ∙ ap (λ ts. record lone { tags = ts; cells = map (without_tags names) lone.cells }) (names_left names old.tags.tags)
+    in
     let whole = made ∙ ap with_left stands.is in
-    let count : length left.tags ≤ length old.tags.tags = filter-shorter (λ (tag : Tag). stays names tag.name) old.tags.tags in
+    let count : length left.tags ≤ length old.tags.tags = filter-shorter (λ (tag : Tag). stays names tag.name)
+    old.tags.tags in
     let done = leaves-retagged limits old left store document (tag_delete document names) stands
     (record {
       tags = subst AreTags table sound;
       limit = refl;
       known = known-deleted seats old.tags names old.content.cells kept.seats kept.tags kept.known;
       marks = refl;
-      same = map-map (λ (cell : Cell). cell.character) (cell_without (slots_deleted old.tags.tags names)) old.content.cells;
+      same = map-map (λ (cell : Cell). cell.character) (cell_without (slots_deleted old.tags.tags names))
+          old.content.cells;
     })
     (λ few. omega (arith, count, few)) (ap (λ (d : Document). answered d Empty) (sym whole)) in
     leaves-relogged limits (retagged old new content) log document (tag_delete document names) same
-    (subst (λ (p : Parts). Leaves limits p document (Ok Empty) (tag_delete document names)) (λ i. retagged old (sym table i) (sym content_is i)) done)
+    (subst (λ (p : Parts). Leaves limits p document (Ok Empty) (tag_delete document names)) (λ i.
+    retagged old (sym table i) (sym content_is i)) done)

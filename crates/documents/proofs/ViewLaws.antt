@@ -1,9 +1,12 @@
 -- What of a document one of its widgets shows.
-use Rattle.std.proofs.Common.{[], inl, inr, min, suc, zero, ◌≡◌, ℕ, ◌+◌, ◌-◌, ◌<◌, ◌≤◌, true, false, List, length, map, refl, sym, ap, ap₂, subst, ◌∙◌, arith, length-drop, drop, take, true≢false, ◌≢◌, eq-eqb}
-use Rattle.std.specs.Prelude.{Bool, slice_get, ◌||◌, ◌==◌, IfSome, None, Option, Some, get_or, slice_index_or, slice_range, unwrap_or}
+use Rattle.std.proofs.Common.{[], inl, inr, min, suc, zero, ◌≡◌, ℕ, ◌+◌, ◌-◌, ◌<◌, ◌≤◌, true, false, List, length, map}
+use Rattle.std.proofs.Common.{refl, sym, ap, ap₂, subst, ◌∙◌, arith, length-drop, drop, take, true≢false, ◌≢◌, eq-eqb}
+use Rattle.std.specs.Prelude.{Bool, slice_get, ◌||◌, ◌==◌, IfSome, None, Option, Some, get_or, slice_index_or}
+use Rattle.std.specs.Prelude.{slice_range, unwrap_or}
 use Rattle.std.specs.FinSet as set
 use Rattle.std.proofs.lemmas.Bool.{cases_lt}
-use Rattle.std.proofs.lemmas.List.{drop_all, drop-drop, drop-take, get_or_default, length-map, length-take-le, take-take}
+use Rattle.std.proofs.lemmas.List.{drop_all, drop-drop, drop-take, get_or_default, length-map, length-take-le}
+use Rattle.std.proofs.lemmas.List.{take-take}
 use Rattle.name_list.specs.Names.{numbers_of}
 use Rattle.text_model.specs.declared.cells.Cell.{Cell}
 use Rattle.text_model.specs.declared.limits.TheConstants.Limits.{MOST_CHARS}
@@ -36,23 +39,29 @@ first-line : (text : List ℕ) (start : Option ℕ) → IfSome start (IsLineStar
 first-line text None anchored = is-start text 0 tt
 first-line text (Some start) anchored = anchored
 
-last-line : (text : List ℕ) (end : Option ℕ) (long : ℕ) → IfSome end (IsLineStart text) → IsLineStart text long → IsLineStart text (unwrap_or end long)
+last-line : (text : List ℕ) (end : Option ℕ) (long : ℕ) → IfSome end (IsLineStart text) → IsLineStart text long →
+    IsLineStart text (unwrap_or end long)
 last-line text None long anchored ends = ends
 last-line text (Some end) long anchored ends = anchored
 
 -- where the view of a slot begins and ends, found by the anchors as they are held
-pub start-found : (parts : Parts) (slot : ℕ) (anchors : List Anchors) (start : ℕ) → anchors ≡ parts.journal.anchors → start ≡ unwrap_or (get_or anchors slot whole).start 0 → start ≡ start_in parts slot
+pub start-found : (parts : Parts) (slot : ℕ) (anchors : List Anchors) (start : ℕ) → anchors ≡ parts.journal.anchors →
+    start ≡ unwrap_or (get_or anchors slot whole).start 0 → start ≡ start_in parts slot
 start-found parts slot anchors start held is = is ∙ ap (λ found. unwrap_or (get_or found slot whole).start 0) held
 
-pub end-found : (parts : Parts) (slot : ℕ) (anchors : List Anchors) (long end : ℕ) → anchors ≡ parts.journal.anchors → long ≡ length parts.content.cells
+pub end-found : (parts : Parts) (slot : ℕ) (anchors : List Anchors) (long end : ℕ) → anchors ≡ parts.journal.anchors →
+    long ≡ length parts.content.cells
     → end ≡ unwrap_or (get_or anchors slot whole).end long → end ≡ end_in parts slot
-end-found parts slot anchors long end held counts is = is ∙ ap₂ (λ found n. unwrap_or (get_or found slot whole).end n) held counts
+end-found parts slot anchors long end held counts is =
+    is ∙ ap₂ (λ found n. unwrap_or (get_or found slot whole).end n) held counts
 
 -- whether the widget of a slot is disabled
-pub flag-at : (flags_of : List Bool) (slot : ℕ) (found is : Bool) → slot < length flags_of → found ≡ slice_index_or flags_of slot found → found ≡ is → get_or flags_of slot false ≡ is
+pub flag-at : (flags_of : List Bool) (slot : ℕ) (found is : Bool) → slot < length flags_of →
+    found ≡ slice_index_or flags_of slot found → found ≡ is → get_or flags_of slot false ≡ is
 flag-at flags_of slot found is within read same = get_or_default flags_of slot false found within ∙ sym read ∙ same
 
-pub part-length : {A : Type 0} (xs : List A) (start end : ℕ) → end ≤ length xs → length (slice_range xs start end) ≡ end - start
+pub part-length : {A : Type 0} (xs : List A) (start end : ℕ) → end ≤ length xs →
+    length (slice_range xs start end) ≡ end - start
 part-length xs start end within = length-take-le (end - start) (drop start xs) (omega (arith, length-drop start xs))
 
 neither : (a b : Bool) → (a || b) ≡ false → (a ≡ false) × (b ≡ false)
@@ -60,18 +69,22 @@ neither true b none = absurd (true≢false none)
 neither false b none = (refl, none)
 
 -- a part of a part, which may end before it begins
-pub part-of-part : {A : Type 0} (xs : List A) (start end from to past : ℕ) → start + from ≤ end → start + past ≤ end → past - from ≡ to - from
+pub part-of-part : {A : Type 0} (xs : List A) (start end from to past : ℕ) → start + from ≤ end → start + past ≤ end →
+    past - from ≡ to - from
     → slice_range xs (start + from) (start + past) ≡ slice_range (slice_range xs start end) from to
 part-of-part xs start end from to past begins within count =
     let rest : ℕ = end - start - from in
-    ap (λ n. take n (drop (start + from) xs)) (let h : start + past - (start + from) ≡ to - from = omega (arith, count) in h)
+    ap (λ n. take n (drop (start + from) xs)) (let h : start + past - (start + from)
+    ≡ to - from = omega (arith, count) in h)
     ∙ ap (take (to - from)) (sym (drop-drop from start xs))
     ∙ sym (take-take (to - from) rest (drop from (drop start xs)) (omega (arith, begins, within, count)))
     ∙ ap (take (to - from)) (sym (drop-take from rest (drop start xs)))
-    ∙ ap (λ n. take (to - from) (drop from (take n (drop start xs)))) (let h : from + rest ≡ end - start = omega (arith, begins) in h)
+    ∙ ap (λ n. take (to - from) (drop from (take n (drop start xs)))) (let h : from + rest
+    ≡ end - start = omega (arith, begins) in h)
 
 -- one element of a part, or none at its end
-pub part-one : {A : Type 0} (xs : List A) (start end at stop : ℕ) → start + at ≤ end → end ≤ length xs → stop ≡ min (start + at + 1) end
+pub part-one : {A : Type 0} (xs : List A) (start end at stop : ℕ) → start + at ≤ end → end ≤ length xs →
+    stop ≡ min (start + at + 1) end
     → slice_range xs (start + at) stop ≡ slice_range (slice_range xs start end) at (suc at)
 part-one xs start end at stop begins within is =
     elim (cases_lt (start + at) end) [
@@ -80,7 +93,8 @@ part-one xs start end at stop begins within is =
           ∙ part-of-part xs start end at (suc at) (suc at) begins (omega (arith, before)) refl
       | inr past ↦
           ap (λ n. take n (drop (start + at) xs)) (let h : stop - (start + at) ≡ 0 = omega (arith, is, past) in h)
-          ∙ sym (ap (take (suc at - at)) (drop_all at (slice_range xs start end) (omega (arith, past, part-length xs start end within))) ∙ none (suc at - at))
+          ∙ sym (ap (take (suc at - at)) (drop_all at (slice_range xs start end)
+          (omega (arith, past, part-length xs start end within))) ∙ none (suc at - at))
     ]
   where
     none : {B : Type 0} (n : ℕ) → take {A = B} n [] ≡ []
@@ -88,7 +102,8 @@ part-one xs start end at stop begins within is =
     none (suc n) = refl
 
 -- a document as it is kept, and one of its widgets with its slot
-module _ (parts : Parts) (document : Document) (place slot : ℕ) (stands : Stands parts document) (sits : Sits parts document place slot) where
+module _ (parts : Parts) (document : Document) (place slot : ℕ) (stands : Stands parts document)
+    (sits : Sits parts document place slot) where
   abbrev widget : Widget
   widget = widget_at document place
 
@@ -97,7 +112,8 @@ module _ (parts : Parts) (document : Document) (place slot : ℕ) (stands : Stan
 
   pub end-is : view_end document widget ≡ end_in parts slot
   end-is =
-      ap (view_end document) sits.widget ∙ ap (λ n. unwrap_or (anchors_at parts.journal n).end (length document.cells)) sits.number
+      ap (view_end document) sits.widget
+      ∙ ap (λ n. unwrap_or (anchors_at parts.journal n).end (length document.cells)) sits.number
       ∙ ap (unwrap_or (anchors_at parts.journal slot).end) (cells-kept parts document stands.is)
 
   -- whole lines of the text
@@ -105,9 +121,11 @@ module _ (parts : Parts) (document : Document) (place slot : ℕ) (stands : Stan
   view-is =
       let text : List ℕ = model.characters parts.content.cells in
       let long : length text ≡ length parts.content.cells = counted parts.content in
-      let ends : IsLineStart text (length parts.content.cells) = subst (IsLineStart text) long (is-start text (length text) (text-end-begins text stands.sound.kept.text.newline)) in
+      let ends : IsLineStart text (length parts.content.cells) = subst (IsLineStart text) long
+      (is-start text (length text) (text-end-begins text stands.sound.kept.text.newline)) in
       record {
-        ordered = subst (λ n. start_in parts slot ≤ unwrap_or (anchors_at parts.journal slot).end n) long sits.anchored.ordered;
+        ordered = subst (λ n. start_in parts slot ≤ unwrap_or (anchors_at parts.journal slot).end n) long
+            sits.anchored.ordered;
         first = first-line text (anchors_at parts.journal slot).start sits.anchored.start;
         behind = last-line text (anchors_at parts.journal slot).end (length parts.content.cells) sits.anchored.end ends;
       }
@@ -121,45 +139,62 @@ module _ (parts : Parts) (document : Document) (place slot : ℕ) (stands : Stan
   -- its characters
   pub shown-is : shown document widget ≡ view.shown parts.content (start_in parts slot) (end_in parts slot)
   shown-is =
-      ap (λ text. slice_range text (view_start widget) (view_end document widget)) (characters-kept parts document stands.is)
+      ap (λ text. slice_range text (view_start widget) (view_end document widget))
+      (characters-kept parts document stands.is)
       ∙ ap₂ (slice_range (model.characters parts.content.cells)) start-is end-is
 
   pub shown-length : length (shown document widget) ≡ end_in parts slot - start_in parts slot
   shown-length =
-      ap length shown-is ∙ part-length (model.characters parts.content.cells) (start_in parts slot) (end_in parts slot) (omega (arith, within-is, counted parts.content))
+      ap length shown-is ∙ part-length (model.characters parts.content.cells) (start_in parts slot) (end_in parts slot)
+      (omega (arith, within-is, counted parts.content))
 
   -- which of its cells have the key of a name
   pub flags-is : (name : List ℕ) (tag : ℕ) → known_tags parts.tags.tags slot name ≡ Some tag
-      → shown_flags document widget (key_named sits.seat.name name) ≡ view.shown_flags tag parts.content (start_in parts slot) (end_in parts slot)
+      → shown_flags document widget (key_named sits.seat.name name)
+      ≡ view.shown_flags tag parts.content (start_in parts slot) (end_in parts slot)
   flags-is name tag known =
-      let to_seat : known_tags parts.tags.tags sits.seat.number name ≡ Some tag = ap (λ n. known_tags parts.tags.tags n name) sits.number ∙ known in
+      let to_seat : known_tags parts.tags.tags sits.seat.number name
+      ≡ Some tag = ap (λ n. known_tags parts.tags.tags n name) sits.number ∙ known in
       let key : Key = key_named sits.seat.name name in
-      ap (λ (d : Document). slice_range (map (λ (cell : KeyedCell). set.contains cell.keys key) d.cells) (view_start widget) (view_end document widget)) (sym stands.is)
+      ap (λ (d : Document). slice_range (map (λ (cell : KeyedCell). set.contains cell.keys key) d.cells)
+      (view_start widget) (view_end document widget)) (sym stands.is)
       ∙ ap (λ flags_of. slice_range flags_of (view_start widget) (view_end document widget))
-      (sym (keyed-flags parts.seats.entries parts.tags stands.sound.kept.seats stands.sound.kept.tags place sits.seat sits.stands name tag to_seat parts.content.cells))
+      (sym (keyed-flags parts.seats.entries parts.tags stands.sound.kept.seats stands.sound.kept.tags place sits.seat
+      sits.stands name tag to_seat parts.content.cells))
       ∙ ap₂ (slice_range (flags tag parts.content.cells)) start-is end-is
 
   -- whether its commands leave the text as it is
-  pub idle-is : is_idle document widget ≡ (get_or parts.journal.disabled slot false || start_in parts slot == end_in parts slot)
+  pub idle-is : is_idle document widget ≡ (get_or parts.journal.disabled slot false
+      || start_in parts slot == end_in parts slot)
   idle-is =
-      ap₂ (λ a b. a || b) (ap (λ (w : Widget). w.disabled) sits.widget ∙ ap (λ n. get_or parts.journal.disabled n false) sits.number)
+      ap₂ (λ a b. a || b) (ap (λ (w : Widget). w.disabled) sits.widget
+      ∙ ap (λ n. get_or parts.journal.disabled n false) sits.number)
       (ap₂ (λ a b. a == b) start-is end-is)
 
-  pub active-is : is_idle document widget ≡ false → (get_or parts.journal.disabled slot false ≡ false) × (start_in parts slot < end_in parts slot)
+  pub active-is : is_idle document widget ≡ false → (get_or parts.journal.disabled slot false ≡ false)
+      × (start_in parts slot < end_in parts slot)
   active-is active =
-      let both = neither (get_or parts.journal.disabled slot false) (start_in parts slot == end_in parts slot) (sym idle-is ∙ active) in
-      (both.0, (let apart : start_in parts slot ≢ end_in parts slot = λ same. true≢false (sym (eq-eqb (start_in parts slot) (end_in parts slot) same) ∙ both.1) in omega (arith, ordered-is, apart)))
+      let both = neither (get_or parts.journal.disabled slot false) (start_in parts slot == end_in parts slot)
+      (sym idle-is ∙ active) in (
+        both.0,
+        (let apart : start_in parts slot ≢ end_in parts slot = λ same.
+            true≢false (sym (eq-eqb (start_in parts slot) (end_in parts slot) same) ∙ both.1) in
+            omega (arith, ordered-is, apart)),
+      )
 
 -- a widget's view as it was found: where it begins and ends in a store
-pub record IsSeen (parts : Parts) (document : Document) (place slot : ℕ) (content : Content) (first behind : ℕ) : Type 0 where
-  pub stands : Stands parts document
-  pub sits : Sits parts document place slot
-  pub held : content ≡ parts.content
-  pub starts : first ≡ start_in parts slot
-  pub ends : behind ≡ end_in parts slot
+pub record IsSeen (parts : Parts) (document : Document) (place slot : ℕ) (content : Content) (first behind : ℕ) : Type 0
+  where
+    pub stands : Stands parts document
+    pub sits : Sits parts document place slot
+    pub held : content ≡ parts.content
+    pub starts : first ≡ start_in parts slot
+    pub ends : behind ≡ end_in parts slot
 
-pub see : (parts : Parts) (document : Document) (place slot : ℕ) (content : Content) (first behind : ℕ) (anchors : List Anchors) → Stands parts document → slice_get (numbers_of parts.seats.entries) place ≡ Some slot
-    → anchors ≡ parts.journal.anchors → first ≡ unwrap_or (get_or anchors slot whole).start 0 → behind ≡ unwrap_or (get_or anchors slot whole).end (length parts.content.cells) → content ≡ parts.content
+pub see : (parts : Parts) (document : Document) (place slot : ℕ) (content : Content) (first behind : ℕ)
+    (anchors : List Anchors) → Stands parts document → slice_get (numbers_of parts.seats.entries) place ≡ Some slot
+    → anchors ≡ parts.journal.anchors → first ≡ unwrap_or (get_or anchors slot whole).start 0 →
+    behind ≡ unwrap_or (get_or anchors slot whole).end (length parts.content.cells) → content ≡ parts.content
     → IsSeen parts document place slot content first behind
 see parts document place slot content first behind anchors stands number found start end held = record {
   stands = stands;
@@ -169,24 +204,30 @@ see parts document place slot content first behind anchors stands number found s
   ends = end-found parts slot anchors (length parts.content.cells) behind found refl end;
 }
 
-module _ (parts : Parts) (document : Document) (place slot : ℕ) (content : Content) (first behind : ℕ) (seen : IsSeen parts document place slot content first behind) where
+module _ (parts : Parts) (document : Document) (place slot : ℕ) (content : Content) (first behind : ℕ)
+    (seen : IsSeen parts document place slot content first behind) where
   pub view-found : IsView content first behind
   view-found =
-      subst (λ (v : Content × ℕ × ℕ). IsView v.0 v.1 v.2) (λ i. (sym seen.held i, sym seen.starts i, sym seen.ends i)) (view-is parts document place slot seen.stands seen.sits)
+      subst (λ (v : Content × ℕ × ℕ). IsView v.0 v.1 v.2) (λ i. (sym seen.held i, sym seen.starts i, sym seen.ends i))
+      (view-is parts document place slot seen.stands seen.sits)
 
   pub shown-found : view.shown content first behind ≡ shown document (widget_at document place)
-  shown-found = (λ i. view.shown (seen.held i) (seen.starts i) (seen.ends i)) ∙ sym (shown-is parts document place slot seen.stands seen.sits)
+  shown-found = (λ i. view.shown (seen.held i) (seen.starts i) (seen.ends i))
+      ∙ sym (shown-is parts document place slot seen.stands seen.sits)
 
   -- how much of it is shown
   pub length-found : length (shown document (widget_at document place)) ≡ behind - first
-  length-found = let h = shown-length parts document place slot seen.stands seen.sits in omega (arith, h, seen.starts, seen.ends)
+  length-found = let h = shown-length parts document place slot seen.stands seen.sits in
+      omega (arith, h, seen.starts, seen.ends)
 
   pub ordered-found : first ≤ behind
-  ordered-found = let h = ordered-is parts document place slot seen.stands seen.sits in omega (arith, h, seen.starts, seen.ends)
+  ordered-found = let h = ordered-is parts document place slot seen.stands seen.sits in
+      omega (arith, h, seen.starts, seen.ends)
 
   -- where it ends in the text
   pub ends-found : behind ≤ length content.cells
-  ends-found = let h = within-is parts document place slot seen.stands seen.sits in omega (arith, h, seen.ends, ap (λ (c : Content). length c.cells) seen.held)
+  ends-found = let h = within-is parts document place slot seen.stands seen.sits in
+      omega (arith, h, seen.ends, ap (λ (c : Content). length c.cells) seen.held)
 
   pub short-found : length content.cells ≤ MOST_CHARS
   short-found = omega (arith, ap (λ (c : Content). length c.cells) seen.held, seen.stands.sound.kept.short)

@@ -1,5 +1,6 @@
 -- The options of a document and of its widgets, and widgets that come and go.
-use Rattle.std.proofs.Common.{◌≡◌, ◌≢◌, ℕ, zero, suc, ◌+◌, ◌-◌, ◌≤◌, true, false, cond, set, List, [], ◌∷◌, Ok, length, take, drop, get_or, refl, sym, ap, ap₂, subst, ◌∙◌, arith}
+use Rattle.std.proofs.Common.{◌≡◌, ◌≢◌, ℕ, zero, suc, ◌+◌, ◌-◌, ◌≤◌, true, false, cond, set, List, [], ◌∷◌, Ok, length}
+use Rattle.std.proofs.Common.{take, drop, get_or, refl, sym, ap, ap₂, subst, ◌∙◌, arith}
 use Rattle.std.specs.Prelude.{filter, not, option_map, slice_get, unwrap_or, IfSome, Option, None, Some, if◌then◌else◌}
 use Rattle.std.specs.List.{AllByRecursion}
 use Rattle.std.proofs.lemmas.List.{get_or_default, length-set, get_or-set_other}
@@ -22,7 +23,8 @@ use Rattle.command_parts.specs.Words.{is_same}
 use Rattle.command_parts.specs.declared.answers.Answer.TheVariants.{Empty}
 use Rattle.command_parts.specs.Settings.{history_under, is_behind}
 use Rattle.command_parts.specs.declared.settings.Settings.{Settings}
-use Rattle.documents.specs.Documents.{Document, Journal, Parts, Widget, anchors_at, characters, document_of, whole, widget_at, widget_of}
+use Rattle.documents.specs.Documents.{Document, Journal, Parts, Widget, anchors_at, characters, document_of, whole}
+use Rattle.documents.specs.Documents.{widget_at, widget_of}
 use Rattle.documents.specs.Kept.{IsSeated, Stands}
 use Rattle.documents.specs.Promise.{answered}
 use Rattle.documents.specs.Options.{AreLines, IsLine, anchor_at, settings_of, widget_set, with_settings}
@@ -58,24 +60,31 @@ anchor-line text (Some anchor) = (omega arith, (let within = line-within text an
 abbrev pub line_anchor : List ℕ → Option ℕ → Option ℕ
 line_anchor text line = option_map (λ l. line_start (l - 1) text) line
 
-after-one : (c : ℕ) (text : List ℕ) (offset : ℕ) → line_of (c ∷ text) (1 + offset) ≡ cond (is_newline c) 1 0 + line_of text offset
-after-one c text offset = ap (line_of (c ∷ text)) (let h : 1 + offset ≡ suc offset = omega arith in h) ∙ lines-cons c (take offset text)
+after-one : (c : ℕ) (text : List ℕ) (offset : ℕ) → line_of (c ∷ text) (1 + offset)
+    ≡ cond (is_newline c) 1 0 + line_of text offset
+after-one c text offset =
+    ap (line_of (c ∷ text)) (let h : 1 + offset ≡ suc offset = omega arith in h) ∙ lines-cons c (take offset text)
 
 -- the line that starts where a line starts is that line
 line_of-start : (text : List ℕ) (line : ℕ) → line ≤ lines text → line_of text (line_start line text) ≡ line
 line_of-start text zero within = refl
 line_of-start [] (suc line) within = absurd (omega (arith, within))
 line_of-start (c ∷ text) (suc line) within =
-    elim (is_newline c) as (λ b. is_newline c ≡ b → line_of (c ∷ text) (1 + line_start (if b then line else suc line) text) ≡ suc line) [
+    elim (is_newline c) as (λ b. is_newline c ≡ b →
+    line_of (c ∷ text) (1 + line_start (if b then line else suc line) text) ≡ suc line) [
       | true ↦ λ newline.
           let counted = lines-cons c text ∙ ap (λ b. cond b 1 0 + lines text) newline in
           let rest = line_of-start text line (omega (arith, within, counted)) in
-          let first : line_of (c ∷ text) (1 + line_start line text) ≡ 1 + line_of text (line_start line text) = after-one c text (line_start line text) ∙ ap (λ b. cond b 1 0 + line_of text (line_start line text)) newline in
+          let first : line_of (c ∷ text) (1 + line_start line text)
+          ≡ 1 + line_of text (line_start line text) = after-one c text (line_start line text)
+          ∙ ap (λ b. cond b 1 0 + line_of text (line_start line text)) newline in
           omega (arith, first, rest)
       | false ↦ λ other.
           let counted = lines-cons c text ∙ ap (λ b. cond b 1 0 + lines text) other in
           let rest = line_of-start text (suc line) (omega (arith, within, counted)) in
-          let first : line_of (c ∷ text) (1 + line_start (suc line) text) ≡ 0 + line_of text (line_start (suc line) text) = after-one c text (line_start (suc line) text) ∙ ap (λ b. cond b 1 0 + line_of text (line_start (suc line) text)) other in
+          let first : line_of (c ∷ text) (1 + line_start (suc line) text)
+          ≡ 0 + line_of text (line_start (suc line) text) = after-one c text (line_start (suc line) text)
+          ∙ ap (λ b. cond b 1 0 + line_of text (line_start (suc line) text)) other in
           omega (arith, first, rest)
     ] refl
 
@@ -90,13 +99,15 @@ later-starts text zero more ordered = omega arith
 later-starts text (suc line) zero ordered = absurd (omega (arith, ordered))
 later-starts [] (suc line) (suc more) ordered = omega arith
 later-starts (c ∷ text) (suc line) (suc more) ordered =
-    elim (is_newline c) as (λ b. 1 + line_start (if b then line else suc line) text ≤ 1 + line_start (if b then more else suc more) text) [
+    elim (is_newline c) as (λ b. 1 + line_start (if b then line else suc line) text
+    ≤ 1 + line_start (if b then more else suc more) text) [
       | true ↦ (let h = later-starts text line more (omega (arith, ordered)) in omega (arith, h))
       | false ↦ (let h = later-starts text (suc line) (suc more) (omega (arith, ordered)) in omega (arith, h))
     ]
 
 -- anchors at lines of a text, of which the start isn't behind the end, stand as anchors should
-pub lines-anchored : (text : List ℕ) (settings : Settings) → AreLines (lines text) settings → is_behind settings.start settings.end ≡ false
+pub lines-anchored : (text : List ℕ) (settings : Settings) → AreLines (lines text) settings →
+    is_behind settings.start settings.end ≡ false
     → AreAnchored text (record { start = line_anchor text settings.start; end = line_anchor text settings.end })
 lines-anchored text settings are before = both settings.start settings.end are.start are.end before
   where
@@ -104,14 +115,18 @@ lines-anchored text settings are before = both settings.start settings.end are.s
     one None is = tt
     one (Some line) is = starts-line text (line - 1) (omega (arith, is.1))
 
-    order : (start end : Option ℕ) → is_behind start end ≡ false → unwrap_or (line_anchor text start) 0 ≤ unwrap_or (line_anchor text end) (length text)
+    order : (start end : Option ℕ) → is_behind start end ≡ false →
+        unwrap_or (line_anchor text start) 0 ≤ unwrap_or (line_anchor text end) (length text)
     order None end before = omega arith
     order (Some start) None before = line_start-le text (start - 1)
-    order (Some start) (Some end) before = later-starts text (start - 1) (end - 1) (let h : start ≤ end = grind (arith, nat_tests, before) in omega (arith, h))
+    order (Some start) (Some end) before = later-starts text (start - 1) (end - 1) (let h : start
+        ≤ end = grind (arith, nat_tests, before) in omega (arith, h))
 
-    both : (start end : Option ℕ) → IfSome start (IsLine (lines text)) → IfSome end (IsLine (lines text)) → is_behind start end ≡ false
+    both : (start end : Option ℕ) → IfSome start (IsLine (lines text)) → IfSome end (IsLine (lines text)) →
+        is_behind start end ≡ false
         → AreAnchored text (record { start = line_anchor text start; end = line_anchor text end })
-    both start end starts ends before = record { start = one start starts; end = one end ends; ordered = order start end before }
+    both start end starts ends before =
+        record { start = one start starts; end = one end ends; ordered = order start end before }
 
 -- ---- options
 
@@ -124,34 +139,47 @@ settings_at parts text slot = record {
   end = line_numbered text (anchors_at parts.journal slot).end;
 }
 
-pub settings-kept : (parts : Parts) (document : Document) (place slot : ℕ) → Stands parts document → Sits parts document place slot
+pub settings-kept : (parts : Parts) (document : Document) (place slot : ℕ) → Stands parts document →
+    Sits parts document place slot
     → settings_at parts (model.characters parts.content.cells) slot ≡ settings_of document (widget_at document place)
 settings-kept parts document place slot stands sits =
     let widget : Widget = widget_of parts.journal parts.content.marks sits.seat in
-    ap (settings_at parts (model.characters parts.content.cells)) (sym sits.number) ∙ ap (λ text. settings_at parts text sits.seat.number) (sym (characters-keyed (pairs_of parts) parts.content.cells))
+    ap (settings_at parts (model.characters parts.content.cells)) (sym sits.number)
+    ∙ ap (λ text. settings_at parts text sits.seat.number)
+    (sym (characters-keyed (pairs_of parts) parts.content.cells))
     ∙ ap (λ (d : Document). settings_of d widget) stands.is ∙ ap (settings_of document) (sym sits.widget)
 
-pub settings-lines : (parts : Parts) (document : Document) (slot : ℕ) → Stands parts document → AreLines (lines (characters document.cells)) (settings_at parts (model.characters parts.content.cells) slot)
+pub settings-lines : (parts : Parts) (document : Document) (slot : ℕ) → Stands parts document →
+    AreLines (lines (characters document.cells)) (settings_at parts (model.characters parts.content.cells) slot)
 settings-lines parts document slot stands =
     let text = model.characters parts.content.cells in
     subst (λ t. AreLines (lines t) (settings_at parts text slot)) (sym (characters-kept parts document stands.is))
-    (record { start = anchor-line text (anchors_at parts.journal slot).start; end = anchor-line text (anchors_at parts.journal slot).end })
+    (record {
+      start = anchor-line text (anchors_at parts.journal slot).start;
+      end = anchor-line text (anchors_at parts.journal slot).end;
+    })
 
 -- an anchor of a widget stands in the text
-pub anchors-within : (parts : Parts) (document : Document) (place slot : ℕ) (found : Anchors) → Sits parts document place slot → found ≡ get_or parts.journal.anchors slot found
-    → (found ≡ anchors_at parts.journal slot) × IfSome found.start (λ a. a ≤ length parts.content.cells) × IfSome found.end (λ a. a ≤ length parts.content.cells)
+pub anchors-within : (parts : Parts) (document : Document) (place slot : ℕ) (found : Anchors) →
+    Sits parts document place slot → found ≡ get_or parts.journal.anchors slot found
+    → (found ≡ anchors_at parts.journal slot) × IfSome found.start (λ a. a ≤ length parts.content.cells)
+    × IfSome found.end (λ a. a ≤ length parts.content.cells)
 anchors-within parts document place slot found sits is =
-    let same : found ≡ anchors_at parts.journal slot = is ∙ get_or_default parts.journal.anchors slot found whole sits.anchors in
+    let same : found ≡ anchors_at parts.journal slot = is
+    ∙ get_or_default parts.journal.anchors slot found whole sits.anchors in
     let long = counted parts.content in
     let text = model.characters parts.content.cells in
-    let one : (anchor : Option ℕ) → IfSome anchor (IsLineStart text) → IfSome anchor (λ a. a ≤ length parts.content.cells) = λ anchor is.
+    let one : (anchor : Option ℕ) → IfSome anchor (IsLineStart text) →
+    IfSome anchor (λ a. a ≤ length parts.content.cells) = λ anchor is.
     elim anchor as (λ o. IfSome o (IsLineStart text) → IfSome o (λ a. a ≤ length parts.content.cells)) [
       | None ↦ λ _. tt
       | Some a ↦ λ (line : IsLineStart text a). (let h = line.within in omega (arith, h, long))
     ] is in (
       same,
-      subst (λ (a : Anchors). IfSome a.start (λ x. x ≤ length parts.content.cells)) (sym same) (one (anchors_at parts.journal slot).start sits.anchored.start),
-      subst (λ (a : Anchors). IfSome a.end (λ x. x ≤ length parts.content.cells)) (sym same) (one (anchors_at parts.journal slot).end sits.anchored.end),
+      subst (λ (a : Anchors). IfSome a.start (λ x. x ≤ length parts.content.cells)) (sym same)
+          (one (anchors_at parts.journal slot).start sits.anchored.start),
+      subst (λ (a : Anchors). IfSome a.end (λ x. x ≤ length parts.content.cells)) (sym same)
+          (one (anchors_at parts.journal slot).end sits.anchored.end),
     )
 
 -- the journal with the options of a document and of a widget, by its slot
@@ -163,8 +191,10 @@ journal_set journal slot settings anchors kept = record {
   log = log_of kept;
 }
 
-seats-set : (journal : Journal) (slot : ℕ) (settings : Settings) (anchors : Anchors) (kept : Kept) (seats : List Named) → AllByRecursion (IsSeated journal.anchors journal.disabled) seats
-    → AllByRecursion (IsSeated (journal_set journal slot settings anchors kept).anchors (journal_set journal slot settings anchors kept).disabled) seats
+seats-set : (journal : Journal) (slot : ℕ) (settings : Settings) (anchors : Anchors) (kept : Kept) (seats : List Named)
+    → AllByRecursion (IsSeated journal.anchors journal.disabled) seats
+    → AllByRecursion (IsSeated (journal_set journal slot settings anchors kept).anchors
+    (journal_set journal slot settings anchors kept).disabled) seats
 seats-set journal slot settings anchors kept [] seated = tt
 seats-set journal slot settings anchors kept (seat ∷ seats) seated =
     let one = seated.0.anchored in
@@ -177,12 +207,20 @@ seats-set journal slot settings anchors kept (seat ∷ seats) seated =
     )
 
 -- a widget is given options
-pub leaves-settings : (limits : LimitTable) (old : Parts) (before after : Kept) (document : Document) (place slot : ℕ) (settings : Settings) (anchors : Anchors) → Stands (with_kept old before) document
-    → Sits (with_kept old before) document place slot → AreLines (lines (characters document.cells)) settings → is_behind settings.start settings.end ≡ false
-    → anchors ≡ record { start = line_anchor (model.characters old.content.cells) settings.start; end = line_anchor (model.characters old.content.cells) settings.end }
-    → after.history ≡ history_under settings.document before.history → after.modified ≡ before.modified → after.most ≡ limit_of settings.document.most_undo
-    → Leaves limits (record old { journal = journal_set old.journal slot settings anchors after }) document (Ok Empty) (answered (with_settings (widget_at document place) settings document) Empty)
-leaves-settings limits old before after document place slot settings anchors stands sits are ordered given history modified most =
+pub leaves-settings : (limits : LimitTable) (old : Parts) (before after : Kept) (document : Document) (place slot : ℕ)
+    (settings : Settings) (anchors : Anchors) → Stands (with_kept old before) document
+    → Sits (with_kept old before) document place slot → AreLines (lines (characters document.cells)) settings →
+    is_behind settings.start settings.end ≡ false
+    → anchors ≡ record {
+      start = line_anchor (model.characters old.content.cells) settings.start;
+      end = line_anchor (model.characters old.content.cells) settings.end;
+    }
+    → after.history ≡ history_under settings.document before.history → after.modified ≡ before.modified →
+    after.most ≡ limit_of settings.document.most_undo
+    → Leaves limits (record old { journal = journal_set old.journal slot settings anchors after }) document (Ok Empty)
+    (answered (with_settings (widget_at document place) settings document) Empty)
+leaves-settings limits old before after document place slot settings anchors stands sits are ordered given history
+    modified most =
     let parts : Parts = with_kept old before in
     let new : Parts = record old { journal = journal_set old.journal slot settings anchors after } in
     let text = model.characters old.content.cells in
@@ -191,23 +229,36 @@ leaves-settings limits old before after document place slot settings anchors sta
     let widget : Widget = widget_of parts.journal places sits.seat in
     let same : text ≡ characters lone.cells = sym (characters-keyed (pairs_of parts) old.content.cells) in
     let stand : AreAnchored text anchors =
-    subst (AreAnchored text) (sym given) (lines-anchored text settings (subst (λ t. AreLines (lines t) settings) (characters-kept parts document stands.is) are) ordered) in
-    let shown : (seat : Named) → seat.number ≡ slot → widget_of new.journal places seat ≡ widget_set lone settings (widget_of parts.journal places seat) = λ seat is.
+    subst (AreAnchored text) (sym given) (lines-anchored text settings
+    (subst (λ t. AreLines (lines t) settings) (characters-kept parts document stands.is) are) ordered) in
+    let shown : (seat : Named) → seat.number ≡ slot → widget_of new.journal places seat
+    ≡ widget_set lone settings (widget_of parts.journal places seat) = λ seat is.
     let there = get_or-set_at old.journal.anchors slot seat.number anchors whole is sits.anchors in
     let flag = get_or-set_at old.journal.disabled slot seat.number settings.disabled false is sits.disabled in
-    let start : (get_or (set old.journal.anchors slot anchors) seat.number whole).start ≡ option_map (anchor_at lone) settings.start =
+    let start : (get_or (set old.journal.anchors slot anchors) seat.number whole).start
+    ≡ option_map (anchor_at lone) settings.start =
     ap (λ (a : Anchors). a.start) (there ∙ given) ∙ ap (λ t. line_anchor t settings.start) same in
-    let end : (get_or (set old.journal.anchors slot anchors) seat.number whole).end ≡ option_map (anchor_at lone) settings.end =
+    let end : (get_or (set old.journal.anchors slot anchors) seat.number whole).end
+    ≡ option_map (anchor_at lone) settings.end =
     ap (λ (a : Anchors). a.end) (there ∙ given) ∙ ap (λ t. line_anchor t settings.end) same in
     λ i. record (widget_of parts.journal places seat) { start = start i; end = end i; disabled = flag i } in
-    let others : (seat : Named) → seat.number ≢ slot → widget_of new.journal places seat ≡ widget_of parts.journal places seat = λ seat apart.
+    let others : (seat : Named) → seat.number ≢ slot → widget_of new.journal places seat
+    ≡ widget_of parts.journal places seat = λ seat apart.
     let there = get_or-set_other old.journal.anchors slot seat.number anchors whole apart in
     let flag = get_or-set_other old.journal.disabled slot seat.number settings.disabled false apart in
-    λ i. record (widget_of parts.journal places seat) { start = (there i).start; end = (there i).end; disabled = flag i } in
-    let widgets = widgets-put new.journal parts.journal places places sits.seat.name slot (widget_set lone settings) old.seats.entries (slot-there parts document place slot stands sits) shown others in
-    let made : document_of new ≡ with_settings widget settings lone = λ i. record (document_of new) { widgets = widgets i; history = history i; modified = modified i } in
-    let whole_made = made ∙ ap₂ (λ (d : Document) (w : Widget). with_settings w settings d) stands.is (sym sits.widget) in
-    does-changed limits parts new document (answered (with_settings (widget_at document place) settings document) Empty) stands (record {
+    λ i. record (widget_of parts.journal places seat) {
+      start = (there i).start;
+      end = (there i).end;
+      disabled = flag i;
+    } in
+    let widgets = widgets-put new.journal parts.journal places places sits.seat.name slot (widget_set lone settings)
+    old.seats.entries (slot-there parts document place slot stands sits) shown others in
+    let made : document_of new ≡ with_settings widget settings lone = λ i.
+    record (document_of new) { widgets = widgets i; history = history i; modified = modified i } in
+    let whole_made = made ∙ ap₂ (λ (d : Document) (w : Widget). with_settings w settings d) stands.is (sym sits.widget)
+    in
+    does-changed limits parts new document (answered (with_settings (widget_at document place) settings document) Empty)
+    stands (record {
       sound = record {
         kept = stands.sound.kept;
         marked = stands.sound.marked;
@@ -218,7 +269,8 @@ leaves-settings limits old before after document place slot settings anchors sta
         };
       };
       is = ap (λ (d : Document). answered d Empty) (sym whole_made);
-      fits = λ fits. subst (FitsText limits.chars text) (sym history) (fits-under limits.chars settings.document before.history text fits);
+      fits = λ fits. subst (FitsText limits.chars text) (sym history)
+          (fits-under limits.chars settings.document before.history text fits);
       tags = λ few. few;
       marks = λ few. few;
       seats = refl;
@@ -227,9 +279,13 @@ leaves-settings limits old before after document place slot settings anchors sta
 -- ---- names
 
 -- the names of the others
-pub others-kept : (parts : Parts) (document : Document) (place : ℕ) (name : List ℕ) → Stands parts document → slice_get (names_of parts.seats.entries) place ≡ Some name
-    → filter (λ other. not (is_same other name)) (names_of parts.seats.entries) ≡ filter (λ other. not (is_same other (widget_at document place).name)) (window_names document)
+pub others-kept : (parts : Parts) (document : Document) (place : ℕ) (name : List ℕ) → Stands parts document →
+    slice_get (names_of parts.seats.entries) place ≡ Some name
+    → filter (λ other. not (is_same other name)) (names_of parts.seats.entries)
+    ≡ filter (λ other. not (is_same other (widget_at document place).name)) (window_names document)
 others-kept parts document place name stands is =
     let found = seat-named parts.seats.entries place name is in
-    let own : name ≡ (widget_at document place).name = sym found.named ∙ ap (λ (w : Widget). w.name) (sym (widget-is parts document place found.seat stands.is found.stands)) in
-    ap₂ (λ n names. filter (λ other. not (is_same other n)) names) own (sym (windows-kept parts) ∙ ap window_names stands.is)
+    let own : name ≡ (widget_at document place).name = sym found.named
+    ∙ ap (λ (w : Widget). w.name) (sym (widget-is parts document place found.seat stands.is found.stands)) in
+    ap₂ (λ n names. filter (λ other. not (is_same other n)) names) own (sym (windows-kept parts)
+    ∙ ap window_names stands.is)

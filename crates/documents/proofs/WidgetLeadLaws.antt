@@ -1,5 +1,6 @@
 -- Each edit that a command of a widget may make leaves what the document leads back to.
-use Rattle.std.proofs.Common.{◌≡◌, ℕ, ◌+◌, ◌-◌, ◌≤◌, true, false, List, [], ◌∷◌, ◌++◌, Option, Some, None, length, refl, arith}
+use Rattle.std.proofs.Common.{◌≡◌, ℕ, ◌+◌, ◌-◌, ◌≤◌, true, false, List, [], ◌∷◌, ◌++◌, Option, Some, None, length, refl}
+use Rattle.std.proofs.Common.{arith}
 use Rattle.std.specs.Prelude.{nat_le, nat_lt, if◌then◌else◌}
 use Rattle.std.specs.List.{All, AllByRecursion}
 use Rattle.std.proofs.lemmas.List.{length-map}
@@ -24,19 +25,23 @@ use Rattle.documents.specs.Ranges.{spans_shown}
 use Rattle.documents.specs.Tags.{add_spans, remove_spans}
 use Rattle.documents.specs.Texts.{insertion_offset}
 use Rattle.documents.specs.View.{shown, view_end, view_start}
-use Rattle.documents.proofs.EditLeadLaws.{IsActive, active, leads-deleted, leads-inserted, leads-redo, leads-replaced, leads-undo, offset-inside}
+use Rattle.documents.proofs.EditLeadLaws.{IsActive, active, leads-deleted, leads-inserted, leads-redo, leads-replaced}
+use Rattle.documents.proofs.EditLeadLaws.{leads-undo, offset-inside}
 use Rattle.documents.proofs.LeadLaws.{Leads, anchors_of}
 use Rattle.documents.proofs.CarriedLaws.{IsCarried, carried-reordered}
-use Rattle.documents.proofs.StillLeadLaws.{leads-mark, leads-modified, leads-separated, leads-still, leads-tagged, leads-unset, leads-untagged}
+use Rattle.documents.proofs.StillLeadLaws.{leads-mark, leads-modified, leads-separated, leads-still, leads-tagged}
+use Rattle.documents.proofs.StillLeadLaws.{leads-unset, leads-untagged}
 use Rattle.documents.proofs.ViewLaws.{part-length}
 
-ordered-spans : (start len : ℕ) (places : List ℕ) → AllByRecursion (λ (span : Span). span.from ≤ span.to) (spans_of start len places)
+ordered-spans : (start len : ℕ) (places : List ℕ) →
+    AllByRecursion (λ (span : Span). span.from ≤ span.to) (spans_of start len places)
 ordered-spans start len [] = tt
 ordered-spans start len (from ∷ []) = (omega arith, tt)
 ordered-spans start len (from ∷ to ∷ places) = (omega arith, ordered-spans start len places)
 
 spans-inside : (document : Document) (widget : Widget) (places : List ℕ) → IsActive document widget
-    → All (λ place. place ≤ length (shown document widget)) places → All (λ (span : Span). span.to ≤ view_end document widget)
+    → All (λ place. place ≤ length (shown document widget)) places →
+    All (λ (span : Span). span.to ≤ view_end document widget)
     (spans_shown document widget places)
 spans-inside document widget places active within =
     let start = view_start widget in
@@ -45,53 +50,72 @@ spans-inside document widget places active within =
     let some = active.some in
     let inside = active.within in
     let long : length text ≡ length document.cells = length-map document.cells (λ (cell : KeyedCell). cell.character) in
-    let seen : length (shown document widget) ≡ end - start = part-length text start end (omega (arith, inside, long)) in
+    let seen : length (shown document widget)
+    ≡ end - start = part-length text start end (omega (arith, inside, long)) in
     λ k d before.
-    let fits : SpanFits (start + length (shown document widget)) _ = spans_of-fit start (length (shown document widget)) places within k d before in
+    let fits : SpanFits (start + length (shown document widget)) _ = spans_of-fit start (length (shown document widget))
+    places within k d before in
     let last = fits.within in
     omega (arith, last, seen, some)
 
-leads-set : (limits : LimitTable) (limit : ℕ) (start : List ℕ) (document : Document) (widget : Widget) (name : List ℕ) (offset : ℕ) (found : Option Place)
+leads-set : (limits : LimitTable) (limit : ℕ) (start : List ℕ) (document : Document) (widget : Widget) (name : List ℕ)
+    (offset : ℕ) (found : Option Place)
     → Leads limit start document
     → Leads limit start (set_found limits document widget name offset found).document
-leads-set limits limit start document widget name offset (Some old) leads = leads-mark limit start document widget name (record old { offset = offset }) leads
+leads-set limits limit start document widget name offset (Some old) leads =
+    leads-mark limit start document widget name (record old { offset = offset }) leads
 leads-set limits limit start document widget name offset None leads =
-    let made : Document = record document { marks = document.marks ++ record { name = name; place = record { offset = offset; gravity = Right } } ∷ [] } in
-    elim (nat_le limits.marks (length document.marks)) as (λ b. Leads limit start (if b then refused document TooManyMarks else answered made Empty).document) [
+    let made : Document = record document {
+      marks = document.marks
+          ++ record { name = name; place = record { offset = offset; gravity = Right } } ∷ [];
+    } in
+    elim (nat_le limits.marks (length document.marks)) as (λ b.
+    Leads limit start (if b then refused document TooManyMarks else answered made Empty).document) [
       | true ↦ leads
       | false ↦ leads-still limit start document made leads refl refl refl refl refl
     ]
 
-leads-added : (limits : LimitTable) (limit : ℕ) (start : List ℕ) (document : Document) (widget : Widget) (name places : List ℕ) → Leads limit start document
+leads-added : (limits : LimitTable) (limit : ℕ) (start : List ℕ) (document : Document) (widget : Widget)
+    (name places : List ℕ) → Leads limit start document
     → Leads limit start (add_spans limits document widget name places).document
 leads-added limits limit start document widget name places leads =
     let tags = with_name document.tags name in
     let spans = spans_shown document widget places in
-    let made : Document = record document { tags = tags; cells = with_tag (key_of widget name) true spans document.cells } in
-    elim (nat_lt (limits.tags + 1) (length tags)) as (λ b. Leads limit start (if b then refused document TooManyTags else answered made Empty).document) [
+    let made : Document = record document {
+      tags = tags;
+      cells = with_tag (key_of widget name) true spans document.cells;
+    } in
+    elim (nat_lt (limits.tags + 1) (length tags)) as (λ b.
+    Leads limit start (if b then refused document TooManyTags else answered made Empty).document) [
       | true ↦ leads
       | false ↦ leads-tagged limit start document tags (key_of widget name) true spans leads
           (ordered-spans (view_start widget) (length (shown document widget)) places)
     ]
 
-leads-removed : (limit : ℕ) (start : List ℕ) (document : Document) (widget : Widget) (name places : List ℕ) → Leads limit start document
+leads-removed : (limit : ℕ) (start : List ℕ) (document : Document) (widget : Widget) (name places : List ℕ) →
+    Leads limit start document
     → Leads limit start (remove_spans document widget name places).document
 leads-removed limit start document widget name places leads =
     let spans = spans_shown document widget places in
     elim (is_among name document.tags) as
-    (λ b. Leads limit start (if b then record document { cells = with_tag (key_of widget name) false spans document.cells } else document)) [
+    (λ b. Leads limit start (if b
+    then record document { cells = with_tag (key_of widget name) false spans document.cells } else document)) [
       | true ↦ leads-tagged limit start document document.tags (key_of widget name) false spans leads
           (ordered-spans (view_start widget) (length (shown document widget)) places)
       | false ↦ leads
     ]
 
-pub leads-carried : (limits : LimitTable) (start : List ℕ) (document : Document) (widget : Widget) → Leads limits.chars start document
-    → AreAnchored (characters document.cells) (anchors_of widget) → IsCarried limits document widget (Leads limits.chars start)
+pub leads-carried : (limits : LimitTable) (start : List ℕ) (document : Document) (widget : Widget) →
+    Leads limits.chars start document
+    → AreAnchored (characters document.cells) (anchors_of widget) →
+    IsCarried limits document widget (Leads limits.chars start)
 leads-carried limits start document widget leads anchored = record {
   same = leads;
-  inserted = λ place pairs busy. leads-inserted limits start document widget (insertion_offset document widget place) pairs leads
+  inserted = λ place pairs busy. leads-inserted limits start document widget (insertion_offset document widget place)
+      pairs leads
       (offset-inside document widget place (active document widget anchored busy));
-  replaced = λ from to pairs busy ordered. leads-replaced limits start document widget (insertion_offset document widget from)
+  replaced =
+      λ from to pairs busy ordered. leads-replaced limits start document widget (insertion_offset document widget from)
       (insertion_offset document widget to) pairs leads
       (omega (arith, ordered)) (offset-inside document widget to (active document widget anchored busy));
   deleted = λ places busy within.
@@ -105,7 +129,8 @@ leads-carried limits start document widget leads anchored = record {
   removed = λ name places. leads-removed limits.chars start document widget name places leads;
   untagged = λ names. leads-untagged limits.chars start document names leads;
   ordered = λ at order words. carried-reordered (Leads limits.chars start) document at order words leads
-      (λ tags. leads-still limits.chars start document (record document { tags = tags }) leads refl refl refl refl refl);
+      (λ tags. leads-still limits.chars start document (record document { tags = tags }) leads refl refl refl refl
+      refl);
   modified = λ flag. leads-modified limits.chars start document flag leads;
   separated = leads-separated limits.chars start document leads;
   undone = leads-undo limits.chars start document widget leads;

@@ -21,12 +21,14 @@ use Rattle.documents.specs.Documents.{Document, Widget, characters}
 -- the last character of the view loses its keys, where it is among the spans
 abbrev pub last_bare : Widget → List Span → Document → Document
 last_bare widget spans document =
-    if in_spans spans (view_end document widget - 1) then with_bare (view_end document widget - 1) document else document
+    if in_spans spans (view_end document widget - 1) then with_bare (view_end document widget - 1) document
+    else document
 
 -- the runs of what is deleted of the view, the last first
 abbrev pub deleted_runs : Document → Widget → List Span → List Span
 deleted_runs document widget spans =
-    runs_below (length document.cells) (delete_set (characters document.cells) (view_start widget) (view_end document widget) (in_spans spans))
+    runs_below (length document.cells) (delete_set (characters document.cells) (view_start widget)
+    (view_end document widget) (in_spans spans))
 
 abbrev pub delete_spans : Document → Widget → List Span → Change
 delete_spans document widget spans =
@@ -42,15 +44,18 @@ abbrev pub with_clipped : Widget → Option Place → Document → Document
 with_clipped widget None document = document
 with_clipped widget (Some place) document = with_insert document widget place
 
--- the characters from one offset to another go, the texts come in their place, and the widget's `insert` stays among these
+-- the characters from one offset to another go, the texts come in their place, and the widget's `insert` stays among
+-- these
 abbrev pub replaced : Document → Widget → ℕ → ℕ → List Pair → Document
 replaced document widget from to pairs =
     with_clipped widget (clipped from to (total pairs) widget.insert)
     (with_texts kind.Replace from (map (keyed_text widget) pairs)
     (without_span kind.Replace from to (record document { tags = tags_with document pairs })))
 
--- Texts take the place of the characters from one offset to another, and the tags of their lists are made, within the limits.
+-- Texts take the place of the characters from one offset to another, and the tags of their lists are made, within the
+-- limits.
 abbrev pub replace_span : LimitTable → Document → Widget → ℕ → ℕ → List Pair → Change
 replace_span limits document widget from to pairs =
-    within_limits limits document (length (tags_with document pairs)) (length document.cells - (to - from) + total pairs)
+    within_limits limits document (length (tags_with document pairs))
+    (length document.cells - (to - from) + total pairs)
     (answered (replaced document widget from to pairs) Empty)

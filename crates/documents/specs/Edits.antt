@@ -1,5 +1,6 @@
 -- What an edit makes of a document: of its cells, of the places in it, and of what is kept of edits.
-use Rattle.std.specs.Prelude.{ℕ, zero, suc, ◌+◌, ◌==◌, Bool, true, false, List, [], ◌∷◌, length, map, slice_get, slice_range, Option, None, Some, option_map, if◌then◌else◌}
+use Rattle.std.specs.Prelude.{ℕ, zero, suc, ◌+◌, ◌==◌, Bool, true, false, List, [], ◌∷◌, length, map, slice_get}
+use Rattle.std.specs.Prelude.{slice_range, Option, None, Some, option_map, if◌then◌else◌}
 use Rattle.std.specs.FinSet as set
 use Rattle.text_model.specs.Splices.{inserted, removed, changed, moved, drawn}
 use Rattle.undo_stack.specs.History.{noted, limit_of}
@@ -50,7 +51,8 @@ with_cells at cells document = record document {
 -- an action of an edit of a kind is noted: it counts in any case, and is kept where `-undo` is true
 abbrev pub with_action : EditKind → Action → Document → Document
 with_action kind action document = record document {
-  history = if document.undo then noted kind action document.separators (limit_of document.most_undo) document.history else document.history;
+  history = if document.undo then noted kind action document.separators (limit_of document.most_undo) document.history
+      else document.history;
   modified = counted_new document.modified;
 }
 
@@ -59,14 +61,19 @@ abbrev pub with_text : EditKind → ℕ → KeyedText → Document → Document
 with_text kind at text document =
     if length text.text == 0 then document
     else with_action kind (record { inserts = true; at = at; text = text.text })
-    (with_cells at (map (λ character. record { character = character; keys = keys_or text.keys (keys_between document.cells at) }) text.text) document)
+    (with_cells at (map (λ character. record {
+      character = character;
+      keys = keys_or text.keys (keys_between document.cells at);
+    }) text.text) document)
 
 -- texts are put in, each right behind the one before it
 abbrev pub with_texts : EditKind → ℕ → List KeyedText → Document → Document
 with_texts kind at [] document = document
-with_texts kind at (text ∷ texts) document = with_texts kind (at + length text.text) texts (with_text kind at text document)
+with_texts kind at (text ∷ texts) document =
+    with_texts kind (at + length text.text) texts (with_text kind at text document)
 
--- a widget after the cells from one offset to another are taken out of a text: its anchors and its own marks are drawn along
+-- a widget after the cells from one offset to another are taken out of a text: its anchors and its own marks are drawn
+-- along
 abbrev pub widget_drawn : List ℕ → ℕ → ℕ → Widget → Widget
 widget_drawn text from to widget =
     let anchors = anchors_removed text from to (record { start = widget.start; end = widget.end }) in
@@ -89,7 +96,11 @@ without_cells from to document = record document {
 abbrev pub without_span : EditKind → ℕ → ℕ → Document → Document
 without_span kind from to document =
     if from == to then document
-    else with_action kind (record { inserts = false; at = from; text = slice_range (characters document.cells) from to }) (without_cells from to document)
+    else with_action kind (record {
+      inserts = false;
+      at = from;
+      text = slice_range (characters document.cells) from to;
+    }) (without_cells from to document)
 
 -- spans are taken out, one after the other
 abbrev pub without_spans : EditKind → List Span → Document → Document

@@ -8,7 +8,8 @@ use Rattle.documents.specs.Documents.{Document}
 
 -- `W edit separator`: where actions are kept, the last group takes no more
 abbrev pub edit_separator : Document → Change
-edit_separator document = answered (if document.undo then record document { history = separated document.history } else document) Empty
+edit_separator document =
+    answered (if document.undo then record document { history = separated document.history } else document) Empty
 
 -- `W edit reset`: no group is left
 abbrev pub edit_reset : Document → Change

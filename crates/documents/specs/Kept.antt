@@ -1,5 +1,6 @@
 -- What holds of how a document is kept, at any time.
-use Rattle.std.specs.Prelude.{◌≡◌, ℕ, ◌+◌, ◌*◌, ◌<◌, ◌≤◌, ◌==◌, Bool, true, false, List, [], ◌∷◌, length, is_some, slice_get, Contains, Some, option_map}
+use Rattle.std.specs.Prelude.{◌≡◌, ℕ, ◌+◌, ◌*◌, ◌<◌, ◌≤◌, ◌==◌, Bool, true, false, List, [], ◌∷◌, length, is_some}
+use Rattle.std.specs.Prelude.{slice_get, Contains, Some, option_map}
 use Rattle.std.specs.FinMap as finite
 use Rattle.std.specs.FinSet as set
 use Rattle.std.specs.List.{All, AllByRecursion}
@@ -32,7 +33,8 @@ pub record AreSeats (seats : List Named) : Type 0 where
 
 -- every slot is that of a seat or of a tag
 abbrev pub AreKnown : List Named → List Tag → Slots → Type 0
-AreKnown seats tags slots = (slot : ℕ) → set.contains slots slot ≡ true → Contains (pair_slots (key_pairs seats tags)) slot
+AreKnown seats tags slots =
+    (slot : ℕ) → set.contains slots slot ≡ true → Contains (pair_slots (key_pairs seats tags)) slot
 
 abbrev pub HasKnownSlots : List Named → List Tag → Cell → Type 0
 HasKnownSlots seats tags cell = AreKnown seats tags cell.tags
@@ -42,8 +44,8 @@ pub record HasOwnMarks (places : Marks) (seat : Named) : Type 0 where
   pub insert : is_some (finite.get places (2 * seat.number)) ≡ true
   pub current : is_some (finite.get places (2 * seat.number + 1)) ≡ true
 
--- Each widget has a window's name and a slot of its own. The text is a document's and no longer than any text may be, marks stand in it, among them each widget's own two, and its
--- characters have the slots of widgets and tags alone.
+-- Each widget has a window's name and a slot of its own. The text is a document's and no longer than any text may be,
+-- marks stand in it, among them each widget's own two, and its characters have the slots of widgets and tags alone.
 pub record IsKept (widgets : Names) (table : Tags) (content : Content) : Type 0 where
   pub seats : AreSeats widgets.entries
   pub slots : widgets.limit ≡ most_widgets

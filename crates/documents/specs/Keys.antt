@@ -35,11 +35,13 @@ Keys = set.FinSet key_cmp
 -- A store knows a key by a slot: of these pairs of a slot and a key, the keys whose slots are in the set.
 abbrev pub keys_of : List (ℕ × Key) → Slots → Keys
 keys_of [] slots = set.empty
-keys_of (pair ∷ pairs) slots = elim (set.contains slots pair.0) [ true ↦ set.insert (keys_of pairs slots) pair.1 | false ↦ keys_of pairs slots ]
+keys_of (pair ∷ pairs) slots =
+    elim (set.contains slots pair.0) [ true ↦ set.insert (keys_of pairs slots) pair.1 | false ↦ keys_of pairs slots ]
 
 -- the key of a tag by its name; of `sel` each widget has its own, by the widget's name
 abbrev pub key_named : List ℕ → List ℕ → Key
-key_named widget name = if is_same name sel then record { selects = true; name = widget } else record { selects = false; name = name }
+key_named widget name =
+    if is_same name sel then record { selects = true; name = widget } else record { selects = false; name = name }
 
 -- A seat is a widget's name with the slot of its `sel`.
 abbrev pub seat_pair : Named → ℕ × Key

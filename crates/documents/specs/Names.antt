@@ -1,5 +1,6 @@
 -- What the names of marks and of tags mean to a widget, and the place that a word stands for in what it shows.
-use Rattle.std.specs.Prelude.{ℕ, zero, suc, Bool, List, Option, Some, option_map, option_and_then, slice_get, slice_index_or, [], Result, if◌then◌else◌}
+use Rattle.std.specs.Prelude.{ℕ, zero, suc, Bool, List, Option, Some, option_map, option_and_then, slice_get}
+use Rattle.std.specs.Prelude.{slice_index_or, [], Result, if◌then◌else◌}
 use Rattle.std.specs.List.{position_from}
 use Rattle.index_grammar.specs.declared.faults.IndexFault.{IndexFault}
 use Rattle.text_index.specs.Views.{own_place, shared_place}
@@ -22,7 +23,8 @@ abbrev pub mark_place : Document → Widget → ℕ → Option ℕ
 mark_place document widget zero = Some (own_place (view_start widget) (view_end document widget) widget.insert)
 mark_place document widget (suc zero) = Some (own_place (view_start widget) (view_end document widget) widget.current)
 mark_place document widget (suc (suc k)) =
-    option_and_then (λ (mark : SharedMark). shared_place (view_start widget) (view_end document widget) mark.place) (slice_get document.marks k)
+    option_and_then (λ (mark : SharedMark). shared_place (view_start widget) (view_end document widget) mark.place)
+    (slice_get document.marks k)
 
 -- the key of a tag to a widget
 abbrev pub key_of : Widget → List ℕ → Key

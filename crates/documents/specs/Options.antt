@@ -42,7 +42,8 @@ widget_set document settings widget = record widget {
 
 -- the document and a widget of it with options
 abbrev pub with_settings : Widget → Settings → Document → Document
-with_settings widget settings document = with_shared_settings settings.document (with_widget document widget (widget_set document settings))
+with_settings widget settings document =
+    with_shared_settings settings.document (with_widget document widget (widget_set document settings))
 
 -- a line of a document of so many, by its number counted from 1, or the one behind the last
 abbrev pub IsLine : ℕ → ℕ → Type 0

@@ -37,11 +37,12 @@ unless_idle widget document change = if is_idle document widget then answered do
 abbrev pub Gives : {A : Type 0} → Result A Fault → Result A Fault → Type 0
 Gives result defined = result ≢ Err Memory → result ≡ defined
 
--- A command of a widget gives and leaves what its definition says, unless memory is wanted. Where it is refused, it leaves the
--- document as it was, and in any case a well-formed one well formed, with the same widgets by their names.
-pub record Does (limits : LimitTable) (old new : Document) (result : Result Answer Fault) (change : Change) : Type 0 where
-  pub reply : Gives result change.reply
-  pub document : result ≢ Err Memory → new ≡ change.document
-  pub refused : IfErr result (λ _. new ≡ old)
-  pub well_formed : IsWellFormedDocument limits old → IsWellFormedDocument limits new
-  pub windows : window_names new ≡ window_names old
+-- A command of a widget gives and leaves what its definition says, unless memory is wanted. Where it is refused, it
+-- leaves the document as it was, and in any case a well-formed one well formed, with the same widgets by their names.
+pub record Does (limits : LimitTable) (old new : Document) (result : Result Answer Fault) (change : Change) : Type 0
+  where
+    pub reply : Gives result change.reply
+    pub document : result ≢ Err Memory → new ≡ change.document
+    pub refused : IfErr result (λ _. new ≡ old)
+    pub well_formed : IsWellFormedDocument limits old → IsWellFormedDocument limits new
+    pub windows : window_names new ≡ window_names old

@@ -18,7 +18,8 @@ use Rattle.documents.specs.Documents.{Document, Widget}
 
 -- a tag with its ranges in the view, and a mark with its place there
 abbrev pub tag_seen : Document → Widget → List ℕ → Tagged
-tag_seen document widget name = record { name = name; ranges = tag_ranges (shown_flags document widget (key_of widget name)) }
+tag_seen document widget name =
+    record { name = name; ranges = tag_ranges (shown_flags document widget (key_of widget name)) }
 
 abbrev pub mark_seen : Document → Shown → Marked
 mark_seen document mark = record { name = slice_index_or (mark_names document) mark.rank []; place = mark.place }

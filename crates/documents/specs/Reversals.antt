@@ -14,16 +14,19 @@ use Rattle.documents.specs.Documents.{Document, Widget}
 
 -- a text comes back at a place, with the keys that both its neighbours have
 abbrev pub text_back : ℕ → List ℕ → Document → Document
-text_back at text document = with_cells at (map (λ character. record { character = character; keys = keys_between document.cells at }) text) document
+text_back at text document = with_cells at (map (λ character.
+    record { character = character; keys = keys_between document.cells at }) text) document
 
 -- an action is made once more, or reverted; nothing is noted
 abbrev pub action_again : Action → Document → Document
 action_again action document =
-    if action.inserts then text_back action.at action.text document else without_cells action.at (action.at + length action.text) document
+    if action.inserts then text_back action.at action.text document
+    else without_cells action.at (action.at + length action.text) document
 
 abbrev pub action_back : Action → Document → Document
 action_back action document =
-    if action.inserts then without_cells action.at (action.at + length action.text) document else text_back action.at action.text document
+    if action.inserts then without_cells action.at (action.at + length action.text) document
+    else text_back action.at action.text document
 
 -- the actions of a group, the first first
 abbrev pub group_again : List Action → Document → Document
@@ -37,7 +40,8 @@ group_back (action ∷ actions) document = action_back action (group_back action
 
 -- the widget's `insert` stands where a group ended, if it ended somewhere
 abbrev pub with_end : Widget → Option ℕ → Document → Document
-with_end widget end document = with_clipped widget (option_map (λ at. record widget.insert { offset = at }) end) document
+with_end widget end document =
+    with_clipped widget (option_map (λ at. record widget.insert { offset = at }) end) document
 
 -- a group is undone: each of its actions takes one from the count
 abbrev pub undone : Widget → List Action → Document → Document
@@ -56,16 +60,20 @@ redone widget group document = record (with_end widget (redo_end group) (group_a
 -- a widget that is disabled, or shows nothing, leaves the text as it is
 abbrev pub undo_found : Document → Widget → Option (List Action) → Change
 undo_found document widget None = refused document NothingToUndo
-undo_found document widget (Some group) = answered (if is_idle document widget then document else undone widget group document) Empty
+undo_found document widget (Some group) =
+    answered (if is_idle document widget then document else undone widget group document) Empty
 
 abbrev pub redo_found : Document → Widget → Option (List Action) → Change
 redo_found document widget None = refused document NothingToRedo
-redo_found document widget (Some group) = answered (if is_idle document widget then document else redone widget group document) Empty
+redo_found document widget (Some group) =
+    answered (if is_idle document widget then document else redone widget group document) Empty
 
 -- `W edit undo`: nothing happens where no action is kept
 abbrev pub edit_undo : Document → Widget → Change
-edit_undo document widget = if document.undo then undo_found document widget (next_undo document.history) else answered document Empty
+edit_undo document widget =
+    if document.undo then undo_found document widget (next_undo document.history) else answered document Empty
 
 -- `W edit redo`
 abbrev pub edit_redo : Document → Widget → Change
-edit_redo document widget = if document.undo then redo_found document widget (next_redo document.history) else answered document Empty
+edit_redo document widget =
+    if document.undo then redo_found document widget (next_redo document.history) else answered document Empty

@@ -1,5 +1,6 @@
 -- Commands on tags.
-use Rattle.std.specs.Prelude.{ℕ, ◌+◌, nat_lt, Bool, true, false, not, ◌||◌, List, [], ◌∷◌, ◌++◌, length, map, filter, Option, None, Some, if◌then◌else◌}
+use Rattle.std.specs.Prelude.{ℕ, ◌+◌, nat_lt, Bool, true, false, not, ◌||◌, List, [], ◌∷◌, ◌++◌, length, map, filter}
+use Rattle.std.specs.Prelude.{Option, None, Some, if◌then◌else◌}
 use Rattle.std.specs.FinSet as set
 use Rattle.name_list.specs.Moves.{without, put_behind, put_before}
 use Rattle.text_model.specs.Changes.{flag_at}
@@ -44,35 +45,44 @@ without_tags names cell = record cell { keys = set.retain cell.keys (key_stays n
 -- `W tag delete T ?T ..?`
 abbrev pub tag_delete : Document → List (List ℕ) → Change
 tag_delete document names =
-    answered (record document { tags = filter (stays names) document.tags; cells = map (without_tags names) document.cells }) Empty
+    answered (record document {
+      tags = filter (stays names) document.tags;
+      cells = map (without_tags names) document.cells;
+    }) Empty
 
 -- ---- names and ranges
 
 -- the tags of the character at a place, from the lowest; none at the end of the view
 abbrev pub tags_on : Document → Widget → ℕ → List (List ℕ)
-tags_on document widget place = filter (λ name. flag_at (shown_flags document widget (key_of widget name)) place) document.tags
+tags_on document widget place =
+    filter (λ name. flag_at (shown_flags document widget (key_of widget name)) place) document.tags
 
 -- which characters of the view have a tag; none have an unknown one
 abbrev pub flags_of : Document → Widget → List ℕ → List Bool
-flags_of document widget name = if is_among name document.tags then shown_flags document widget (key_of widget name) else []
+flags_of document widget name =
+    if is_among name document.tags then shown_flags document widget (key_of widget name) else []
 
 -- ---- priority
 
 -- the tags with one highest, or just above another
 abbrev pub raised : List (List ℕ) → List ℕ → Option (List ℕ) → List (List ℕ)
 raised tags name None = without (is_same name) tags ++ name ∷ []
-raised tags name (Some other) = if is_same name other then tags else put_behind (is_same other) name (without (is_same name) tags)
+raised tags name (Some other) =
+    if is_same name other then tags else put_behind (is_same other) name (without (is_same name) tags)
 
 -- the tags with one lowest, or just below another
 abbrev pub lowered : List (List ℕ) → List ℕ → Option (List ℕ) → List (List ℕ)
 lowered tags name None = name ∷ without (is_same name) tags
-lowered tags name (Some other) = if is_same name other then tags else put_before (is_same other) name (without (is_same name) tags)
+lowered tags name (Some other) =
+    if is_same name other then tags else put_before (is_same other) name (without (is_same name) tags)
 
 -- a tag, and another where there is one, have to be known
 abbrev pub known_or : Document → ℕ → List ℕ → Change → Change
-known_or document position name change = if is_among name document.tags then change else refused document (NoSuchTag position)
+known_or document position name change =
+    if is_among name document.tags then change else refused document (NoSuchTag position)
 
-abbrev pub reordered : Document → ℕ → (List (List ℕ) → List ℕ → Option (List ℕ) → List (List ℕ)) → List ℕ × Option (List ℕ) → Change
+abbrev pub reordered : Document → ℕ → (List (List ℕ) → List ℕ → Option (List ℕ) → List (List ℕ)) →
+    List ℕ × Option (List ℕ) → Change
 reordered document at order (name, None) =
     known_or document at name (answered (record document { tags = order document.tags name None }) Empty)
 reordered document at order (name, Some other) =

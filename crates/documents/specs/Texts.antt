@@ -26,11 +26,13 @@ within_limits limits document tags chars change =
     else (if nat_lt limits.chars chars then refused document TextTooLong
     else change)
 
--- Texts go in at an offset of the document, each behind the one before it, and the tags of their lists are made, within the limits.
+-- Texts go in at an offset of the document, each behind the one before it, and the tags of their lists are made, within
+-- the limits.
 abbrev pub insert_at : LimitTable → Document → Widget → ℕ → List Pair → Change
 insert_at limits document widget at pairs =
     within_limits limits document (length (tags_with document pairs)) (length document.cells + total pairs)
-    (answered (with_texts kind.Insert at (map (keyed_text widget) pairs) (record document { tags = tags_with document pairs })) Empty)
+    (answered (with_texts kind.Insert at (map (keyed_text widget) pairs)
+    (record document { tags = tags_with document pairs })) Empty)
 
 -- before a place of the view, or at its end just before its last newline
 abbrev pub insertion_offset : Document → Widget → ℕ → ℕ

@@ -17,7 +17,8 @@ shown document widget = slice_range (characters document.cells) (view_start widg
 -- which of its cells have a key
 abbrev pub shown_flags : Document → Widget → Key → List Bool
 shown_flags document widget key =
-    slice_range (map (λ (cell : KeyedCell). set.contains cell.keys key) document.cells) (view_start widget) (view_end document widget)
+    slice_range (map (λ (cell : KeyedCell). set.contains cell.keys key) document.cells) (view_start widget)
+    (view_end document widget)
 
 -- a widget whose commands leave the text as it is: it is disabled, or its view is empty
 abbrev pub is_idle : Document → Widget → Bool

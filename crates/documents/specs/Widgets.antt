@@ -1,5 +1,6 @@
 -- Widgets that a document gets, and loses.
-use Rattle.std.specs.Prelude.{ℕ, Bool, true, false, not, nat_lt, length, if◌then◌else◌, List, [], ◌∷◌, ◌++◌, filter, find, map, option_map, pos, unwrap_or, Option}
+use Rattle.std.specs.Prelude.{ℕ, Bool, true, false, not, nat_lt, length, if◌then◌else◌, List, [], ◌∷◌, ◌++◌, filter}
+use Rattle.std.specs.Prelude.{find, map, option_map, pos, unwrap_or, Option}
 use Rattle.std.specs.FinSet as set
 use Rattle.text_model.specs.declared.places.Gravity.TheVariants.{Right}
 use Rattle.text_model.specs.declared.places.Place.{Place}
@@ -31,7 +32,8 @@ new_widget document name settings =
 -- the document with one widget more, and options
 abbrev pub with_peer : List ℕ → Settings → Document → Document
 with_peer name settings document =
-    with_shared_settings settings.document (record document { widgets = document.widgets ++ new_widget document name settings ∷ [] })
+    with_shared_settings settings.document (record document
+    { widgets = document.widgets ++ new_widget document name settings ∷ [] })
 
 -- a document of one newline without keys, that knows `sel` alone and has no widget yet
 abbrev pub bare_document : Document

@@ -24,8 +24,8 @@ use tag_table::TagTable;
 use text_model::{Limits, TextStore};
 use undo_stack::UndoStack;
 
-/// A document: the text in its store, its tags and its shared marks, its history, its options, and its widgets in the order of
-/// their creation. Each widget has a slot, by which its `sel`, its anchors and its own two marks are found.
+/// A document: the text in its store, its tags and its shared marks, its history, its options, and its widgets in the
+/// order of their creation. Each widget has a slot, by which its `sel`, its anchors and its own two marks are found.
 #[derive(Drop)]
 pub struct Document<S: TextStore> {
     pub(crate) alloc: Global,
@@ -51,9 +51,12 @@ impl<S: TextStore> Model for Document<S> {
 
     ghost coded = { Prim.hlevel (codes, place.the_row.coded, set.code {R = key_cmp} key_code) };
 
-    ghost view = { λ d. document_of (parts_of d.seats d.tags d.marks d.settings d.disabled.items d.anchors.items d.history (S.content d.store)) };
+    ghost view = { λ d. document_of (parts_of d.seats d.tags d.marks d.settings d.disabled.items d.anchors.items
+        d.history (S.content d.store)) };
 
-    ghost invariant = { λ d. IsSound (parts_of d.seats d.tags d.marks d.settings d.disabled.items d.anchors.items d.history (S.content d.store)) };
+    ghost invariant = { λ d.
+        IsSound (parts_of d.seats d.tags d.marks d.settings d.disabled.items d.anchors.items d.history
+        (S.content d.store)) };
 }
 
 /// The greatest limits that there are. A table of names is made for these, and a command counts by its own.
@@ -123,7 +126,8 @@ impl<S: TextStore> Document<S> {
     /// The widget of a name, by its place in the order of their creation.
     pub fn find_widget(&self, name: &str) -> Option<usize>
         ensures none { result ≡ None → widget_named (chars name.now) self.now ≡ None }
-        ensures some { IfSome result (λ widget. widget_named (chars name.now) self.now ≡ Some (widget_at self.now widget)) }
+        ensures some { IfSome result (λ widget. widget_named (chars name.now) self.now
+            ≡ Some (widget_at self.now widget)) }
         ensures within { IfSome result (λ widget. widget < length self.now.widgets) }
         ensures named { is_some result ≡ is_among (chars name.now) (window_names self.now) }
     {

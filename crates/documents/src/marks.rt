@@ -1,4 +1,5 @@
-ghost use Rattle.std.specs.Prelude.{◌≡◌, true, None, Some, is_some, ◌+◌, ◌-◌, ◌<◌, ◌≤◌, min, length, chars, option_map, Ok, Err, IfOk, [], IfSome, slice_index_or};
+ghost use Rattle.std.specs.Prelude.{◌≡◌, true, None, Some, is_some, ◌+◌, ◌-◌, ◌<◌, ◌≤◌, min, length, chars, option_map};
+ghost use Rattle.std.specs.Prelude.{Ok, Err, IfOk, [], IfSome, slice_index_or};
 ghost use Rattle.documents.specs.Documents.{widget_at};
 ghost use Rattle.documents.specs.View.{shown};
 ghost use Rattle.documents.specs.Promise.{Does, answered};
@@ -11,7 +12,8 @@ ghost use Rattle.command_parts.specs.declared.answers.Answer.TheVariants.{Empty}
 ghost use Rattle.documents.specs.Names.{mark_number, mark_place};
 ghost use Rattle.documents.specs.Origins.{origin_in};
 ghost use Rattle.command_parts.specs.Marking.{gravity_word as spec_gravity_word};
-ghost use Rattle.documents.specs.Marks.{mark_names, mark_offset, mark_unset, place_named, set_found, usable_marks, with_current, with_insert, with_mark, with_shared};
+ghost use Rattle.documents.specs.Marks.{mark_names, mark_offset, mark_unset, place_named, set_found, usable_marks};
+ghost use Rattle.documents.specs.Marks.{with_current, with_insert, with_mark, with_shared};
 
 use crate::documents::Document;
 use crate::views::mark_view_of;
@@ -153,7 +155,8 @@ impl<S: TextStore> Document<S> {
     fn put_insert(&mut self, limits: &Limits, widget: usize, place: Place) -> Result<Answer, Fault>
         requires shown { widget < length self.old.widgets }
         requires stands { place.offset ≤ length self.old.cells }
-        ensures { Does limits.now self.old self.new result (answered (with_insert self.old (widget_at self.old widget) place) Empty) }
+        ensures { Does limits.now self.old self.new result
+            (answered (with_insert self.old (widget_at self.old widget) place) Empty) }
     {
         match put_mark(
             self.alloc,
@@ -170,7 +173,8 @@ impl<S: TextStore> Document<S> {
     fn put_current(&mut self, limits: &Limits, widget: usize, place: Place) -> Result<Answer, Fault>
         requires shown { widget < length self.old.widgets }
         requires stands { place.offset ≤ length self.old.cells }
-        ensures { Does limits.now self.old self.new result (answered (with_current self.old (widget_at self.old widget) place) Empty) }
+        ensures { Does limits.now self.old self.new result
+            (answered (with_current self.old (widget_at self.old widget) place) Empty) }
     {
         match put_mark(
             self.alloc,
@@ -186,7 +190,8 @@ impl<S: TextStore> Document<S> {
     /// Puts the shared mark of a name at a place, if there is one.
     fn put_shared(&mut self, limits: &Limits, name: &str, place: Place) -> Result<Answer, Fault>
         requires { place.offset ≤ length self.old.cells }
-        ensures { Does limits.now self.old self.new result (answered (with_shared self.old (chars name.now) place) Empty) }
+        ensures { Does limits.now self.old self.new result
+            (answered (with_shared self.old (chars name.now) place) Empty) }
     {
         let Some(number) = self.marks.find(name) else {
             return Ok(Answer::Empty);
@@ -214,7 +219,8 @@ impl<S: TextStore> Document<S> {
     ) -> Result<Answer, Fault>
         requires shown { widget < length self.old.widgets }
         requires stands { place.offset ≤ length self.old.cells }
-        ensures { Does limits.now self.old self.new result (answered (with_mark self.old (widget_at self.old widget) (chars name.now) place) Empty) }
+        ensures { Does limits.now self.old self.new result
+            (answered (with_mark self.old (widget_at self.old widget) (chars name.now) place) Empty) }
     {
         if is_word(name, "insert") {
             self.put_insert(limits, widget, place)
@@ -236,7 +242,8 @@ impl<S: TextStore> Document<S> {
         requires shown { widget < length self.old.widgets }
         requires within { offset ≤ length self.old.cells }
         requires new { place_named self.old (widget_at self.old widget) (chars name.now) ≡ None }
-        ensures { Does limits.now self.old self.new result (set_found limits.now self.old (widget_at self.old widget) (chars name.now) offset None) }
+        ensures { Does limits.now self.old self.new result
+            (set_found limits.now self.old (widget_at self.old widget) (chars name.now) offset None) }
     {
         // Where one of the limits is read, all are known to be in their bounds.
         let _chars = limits.chars();

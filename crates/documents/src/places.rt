@@ -1,4 +1,5 @@
-ghost use Rattle.std.specs.Prelude.{◌≡◌, ℕ, false, suc, ◌+◌, ◌-◌, ◌<◌, ◌≤◌, min, length, chars, slice_range, Ok, Err, IfOk};
+ghost use Rattle.std.specs.Prelude.{◌≡◌, ℕ, false, suc, ◌+◌, ◌-◌, ◌<◌, ◌≤◌, min, length, chars, slice_range, Ok, Err};
+ghost use Rattle.std.specs.Prelude.{IfOk};
 ghost use Rattle.text_index.specs.Positions.{position_text};
 ghost use Rattle.documents.specs.Documents.{widget_at};
 ghost use Rattle.documents.specs.View.{is_idle, shown};
@@ -67,7 +68,8 @@ impl<S: TextStore> Document<S> {
     pub fn character_at(&self, widget: usize, place: usize) -> Result<Text, AllocError>
         requires shown { widget < length self.now.widgets }
         requires within { place ≤ length (shown self.now (widget_at self.now widget)) }
-        ensures { IfOk result (λ text. text ≡ slice_range (shown self.now (widget_at self.now widget)) place (suc place)) }
+        ensures { IfOk result (λ text. text
+            ≡ slice_range (shown self.now (widget_at self.now widget)) place (suc place)) }
     {
         let view = self.view_at(widget);
         let start = view.s + place;

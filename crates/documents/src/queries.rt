@@ -27,7 +27,9 @@ impl<S: TextStore> Document<S> {
         requires shown { widget < length self.now.widgets }
         requires from { from ≤ length (shown self.now (widget_at self.now widget)) }
         requires stop { IfSome stop (λ place. place ≤ length (shown self.now (widget_at self.now widget))) }
-        ensures { IfOk result (λ list. list ≡ list_text (search_result switches (chars pattern.now) (shown self.now (widget_at self.now widget)) from stop)) }
+        ensures { IfOk result (λ list. list
+            ≡ list_text (search_result switches (chars pattern.now) (shown self.now (widget_at self.now widget)) from
+            stop)) }
     {
         let view = self.view_at(widget);
         Ok(Text::new(search(self.alloc, &view, switches, pattern, from, stop)?))
@@ -44,7 +46,8 @@ impl<S: TextStore> Document<S> {
         requires shown { widget < length self.now.widgets }
         requires from { from ≤ length (shown self.now (widget_at self.now widget)) }
         requires to { to ≤ length (shown self.now (widget_at self.now widget)) }
-        ensures { IfOk result (λ list. list ≡ list_text (counted options.now (shown self.now (widget_at self.now widget)) from to)) }
+        ensures { IfOk result (λ list. list
+            ≡ list_text (counted options.now (shown self.now (widget_at self.now widget)) from to)) }
     {
         let view = self.view_at(widget);
         Ok(Text::new(count(self.alloc, &view, options, from, to)?))
@@ -61,7 +64,8 @@ impl<S: TextStore> Document<S> {
         requires shown { widget < length self.now.widgets }
         requires from { from ≤ length (shown self.now (widget_at self.now widget)) }
         requires to { to ≤ length (shown self.now (widget_at self.now widget)) }
-        ensures { IfOk result (λ list. list ≡ list_text (dump_elements listed (seen self.now (widget_at self.now widget)) from to)) }
+        ensures { IfOk result (λ list. list
+            ≡ list_text (dump_elements listed (seen self.now (widget_at self.now widget)) from to)) }
     {
         let slot = self.seats.number(widget);
         let names = Names {
@@ -69,7 +73,7 @@ impl<S: TextStore> Document<S> {
             marks: &self.marks,
             widget: TagSlot(slot),
         };
-        let view = view_of(&self.store, &self.anchors, slot);
+        let view = view_of(&self.store, &self.anchors, slot).lined();
         Ok(Text::new(dump(self.alloc, &view, &names, listed, from, to)?))
     }
 }

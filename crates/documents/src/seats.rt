@@ -1,6 +1,7 @@
 //! The names of widgets with their slots, and what is kept by slot.
 
-ghost use Rattle.std.specs.Prelude.{◌≡◌, false, ◌<◌, ◌≤◌, ◌++◌, ◌∷◌, [], length, take, map, filter, not, nat_lt, chars, string_bytes, IfOk, OnOk, OnErr};
+ghost use Rattle.std.specs.Prelude.{◌≡◌, false, ◌<◌, ◌≤◌, ◌++◌, ◌∷◌, [], length, take, map, filter, not, nat_lt, chars};
+ghost use Rattle.std.specs.Prelude.{string_bytes, IfOk, OnOk, OnErr};
 ghost use Rattle.std.specs.List.{All};
 ghost use Rattle.text_model.specs.declared.limits.TheConstants.Limits.{MOST_WIDGETS};
 ghost use Rattle.name_list.specs.Names.{AreNames, IsLeastFree, names_of, numbers_of, place_of};
@@ -36,8 +37,8 @@ fn make_room<T: Copy>(list: &mut Vec<T>, value: T, slot: u16) -> Result<(), Allo
     Ok(())
 }
 
-/// Puts the name of a new widget last and gives it the least free slot, for which what is kept by slot gets long enough, with its
-/// own two marks at an offset. Where memory is refused, the name may stand behind the others.
+/// Puts the name of a new widget last and gives it the least free slot, for which what is kept by slot gets long
+/// enough, with its own two marks at an offset. Where memory is refused, the name may stand behind the others.
 pub fn make_seat<S: TextStore>(
     alloc: Global,
     seats: &mut NameList,
@@ -53,9 +54,11 @@ pub fn make_seat<S: TextStore>(
     requires within { offset ≤ length (S.content store.old).cells }
     ensures least { IfOk result (IsLeastFree (numbers_of seats.old.entries)) }
     ensures below { IfOk result (λ slot. slot < MOST_WIDGETS) }
-    ensures last { IfOk result (λ slot. seats.new ≡ record seats.old { entries = seats.old.entries ++ record { name = chars name.now; number = slot } ∷ [] }) }
+    ensures last { IfOk result (λ slot. seats.new
+        ≡ record seats.old { entries = seats.old.entries ++ record { name = chars name.now; number = slot } ∷ [] }) }
     ensures sound { OnOk result (AreNames seats.new) }
-    ensures store { IfOk result (λ slot. S.content store.new ≡ with_own_marks slot (record new_mark { offset = offset }) (S.content store.old)) }
+    ensures store { IfOk result (λ slot. S.content store.new
+        ≡ with_own_marks slot (record new_mark { offset = offset }) (S.content store.old)) }
     ensures room { IfOk result (λ slot. (slot < length disabled.new.items) × (slot < length anchors.new.items)) }
     ensures disabled { IsLonger false disabled.old.items disabled.new.items }
     ensures anchors { IsLonger whole anchors.old.items anchors.new.items }
@@ -80,7 +83,8 @@ pub fn slots_named(
     names: &[String],
 ) -> Result<Vec<TagSlot>, AllocError>
     requires { seats.now.limit ≡ MOST_WIDGETS }
-    ensures value { IfOk result (λ slots. map (λ slot. slot.0) slots.items ≡ numbers_gone (texts_of names.now) seats.now.entries) }
+    ensures value { IfOk result (λ slots. map (λ slot. slot.0) slots.items
+        ≡ numbers_gone (texts_of names.now) seats.now.entries) }
     ensures bound { IfOk result (λ slots. All (λ slot. slot.0 < MOST_WIDGETS) slots.items) }
 {
     let mut slots = Vec::with_capacity(alloc, seats.len())?;

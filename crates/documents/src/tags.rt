@@ -1,4 +1,5 @@
-ghost use Rattle.std.specs.Prelude.{◌≡◌, Some, ◌+◌, ◌-◌, ◌<◌, ◌≤◌, length, chars, option_map, nat_lt, nat_le, Ok, Err, IfOk};
+ghost use Rattle.std.specs.Prelude.{◌≡◌, Some, ◌+◌, ◌-◌, ◌<◌, ◌≤◌, length, chars, option_map, nat_lt, nat_le, Ok, Err};
+ghost use Rattle.std.specs.Prelude.{IfOk};
 ghost use Rattle.std.specs.List.{All};
 ghost use Rattle.documents.specs.Documents.{widget_at};
 ghost use Rattle.documents.specs.View.{shown};
@@ -9,7 +10,8 @@ ghost use Rattle.tcl_words.specs.ListText.{list_text};
 ghost use Rattle.tcl_words.specs.Unread.{texts_of};
 ghost use Rattle.text_index.specs.Ranges.{tag_ranges, next_range, previous_range};
 ghost use Rattle.documents.specs.Ranges.{spans_shown};
-ghost use Rattle.documents.specs.Tags.{flags_of, tags_on, add_spans, remove_spans, tag_delete, reordered, raised, lowered};
+ghost use Rattle.documents.specs.Tags.{flags_of, tags_on, add_spans, remove_spans, tag_delete, reordered, raised};
+ghost use Rattle.documents.specs.Tags.{lowered};
 ghost use Rattle.command_parts.specs.Listing.{range_words, begun};
 ghost use Rattle.command_parts.specs.declared.answers.Answer.TheVariants.{Empty};
 
@@ -72,7 +74,8 @@ impl<S: TextStore> Document<S> {
         Ok(Text::new(list))
     }
 
-    /// Where the first range of a tag begins and ends that begins at a place or behind it, as a list, if it begins before another.
+    /// Where the first range of a tag begins and ends that begins at a place or behind it, as a list, if it begins
+    /// before another.
     pub fn next_listed(
         &self,
         widget: usize,
@@ -83,7 +86,8 @@ impl<S: TextStore> Document<S> {
         requires shown { widget < length self.now.widgets }
         requires within { from ≤ length (shown self.now (widget_at self.now widget)) }
         ensures { IfOk result (λ list. list ≡ list_text (range_words (shown self.now (widget_at self.now widget))
-            (begun (λ start. nat_lt start to) (next_range (flags_of self.now (widget_at self.now widget) (chars name.now)) from)))) }
+            (begun (λ start. nat_lt start to)
+            (next_range (flags_of self.now (widget_at self.now widget) (chars name.now)) from)))) }
     {
         let mut list = String::new(self.alloc);
         let number = self.seats.number(widget);
@@ -95,7 +99,8 @@ impl<S: TextStore> Document<S> {
         Ok(Text::new(list))
     }
 
-    /// Where the last range of a tag begins and ends that begins before a place, as a list, if it doesn't begin before another.
+    /// Where the last range of a tag begins and ends that begins before a place, as a list, if it doesn't begin before
+    /// another.
     pub fn previous_listed(
         &self,
         widget: usize,
@@ -106,7 +111,8 @@ impl<S: TextStore> Document<S> {
         requires shown { widget < length self.now.widgets }
         requires within { from ≤ length (shown self.now (widget_at self.now widget)) }
         ensures { IfOk result (λ list. list ≡ list_text (range_words (shown self.now (widget_at self.now widget))
-            (begun (λ start. nat_le to start) (previous_range (flags_of self.now (widget_at self.now widget) (chars name.now)) from)))) }
+            (begun (λ start. nat_le to start)
+            (previous_range (flags_of self.now (widget_at self.now widget) (chars name.now)) from)))) }
     {
         let mut list = String::new(self.alloc);
         let number = self.seats.number(widget);
@@ -124,7 +130,8 @@ impl<S: TextStore> Document<S> {
     fn spans_at(&self, widget: usize, places: &[usize]) -> Result<Vec<Span>, AllocError>
         requires shown { widget < length self.now.widgets }
         requires within { All (λ place. place ≤ length (shown self.now (widget_at self.now widget))) places.now }
-        ensures value { IfOk result (λ spans. spans.items ≡ spans_shown self.now (widget_at self.now widget) places.now) }
+        ensures value { IfOk result (λ spans. spans.items
+            ≡ spans_shown self.now (widget_at self.now widget) places.now) }
         ensures fit { IfOk result (λ spans. All (SpanFits (length self.now.cells)) spans.items) }
     {
         let view = view_of(&self.store, &self.anchors, self.seats.number(widget));
@@ -141,7 +148,8 @@ impl<S: TextStore> Document<S> {
     ) -> Result<Answer, Fault>
         requires shown { widget < length self.old.widgets }
         requires within { All (λ place. place ≤ length (shown self.old (widget_at self.old widget))) places.now }
-        ensures { Does limits.now self.old self.new result (add_spans limits.now self.old (widget_at self.old widget) (chars name.now) places.now) }
+        ensures { Does limits.now self.old self.new result
+            (add_spans limits.now self.old (widget_at self.old widget) (chars name.now) places.now) }
     {
         if is_one_too_many(limits, &self.tags, name) {
             return Err(Fault::TooManyTags);
@@ -177,7 +185,8 @@ impl<S: TextStore> Document<S> {
     ) -> Result<Answer, Fault>
         requires shown { widget < length self.old.widgets }
         requires within { All (λ place. place ≤ length (shown self.old (widget_at self.old widget))) places.now }
-        ensures { Does limits.now self.old self.new result (remove_spans self.old (widget_at self.old widget) (chars name.now) places.now) }
+        ensures { Does limits.now self.old self.new result
+            (remove_spans self.old (widget_at self.old widget) (chars name.now) places.now) }
     {
         let number = self.seats.number(widget);
         let Some(slot) = find_tag(&self.tags, TagSlot(number), name) else {

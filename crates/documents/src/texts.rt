@@ -22,7 +22,8 @@ impl<S: TextStore> Document<S> {
     ) -> Result<Answer, Fault>
         requires shown { widget < length self.old.widgets }
         requires within { at < length self.old.cells }
-        ensures { Does limits.now self.old self.new result (insert_at limits.now self.old (widget_at self.old widget) at pairs.items) }
+        ensures { Does limits.now self.old self.new result
+            (insert_at limits.now self.old (widget_at self.old widget) at pairs.items) }
     {
         let slot = TagSlot(self.seats.number(widget));
         let front = self.tags.len();
@@ -57,7 +58,8 @@ impl<S: TextStore> Document<S> {
         requires shown { widget < length self.old.widgets }
         requires active { is_idle self.old (widget_at self.old widget) ≡ false }
         requires within { All (λ place. place ≤ length (shown self.old (widget_at self.old widget))) places.now }
-        ensures { Does limits.now self.old self.new result (delete_places self.old (widget_at self.old widget) places.now) }
+        ensures { Does limits.now self.old self.new result
+            (delete_places self.old (widget_at self.old widget) places.now) }
     {
         let slot = self.seats.number(widget);
         let start = start_of(&self.anchors, slot);
@@ -79,8 +81,8 @@ impl<S: TextStore> Document<S> {
         }
     }
 
-    /// Puts texts in the place of the characters between two places, and makes the tags of their lists. The end of the view counts as
-    /// the place of its last character.
+    /// Puts texts in the place of the characters between two places, and makes the tags of their lists. The end of the
+    /// view counts as the place of its last character.
     pub fn replace_between(
         &mut self,
         limits: &Limits,
@@ -94,7 +96,8 @@ impl<S: TextStore> Document<S> {
         requires ordered { from ≤ to }
         requires within { to ≤ length (shown self.old (widget_at self.old widget)) }
         ensures { Does limits.now self.old self.new result (replace_span limits.now self.old (widget_at self.old widget)
-            (insertion_offset self.old (widget_at self.old widget) from) (insertion_offset self.old (widget_at self.old widget) to) pairs.items) }
+            (insertion_offset self.old (widget_at self.old widget) from)
+            (insertion_offset self.old (widget_at self.old widget) to) pairs.items) }
     {
         let slot = self.seats.number(widget);
         let start = start_of(&self.anchors, slot);

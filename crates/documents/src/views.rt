@@ -35,11 +35,11 @@ pub fn view_of<'a, S: TextStore>(store: &'a S, anchors: &[Anchors], slot: u16) -
     ensures end { result.e ≡ unwrap_or (get_or anchors.now slot whole).end (length (S.content store.now).cells) }
     ensures store { S.content result.store.now ≡ S.content store.now }
 {
-    View {
+    View::new(
         store,
-        s: start_of(anchors, slot),
-        e: end_of(anchors, slot, store.len()),
-    }
+        start_of(anchors, slot),
+        end_of(anchors, slot, store.len()),
+    )
 }
 
 /// The widget of a slot as it asks for marks, in a document of so many characters.
@@ -63,7 +63,8 @@ impl<S: TextStore> Document<S> {
     pub(crate) fn view_at(&self, widget: usize) -> View<'_, S>
         requires { widget < length self.now.widgets }
         ensures lines { IsView (S.content result.store.now) result.s result.e }
-        ensures text { shown_in (S.content result.store.now) result.s result.e ≡ shown self.now (widget_at self.now widget) }
+        ensures text { shown_in (S.content result.store.now) result.s result.e
+            ≡ shown self.now (widget_at self.now widget) }
         ensures start { result.s ≡ view_start (widget_at self.now widget) }
         ensures end { result.e ≡ view_end self.now (widget_at self.now widget) }
         ensures count { length (shown self.now (widget_at self.now widget)) ≡ result.e - result.s }

@@ -1,4 +1,5 @@
-ghost use Rattle.std.specs.Prelude.{◌≡◌, true, Some, ◌+◌, ◌-◌, ◌<◌, ◌≤◌, length, chars, map, option_map, Ok, Err, IfOk, OnOk, OnErr, IfSome};
+ghost use Rattle.std.specs.Prelude.{◌≡◌, true, Some, ◌+◌, ◌-◌, ◌<◌, ◌≤◌, length, chars, map, option_map, Ok, Err, IfOk};
+ghost use Rattle.std.specs.Prelude.{OnOk, OnErr, IfSome};
 ghost use Rattle.std.specs.List.{AllByRecursion};
 ghost use Rattle.text_model.specs.LimitTable.{LimitTable};
 ghost use Rattle.documents.specs.Documents.{widget_at};
@@ -76,7 +77,8 @@ impl<S: TextStore> Document<S> {
         requires shown { widget < length self.old.widgets }
         requires lines { AreLines (lines (characters self.old.cells)) settings }
         requires ordered { is_behind settings.start settings.end ≡ false }
-        ensures { Does limits.now self.old self.new (Ok result) (answered (with_settings (widget_at self.old widget) settings self.old) Empty) }
+        ensures { Does limits.now self.old self.new (Ok result)
+            (answered (with_settings (widget_at self.old widget) settings self.old) Empty) }
     {
         let slot = self.seats.number(widget) as usize;
         let start = anchor_at(&self.store, settings.start);
@@ -97,7 +99,8 @@ impl<S: TextStore> Document<S> {
         requires ordered { is_behind settings.start settings.end ≡ false }
         ensures ok { OnOk result (self.new ≡ with_peer (chars name.now) settings self.old) }
         ensures err { OnErr result (self.new ≡ self.old) }
-        ensures well_formed { (limits : LimitTable) → IsWellFormedDocument limits self.old → IsWellFormedDocument limits self.new }
+        ensures well_formed { (limits : LimitTable) → IsWellFormedDocument limits self.old →
+            IsWellFormedDocument limits self.new }
     {
         let start = anchor_at(&self.store, settings.start);
         let end = anchor_at(&self.store, settings.end);
@@ -129,7 +132,9 @@ impl<S: TextStore> Document<S> {
     /// The names of the other widgets as a list, by their creation.
     pub fn other_widgets(&self, widget: usize) -> Result<Text, AllocError>
         requires { widget < length self.now.widgets }
-        ensures { IfOk result (λ list. list ≡ list_text (filter (λ name. not (is_same name (widget_at self.now widget).name)) (window_names self.now))) }
+        ensures { IfOk result (λ list. list
+            ≡ list_text (filter (λ name. not (is_same name (widget_at self.now widget).name))
+            (window_names self.now))) }
     {
         let mut list = String::new(self.alloc);
         push_other_seats(&mut list, &self.seats, self.seats.name(widget))?;
@@ -149,7 +154,8 @@ impl<S: TextStore> Document<S> {
         ensures ok { OnOk result (self.new ≡ thinned (texts_of names.now) self.old) }
         ensures others { OnOk result (others.new ≡ map (thinned (texts_of names.now)) others.old) }
         ensures err { OnErr result ((self.new ≡ self.old) × (others.new ≡ others.old)) }
-        ensures well_formed { (limits : LimitTable) → IsWellFormedDocument limits self.old → IsWellFormedDocument limits self.new }
+        ensures well_formed { (limits : LimitTable) → IsWellFormedDocument limits self.old →
+            IsWellFormedDocument limits self.new }
         ensures all { (limits : LimitTable) → AllByRecursion (IsWellFormedDocument limits) others.old
             → AllByRecursion (IsWellFormedDocument limits) others.new }
     {
@@ -165,8 +171,8 @@ impl<S: TextStore> Document<S> {
     }
 }
 
-/// Takes the widgets of these names out of each document that has others too, with their own marks and their selections.
-/// Unknown names are skipped. What this changes in all documents is prepared before any of them changes.
+/// Takes the widgets of these names out of each document that has others too, with their own marks and their
+/// selections. Unknown names are skipped. What this changes in all documents is prepared before any of them changes.
 #[cycle(drop)]
 pub fn drop_widgets<S: TextStore>(
     documents: &mut [Document<S>],

@@ -1,5 +1,7 @@
 -- Spans are taken out of a text, the last first.
-use Rattle.std.proofs.Common.{◌≡◌, ℕ, zero, suc, ◌+◌, ◌-◌, ◌<◌, ◌≤◌, Bool, true, false, inl, inr, List, [], ◌∷◌, ◌++◌, map, length, take, drop, refl, sym, ap, ap₂, ◌∙◌, arith, subst, ne_eqb, length-take, length-drop}
+use Rattle.std.proofs.Common.{◌≡◌, ℕ, zero, suc, ◌+◌, ◌-◌, ◌<◌, ◌≤◌, Bool, true, false, inl, inr, List, [], ◌∷◌, ◌++◌}
+use Rattle.std.proofs.Common.{map, length, take, drop, refl, sym, ap, ap₂, ◌∙◌, arith, subst, ne_eqb, length-take}
+use Rattle.std.proofs.Common.{length-drop}
 use Rattle.std.specs.Prelude.{nat_le, slice_range, if◌then◌else◌}
 use Rattle.std.proofs.lemmas.Bool.{le-leb, lt-leb, cases_lt}
 use Rattle.std.proofs.lemmas.List.{length-map, drop-take}
@@ -12,7 +14,8 @@ use Rattle.text_model.specs.Content.{Content, characters}
 use Rattle.text_model.specs.Lines.{line_of, line_start}
 use Rattle.text_model.specs.Splices.{removed}
 use Rattle.text_model.specs.Steps.{Fits, after, after_step, after_removal, without_slots}
-use Rattle.text_model.proofs.SpliceLaws.{length-removed, map-removed, take-removed, drop-removed, map-changed, changed-same}
+use Rattle.text_model.proofs.SpliceLaws.{length-removed, map-removed, take-removed, drop-removed, map-changed}
+use Rattle.text_model.proofs.SpliceLaws.{changed-same}
 use Rattle.text_model.proofs.StepLaws.{Fits-append, after-append}
 use Rattle.undo_stack.specs.History.{noted}
 use Rattle.undo_stack.specs.Modified.{counted_new}
@@ -29,7 +32,8 @@ use Rattle.edit_ops.specs.Removals.{removed_span}
 use Rattle.edit_ops.specs.States.{State, Draft, Log, log_noted, all_noted, drafted, state_of}
 use Rattle.edit_ops.proofs.InsertLaws.{noted-append}
 use Rattle.edit_ops.proofs.RunLaws.{runs-are, apart-wider}
-use Rattle.text_cursor.proofs.AroundLaws.{length-characters, line-front, next-within, next-behind, no-next, next_line-is, next_line-removed}
+use Rattle.text_cursor.proofs.AroundLaws.{length-characters, line-front, next-within, next-behind, no-next}
+use Rattle.text_cursor.proofs.AroundLaws.{next_line-is, next_line-removed}
 
 take-shorter : (n border : ℕ) (xs : List ℕ) → n ≤ border → take n (take border xs) ≡ take n xs
 take-shorter zero border xs within = refl
@@ -37,21 +41,28 @@ take-shorter (suc n) zero xs within = absurd (omega (arith, within))
 take-shorter (suc n) (suc border) [] within = refl
 take-shorter (suc n) (suc border) (x ∷ xs) within = ap (λ ys. x ∷ ys) (take-shorter n border xs (omega (arith, within)))
 
-pub front-shorter : (n border : ℕ) (xs ys : List ℕ) → n ≤ border → take border xs ≡ take border ys → take n xs ≡ take n ys
-front-shorter n border xs ys within same = sym (take-shorter n border xs within) ∙ ap (take n) same ∙ take-shorter n border ys within
+pub front-shorter : (n border : ℕ) (xs ys : List ℕ) → n ≤ border → take border xs ≡ take border ys →
+    take n xs ≡ take n ys
+front-shorter n border xs ys within same =
+    sym (take-shorter n border xs within) ∙ ap (take n) same ∙ take-shorter n border ys within
 
 slice-is : (from to : ℕ) (xs : List ℕ) → from ≤ to → slice_range xs from to ≡ drop from (take to xs)
-slice-is from to xs ordered = sym (drop-take from (to - from) xs) ∙ ap (λ n. drop from (take n xs)) (let e : from + (to - from) ≡ to = omega arith in e)
+slice-is from to xs ordered = sym (drop-take from (to - from) xs)
+    ∙ ap (λ n. drop from (take n xs)) (let e : from + (to - from) ≡ to = omega arith in e)
 
-pub slice-front : (from to border : ℕ) (xs ys : List ℕ) → from ≤ to → to ≤ border → take border xs ≡ take border ys → slice_range xs from to ≡ slice_range ys from to
+pub slice-front : (from to border : ℕ) (xs ys : List ℕ) → from ≤ to → to ≤ border → take border xs ≡ take border ys →
+    slice_range xs from to ≡ slice_range ys from to
 slice-front from to border xs ys ordered within same =
-    slice-is from to xs ordered ∙ ap (drop from) (front-shorter to border xs ys within same) ∙ sym (slice-is from to ys ordered)
+    slice-is from to xs ordered ∙ ap (drop from) (front-shorter to border xs ys within same)
+    ∙ sym (slice-is from to ys ordered)
 
 length-slice : (from to : ℕ) (xs : List ℕ) → from ≤ to → to ≤ length xs → length (slice_range xs from to) ≡ to - from
-length-slice from to xs ordered within = length-take (to - from) (drop from xs) ∙ (let h = length-drop from xs in omega (arith, h))
+length-slice from to xs ordered within =
+    length-take (to - from) (drop from xs) ∙ (let h = length-drop from xs in omega (arith, h))
 
 -- how far it is to the next line, in a text that is the old one up to a border
-pub rest-is : (text now : List ℕ) (border rest to behind : ℕ) → take border now ≡ take border text → border ≤ length now → border + rest ≤ length text → to ≤ border
+pub rest-is : (text now : List ℕ) (border rest to behind : ℕ) → take border now ≡ take border text →
+    border ≤ length now → border + rest ≤ length text → to ≤ border
     → rest ≡ line_start 1 (drop border now) → behind ≡ next_line text to
     → (if nat_le behind border then behind - to else border - to + rest) ≡ line_start 1 (drop to now)
 rest-is text now border rest to behind same within room before rest_is behind_is =
@@ -59,14 +70,17 @@ rest-is text now border rest to behind same within room before rest_is behind_is
     let ys = drop border text in let zs = drop border now in
     let long : length front ≡ border - to = length-slice to border text before (omega (arith, room)) in
     let old : drop to text ≡ front ++ ys = drop_split text to border before in
-    let new : drop to now ≡ front ++ zs = drop_split now to border before ∙ ap (λ xs. xs ++ zs) (slice-front to border border now text before (omega arith) same) in
-    let far : behind ≡ to + line_start 1 (front ++ ys) = behind_is ∙ next_line-is text to (omega (arith, room, before)) ∙ ap (λ xs. to + line_start 1 xs) old in
+    let new : drop to now ≡ front ++ zs = drop_split now to border before
+    ∙ ap (λ xs. xs ++ zs) (slice-front to border border now text before (omega arith) same) in
+    let far : behind ≡ to + line_start 1 (front ++ ys) = behind_is ∙ next_line-is text to (omega (arith, room, before))
+    ∙ ap (λ xs. to + line_start 1 xs) old in
     elim (cases_lt border behind) [
       | inr inner ↦
           ap (λ b. if b then behind - to else border - to + rest) (le-leb behind border inner)
           ∙ (let e : behind - to ≡ line_start 1 (front ++ ys) = omega (arith, far) in e)
           ∙ sym (next-within front ys zs (omega (arith, far, inner, long, before))
-          (λ none. sym rest_is ∙ (let gone = no-next ys none in let h = length-drop border text in omega (arith, gone, h, room))))
+          (λ none. sym rest_is ∙ (let gone = no-next ys none in let h = length-drop border text in
+          omega (arith, gone, h, room))))
           ∙ ap (line_start 1) (sym new)
       | inl outer ↦
           ap (λ b. if b then behind - to else border - to + rest) (lt-leb behind border outer)
@@ -76,24 +90,40 @@ rest-is text now border rest to behind same within room before rest_is behind_is
     ]
 
 -- and the text has room for that
-pub rest-fits : (len border rest to behind : ℕ) → border + rest ≤ len → to ≤ border → behind ≤ len → to ≤ behind → to + (if nat_le behind border then behind - to else border - to + rest) ≤ len
+pub rest-fits : (len border rest to behind : ℕ) → border + rest ≤ len → to ≤ border → behind ≤ len → to ≤ behind →
+    to + (if nat_le behind border then behind - to else border - to + rest) ≤ len
 rest-fits len border rest to behind room before within above =
-    elim (nat_le behind border) as (λ b. to + (if b then behind - to else border - to + rest) ≤ len) [ true ↦ omega arith | false ↦ omega arith ]
+    elim (nat_le behind border) as (λ b. to + (if b then behind - to else border - to + rest)
+    ≤ len) [ true ↦ omega arith | false ↦ omega arith ]
 
 -- where no action is kept, its text doesn't matter
-noted-alike : (recording : Recording) (kind : EditKind) (at : ℕ) (text other : List ℕ) (log : Log) → (recording.undo ≡ true → text ≡ other)
-    → log_noted recording kind (record { inserts = false; at = at; text = text }) log ≡ log_noted recording kind (record { inserts = false; at = at; text = other }) log
+noted-alike : (recording : Recording) (kind : EditKind) (at : ℕ) (text other : List ℕ) (log : Log) →
+    (recording.undo ≡ true → text ≡ other)
+    → log_noted recording kind (record { inserts = false; at = at; text = text }) log
+    ≡ log_noted recording kind (record { inserts = false; at = at; text = other }) log
 noted-alike recording kind at text other log same =
     let taken : List ℕ → Action = λ t. record { inserts = false; at = at; text = t } in
     elim recording.undo as (λ b. (b ≡ true → text ≡ other)
-    → record log { history = if b then noted kind (taken text) recording.separators log.most log.history else log.history; modified = counted_new log.modified }
-    ≡ record log { history = if b then noted kind (taken other) recording.separators log.most log.history else log.history; modified = counted_new log.modified }) [
-      | true ↦ λ is. ap (λ t. record log { history = noted kind (taken t) recording.separators log.most log.history; modified = counted_new log.modified }) (is refl)
+    → record log {
+      history = if b then noted kind (taken text) recording.separators log.most log.history
+          else log.history;
+      modified = counted_new log.modified;
+    }
+    ≡ record log {
+      history = if b then noted kind (taken other) recording.separators log.most log.history
+          else log.history;
+      modified = counted_new log.modified;
+    }) [
+      | true ↦ λ is. ap (λ t. record log {
+        history = noted kind (taken t) recording.separators log.most log.history;
+        modified = counted_new log.modified;
+      }) (is refl)
       | false ↦ λ _. refl
     ] same
 
 -- one span more is taken out of a draft
-pub span-out : (recording : Recording) (kind : EditKind) (draft new : Draft) (state : State) (text : List ℕ) (line next from to : ℕ)
+pub span-out : (recording : Recording) (kind : EditKind) (draft new : Draft) (state : State) (text : List ℕ)
+    (line next from to : ℕ)
     → new ≡ record {
       steps = draft.steps ++ Remove from to ∷ [];
       anchors = map (anchors_drawn line next from to) draft.anchors;
@@ -101,7 +131,8 @@ pub span-out : (recording : Recording) (kind : EditKind) (draft new : Draft) (st
     }
     → from < to
     → (recording.undo ≡ true → text ≡ slice_range (characters (after draft.steps state.content).cells) from to)
-    → line ≡ line_start (line_of (characters (after draft.steps state.content).cells) from) (characters (after draft.steps state.content).cells)
+    → line ≡ line_start (line_of (characters (after draft.steps state.content).cells) from)
+    (characters (after draft.steps state.content).cells)
     → next ≡ next_line (removed from to (characters (after draft.steps state.content).cells)) from
     → drafted recording kind new state ≡ removed_span recording kind from to (drafted recording kind draft state)
 span-out recording kind draft new state text line next from to made some text_is line_is next_is =
@@ -109,39 +140,58 @@ span-out recording kind draft new state text line next from to made some text_is
     let now = characters before.cells in
     let noted = all_noted recording kind draft.actions state.log in
     ap (λ (d : Draft). drafted recording kind d state) made
-    ∙ ap₂ (λ c l. state_of c (map (anchors_drawn line next from to) draft.anchors) l) (after-append draft.steps (Remove from to ∷ []) state.content)
+    ∙ ap₂ (λ c l. state_of c (map (anchors_drawn line next from to) draft.anchors) l)
+    (after-append draft.steps (Remove from to ∷ []) state.content)
     (noted-append recording kind draft.actions (record { inserts = false; at = from; text = text } ∷ []) state.log)
-    ∙ ap₂ (λ l n. state_of (after_removal from to before) (map (anchors_drawn l n from to) draft.anchors) (log_noted recording kind (record { inserts = false; at = from; text = text }) noted)) line_is next_is
-    ∙ ap (state_of (after_removal from to before) (map (anchors_drawn (line_start (line_of now from) now) (next_line (removed from to now) from) from to) draft.anchors))
+    ∙ ap₂ (λ l n. state_of (after_removal from to before) (map (anchors_drawn l n from to) draft.anchors)
+    (log_noted recording kind (record { inserts = false; at = from; text = text }) noted)) line_is next_is
+    ∙ ap (state_of (after_removal from to before)
+    (map (anchors_drawn (line_start (line_of now from) now) (next_line (removed from to now) from) from to)
+    draft.anchors))
     (noted-alike recording kind from text (slice_range now from to) noted text_is)
     ∙ ap (λ b. if b then drafted recording kind draft state
-    else state_of (after_removal from to before) (map (anchors_drawn (line_start (line_of now from) now) (next_line (removed from to now) from) from to) draft.anchors)
-    (log_noted recording kind (record { inserts = false; at = from; text = slice_range now from to }) noted)) (sym (ne_eqb from to (λ same. omega (arith, same, some))))
+    else state_of (after_removal from to before)
+    (map (anchors_drawn (line_start (line_of now from) now) (next_line (removed from to now) from) from to)
+    draft.anchors)
+    (log_noted recording kind (record { inserts = false; at = from; text = slice_range now from to }) noted))
+    (sym (ne_eqb from to (λ same. omega (arith, same, some))))
 
 -- the first of the spans are taken out, of a text that is the old one up to a border, and these are left
-pub record RemovedSoFar (recording : Recording) (kind : EditKind) (draft new : Draft) (state : State) (text : List ℕ) (spans left : List Span) (border rest : ℕ) : Type 0 where
+pub record RemovedSoFar (recording : Recording) (kind : EditKind) (draft new : Draft) (state : State) (text : List ℕ)
+    (spans left : List Span) (border rest : ℕ) : Type 0 where
   pub fits : Fits new.steps state.content
   pub front : take border (characters (after new.steps state.content).cells) ≡ take border text
   pub long : border ≤ length (characters (after new.steps state.content).cells)
   pub next : rest ≡ line_start 1 (drop border (characters (after new.steps state.content).cells))
-  pub makes : removed_spans recording kind left (drafted recording kind new state) ≡ removed_spans recording kind spans (drafted recording kind draft state)
+  pub makes : removed_spans recording kind left (drafted recording kind new state)
+      ≡ removed_spans recording kind spans (drafted recording kind draft state)
 
-pub record RemovingSpans (keeps : Bool) (draft new : Draft) (text : List ℕ) (spans left : List Span) (border rest : ℕ) : Type 0 where
+pub record RemovingSpans (keeps : Bool) (draft new : Draft) (text : List ℕ) (spans left : List Span) (border rest : ℕ) :
+    Type 0 where
   pub count : length new.anchors ≡ length draft.anchors
   pub apart : AreApart border left
   pub room : border + rest ≤ length text
-  pub goes : (recording : Recording) (kind : EditKind) (state : State) → (recording.undo ≡ true → keeps ≡ true) → Fits draft.steps state.content → characters (after draft.steps state.content).cells ≡ text
+  pub goes : (recording : Recording) (kind : EditKind) (state : State) → (recording.undo ≡ true → keeps ≡ true) →
+      Fits draft.steps state.content → characters (after draft.steps state.content).cells ≡ text
       → RemovedSoFar recording kind draft new state text spans left border rest
 
 -- what a span that is left gives
-pub span-stands : (keeps : Bool) (draft now : Draft) (text : List ℕ) (spans all left : List Span) (span : Span) (border rest : ℕ)
-    → RemovingSpans keeps draft now text spans all border rest → all ≡ span ∷ left → (span.from < span.to) × (span.to < border) × (border + rest ≤ length text) × (span.to ≤ next_line text span.to)
+pub span-stands : (keeps : Bool) (draft now : Draft) (text : List ℕ) (spans all left : List Span) (span : Span)
+    (border rest : ℕ)
+    → RemovingSpans keeps draft now text spans all border rest → all ≡ span ∷ left →
+    (span.from < span.to) × (span.to < border) × (border + rest ≤ length text) × (span.to ≤ next_line text span.to)
 span-stands keeps draft now text spans all left span border rest so_far all_is =
     let apart : AreApart border (span ∷ left) = subst (AreApart border) all_is so_far.apart in
-    let below = apart.1 in let room = so_far.room in
-    (apart.0, apart.1, so_far.room, (let far = next_line-is text span.to (omega (arith, below, room)) in omega (arith, far)))
+    let below = apart.1 in let room = so_far.room in (
+      apart.0,
+      apart.1,
+      so_far.room,
+      (let far = next_line-is text span.to (omega (arith, below, room)) in
+          omega (arith, far)),
+    )
 
-pub removing-first : (keeps : Bool) (draft : Draft) (text : List ℕ) (spans : List Span) (len : ℕ) → length text ≡ len → AreApart len spans → RemovingSpans keeps draft draft text spans spans len 0
+pub removing-first : (keeps : Bool) (draft : Draft) (text : List ℕ) (spans : List Span) (len : ℕ) → length text ≡ len →
+    AreApart len spans → RemovingSpans keeps draft draft text spans spans len 0
 removing-first keeps draft text spans len long apart = record {
   count = refl;
   apart = apart;
@@ -150,47 +200,71 @@ removing-first keeps draft text spans len long apart = record {
     fits = fits;
     front = ap (take len) is;
     long = let h = ap length is in omega (arith, h, long);
-    next = sym (ap (line_start 1) (drop_of_length-le (characters (after draft.steps state.content).cells) (let h = ap length is in omega (arith, h, long))));
+    next = sym (ap (line_start 1) (drop_of_length-le (characters (after draft.steps state.content).cells)
+        (let h = ap length is in omega (arith, h, long))));
     makes = refl;
   };
 }
 
-one-removed : (recording : Recording) (kind : EditKind) (draft now new : Draft) (state : State) (text taken : List ℕ) (spans left : List Span) (span : Span) (border rest behind line : ℕ)
-    → RemovedSoFar recording kind draft now state text spans (span ∷ left) border rest → border + rest ≤ length text → span.from < span.to → span.to < border
-    → behind ≡ next_line text span.to → (recording.undo ≡ true → taken ≡ slice_range text span.from span.to) → line ≡ line_start (line_of text span.from) text
+one-removed : (recording : Recording) (kind : EditKind) (draft now new : Draft) (state : State) (text taken : List ℕ)
+    (spans left : List Span) (span : Span) (border rest behind line : ℕ)
+    → RemovedSoFar recording kind draft now state text spans (span ∷ left) border rest → border + rest ≤ length text →
+    span.from < span.to → span.to < border
+    → behind ≡ next_line text span.to → (recording.undo ≡ true → taken ≡ slice_range text span.from span.to) →
+    line ≡ line_start (line_of text span.from) text
     → new ≡ record {
       steps = now.steps ++ Remove span.from span.to ∷ [];
-      anchors = map (anchors_drawn line (span.from + (if nat_le behind border then behind - span.to else border - span.to + rest)) span.from span.to) now.anchors;
+      anchors = map (anchors_drawn line (span.from + (if nat_le behind border then behind - span.to
+          else border - span.to + rest)) span.from span.to) now.anchors;
       actions = now.actions ++ record { inserts = false; at = span.from; text = taken } ∷ [];
     }
-    → RemovedSoFar recording kind draft new state text spans left span.from (if nat_le behind border then behind - span.to else border - span.to + rest)
-one-removed recording kind draft now new state text taken spans left span border rest behind line so_far room some below behind_is taken_is line_is made =
+    → RemovedSoFar recording kind draft new state text spans left span.from (if nat_le behind border
+    then behind - span.to else border - span.to + rest)
+one-removed recording kind draft now new state text taken spans left span border rest behind line so_far room some below
+    behind_is taken_is line_is made =
     let content = after now.steps state.content in
     let old = characters content.cells in
     let next = (if nat_le behind border then behind - span.to else border - span.to + rest) in
     let counted = length-characters content.cells in
     let within : border ≤ length old = so_far.long in
-    let rest_is : next ≡ line_start 1 (drop span.to old) = rest-is text old border rest span.to behind so_far.front within room (omega (arith, below)) so_far.next behind_is in
-    let steps_are : (after new.steps state.content) ≡ after_removal span.from span.to content = ap (λ (d : Draft). after d.steps state.content) made ∙ after-append now.steps (Remove span.from span.to ∷ []) state.content in
-    let text_is : characters (after new.steps state.content).cells ≡ removed span.from span.to old = ap (λ (c : Content). characters c.cells) steps_are ∙ map-removed (λ (cell : Cell). cell.character) span.from span.to content.cells in
-    let shorter : take span.from old ≡ take span.from text = front-shorter span.from border old text (omega (arith, some, below)) so_far.front in
+    let rest_is : next ≡ line_start 1 (drop span.to old) = rest-is text old border rest span.to behind so_far.front
+    within room (omega (arith, below)) so_far.next behind_is in
+    let steps_are : (after new.steps state.content)
+    ≡ after_removal span.from span.to content = ap (λ (d : Draft). after d.steps state.content) made
+    ∙ after-append now.steps (Remove span.from span.to ∷ []) state.content in
+    let text_is : characters (after new.steps state.content).cells
+    ≡ removed span.from span.to old = ap (λ (c : Content). characters c.cells) steps_are
+    ∙ map-removed (λ (cell : Cell). cell.character) span.from span.to content.cells in
+    let shorter : take span.from old ≡ take span.from text = front-shorter span.from border old text
+    (omega (arith, some, below)) so_far.front in
     record {
-      fits = subst (λ (d : Draft). Fits d.steps state.content) (sym made) (Fits-append now.steps (Remove span.from span.to ∷ []) state.content so_far.fits ((omega (arith, some), omega (arith, below, within, counted)), tt));
-      front = ap (take span.from) text_is ∙ take-removed span.from span.to old span.from (omega (arith, some, below, within)) (omega arith) ∙ shorter;
-      long = let h = length-removed span.from span.to old (omega (arith, some)) (omega (arith, below, within)) in let k = ap length text_is in omega (arith, h, k, some, below, within);
+      fits = subst (λ (d : Draft). Fits d.steps state.content) (sym made)
+          (Fits-append now.steps (Remove span.from span.to ∷ []) state.content so_far.fits
+          ((omega (arith, some), omega (arith, below, within, counted)), tt));
+      front = ap (take span.from) text_is
+          ∙ take-removed span.from span.to old span.from (omega (arith, some, below, within)) (omega arith) ∙ shorter;
+      long = let h = length-removed span.from span.to old (omega (arith, some)) (omega (arith, below, within)) in
+          let k = ap length text_is in omega (arith, h, k, some, below, within);
       next = rest_is ∙ sym (ap (λ xs. line_start 1 (drop span.from xs)) text_is
-          ∙ ap (line_start 1) (drop-removed span.from span.to old span.from (omega (arith, some, below, within)) (omega (arith, some)) (omega arith)
+          ∙ ap (line_start 1) (drop-removed span.from span.to old span.from (omega (arith, some, below, within))
+          (omega (arith, some)) (omega arith)
           ∙ ap (λ n. drop n old) (let e : span.from + (span.to - span.from) ≡ span.to = omega (arith, some) in e)));
-      makes = ap (removed_spans recording kind left) (span-out recording kind now new state taken line (span.from + next) span.from span.to made some
-          (λ kept. taken_is kept ∙ sym (slice-front span.from span.to border old text (omega (arith, some)) (omega (arith, below)) so_far.front))
+      makes = ap (removed_spans recording kind left)
+          (span-out recording kind now new state taken line (span.from + next) span.from span.to made some
+          (λ kept. taken_is kept
+          ∙ sym (slice-front span.from span.to border old text (omega (arith, some)) (omega (arith, below))
+          so_far.front))
           (line_is ∙ sym (line-front old text span.from shorter))
-          (ap (λ n. span.from + n) rest_is ∙ sym (next_line-removed old span.from span.to (omega (arith, some, below, within)))))
+          (ap (λ n. span.from + n) rest_is
+          ∙ sym (next_line-removed old span.from span.to (omega (arith, some, below, within)))))
           ∙ so_far.makes;
     }
 
-pub removing-more : (keeps : Bool) (draft now new : Draft) (text taken : List ℕ) (spans all left : List Span) (span : Span) (border rest behind line next : ℕ)
+pub removing-more : (keeps : Bool) (draft now new : Draft) (text taken : List ℕ) (spans all left : List Span)
+    (span : Span) (border rest behind line next : ℕ)
     → RemovingSpans keeps draft now text spans all border rest → all ≡ span ∷ left → behind ≤ length text
-    → behind ≡ next_line text span.to → (keeps ≡ true → taken ≡ slice_range text span.from span.to) → line ≡ line_start (line_of text span.from) text
+    → behind ≡ next_line text span.to → (keeps ≡ true → taken ≡ slice_range text span.from span.to) →
+    line ≡ line_start (line_of text span.from) text
     → next ≡ (if nat_le behind border then behind - span.to else border - span.to + rest)
     → new ≡ record {
       steps = now.steps ++ Remove span.from span.to ∷ [];
@@ -198,20 +272,24 @@ pub removing-more : (keeps : Bool) (draft now new : Draft) (text taken : List �
       actions = now.actions ++ record { inserts = false; at = span.from; text = taken } ∷ [];
     }
     → RemovingSpans keeps draft new text spans left span.from next
-removing-more keeps draft now new text taken spans all left span border rest behind line next so_far all_is bound behind_is taken_is line_is next_is made =
+removing-more keeps draft now new text taken spans all left span border rest behind line next so_far all_is bound
+    behind_is taken_is line_is next_is made =
     let apart : AreApart border (span ∷ left) = subst (AreApart border) all_is so_far.apart in
     let some = apart.0 in let below = apart.1 in
     record {
-      count = ap (λ (d : Draft). length d.anchors) made ∙ length-map now.anchors (anchors_drawn line (span.from + next) span.from span.to) ∙ so_far.count;
+      count = ap (λ (d : Draft). length d.anchors) made
+          ∙ length-map now.anchors (anchors_drawn line (span.from + next) span.from span.to) ∙ so_far.count;
       apart = apart.2;
       room = let room = so_far.room in
           let far = behind_is ∙ next_line-is text span.to (omega (arith, below, room)) in
-          let fits = rest-fits (length text) border rest span.to behind room (omega (arith, below)) bound (omega (arith, far)) in
+          let fits = rest-fits (length text) border rest span.to behind room (omega (arith, below)) bound
+          (omega (arith, far)) in
           omega (arith, fits, next_is, some);
       goes = λ recording kind state kept fits is.
           subst (RemovedSoFar recording kind draft new state text spans left span.from) (sym next_is)
           (one-removed recording kind draft now new state text taken spans left span border rest behind line
-          (subst (λ xs. RemovedSoFar recording kind draft now state text spans xs border rest) all_is (so_far.goes recording kind state kept fits is))
+          (subst (λ xs. RemovedSoFar recording kind draft now state text spans xs border rest) all_is
+          (so_far.goes recording kind state kept fits is))
           so_far.room some below behind_is (λ on. taken_is (kept on)) line_is
           (made ∙ ap (λ n. record {
             steps = now.steps ++ Remove span.from span.to ∷ [];
@@ -222,11 +300,13 @@ removing-more keeps draft now new text taken spans all left span border rest beh
 
 -- ---- the slots of the last cell that is shown
 
-bare-fits : (b : Bool) (at : ℕ) (content : Content) → at < length content.cells → Fits (if b then ClearTags at ∷ [] else []) content
+bare-fits : (b : Bool) (at : ℕ) (content : Content) → at < length content.cells →
+    Fits (if b then ClearTags at ∷ [] else []) content
 bare-fits true at content within = (within, tt)
 bare-fits false at content within = tt
 
-bare-text : (b : Bool) (at : ℕ) (content : Content) → characters (after (if b then ClearTags at ∷ [] else []) content).cells ≡ characters content.cells
+bare-text : (b : Bool) (at : ℕ) (content : Content) →
+    characters (after (if b then ClearTags at ∷ [] else []) content).cells ≡ characters content.cells
 bare-text true at content =
     map-changed (λ (cell : Cell). cell.character) without_slots (λ c. c) (λ cell. refl) at (at + 1) content.cells
     ∙ changed-same at (at + 1) (characters content.cells) (omega arith)
@@ -238,30 +318,42 @@ bare-made : (b : Bool) (at : ℕ) (content : Content) (anchors : List Anchors) (
 bare-made true at content anchors log = refl
 bare-made false at content anchors log = refl
 
-pub delete-made : (keeps : Bool) (draft new : Draft) (content : Content) (anchors : List Anchors) (start end : ℕ) (spans runs left : List Span) (takes : Bool) (steps : List Step) → start < end → end ≤ length content.cells
-    → ((offset : ℕ) → in_spans runs offset ≡ in_spans spans offset) → takes ≡ in_spans runs (end - 1) → AreApart end left
+pub delete-made : (keeps : Bool) (draft new : Draft) (content : Content) (anchors : List Anchors) (start end : ℕ)
+    (spans runs left : List Span) (takes : Bool) (steps : List Step) → start < end → end ≤ length content.cells
+    → ((offset : ℕ) → in_spans runs offset ≡ in_spans spans offset) → takes ≡ in_spans runs (end - 1) →
+    AreApart end left
     → ((offset : ℕ) → in_spans left offset ≡ delete_set (characters content.cells) start end (in_spans runs) offset)
-    → steps ≡ (if takes then ClearTags (end - 1) ∷ [] else []) → draft ≡ record { steps = steps; anchors = anchors; actions = [] }
-    → ((recording : Recording) (kind : EditKind) (state : State) → (recording.undo ≡ true → keeps ≡ true) → Fits draft.steps state.content → characters (after draft.steps state.content).cells ≡ characters content.cells
-    → Fits new.steps state.content × (drafted recording kind new state ≡ removed_spans recording kind left (drafted recording kind draft state)))
+    → steps ≡ (if takes then ClearTags (end - 1) ∷ [] else []) →
+    draft ≡ record { steps = steps; anchors = anchors; actions = [] }
+    → ((recording : Recording) (kind : EditKind) (state : State) → (recording.undo ≡ true → keeps ≡ true) →
+    Fits draft.steps state.content → characters (after draft.steps state.content).cells ≡ characters content.cells
+    → Fits new.steps state.content × (drafted recording kind new state
+    ≡ removed_spans recording kind left (drafted recording kind draft state)))
     → (recording : Recording) (log : Log) → (recording.undo ≡ true → keeps ≡ true)
-    → Fits new.steps content × (drafted recording Delete new (state_of content anchors log) ≡ deleted recording start end spans (state_of content anchors log))
-delete-made keeps draft new content anchors start end spans runs left takes steps shows within covers takes_is apart left_is steps_are begun goes recording log kept =
+    → Fits new.steps content × (drafted recording Delete new (state_of content anchors log)
+    ≡ deleted recording start end spans (state_of content anchors log))
+delete-made keeps draft new content anchors start end spans runs left takes steps shows within covers takes_is apart
+    left_is steps_are begun goes recording log kept =
     let text = characters content.cells in
     let state = state_of content anchors log in
     let bared = (if takes then ClearTags (end - 1) ∷ [] else []) in
-    let first : draft ≡ record { steps = bared; anchors = anchors; actions = [] } = begun ∙ ap (λ (s : List Step). record { steps = s; anchors = anchors; actions = [] }) steps_are in
+    let first : draft ≡ record { steps = bared; anchors = anchors; actions = [] } = begun
+    ∙ ap (λ (s : List Step). record { steps = s; anchors = anchors; actions = [] }) steps_are in
     let same : in_spans runs ≡ in_spans spans = λ i offset. covers offset i in
     let runs_are : runs_below (length content.cells) (delete_set text start end (in_spans spans)) ≡ left =
-    runs-are (length content.cells) (delete_set text start end (in_spans spans)) left (apart-wider end (length content.cells + 1) left apart (omega (arith, within)))
+    runs-are (length content.cells) (delete_set text start end (in_spans spans)) left
+    (apart-wider end (length content.cells + 1) left apart (omega (arith, within)))
     (λ offset _. ap (λ set. delete_set text start end set offset) (sym same) ∙ sym (left_is offset)) in
     let takes_last : takes ≡ in_spans spans (end - 1) = takes_is ∙ covers (end - 1) in
     let done = goes recording Delete state kept
-    (subst (λ (d : Draft). Fits d.steps content) (sym first) (bare-fits takes (end - 1) content (omega (arith, shows, within))))
+    (subst (λ (d : Draft). Fits d.steps content) (sym first)
+    (bare-fits takes (end - 1) content (omega (arith, shows, within))))
     (ap (λ (d : Draft). characters (after d.steps content).cells) first ∙ bare-text takes (end - 1) content) in (
       done.0,
       done.1
           ∙ ap (λ (d : Draft). removed_spans recording Delete left (drafted recording Delete d state)) first
           ∙ ap (removed_spans recording Delete left) (bare-made takes (end - 1) content anchors log)
-          ∙ ap₂ (λ rs b. removed_spans recording Delete rs (if b then state_of (after_step (ClearTags (end - 1)) content) anchors log else state)) (sym runs_are) takes_last,
+          ∙ ap₂ (λ rs b. removed_spans recording Delete rs (if b
+          then state_of (after_step (ClearTags (end - 1)) content) anchors log else state)) (sym runs_are)
+          takes_last,
     )

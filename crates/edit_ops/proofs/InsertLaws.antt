@@ -1,5 +1,6 @@
 -- One text more is put in.
-use Rattle.std.proofs.Common.{◌≡◌, ℕ, ◌+◌, ◌-◌, ◌^◌, ◌<◌, ◌≤◌, true, false, List, [], ◌∷◌, ◌++◌, Option, Some, None, map, length, get_or, drop, refl, sym, ap, ap₂, ◌∙◌, arith, ne_eqb, eq-eqb, subst}
+use Rattle.std.proofs.Common.{◌≡◌, ℕ, ◌+◌, ◌-◌, ◌^◌, ◌<◌, ◌≤◌, true, false, List, [], ◌∷◌, ◌++◌, Option, Some, None}
+use Rattle.std.proofs.Common.{map, length, get_or, drop, refl, sym, ap, ap₂, ◌∙◌, arith, ne_eqb, eq-eqb, subst}
 use Rattle.std.specs.Prelude.{slice_get, IfSome, option_map, nat_lt, if◌then◌else◌}
 use Rattle.std.specs.FinSet as set
 use Rattle.std.specs.List.{All}
@@ -12,7 +13,8 @@ use Rattle.text_model.specs.declared.edits.Step.TheVariants.{Insert}
 use Rattle.text_model.specs.Content.{Content, Slots, slot_sets}
 use Rattle.text_model.specs.Splices.{inserted}
 use Rattle.text_model.specs.Steps.{cells_of, Fits, after, after_insertion}
-use Rattle.text_model.proofs.SpliceLaws.{length-cells_inserted, map-inserted, map-map, get_or-inserted_within, get_or-inserted_behind}
+use Rattle.text_model.proofs.SpliceLaws.{length-cells_inserted, map-inserted, map-map, get_or-inserted_within}
+use Rattle.text_model.proofs.SpliceLaws.{get_or-inserted_behind}
 use Rattle.text_model.proofs.StepLaws.{Fits-append, after-append}
 use Rattle.undo_stack.specs.declared.actions.Action.{Action}
 use Rattle.undo_stack.specs.declared.actions.EditKind.{EditKind}
@@ -26,71 +28,97 @@ use Rattle.edit_ops.specs.Insertions.{slots_or, inserted_text, inserted_texts, t
 use Rattle.edit_ops.specs.States.{State, Log, Draft, log_noted, all_noted, drafted, state_of}
 
 pub noted-append : (recording : Recording) (kind : EditKind) (actions others : List Action) (log : Log)
-    → all_noted recording kind (actions ++ others) log ≡ all_noted recording kind others (all_noted recording kind actions log)
+    → all_noted recording kind (actions ++ others) log
+    ≡ all_noted recording kind others (all_noted recording kind actions log)
 noted-append recording kind [] others log = refl
-noted-append recording kind (action ∷ actions) others log = noted-append recording kind actions others (log_noted recording kind action log)
+noted-append recording kind (action ∷ actions) others log =
+    noted-append recording kind actions others (log_noted recording kind action log)
 
 -- the slots of text that is put in, and of the cells behind it
-slots-within : (at : ℕ) (text : List ℕ) (slots : Slots) (cells : List Cell) (i : ℕ) → at ≤ length cells → i < length text
+slots-within : (at : ℕ) (text : List ℕ) (slots : Slots) (cells : List Cell) (i : ℕ) → at ≤ length cells →
+    i < length text
     → get_or (slot_sets (inserted at (cells_of text slots) cells)) (at + i) set.empty ≡ slots
 slots-within at text slots cells i within inside =
     let new = cells_of text slots in
     let count : length (slot_sets new) ≡ length text = length-slot_sets new ∙ length-map text _ in
     ap (λ sets. get_or sets (at + i) set.empty) (map-inserted (λ (cell : Cell). cell.tags) at new cells)
-    ∙ get_or-inserted_within at (slot_sets new) (slot_sets cells) i set.empty (rw (length-slot_sets cells) within) (omega (arith, count, inside))
-    ∙ ap (λ sets. get_or sets i set.empty) (map-map (λ (cell : Cell). cell.tags) (λ character. record { character = character; tags = slots }) text)
+    ∙ get_or-inserted_within at (slot_sets new) (slot_sets cells) i set.empty (rw (length-slot_sets cells) within)
+    (omega (arith, count, inside))
+    ∙ ap (λ sets. get_or sets i set.empty) (map-map (λ (cell : Cell). cell.tags) (λ character.
+    record { character = character; tags = slots }) text)
     ∙ get_or-map (λ _. slots) text i 0 set.empty inside
 
 slots-behind : (at : ℕ) (text : List ℕ) (slots : Slots) (cells : List Cell) → at ≤ length cells
-    → get_or (slot_sets (inserted at (cells_of text slots) cells)) (at + length text) set.empty ≡ get_or (slot_sets cells) at set.empty
+    → get_or (slot_sets (inserted at (cells_of text slots) cells)) (at + length text) set.empty
+    ≡ get_or (slot_sets cells) at set.empty
 slots-behind at text slots cells within =
     let new = cells_of text slots in
     let count : length (slot_sets new) ≡ length text = length-slot_sets new ∙ length-map text _ in
-    ap₂ (λ sets n. get_or sets n set.empty) (map-inserted (λ (cell : Cell). cell.tags) at new cells) (ap (λ n. at + n) (sym count))
-    ∙ get_or-inserted_behind at (slot_sets new) (slot_sets cells) at set.empty (rw (length-slot_sets cells) within) (omega arith)
+    ap₂ (λ sets n. get_or sets n set.empty) (map-inserted (λ (cell : Cell). cell.tags) at new cells)
+    (ap (λ n. at + n) (sym count))
+    ∙ get_or-inserted_behind at (slot_sets new) (slot_sets cells) at set.empty (rw (length-slot_sets cells) within)
+    (omega arith)
 
 -- the place behind a text that was put in
-pub between-next : (shared behind slots : Slots) (len at : ℕ) (text : List ℕ) (cells : List Cell) → IsBetween shared behind len at cells → 0 < length text
-    → IsBetween (set.intersection slots behind) behind (len + length text) (at + length text) (inserted at (cells_of text slots) cells)
+pub between-next : (shared behind slots : Slots) (len at : ℕ) (text : List ℕ) (cells : List Cell) →
+    IsBetween shared behind len at cells → 0 < length text
+    → IsBetween (set.intersection slots behind) behind (len + length text) (at + length text)
+    (inserted at (cells_of text slots) cells)
 between-next shared behind slots len at text cells is some =
     let within : at ≤ length cells = omega (arith, is.within, is.counted) in
     let new = inserted at (cells_of text slots) cells in
-    let next : get_or (slot_sets new) (at + length text) set.empty ≡ behind = slots-behind at text slots cells within ∙ is.after in
+    let next : get_or (slot_sets new) (at + length text) set.empty ≡ behind = slots-behind at text slots cells within
+    ∙ is.after in
     let last : get_or (slot_sets new) (at + length text - 1) set.empty ≡ slots =
-    ap (λ n. get_or (slot_sets new) n set.empty) (let e : at + length text - 1 ≡ at + (length text - 1) = omega (arith, some) in e)
+    ap (λ n. get_or (slot_sets new) n set.empty) (let e : at + length text - 1
+    ≡ at + (length text - 1) = omega (arith, some) in e)
     ∙ slots-within at text slots cells (length text - 1) within (omega (arith, some)) in
     record {
       counted = length-cells_inserted at text slots cells within ∙ ap (λ n. n + length text) is.counted;
       within = let h : at < len = is.within in omega arith;
       after = next;
       around =
-          ap (λ b. if b then set.empty else set.intersection (get_or (slot_sets new) (at + length text - 1) set.empty) (get_or (slot_sets new) (at + length text) set.empty))
+          ap (λ b. if b then set.empty else set.intersection (get_or (slot_sets new) (at + length text - 1) set.empty)
+          (get_or (slot_sets new) (at + length text) set.empty))
           (ne_eqb (at + length text) 0 (λ none. omega (arith, none, some)))
           ∙ ap₂ set.intersection last next;
     }
 
 moved-within : (at count len anchor : ℕ) → anchor ≤ len → anchor_moved at count anchor ≤ len + count
-moved-within at count len anchor within = elim (nat_lt at anchor) as (λ b. (if b then anchor + count else anchor) ≤ len + count) [ true ↦ omega arith | false ↦ omega arith ]
+moved-within at count len anchor within = elim (nat_lt at anchor) as (λ b. (if b then anchor + count else anchor)
+    ≤ len + count) [ true ↦ omega arith | false ↦ omega arith ]
 
-one-moved : (at count len : ℕ) (anchor : Option ℕ) → IfSome anchor (λ place. place ≤ len) → IfSome (option_map (anchor_moved at count) anchor) (λ place. place ≤ len + count)
+one-moved : (at count len : ℕ) (anchor : Option ℕ) → IfSome anchor (λ place. place ≤ len) →
+    IfSome (option_map (anchor_moved at count) anchor) (λ place. place ≤ len + count)
 one-moved at count len None stands = tt
 one-moved at count len (Some anchor) stands = moved-within at count len anchor stands
 
-stands-moved : (at count len : ℕ) (anchors : Anchors) → AnchorsStand len anchors → AnchorsStand (len + count) (anchors_moved at count anchors)
-stands-moved at count len anchors stand = record { start = one-moved at count len anchors.start stand.start; end = one-moved at count len anchors.end stand.end }
+stands-moved : (at count len : ℕ) (anchors : Anchors) → AnchorsStand len anchors →
+    AnchorsStand (len + count) (anchors_moved at count anchors)
+stands-moved at count len anchors stand = record {
+  start = one-moved at count len anchors.start stand.start;
+  end = one-moved at count len anchors.end stand.end;
+}
 
 -- the anchors of each widget still stand in the text
-pub stand-moved : (at count len : ℕ) (all : List Anchors) → All (AnchorsStand len) all → All (AnchorsStand (len + count)) (map (anchors_moved at count) all)
-stand-moved at count len all stand = All-map (AnchorsStand (len + count)) (anchors_moved at count) all (λ k d within. stands-moved at count len (get_or all k d) (stand k d within))
+pub stand-moved : (at count len : ℕ) (all : List Anchors) → All (AnchorsStand len) all →
+    All (AnchorsStand (len + count)) (map (anchors_moved at count) all)
+stand-moved at count len all stand = All-map (AnchorsStand (len + count)) (anchors_moved at count) all (λ k d within.
+    stands-moved at count len (get_or all k d) (stand k d within))
 
 -- one text more, of an edit that is put together
-pub record OneMore (recording : Recording) (kind : EditKind) (draft new : Draft) (state : State) (at len : ℕ) (shared behind : Slots) (piece : Piece) : Type 0 where
+pub record OneMore (recording : Recording) (kind : EditKind) (draft new : Draft) (state : State) (at len : ℕ)
+    (shared behind : Slots) (piece : Piece) : Type 0 where
   pub fits : Fits new.steps state.content
-  pub between : IsBetween shared behind (len + length piece.text) (at + length piece.text) (after new.steps state.content).cells
-  pub makes : drafted recording kind new state ≡ inserted_text recording kind at piece (drafted recording kind draft state)
+  pub between : IsBetween shared behind (len + length piece.text) (at + length piece.text)
+      (after new.steps state.content).cells
+  pub makes : drafted recording kind new state
+      ≡ inserted_text recording kind at piece (drafted recording kind draft state)
 
-pub one-more : (recording : Recording) (kind : EditKind) (draft new : Draft) (state : State) (at len : ℕ) (shared behind slots : Slots) (piece : Piece)
-    → Fits draft.steps state.content → IsBetween shared behind len at (after draft.steps state.content).cells → 0 < length piece.text → slots ≡ slots_or piece.slots shared
+pub one-more : (recording : Recording) (kind : EditKind) (draft new : Draft) (state : State) (at len : ℕ)
+    (shared behind slots : Slots) (piece : Piece)
+    → Fits draft.steps state.content → IsBetween shared behind len at (after draft.steps state.content).cells →
+    0 < length piece.text → slots ≡ slots_or piece.slots shared
     → new ≡ record {
       steps = draft.steps ++ Insert at piece.text slots ∷ [];
       anchors = map (anchors_moved at (length piece.text)) draft.anchors;
@@ -101,32 +129,42 @@ one-more recording kind draft new state at len shared behind slots piece fits is
     let before = after draft.steps state.content in
     let step = Insert at piece.text slots in
     let action : Action = record { inserts = true; at = at; text = piece.text } in
-    let content : after (draft.steps ++ step ∷ []) state.content ≡ after_insertion at piece.text slots before = after-append draft.steps (step ∷ []) state.content in
-    let same : slots ≡ slots_or piece.slots (shared_slots at before.cells) = slots_are ∙ ap (slots_or piece.slots) (sym is.around) in
-    let log : all_noted recording kind (draft.actions ++ action ∷ []) state.log ≡ log_noted recording kind action (all_noted recording kind draft.actions state.log) =
+    let content : after (draft.steps ++ step ∷ []) state.content
+    ≡ after_insertion at piece.text slots before = after-append draft.steps (step ∷ []) state.content in
+    let same : slots ≡ slots_or piece.slots (shared_slots at before.cells) = slots_are
+    ∙ ap (slots_or piece.slots) (sym is.around) in
+    let log : all_noted recording kind (draft.actions ++ action ∷ []) state.log
+    ≡ log_noted recording kind action (all_noted recording kind draft.actions state.log) =
     noted-append recording kind draft.actions (action ∷ []) state.log in
     let anchors = map (anchors_moved at (length piece.text)) draft.anchors in
     record {
-      fits = subst (λ (d : Draft). Fits d.steps state.content) (sym made) (Fits-append draft.steps (step ∷ []) state.content fits (omega (arith, is.within, is.counted), tt));
-      between = subst (λ (d : Draft). IsBetween (set.intersection slots behind) behind (len + length piece.text) (at + length piece.text) (after d.steps state.content).cells) (sym made)
-          (subst (λ (c : Content). IsBetween (set.intersection slots behind) behind (len + length piece.text) (at + length piece.text) c.cells) (sym content)
+      fits = subst (λ (d : Draft). Fits d.steps state.content) (sym made)
+          (Fits-append draft.steps (step ∷ []) state.content fits (omega (arith, is.within, is.counted), tt));
+      between = subst (λ (d : Draft). IsBetween (set.intersection slots behind) behind (len + length piece.text)
+          (at + length piece.text) (after d.steps state.content).cells) (sym made)
+          (subst (λ (c : Content). IsBetween (set.intersection slots behind) behind (len + length piece.text)
+          (at + length piece.text) c.cells) (sym content)
           (between-next shared behind slots len at piece.text before.cells is some));
       makes =
           ap (λ d. drafted recording kind d state) made
           ∙ ap₂ (λ c l. state_of c anchors l) (content ∙ ap (λ s. after_insertion at piece.text s before) same) log
           ∙ ap (λ b. if b then drafted recording kind draft state
-          else state_of (after_insertion at piece.text (slots_or piece.slots (shared_slots at before.cells)) before) anchors
+          else state_of (after_insertion at piece.text (slots_or piece.slots (shared_slots at before.cells)) before)
+          anchors
           (log_noted recording kind action (all_noted recording kind draft.actions state.log)))
           (sym (ne_eqb (length piece.text) 0 (λ none. omega (arith, none, some))));
     }
 
 -- The first of the texts are put in, of an edit that is put together, and these are left.
-pub record InsertedSoFar (recording : Recording) (kind : EditKind) (draft new : Draft) (state : State) (from : ℕ) (pieces : List Piece) (at len : ℕ) (shared behind : Slots) (rest : List Piece) : Type 0 where
+pub record InsertedSoFar (recording : Recording) (kind : EditKind) (draft new : Draft) (state : State) (from : ℕ)
+    (pieces : List Piece) (at len : ℕ) (shared behind : Slots) (rest : List Piece) : Type 0 where
   pub fits : Fits new.steps state.content
   pub between : IsBetween shared behind len at (after new.steps state.content).cells
-  pub makes : inserted_texts recording kind at rest (drafted recording kind new state) ≡ inserted_texts recording kind from pieces (drafted recording kind draft state)
+  pub makes : inserted_texts recording kind at rest (drafted recording kind new state)
+      ≡ inserted_texts recording kind from pieces (drafted recording kind draft state)
 
-pub record Inserting (draft new : Draft) (from start : ℕ) (around : Slots) (pieces : List Piece) (at len : ℕ) (shared behind : Slots) (rest : List Piece) : Type 0 where
+pub record Inserting (draft new : Draft) (from start : ℕ) (around : Slots) (pieces : List Piece) (at len : ℕ)
+    (shared behind : Slots) (rest : List Piece) : Type 0 where
   pub within : at < len
   pub count : length new.anchors ≡ length draft.anchors
   pub stand : All (AnchorsStand len) new.anchors
@@ -140,36 +178,46 @@ pub total-cons : (piece : Piece) (rest : List Piece) → total (piece ∷ rest) 
 total-cons piece rest = sum_by-cons (λ (p : Piece). length p.text) piece rest
 
 -- a text more
-pub inserting-more : (draft now new : Draft) (from start : ℕ) (around : Slots) (pieces : List Piece) (at len : ℕ) (shared behind slots : Slots) (piece : Piece) (rest left : List Piece)
-    → Inserting draft now from start around pieces at len shared behind left → left ≡ piece ∷ rest → 0 < length piece.text → slots ≡ slots_or piece.slots shared
+pub inserting-more : (draft now new : Draft) (from start : ℕ) (around : Slots) (pieces : List Piece) (at len : ℕ)
+    (shared behind slots : Slots) (piece : Piece) (rest left : List Piece)
+    → Inserting draft now from start around pieces at len shared behind left → left ≡ piece ∷ rest →
+    0 < length piece.text → slots ≡ slots_or piece.slots shared
     → new ≡ record {
       steps = now.steps ++ Insert at piece.text slots ∷ [];
       anchors = map (anchors_moved at (length piece.text)) now.anchors;
       actions = now.actions ++ record { inserts = true; at = at; text = piece.text } ∷ [];
     }
-    → Inserting draft new from start around pieces (at + length piece.text) (len + length piece.text) (set.intersection slots behind) behind rest
-inserting-more draft now new from start around pieces at len shared behind slots piece rest left so_far left_is some slots_are made =
+    → Inserting draft new from start around pieces (at + length piece.text) (len + length piece.text)
+    (set.intersection slots behind) behind rest
+inserting-more draft now new from start around pieces at len shared behind slots piece rest left so_far left_is some
+    slots_are made =
     let counted : total left ≡ length piece.text + total rest = ap total left_is ∙ total-cons piece rest in
     record {
       within = let h : at < len = so_far.within in omega arith;
-      count = ap (λ (d : Draft). length d.anchors) made ∙ length-map now.anchors (anchors_moved at (length piece.text)) ∙ so_far.count;
-      stand = subst (λ (d : Draft). All (AnchorsStand (len + length piece.text)) d.anchors) (sym made) (stand-moved at (length piece.text) len now.anchors so_far.stand);
+      count = ap (λ (d : Draft). length d.anchors) made ∙ length-map now.anchors (anchors_moved at (length piece.text))
+          ∙ so_far.count;
+      stand = subst (λ (d : Draft). All (AnchorsStand (len + length piece.text)) d.anchors) (sym made)
+          (stand-moved at (length piece.text) len now.anchors so_far.stand);
       room = omega (arith, counted, so_far.room);
       whole = omega (arith, counted, so_far.whole);
       goes = λ recording kind state fits is.
           let before = so_far.goes recording kind state fits is in
-          let next = one-more recording kind now new state at len shared behind slots piece before.fits before.between some slots_are made in
+          let next = one-more recording kind now new state at len shared behind slots piece before.fits before.between
+          some slots_are made in
           record {
             fits = next.fits;
             between = next.between;
             makes = ap (inserted_texts recording kind (at + length piece.text) rest) next.makes
-                ∙ ap (λ ps. inserted_texts recording kind at ps (drafted recording kind now state)) (sym left_is) ∙ before.makes;
+                ∙ ap (λ ps. inserted_texts recording kind at ps (drafted recording kind now state)) (sym left_is)
+                ∙ before.makes;
           };
     }
 
 -- no text more
-pub inserting-none : (draft now : Draft) (from start : ℕ) (around : Slots) (pieces : List Piece) (at len : ℕ) (shared behind : Slots) (piece : Piece) (rest left : List Piece)
-    → Inserting draft now from start around pieces at len shared behind left → left ≡ piece ∷ rest → length piece.text ≡ 0
+pub inserting-none : (draft now : Draft) (from start : ℕ) (around : Slots) (pieces : List Piece) (at len : ℕ)
+    (shared behind : Slots) (piece : Piece) (rest left : List Piece)
+    → Inserting draft now from start around pieces at len shared behind left → left ≡ piece ∷ rest →
+    length piece.text ≡ 0
     → Inserting draft now from start around pieces at len shared behind rest
 inserting-none draft now from start around pieces at len shared behind piece rest left so_far left_is none =
     let counted : total left ≡ length piece.text + total rest = ap total left_is ∙ total-cons piece rest in
@@ -185,60 +233,83 @@ inserting-none draft now from start around pieces at len shared behind piece res
             fits = before.fits;
             between = before.between;
             makes =
-                ap₂ (λ n s. inserted_texts recording kind n rest s) (let e : at ≡ at + length piece.text = omega (arith, none) in e)
+                ap₂ (λ n s. inserted_texts recording kind n rest s) (let e : at
+                ≡ at + length piece.text = omega (arith, none) in e)
                 (sym (ap (λ b. if b then drafted recording kind now state else state_of
-                (after_insertion at piece.text (slots_or piece.slots (shared_slots at (after now.steps state.content).cells)) (after now.steps state.content))
+                (after_insertion at piece.text
+                (slots_or piece.slots (shared_slots at (after now.steps state.content).cells))
+                (after now.steps state.content))
                 (map (anchors_moved at (length piece.text)) now.anchors)
-                (log_noted recording kind (record { inserts = true; at = at; text = piece.text }) (all_noted recording kind now.actions state.log)))
+                (log_noted recording kind (record { inserts = true; at = at; text = piece.text })
+                (all_noted recording kind now.actions state.log)))
                 (eq-eqb (length piece.text) 0 none)))
-                ∙ ap (λ ps. inserted_texts recording kind at ps (drafted recording kind now state)) (sym left_is) ∙ before.makes;
+                ∙ ap (λ ps. inserted_texts recording kind at ps (drafted recording kind now state)) (sym left_is)
+                ∙ before.makes;
           };
     }
 
 -- a loop goes on with values that are equal
-pub inserting-same : (draft now new : Draft) (from start : ℕ) (around : Slots) (pieces : List Piece) (at len new_at new_len : ℕ) (shared new_shared behind : Slots) (rest : List Piece)
-    → Inserting draft now from start around pieces at len shared behind rest → new ≡ now → new_at ≡ at → new_len ≡ len → new_shared ≡ shared
+pub inserting-same : (draft now new : Draft) (from start : ℕ) (around : Slots) (pieces : List Piece)
+    (at len new_at new_len : ℕ) (shared new_shared behind : Slots) (rest : List Piece)
+    → Inserting draft now from start around pieces at len shared behind rest → new ≡ now → new_at ≡ at → new_len ≡ len →
+    new_shared ≡ shared
     → Inserting draft new from start around pieces new_at new_len new_shared behind rest
-inserting-same draft now new from start around pieces at len new_at new_len shared new_shared behind rest so_far self_is at_is len_is shared_is =
-    subst (λ (d : Draft). Inserting draft d from start around pieces new_at new_len new_shared behind rest) (sym self_is)
+inserting-same draft now new from start around pieces at len new_at new_len shared new_shared behind rest so_far self_is
+    at_is len_is shared_is =
+    subst (λ (d : Draft). Inserting draft d from start around pieces new_at new_len new_shared behind rest)
+    (sym self_is)
     (subst (λ n. Inserting draft now from start around pieces n new_len new_shared behind rest) (sym at_is)
     (subst (λ n. Inserting draft now from start around pieces at n new_shared behind rest) (sym len_is)
     (subst (λ (s : Slots). Inserting draft now from start around pieces at len s behind rest) (sym shared_is) so_far)))
 
 -- so many characters more
-pub inserting-count : (draft now new : Draft) (from start : ℕ) (around : Slots) (pieces : List Piece) (at len count : ℕ) (shared behind slots : Slots) (piece : Piece) (rest left : List Piece)
-    → Inserting draft now from start around pieces at len shared behind left → left ≡ piece ∷ rest → count ≡ length piece.text → 0 < count → slots ≡ slots_or piece.slots shared
+pub inserting-count : (draft now new : Draft) (from start : ℕ) (around : Slots) (pieces : List Piece) (at len count : ℕ)
+    (shared behind slots : Slots) (piece : Piece) (rest left : List Piece)
+    → Inserting draft now from start around pieces at len shared behind left → left ≡ piece ∷ rest →
+    count ≡ length piece.text → 0 < count → slots ≡ slots_or piece.slots shared
     → new ≡ record {
       steps = now.steps ++ Insert at piece.text slots ∷ [];
       anchors = map (anchors_moved at count) now.anchors;
       actions = now.actions ++ record { inserts = true; at = at; text = piece.text } ∷ [];
     }
-    → Inserting draft new from start around pieces (at + count) (len + count) (set.intersection slots behind) behind rest
-inserting-count draft now new from start around pieces at len count shared behind slots piece rest left so_far left_is counted some slots_are made =
-    subst (λ n. Inserting draft new from start around pieces (at + n) (len + n) (set.intersection slots behind) behind rest) (sym counted)
-    (inserting-more draft now new from start around pieces at len shared behind slots piece rest left so_far left_is (omega (arith, counted, some)) slots_are
+    → Inserting draft new from start around pieces (at + count) (len + count) (set.intersection slots behind) behind
+    rest
+inserting-count draft now new from start around pieces at len count shared behind slots piece rest left so_far left_is
+    counted some slots_are made =
+    subst (λ n. Inserting draft new from start around pieces (at + n) (len + n) (set.intersection slots behind) behind
+    rest) (sym counted)
+    (inserting-more draft now new from start around pieces at len shared behind slots piece rest left so_far left_is
+    (omega (arith, counted, some)) slots_are
     (made ∙ ap (λ n. record {
       steps = now.steps ++ Insert at piece.text slots ∷ [];
       anchors = map (anchors_moved at n) now.anchors;
       actions = now.actions ++ record { inserts = true; at = at; text = piece.text } ∷ [];
     }) counted))
 
-pub next-piece : (pieces : List Piece) (i : ℕ) (piece : Piece) → i < length pieces → piece ≡ get_or pieces i piece → drop i pieces ≡ piece ∷ drop (i + 1) pieces
+pub next-piece : (pieces : List Piece) (i : ℕ) (piece : Piece) → i < length pieces → piece ≡ get_or pieces i piece →
+    drop i pieces ≡ piece ∷ drop (i + 1) pieces
 next-piece pieces i piece within is = drop_more pieces i piece within ∙ ap (λ p. p ∷ drop (i + 1) pieces) (sym is)
 
-pub piece-fits : (draft now : Draft) (from start : ℕ) (around : Slots) (pieces : List Piece) (at len count : ℕ) (shared behind : Slots) (piece : Piece) (rest left : List Piece)
-    → Inserting draft now from start around pieces at len shared behind left → left ≡ piece ∷ rest → count ≡ length piece.text → (len + count < 2 ^ 64) × (at + count < 2 ^ 64)
+pub piece-fits : (draft now : Draft) (from start : ℕ) (around : Slots) (pieces : List Piece) (at len count : ℕ)
+    (shared behind : Slots) (piece : Piece) (rest left : List Piece)
+    → Inserting draft now from start around pieces at len shared behind left → left ≡ piece ∷ rest →
+    count ≡ length piece.text → (len + count < 2 ^ 64) × (at + count < 2 ^ 64)
 piece-fits draft now from start around pieces at len count shared behind piece rest left so_far left_is counted =
     let whole : total left ≡ length piece.text + total rest = ap total left_is ∙ total-cons piece rest in
     (omega (arith, whole, counted, so_far.room), omega (arith, whole, counted, so_far.room, so_far.within))
 
 -- an edit that begins with texts that are put in
-pub put-in : (draft new : Draft) (content : Content) (anchors : List Anchors) (shared behind : Slots) (len at : ℕ) (pieces : List Piece) → draft ≡ record { steps = []; anchors = anchors; actions = [] }
+pub put-in : (draft new : Draft) (content : Content) (anchors : List Anchors) (shared behind : Slots) (len at : ℕ)
+    (pieces : List Piece) → draft ≡ record { steps = []; anchors = anchors; actions = [] }
     → IsBetween shared behind len at content.cells
-    → ((recording : Recording) (kind : EditKind) (state : State) → Fits draft.steps state.content → IsBetween shared behind len at (after draft.steps state.content).cells
-    → Fits new.steps state.content × (length (after new.steps state.content).cells ≡ len + total pieces) × (drafted recording kind new state ≡ inserted_texts recording kind at pieces (drafted recording kind draft state)))
+    → ((recording : Recording) (kind : EditKind) (state : State) → Fits draft.steps state.content →
+    IsBetween shared behind len at (after draft.steps state.content).cells
+    → Fits new.steps state.content × (length (after new.steps state.content).cells ≡ len + total pieces)
+    × (drafted recording kind new state
+    ≡ inserted_texts recording kind at pieces (drafted recording kind draft state)))
     → (recording : Recording) (kind : EditKind) (log : Log)
-    → Fits new.steps content × (drafted recording kind new (state_of content anchors log) ≡ inserted_texts recording kind at pieces (state_of content anchors log))
+    → Fits new.steps content × (drafted recording kind new (state_of content anchors log)
+    ≡ inserted_texts recording kind at pieces (state_of content anchors log))
 put-in draft new content anchors shared behind len at pieces made is goes recording kind log =
     let state = state_of content anchors log in
     let done = goes recording kind state
@@ -246,5 +317,6 @@ put-in draft new content anchors shared behind len at pieces made is goes record
     (subst (λ (d : Draft). IsBetween shared behind len at (after d.steps content).cells) (sym made) is) in
     (done.0, done.2 ∙ ap (λ (d : Draft). inserted_texts recording kind at pieces (drafted recording kind d state)) made)
 
-pub behind-is : (at : ℕ) (cells : List Cell) (slots : Slots) → slice_get (slot_sets cells) at ≡ Some slots → get_or (slot_sets cells) at set.empty ≡ slots
+pub behind-is : (at : ℕ) (cells : List Cell) (slots : Slots) → slice_get (slot_sets cells) at ≡ Some slots →
+    get_or (slot_sets cells) at set.empty ≡ slots
 behind-is at cells slots found = get_or_from_slice_get (slot_sets cells) at slots set.empty found

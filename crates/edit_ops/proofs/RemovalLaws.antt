@@ -1,5 +1,6 @@
 -- What is taken out: where lines begin around it, where anchors stand, and what stands on both sides.
-use Rattle.std.proofs.Common.{◌≡◌, ℕ, ◌+◌, ◌-◌, ◌≤◌, ◌==◌, ◌&&◌, Bool, true, false, List, [], ◌∷◌, ◌++◌, Option, Some, None, map, length, get_or, take, drop, refl, sym, ap, ap₂, ◌∙◌, arith, ne_eqb, subst}
+use Rattle.std.proofs.Common.{◌≡◌, ℕ, ◌+◌, ◌-◌, ◌≤◌, ◌==◌, ◌&&◌, Bool, true, false, List, [], ◌∷◌, ◌++◌, Option, Some}
+use Rattle.std.proofs.Common.{None, map, length, get_or, take, drop, refl, sym, ap, ap₂, ◌∙◌, arith, ne_eqb, subst}
 use Rattle.std.specs.Prelude.{IfSome, option_map, unwrap_or, not, nat_le, slice_range, if◌then◌else◌}
 use Rattle.std.specs.List.{All}
 use Rattle.std.proofs.lemmas.Bool.{eq-eqb}
@@ -22,37 +23,48 @@ use Rattle.text_cursor.proofs.AroundLaws.{line-before}
 use Rattle.edit_ops.specs.Removals.{removed_span}
 use Rattle.edit_ops.specs.States.{Log, Draft, log_noted, drafted, state_of}
 
-start-within : (line from to len anchor : ℕ) → anchor ≤ len → line ≤ from → from ≤ to → to ≤ len → start_drawn line from to anchor ≤ len - (to - from)
+start-within : (line from to len anchor : ℕ) → anchor ≤ len → line ≤ from → from ≤ to → to ≤ len →
+    start_drawn line from to anchor ≤ len - (to - from)
 start-within line from to len anchor stands before ordered within = grind (arith, nat_tests)
 
-end-within : (line next start from to len anchor : ℕ) → anchor ≤ len → line ≤ from → from ≤ to → to ≤ len → next ≤ len - (to - from) → end_drawn line next start from to anchor ≤ len - (to - from)
+end-within : (line next start from to len anchor : ℕ) → anchor ≤ len → line ≤ from → from ≤ to → to ≤ len →
+    next ≤ len - (to - from) → end_drawn line next start from to anchor ≤ len - (to - from)
 end-within line next start from to len anchor stands before ordered within bound =
-    elim (nat_le start from && not (from == line)) as (λ b. (if nat_le anchor from then anchor else if nat_le anchor to then (if b then next else line) else anchor - (to - from)) ≤ len - (to - from)) [
+    elim (nat_le start from && not (from == line)) as (λ b.
+    (if nat_le anchor from then anchor else if nat_le anchor to then (if b then next else line)
+    else anchor - (to - from)) ≤ len - (to - from)) [
       | true ↦ grind (arith, nat_tests)
       | false ↦ grind (arith, nat_tests)
     ]
 
-one-start : (line from to len : ℕ) (anchor : Option ℕ) → IfSome anchor (λ place. place ≤ len) → line ≤ from → from ≤ to → to ≤ len
+one-start : (line from to len : ℕ) (anchor : Option ℕ) → IfSome anchor (λ place. place ≤ len) → line ≤ from →
+    from ≤ to → to ≤ len
     → IfSome (option_map (start_drawn line from to) anchor) (λ place. place ≤ len - (to - from))
 one-start line from to len None stands before ordered within = tt
-one-start line from to len (Some anchor) stands before ordered within = start-within line from to len anchor stands before ordered within
+one-start line from to len (Some anchor) stands before ordered within =
+    start-within line from to len anchor stands before ordered within
 
-one-end : (line next start from to len : ℕ) (anchor : Option ℕ) → IfSome anchor (λ place. place ≤ len) → line ≤ from → from ≤ to → to ≤ len → next ≤ len - (to - from)
+one-end : (line next start from to len : ℕ) (anchor : Option ℕ) → IfSome anchor (λ place. place ≤ len) → line ≤ from →
+    from ≤ to → to ≤ len → next ≤ len - (to - from)
     → IfSome (option_map (end_drawn line next start from to) anchor) (λ place. place ≤ len - (to - from))
 one-end line next start from to len None stands before ordered within bound = tt
-one-end line next start from to len (Some anchor) stands before ordered within bound = end-within line next start from to len anchor stands before ordered within bound
+one-end line next start from to len (Some anchor) stands before ordered within bound =
+    end-within line next start from to len anchor stands before ordered within bound
 
 -- the anchors of each widget still stand in the text
-pub stand-drawn : (line next from to len : ℕ) (all : List Anchors) → All (AnchorsStand len) all → line ≤ from → from ≤ to → to ≤ len → next ≤ len - (to - from)
+pub stand-drawn : (line next from to len : ℕ) (all : List Anchors) → All (AnchorsStand len) all → line ≤ from →
+    from ≤ to → to ≤ len → next ≤ len - (to - from)
     → All (AnchorsStand (len - (to - from))) (map (anchors_drawn line next from to) all)
 stand-drawn line next from to len all stand before ordered within bound =
     All-map (AnchorsStand (len - (to - from))) (anchors_drawn line next from to) all (λ k d inside. record {
       start = one-start line from to len (get_or all k d).start (stand k d inside).start before ordered within;
-      end = one-end line next (unwrap_or (get_or all k d).start 0) from to len (get_or all k d).end (stand k d inside).end before ordered within bound;
+      end = one-end line next (unwrap_or (get_or all k d).start 0) from to len (get_or all k d).end
+          (stand k d inside).end before ordered within bound;
     })
 
 -- an edit that takes a span out
-pub taken-out : (draft new : Draft) (content : Content) (anchors : List Anchors) (text : List ℕ) (line next from to : ℕ) → draft ≡ record { steps = []; anchors = anchors; actions = [] }
+pub taken-out : (draft new : Draft) (content : Content) (anchors : List Anchors) (text : List ℕ) (line next from to : ℕ)
+    → draft ≡ record { steps = []; anchors = anchors; actions = [] }
     → new ≡ record {
       steps = draft.steps ++ Remove from to ∷ [];
       anchors = map (anchors_drawn line next from to) draft.anchors;
@@ -62,7 +74,8 @@ pub taken-out : (draft new : Draft) (content : Content) (anchors : List Anchors)
     → line ≡ line_start (line_of (characters content.cells) from) (characters content.cells)
     → next ≡ next_line (removed from to (characters content.cells)) from
     → (recording : Recording) (kind : EditKind) (log : Log)
-    → drafted recording kind new (state_of content anchors log) ≡ removed_span recording kind from to (state_of content anchors log)
+    → drafted recording kind new (state_of content anchors log)
+    ≡ removed_span recording kind from to (state_of content anchors log)
 taken-out draft new content anchors text line next from to begun made some text_is line_is next_is recording kind log =
     let state = state_of content anchors log in
     let cells = characters content.cells in
@@ -72,12 +85,17 @@ taken-out draft new content anchors text line next from to begun made some text_
       anchors = map (anchors_drawn line next from to) d.anchors;
       actions = d.actions ++ record { inserts = false; at = from; text = text } ∷ [];
     }) state) begun
-    ∙ ap₂ (λ l n. state_of (after_removal from to content) (map (anchors_drawn l n from to) anchors) (log_noted recording kind (record { inserts = false; at = from; text = text }) log)) line_is next_is
-    ∙ ap (λ (t : List ℕ). state_of (after_removal from to content) (map (anchors_removed cells from to) anchors) (log_noted recording kind (record { inserts = false; at = from; text = t }) log)) text_is
-    ∙ ap (λ b. if b then state else state_of (after_removal from to content) (map (anchors_removed cells from to) anchors)
-    (log_noted recording kind (record { inserts = false; at = from; text = slice_range cells from to }) log)) (sym (ne_eqb from to some))
+    ∙ ap₂ (λ l n. state_of (after_removal from to content) (map (anchors_drawn l n from to) anchors)
+    (log_noted recording kind (record { inserts = false; at = from; text = text }) log)) line_is next_is
+    ∙ ap (λ (t : List ℕ). state_of (after_removal from to content) (map (anchors_removed cells from to) anchors)
+    (log_noted recording kind (record { inserts = false; at = from; text = t }) log)) text_is
+    ∙ ap (λ b. if b then state else state_of (after_removal from to content)
+    (map (anchors_removed cells from to) anchors)
+    (log_noted recording kind (record { inserts = false; at = from; text = slice_range cells from to }) log))
+    (sym (ne_eqb from to some))
 
-pub stand-out : (draft new : Draft) (anchors : List Anchors) (text cells : List ℕ) (line next from to len : ℕ) → draft ≡ record { steps = []; anchors = anchors; actions = [] }
+pub stand-out : (draft new : Draft) (anchors : List Anchors) (text cells : List ℕ) (line next from to len : ℕ) →
+    draft ≡ record { steps = []; anchors = anchors; actions = [] }
     → new ≡ record {
       steps = draft.steps ++ Remove from to ∷ [];
       anchors = map (anchors_drawn line next from to) draft.anchors;
@@ -93,7 +111,8 @@ stand-out draft new anchors text cells line next from to len begun made stand co
     let long = length-removed from to cells ordered (omega (arith, counted)) in
     omega (arith, next_is, h, long, counted) in
     subst (λ (d : Draft). All (AnchorsStand (len - (to - from))) d.anchors) (sym made)
-    (subst (λ (d : Draft). All (AnchorsStand (len - (to - from))) (map (anchors_drawn line next from to) d.anchors)) (sym begun)
+    (subst (λ (d : Draft). All (AnchorsStand (len - (to - from))) (map (anchors_drawn line next from to) d.anchors))
+    (sym begun)
     (stand-drawn line next from to len anchors stand before ordered within bound))
 
 -- ---- no cells are taken out
@@ -102,18 +121,26 @@ if-same : {A : Type 0} (b : Bool) (x y : A) → b ≡ true → x ≡ (if b then 
 if-same true x y is = refl
 if-same false x y is = absurd (cc)
 
-pub none-stand : (draft : Draft) (anchors : List Anchors) (from to len : ℕ) → draft ≡ record { steps = []; anchors = anchors; actions = [] } → from ≡ to
+pub none-stand : (draft : Draft) (anchors : List Anchors) (from to len : ℕ) →
+    draft ≡ record { steps = []; anchors = anchors; actions = [] } → from ≡ to
     → All (AnchorsStand len) anchors → All (AnchorsStand (len - (to - from))) draft.anchors
 none-stand draft anchors from to len is same stand =
     let still : len ≡ len - (to - from) = omega arith in
-    subst (λ (d : Draft). All (AnchorsStand (len - (to - from))) d.anchors) (sym is) (subst (λ n. All (AnchorsStand n) anchors) still stand)
+    subst (λ (d : Draft). All (AnchorsStand (len - (to - from))) d.anchors) (sym is)
+    (subst (λ n. All (AnchorsStand n) anchors) still stand)
 
-pub none-cells : (draft : Draft) (content : Content) (anchors : List Anchors) (from to : ℕ) → draft ≡ record { steps = []; anchors = anchors; actions = [] } → from ≡ to
+pub none-cells : (draft : Draft) (content : Content) (anchors : List Anchors) (from to : ℕ) →
+    draft ≡ record { steps = []; anchors = anchors; actions = [] } → from ≡ to
     → (after draft.steps content).cells ≡ removed from to content.cells
 none-cells draft content anchors from to is same =
-    ap (λ (d : Draft). (after d.steps content).cells) is ∙ sym (take-append-drop from content.cells) ∙ ap (λ n. take from content.cells ++ drop n content.cells) same
+    ap (λ (d : Draft). (after d.steps content).cells) is ∙ sym (take-append-drop from content.cells)
+    ∙ ap (λ n. take from content.cells ++ drop n content.cells) same
 
-pub none-out : (draft : Draft) (content : Content) (anchors : List Anchors) (from to : ℕ) → draft ≡ record { steps = []; anchors = anchors; actions = [] } → from ≡ to
-    → (recording : Recording) (kind : EditKind) (log : Log) → drafted recording kind draft (state_of content anchors log) ≡ removed_span recording kind from to (state_of content anchors log)
+pub none-out : (draft : Draft) (content : Content) (anchors : List Anchors) (from to : ℕ) →
+    draft ≡ record { steps = []; anchors = anchors; actions = [] } → from ≡ to
+    → (recording : Recording) (kind : EditKind) (log : Log) →
+    drafted recording kind draft (state_of content anchors log)
+    ≡ removed_span recording kind from to (state_of content anchors log)
 none-out draft content anchors from to is same recording kind log =
-    ap (λ (d : Draft). drafted recording kind d (state_of content anchors log)) is ∙ if-same (from == to) (state_of content anchors log) _ (eq-eqb from to same)
+    ap (λ (d : Draft). drafted recording kind d (state_of content anchors log)) is
+    ∙ if-same (from == to) (state_of content anchors log) _ (eq-eqb from to same)

@@ -1,5 +1,6 @@
 -- Texts in the place of a span, and the mark that is clipped.
-use Rattle.std.proofs.Common.{◌≡◌, ℕ, ◌+◌, ◌-◌, ◌^◌, ◌<◌, ◌≤◌, ◌==◌, ◌&&◌, true, false, List, [], ◌∷◌, ◌++◌, Option, Some, None, length, get_or, refl, sym, ap, ap₂, ◌∙◌, arith, subst}
+use Rattle.std.proofs.Common.{◌≡◌, ℕ, ◌+◌, ◌-◌, ◌^◌, ◌<◌, ◌≤◌, ◌==◌, ◌&&◌, true, false, List, [], ◌∷◌, ◌++◌, Option}
+use Rattle.std.proofs.Common.{Some, None, length, get_or, refl, sym, ap, ap₂, ◌∙◌, arith, subst}
 use Rattle.std.specs.Prelude.{slice_get, min, nat_le, nat_lt, option_and_then, if◌then◌else◌}
 use Rattle.std.specs.FinSet as set
 use Rattle.std.specs.FinMap as finite
@@ -30,19 +31,24 @@ around-removed from to cells ordered within =
     let long : length sets ≡ length cells = length-slot_sets cells in
     let whole = map-removed (λ (cell : Cell). cell.tags) from to cells in
     elim (from == 0) as (λ b. (from == 0) ≡ b
-    → (if b then set.empty else set.intersection (get_or (slot_sets (removed from to cells)) (from - 1) set.empty) (get_or (slot_sets (removed from to cells)) from set.empty))
+    → (if b then set.empty else set.intersection (get_or (slot_sets (removed from to cells)) (from - 1) set.empty)
+    (get_or (slot_sets (removed from to cells)) from set.empty))
     ≡ (if b then set.empty else set.intersection (get_or sets (from - 1) set.empty) (get_or sets to set.empty))) [
       | true ↦ λ _. refl
       | false ↦ λ test. let some : 0 < from = grind (arith, nat_tests) in
           ap₂ set.intersection
-          (ap (λ xs. get_or xs (from - 1) set.empty) whole ∙ get_or-removed_before from to sets (from - 1) set.empty (omega (arith, long)) (omega arith))
-          (ap (λ xs. get_or xs from set.empty) whole ∙ get_or-removed_behind from to sets from set.empty (omega (arith, long)) ordered (omega arith)
+          (ap (λ xs. get_or xs (from - 1) set.empty) whole
+          ∙ get_or-removed_before from to sets (from - 1) set.empty (omega (arith, long)) (omega arith))
+          (ap (λ xs. get_or xs from set.empty) whole
+          ∙ get_or-removed_behind from to sets from set.empty (omega (arith, long)) ordered (omega arith)
           ∙ ap (λ k. get_or sets k set.empty) (let e : from + (to - from) ≡ to = omega arith in e))
     ] refl
 
 -- what stands around a span that was taken out
-pub between-removed : (shared behind : Slots) (len from to : ℕ) (cells now : List Cell) → now ≡ removed from to cells → from ≤ to → to < length cells → len ≡ length cells - (to - from)
-    → shared ≡ slots_around from to cells → slice_get (slot_sets cells) to ≡ Some behind → IsBetween shared behind len from now
+pub between-removed : (shared behind : Slots) (len from to : ℕ) (cells now : List Cell) → now ≡ removed from to cells →
+    from ≤ to → to < length cells → len ≡ length cells - (to - from)
+    → shared ≡ slots_around from to cells → slice_get (slot_sets cells) to ≡ Some behind →
+    IsBetween shared behind len from now
 between-removed shared behind len from to cells now now_is ordered within counted shared_is behind_is =
     let sets = slot_sets cells in
     let long : length sets ≡ length cells = length-slot_sets cells in
@@ -57,58 +63,78 @@ between-removed shared behind len from to cells now now_is ordered within counte
     })
 
 -- only a part of a count that is no longer than the span matters
-clipped-most : (from to count : ℕ) (place : Place) → to < 2 ^ 64 → clipped from to (min count (2 ^ 64 - 1)) place ≡ clipped from to count place
+clipped-most : (from to count : ℕ) (place : Place) → to < 2 ^ 64 →
+    clipped from to (min count (2 ^ 64 - 1)) place ≡ clipped from to count place
 clipped-most from to count place small =
-    elim (nat_le from place.offset && nat_lt place.offset to) as (λ b. (nat_le from place.offset && nat_lt place.offset to) ≡ b
+    elim (nat_le from place.offset && nat_lt place.offset to) as (λ b.
+    (nat_le from place.offset && nat_lt place.offset to) ≡ b
     → (if b then Some (record place { offset = from + min (place.offset - from) (min count (2 ^ 64 - 1)) }) else None)
     ≡ (if b then Some (record place { offset = from + min (place.offset - from) count }) else None)) [
       | true ↦ λ inside. ap (λ n. Some (record place { offset = n })) (grind (arith, nat_tests))
       | false ↦ λ outside. refl
     ] refl
 
-pub found-most : (from to count most : ℕ) (place : Option Place) → to < 2 ^ 64 → most ≡ min count (2 ^ 64 - 1) → option_and_then (clipped from to most) place ≡ option_and_then (clipped from to count) place
+pub found-most : (from to count most : ℕ) (place : Option Place) → to < 2 ^ 64 → most ≡ min count (2 ^ 64 - 1) →
+    option_and_then (clipped from to most) place ≡ option_and_then (clipped from to count) place
 found-most from to count most None small is = refl
-found-most from to count most (Some place) small is = ap (λ n. clipped from to n place) is ∙ clipped-most from to count place small
+found-most from to count most (Some place) small is =
+    ap (λ n. clipped from to n place) is ∙ clipped-most from to count place small
 
-clipped-within : (from to count : ℕ) (old place : Place) → clipped from to count old ≡ Some place → place.offset ≤ from + count
+clipped-within : (from to count : ℕ) (old place : Place) → clipped from to count old ≡ Some place →
+    place.offset ≤ from + count
 clipped-within from to count old place =
-    elim (nat_le from old.offset && nat_lt old.offset to) as (λ b. (if b then Some (record old { offset = from + min (old.offset - from) count }) else None) ≡ Some place → place.offset ≤ from + count) [
+    elim (nat_le from old.offset && nat_lt old.offset to) as (λ b.
+    (if b then Some (record old { offset = from + min (old.offset - from) count }) else None) ≡ Some place →
+    place.offset ≤ from + count) [
       | true ↦ λ is. let same : from + min (old.offset - from) count ≡ place.offset = cc in omega (arith, same)
       | false ↦ λ is. absurd (let no : None ≡ Some place = is in cc)
     ]
 
-pub found-within : (from to count : ℕ) (old : Option Place) (place : Place) → option_and_then (clipped from to count) old ≡ Some place → place.offset ≤ from + count
+pub found-within : (from to count : ℕ) (old : Option Place) (place : Place) →
+    option_and_then (clipped from to count) old ≡ Some place → place.offset ≤ from + count
 found-within from to count None place is = absurd (let no : None ≡ Some place = is in cc)
 found-within from to count (Some old) place is = clipped-within from to count old place is
 
 -- the mark is put at its place, if it has one
-pub mark-fits : (draft new : Draft) (content : Content) (mark : MarkNo) (place : Place) → Fits draft.steps content → place.offset ≤ length (after draft.steps content).cells
+pub mark-fits : (draft new : Draft) (content : Content) (mark : MarkNo) (place : Place) → Fits draft.steps content →
+    place.offset ≤ length (after draft.steps content).cells
     → new ≡ record draft { steps = draft.steps ++ PutMark mark place ∷ [] } → Fits new.steps content
 mark-fits draft new content mark place fits within made =
-    subst (λ (d : Draft). Fits d.steps content) (sym made) (Fits-append draft.steps (PutMark mark place ∷ []) content fits (within, tt))
+    subst (λ (d : Draft). Fits d.steps content) (sym made)
+    (Fits-append draft.steps (PutMark mark place ∷ []) content fits (within, tt))
 
-pub mark-put : (recording : Recording) (draft new : Draft) (state : State) (mark : MarkNo) (found : Option Place) (place : Place) → found ≡ Some place
+pub mark-put : (recording : Recording) (draft new : Draft) (state : State) (mark : MarkNo) (found : Option Place)
+    (place : Place) → found ≡ Some place
     → new ≡ record draft { steps = draft.steps ++ PutMark mark place ∷ [] }
-    → drafted recording Replace new state ≡ record (drafted recording Replace draft state) { content = with_mark mark.0 found (after draft.steps state.content) }
+    → drafted recording Replace new state ≡ record (drafted recording Replace draft state)
+    { content = with_mark mark.0 found (after draft.steps state.content) }
 mark-put recording draft new state mark found place is made =
     ap (λ (d : Draft). drafted recording Replace d state) made
-    ∙ ap (λ c. record (drafted recording Replace draft state) { content = c }) (after-append draft.steps (PutMark mark place ∷ []) state.content
+    ∙ ap (λ c. record (drafted recording Replace draft state) { content = c })
+    (after-append draft.steps (PutMark mark place ∷ []) state.content
     ∙ ap (λ o. with_mark mark.0 o (after draft.steps state.content)) (sym is))
 
-pub mark-none : (recording : Recording) (draft new : Draft) (state : State) (mark : MarkNo) (found : Option Place) → found ≡ None → new ≡ draft
-    → drafted recording Replace new state ≡ record (drafted recording Replace draft state) { content = with_mark mark.0 found (after draft.steps state.content) }
+pub mark-none : (recording : Recording) (draft new : Draft) (state : State) (mark : MarkNo) (found : Option Place) →
+    found ≡ None → new ≡ draft
+    → drafted recording Replace new state ≡ record (drafted recording Replace draft state)
+    { content = with_mark mark.0 found (after draft.steps state.content) }
 mark-none recording draft new state mark found is made =
     ap (λ (d : Draft). drafted recording Replace d state) made
-    ∙ ap (λ o. record (drafted recording Replace draft state) { content = with_mark mark.0 o (after draft.steps state.content) }) (sym is)
+    ∙ ap (λ o. record (drafted recording Replace draft state)
+    { content = with_mark mark.0 o (after draft.steps state.content) }) (sym is)
 
-pub replaced-is : (recording : Recording) (taken draft new : Draft) (state : State) (mark : MarkNo) (from to : ℕ) (pieces : List Piece) (found : Option Place)
-    → drafted recording Replace draft state ≡ inserted_texts recording Replace from pieces (drafted recording Replace taken state)
+pub replaced-is : (recording : Recording) (taken draft new : Draft) (state : State) (mark : MarkNo) (from to : ℕ)
+    (pieces : List Piece) (found : Option Place)
+    → drafted recording Replace draft state
+    ≡ inserted_texts recording Replace from pieces (drafted recording Replace taken state)
     → drafted recording Replace taken state ≡ removed_span recording Replace from to state
     → found ≡ option_and_then (clipped from to (total pieces)) (finite.get state.content.marks mark.0)
-    → drafted recording Replace new state ≡ record (drafted recording Replace draft state) { content = with_mark mark.0 found (after draft.steps state.content) }
+    → drafted recording Replace new state ≡ record (drafted recording Replace draft state)
+    { content = with_mark mark.0 found (after draft.steps state.content) }
     → drafted recording Replace new state ≡ replaced_span recording mark.0 from to pieces state
 replaced-is recording taken draft new state mark from to pieces found put out clip is =
-    is ∙ ap₂ (λ (s : State) o. record s { content = with_mark mark.0 o s.content }) (put ∙ ap (inserted_texts recording Replace from pieces) out) clip
+    is ∙ ap₂ (λ (s : State) o. record s { content = with_mark mark.0 o s.content }) (put
+    ∙ ap (inserted_texts recording Replace from pieces) out) clip
 
 pub no-longer : (most len : ℕ) → len ≤ most → most < len → ⊥
 no-longer most len short long = omega arith

@@ -1,9 +1,12 @@
 -- Actions are made once more, or reverted, in a text on the way.
-use Rattle.std.proofs.Common.{◌≡◌, ℕ, ◌+◌, ◌-◌, ◌<◌, ◌≤◌, Bool, true, false, List, [], ◌∷◌, ◌++◌, Option, Some, None, ◌&&◌, ◌^◌, get_or, map, length, drop, refl, sym, ap, ap₂, ◌∙◌, arith, subst}
-use Rattle.std.specs.Prelude.{reverse, not, slice_get, slice_range, bytes_eq, nat_lt, nat_le, option_and_then, option_map, IsSome, IfSome, if◌then◌else◌}
+use Rattle.std.proofs.Common.{◌≡◌, ℕ, ◌+◌, ◌-◌, ◌<◌, ◌≤◌, Bool, true, false, List, [], ◌∷◌, ◌++◌, Option, Some, None}
+use Rattle.std.proofs.Common.{◌&&◌, ◌^◌, get_or, map, length, drop, refl, sym, ap, ap₂, ◌∙◌, arith, subst}
+use Rattle.std.specs.Prelude.{reverse, not, slice_get, slice_range, bytes_eq, nat_lt, nat_le, option_and_then}
+use Rattle.std.specs.Prelude.{option_map, IsSome, IfSome, if◌then◌else◌}
 use Rattle.std.specs.List.{All}
 use Rattle.std.proofs.lemmas.Bool.{false≢true, leb-true, ltb-true, and_parts}
-use Rattle.std.proofs.lemmas.List.{reverse-append, length-reverse, map-append, length-map, get_or-map, get_or-reverse, drop_more}
+use Rattle.std.proofs.lemmas.List.{reverse-append, length-reverse, map-append, length-map, get_or-map, get_or-reverse}
+use Rattle.std.proofs.lemmas.List.{drop_more}
 use Rattle.std.proofs.lemmas.Option.{get_or_from_slice_get}
 use Rattle.text_model.specs.declared.cells.Cell.{Cell}
 use Rattle.text_model.specs.declared.edits.Step.TheVariants.{Insert, Remove, PutMark}
@@ -21,7 +24,9 @@ use Rattle.edit_ops.specs.Anchors.{AnchorsStand, anchors_moved, anchors_drawn, a
 use Rattle.text_cursor.specs.Cursors.{cursor_cells, Moves, Takes, Puts}
 use Rattle.text_cursor.specs.Around.{shared_slots, next_line}
 use Rattle.edit_ops.specs.Replays.{Follows, drawn_up, action_end, replayed, replays, replayed_group}
-use Rattle.edit_ops.specs.Reversals.{put_back, taken_back, action_redone, action_undone, group_redone, group_undone, redo_end, undo_end, stood, log_undone, log_redone, undone_group, redone_group, undone, redone}
+use Rattle.edit_ops.specs.Reversals.{put_back, taken_back, action_redone, action_undone, group_redone, group_undone}
+use Rattle.edit_ops.specs.Reversals.{redo_end, undo_end, stood, log_undone, log_redone, undone_group, redone_group}
+use Rattle.edit_ops.specs.Reversals.{undone, redone}
 use Rattle.edit_ops.specs.Removals.{with_mark}
 use Rattle.edit_ops.specs.States.{State, Log, Draft, state_of}
 use Rattle.undo_stack.specs.declared.actions.Action.{Action}
@@ -39,46 +44,67 @@ use Rattle.edit_ops.proofs.RemovalLaws.{stand-drawn}
 use Rattle.edit_ops.proofs.ReversalLaws.{redone-text}
 
 -- how long the text is
-pub follows-length : (content : Content) (draft : Draft) (cursor : Cursor) → Follows content draft cursor → length (after draft.steps content).cells ≡ cursor.len
-follows-length content draft cursor follows = ap length (sym follows.cells) ∙ whole-is cursor content.cells follows.is (sym follows.old_len)
+pub follows-length : (content : Content) (draft : Draft) (cursor : Cursor) → Follows content draft cursor →
+    length (after draft.steps content).cells ≡ cursor.len
+follows-length content draft cursor follows =
+    ap length (sym follows.cells) ∙ whole-is cursor content.cells follows.is (sym follows.old_len)
 
 pub record Replayed (content : Content) (draft new : Draft) (now : Cursor) (made : State → State) : Type 0 where
   pub follows : Follows content new now
   pub makes : (log : Log) → drawn_up new content log ≡ made (drawn_up draft content log)
 
-pub put-replayed : (content : Content) (draft new : Draft) (before moved now : Cursor) (at : ℕ) (text : List ℕ) (slots : Slots) → Follows content draft before → Moves before moved → moved.at ≡ at
+pub put-replayed : (content : Content) (draft new : Draft) (before moved now : Cursor) (at : ℕ) (text : List ℕ)
+    (slots : Slots) → Follows content draft before → Moves before moved → moved.at ≡ at
     → Puts text slots moved now → slots ≡ shared_slots moved.at (cursor_cells content.cells moved) → at < before.len
-    → new ≡ record draft { steps = draft.steps ++ Insert at text slots ∷ []; anchors = map (anchors_moved at (length text)) draft.anchors }
+    → new ≡ record draft {
+      steps = draft.steps ++ Insert at text slots ∷ [];
+      anchors = map (anchors_moved at (length text)) draft.anchors;
+    }
     → Replayed content draft new now (put_back at text)
 put-replayed content draft new before moved now at text slots follows moves at_is puts slots_are within made =
     let between = after draft.steps content in
     let old_cells : cursor_cells content.cells moved ≡ between.cells = moves.cells content.cells ∙ follows.cells in
     let shared : slots ≡ shared_slots at between.cells = slots_are ∙ ap₂ shared_slots at_is old_cells in
     let long = follows-length content draft before follows in
-    let content_is : after new.steps content ≡ after_insertion at text slots between = ap (λ (d : Draft). after d.steps content) made ∙ after-append draft.steps (Insert at text slots ∷ []) content in
+    let content_is : after new.steps content
+    ≡ after_insertion at text slots between = ap (λ (d : Draft). after d.steps content) made
+    ∙ after-append draft.steps (Insert at text slots ∷ []) content in
     let len_is : now.len ≡ before.len + length text = puts.len ∙ ap (λ n. n + length text) moves.len in
     record {
       follows = record {
         is = puts.is;
         old_len = puts.old_len ∙ moves.old_len ∙ follows.old_len;
         cells =
-            puts.cells content.cells (sym (moves.old_len ∙ follows.old_len)) ∙ ap₂ (λ n cells. inserted n (cells_of text slots) cells) at_is old_cells
+            puts.cells content.cells (sym (moves.old_len ∙ follows.old_len))
+            ∙ ap₂ (λ n cells. inserted n (cells_of text slots) cells) at_is old_cells
             ∙ ap (λ (c : Content). c.cells) (sym content_is);
-        fits = subst (λ (d : Draft). Fits d.steps content) (sym made) (Fits-append draft.steps (Insert at text slots ∷ []) content follows.fits (omega (arith, within, long), tt));
+        fits = subst (λ (d : Draft). Fits d.steps content) (sym made)
+            (Fits-append draft.steps (Insert at text slots ∷ []) content follows.fits (
+              omega (arith, within, long),
+              tt,
+            ));
         stand = subst (λ (d : Draft). All (AnchorsStand now.len) d.anchors) (sym made)
-            (subst (λ n. All (AnchorsStand n) (map (anchors_moved at (length text)) draft.anchors)) (sym len_is) (stand-moved at (length text) before.len draft.anchors follows.stand));
+            (subst (λ n. All (AnchorsStand n) (map (anchors_moved at (length text)) draft.anchors)) (sym len_is)
+            (stand-moved at (length text) before.len draft.anchors follows.stand));
       };
       makes = λ log.
-          ap₂ (λ c anchors. state_of c anchors log) (content_is ∙ ap (λ s. after_insertion at text s between) shared) (ap (λ (d : Draft). d.anchors) made);
+          ap₂ (λ c anchors. state_of c anchors log) (content_is
+          ∙ ap (λ s. after_insertion at text s between) shared) (ap (λ (d : Draft). d.anchors) made);
     }
 
-pub take-replayed : (content : Content) (draft new : Draft) (before moved now : Cursor) (from to line far : ℕ) → Follows content draft before → Moves before moved → moved.at ≡ from
+pub take-replayed : (content : Content) (draft new : Draft) (before moved now : Cursor) (from to line far : ℕ) →
+    Follows content draft before → Moves before moved → moved.at ≡ from
     → Takes moved now → now.len ≡ moved.len - (to - from) → from ≤ to → to < before.len
-    → line ≡ line_start (line_of (characters (cursor_cells content.cells now)) now.at) (characters (cursor_cells content.cells now))
+    → line ≡ line_start (line_of (characters (cursor_cells content.cells now)) now.at)
+    (characters (cursor_cells content.cells now))
     → far ≡ line_start 1 (drop now.at (characters (cursor_cells content.cells now))) → now.at + far ≤ now.len
-    → new ≡ record draft { steps = draft.steps ++ Remove from to ∷ []; anchors = map (anchors_drawn line (from + far) from to) draft.anchors }
+    → new ≡ record draft {
+      steps = draft.steps ++ Remove from to ∷ [];
+      anchors = map (anchors_drawn line (from + far) from to) draft.anchors;
+    }
     → Replayed content draft new now (taken_back from to)
-take-replayed content draft new before moved now from to line far follows moves at_is takes len_is ordered within line_is far_is bound made =
+take-replayed content draft new before moved now from to line far follows moves at_is takes len_is ordered within
+    line_is far_is bound made =
     let between = after draft.steps content in
     let text = characters between.cells in
     let old_cells : cursor_cells content.cells moved ≡ between.cells = moves.cells content.cells ∙ follows.cells in
@@ -88,31 +114,48 @@ take-replayed content draft new before moved now from to line far follows moves 
     let now_at : now.at ≡ from = takes.at ∙ at_is in
     let end_is : moved.at + (moved.len - now.len) ≡ to = omega (arith, at_is, len_is, moved_len, ordered, within) in
     let cells_are : cursor_cells content.cells now ≡ removed from to between.cells =
-    takes.cells content.cells (sym (moves.old_len ∙ follows.old_len)) ∙ ap (λ n. removed moved.at n (cursor_cells content.cells moved)) end_is ∙ ap₂ (λ n cells. removed n to cells) at_is old_cells in
-    let text_is : characters (cursor_cells content.cells now) ≡ removed from to text = ap characters cells_are ∙ map-removed (λ (cell : Cell). cell.character) from to between.cells in
+    takes.cells content.cells (sym (moves.old_len ∙ follows.old_len))
+    ∙ ap (λ n. removed moved.at n (cursor_cells content.cells moved)) end_is
+    ∙ ap₂ (λ n cells. removed n to cells) at_is old_cells in
+    let text_is : characters (cursor_cells content.cells now) ≡ removed from to text = ap characters cells_are
+    ∙ map-removed (λ (cell : Cell). cell.character) from to between.cells in
     let line_old : line ≡ line_start (line_of text from) text =
-    line_is ∙ ap₂ (λ n xs. line_start (line_of xs n) xs) now_at text_is ∙ line-front (removed from to text) text from (take-removed from to text from (omega (arith, ordered, within, long, counted)) (omega arith)) in
+    line_is ∙ ap₂ (λ n xs. line_start (line_of xs n) xs) now_at text_is
+    ∙ line-front (removed from to text) text from
+    (take-removed from to text from (omega (arith, ordered, within, long, counted)) (omega arith)) in
     let removed_len : from ≤ length (removed from to text) =
     let h = whole-is now content.cells takes.is (sym (takes.old_len ∙ moves.old_len ∙ follows.old_len)) in
-    let k = length-characters (cursor_cells content.cells now) in let e = ap length text_is in omega (arith, h, k, e, bound, now_at) in
+    let k = length-characters (cursor_cells content.cells now) in let e = ap length text_is in
+    omega (arith, h, k, e, bound, now_at) in
     let next_is : from + far ≡ next_line (removed from to text) from =
-    ap (λ n. from + n) (far_is ∙ ap₂ (λ n xs. line_start 1 (drop n xs)) now_at text_is) ∙ sym (next_line-is (removed from to text) from removed_len) in
-    let content_is : after new.steps content ≡ after_removal from to between = ap (λ (d : Draft). after d.steps content) made ∙ after-append draft.steps (Remove from to ∷ []) content in
-    let before_line : line ≤ from = let h = line-before text from (omega (arith, ordered, within, long, counted)) in omega (arith, h, line_old) in
+    ap (λ n. from + n) (far_is ∙ ap₂ (λ n xs. line_start 1 (drop n xs)) now_at text_is)
+    ∙ sym (next_line-is (removed from to text) from removed_len) in
+    let content_is : after new.steps content
+    ≡ after_removal from to between = ap (λ (d : Draft). after d.steps content) made
+    ∙ after-append draft.steps (Remove from to ∷ []) content in
+    let before_line : line ≤ from = let h = line-before text from (omega (arith, ordered, within, long, counted)) in
+    omega (arith, h, line_old) in
     let now_len : now.len ≡ before.len - (to - from) = omega (arith, len_is, moved_len) in
     record {
       follows = record {
         is = takes.is;
         old_len = takes.old_len ∙ moves.old_len ∙ follows.old_len;
         cells = cells_are ∙ ap (λ (c : Content). c.cells) (sym content_is);
-        fits = subst (λ (d : Draft). Fits d.steps content) (sym made) (Fits-append draft.steps (Remove from to ∷ []) content follows.fits ((ordered, omega (arith, within, long)), tt));
+        fits = subst (λ (d : Draft). Fits d.steps content) (sym made)
+            (Fits-append draft.steps (Remove from to ∷ []) content follows.fits (
+              (ordered, omega (arith, within, long)),
+              tt,
+            ));
         stand = subst (λ (d : Draft). All (AnchorsStand now.len) d.anchors) (sym made)
-            (subst (λ n. All (AnchorsStand n) (map (anchors_drawn line (from + far) from to) draft.anchors)) (sym now_len)
-            (stand-drawn line (from + far) from to before.len draft.anchors follows.stand before_line ordered (omega (arith, within)) (omega (arith, bound, now_at, now_len))));
+            (subst (λ n. All (AnchorsStand n) (map (anchors_drawn line (from + far) from to) draft.anchors))
+            (sym now_len)
+            (stand-drawn line (from + far) from to before.len draft.anchors follows.stand before_line ordered
+            (omega (arith, within)) (omega (arith, bound, now_at, now_len))));
       };
       makes = λ log.
           ap₂ (λ c anchors. state_of c anchors log) content_is (ap (λ (d : Draft). d.anchors) made)
-          ∙ ap₂ (λ l n. state_of (after_removal from to between) (map (anchors_drawn l n from to) draft.anchors) log) line_old next_is;
+          ∙ ap₂ (λ l n. state_of (after_removal from to between) (map (anchors_drawn l n from to) draft.anchors) log)
+          line_old next_is;
     }
 
 -- ---- groups in the order in which they are made
@@ -120,25 +163,35 @@ take-replayed content draft new before moved now from to line far follows moves 
 reverse-cons : (action : Action) (actions : List Action) → reverse (action ∷ actions) ≡ reverse actions ++ action ∷ []
 reverse-cons action actions = reverse-append (action ∷ []) actions
 
-back-cons : (action : Action) (actions : List Action) → replays true (action ∷ actions) ≡ replays true actions ++ replayed true action ∷ []
-back-cons action actions = ap (map (replayed true)) (reverse-cons action actions) ∙ map-append (replayed true) (reverse actions) (action ∷ [])
+back-cons : (action : Action) (actions : List Action) → replays true (action ∷ actions)
+    ≡ replays true actions ++ replayed true action ∷ []
+back-cons action actions =
+    ap (map (replayed true)) (reverse-cons action actions) ∙ map-append (replayed true) (reverse actions) (action ∷ [])
 
-redone-append : (actions others : List Action) (state : State) → group_redone (actions ++ others) state ≡ group_redone others (group_redone actions state)
+redone-append : (actions others : List Action) (state : State) →
+    group_redone (actions ++ others) state ≡ group_redone others (group_redone actions state)
 redone-append [] others state = refl
 redone-append (action ∷ actions) others state = redone-append actions others (action_redone action state)
 
 flipped-is : (action : Action) (state : State) → action_redone (replayed true action) state ≡ action_undone action state
 flipped-is action state =
-    elim action.inserts as (λ b. (if not b then put_back action.at action.text state else taken_back action.at (action.at + length action.text) state)
-    ≡ (if b then taken_back action.at (action.at + length action.text) state else put_back action.at action.text state)) [ true ↦ refl | false ↦ refl ]
+    elim action.inserts as (λ b. (if not b then put_back action.at action.text state
+    else taken_back action.at (action.at + length action.text) state)
+    ≡ (if b then taken_back action.at (action.at + length action.text) state else put_back action.at action.text state))
+    [ true ↦ refl | false ↦ refl ]
 
-pub back-undone : (group : List Action) (state : State) → group_redone (replays true group) state ≡ group_undone group state
+pub back-undone : (group : List Action) (state : State) →
+    group_redone (replays true group) state ≡ group_undone group state
 back-undone [] state = refl
 back-undone (action ∷ actions) state =
-    ap (λ all. group_redone all state) (back-cons action actions) ∙ redone-append (replays true actions) (replayed true action ∷ []) state
-    ∙ flipped-is action (group_redone (replays true actions) state) ∙ ap (action_undone action) (back-undone actions state)
+    ap (λ all. group_redone all state) (back-cons action actions)
+    ∙ redone-append (replays true actions) (replayed true action ∷ []) state
+    ∙ flipped-is action (group_redone (replays true actions) state)
+    ∙ ap (action_undone action) (back-undone actions state)
 
-repeated-append : (limit : ℕ) (actions others : List Action) (text : List ℕ) → repeated_group limit (actions ++ others) text ≡ option_and_then (repeated_group limit others) (repeated_group limit actions text)
+repeated-append : (limit : ℕ) (actions others : List Action) (text : List ℕ) →
+    repeated_group limit (actions ++ others) text
+    ≡ option_and_then (repeated_group limit others) (repeated_group limit actions text)
 repeated-append limit [] others text = refl
 repeated-append limit (action ∷ actions) others text =
     elim (repeated limit action text) as (λ found. option_and_then (repeated_group limit (actions ++ others)) found
@@ -147,20 +200,29 @@ repeated-append limit (action ∷ actions) others text =
       | Some next ↦ repeated-append limit actions others next
     ]
 
-one-repeated : (limit : ℕ) (action : Action) (text : List ℕ) → repeated_group limit (action ∷ []) text ≡ repeated limit action text
-one-repeated limit action text = elim (repeated limit action text) as (λ found. option_and_then (repeated_group limit []) found ≡ found) [ None ↦ refl | Some next ↦ refl ]
+one-repeated : (limit : ℕ) (action : Action) (text : List ℕ) →
+    repeated_group limit (action ∷ []) text ≡ repeated limit action text
+one-repeated limit action text = elim (repeated limit action text) as (λ found.
+    option_and_then (repeated_group limit []) found ≡ found) [ None ↦ refl | Some next ↦ refl ]
 
-flipped-repeated : (limit : ℕ) (action : Action) (text : List ℕ) → repeated limit (replayed true action) text ≡ reverted limit action text
+flipped-repeated : (limit : ℕ) (action : Action) (text : List ℕ) →
+    repeated limit (replayed true action) text ≡ reverted limit action text
 flipped-repeated limit action text =
-    elim action.inserts as (λ b. (if not b then put_in limit action.at action.text text else take_out action.at action.text text)
-    ≡ (if b then take_out action.at action.text text else put_in limit action.at action.text text)) [ true ↦ refl | false ↦ refl ]
+    elim action.inserts as (λ b. (if not b then put_in limit action.at action.text text
+    else take_out action.at action.text text)
+    ≡ (if b then take_out action.at action.text text else put_in limit action.at action.text text))
+    [ true ↦ refl | false ↦ refl ]
 
-pub back-reverted : (limit : ℕ) (group : List Action) (text : List ℕ) → repeated_group limit (replays true group) text ≡ reverted_group limit group text
+pub back-reverted : (limit : ℕ) (group : List Action) (text : List ℕ) →
+    repeated_group limit (replays true group) text ≡ reverted_group limit group text
 back-reverted limit [] text = refl
 back-reverted limit (action ∷ actions) text =
-    ap (λ all. repeated_group limit all text) (back-cons action actions) ∙ repeated-append limit (replays true actions) (replayed true action ∷ []) text
+    ap (λ all. repeated_group limit all text) (back-cons action actions)
+    ∙ repeated-append limit (replays true actions) (replayed true action ∷ []) text
     ∙ ap (option_and_then (repeated_group limit (replayed true action ∷ []))) (back-reverted limit actions text)
-    ∙ (elim (reverted_group limit actions text) as (λ found. option_and_then (repeated_group limit (replayed true action ∷ [])) found ≡ option_and_then (reverted limit action) found) [
+    ∙ (elim (reverted_group limit actions text) as (λ found.
+    option_and_then (repeated_group limit (replayed true action ∷ [])) found
+    ≡ option_and_then (reverted limit action) found) [
       | None ↦ refl
       | Some next ↦ one-repeated limit (replayed true action) next ∙ flipped-repeated limit action next
     ])
@@ -174,34 +236,44 @@ pub back-end : (group : List Action) → redo_end (replays true group) ≡ undo_
 back-end [] = refl
 back-end (action ∷ actions) =
     ap redo_end (back-cons action actions) ∙ end-append (replays true actions) (replayed true action)
-    ∙ (elim action.inserts as (λ b. Some (if not b then action.at + length action.text else action.at) ≡ Some (if b then action.at else action.at + length action.text)) [ true ↦ refl | false ↦ refl ])
+    ∙ (elim action.inserts as (λ b. Some (if not b then action.at + length action.text else action.at)
+    ≡ Some (if b then action.at else action.at + length action.text)) [ true ↦ refl | false ↦ refl ])
 
 pub replays-length : (back : Bool) (group : List Action) → length (replays back group) ≡ length group
 replays-length true group = length-map (reverse group) (replayed true) ∙ length-reverse group
 replays-length false group = refl
 
-pub replays-at : (back : Bool) (group : List Action) (index : ℕ) (action d : Action) → index < length group → slice_get group (if back then length group - 1 - index else index) ≡ Some action
+pub replays-at : (back : Bool) (group : List Action) (index : ℕ) (action d : Action) → index < length group →
+    slice_get group (if back then length group - 1 - index else index) ≡ Some action
     → get_or (replays back group) index d ≡ replayed back action
 replays-at true group index action d within is =
     get_or-map (replayed true) (reverse group) index d d (let h = length-reverse group in omega (arith, h, within))
-    ∙ ap (replayed true) (get_or-reverse group index d within ∙ get_or_from_slice_get group (length group - 1 - index) action d is)
+    ∙ ap (replayed true) (get_or-reverse group index d within
+    ∙ get_or_from_slice_get group (length group - 1 - index) action d is)
 replays-at false group index action d within is = get_or_from_slice_get group index action d is
 
-pub replayed-is : (back inserts : Bool) (action : Action) → inserts ≡ (if back then not action.inserts else action.inserts)
+pub replayed-is : (back inserts : Bool) (action : Action) →
+    inserts ≡ (if back then not action.inserts else action.inserts)
     → replayed back action ≡ record { inserts = inserts; at = action.at; text = action.text }
 replayed-is true inserts action is = ap (λ b. record action { inserts = b }) (sym is)
 replayed-is false inserts action is = ap (λ b. record action { inserts = b }) (sym is)
 
 -- the action at an index of those that are made
-pub next-replayed : (back inserts : Bool) (group : List Action) (index count place : ℕ) (action : Action) → count ≡ length group → index < count
-    → place ≡ (if back then count - 1 - index else index) → slice_get group place ≡ Some action → inserts ≡ (if back then not action.inserts else action.inserts)
-    → drop index (replays back group) ≡ record { inserts = inserts; at = action.at; text = action.text } ∷ drop (index + 1) (replays back group)
+pub next-replayed : (back inserts : Bool) (group : List Action) (index count place : ℕ) (action : Action) →
+    count ≡ length group → index < count
+    → place ≡ (if back then count - 1 - index else index) → slice_get group place ≡ Some action →
+    inserts ≡ (if back then not action.inserts else action.inserts)
+    → drop index (replays back group) ≡ record { inserts = inserts; at = action.at; text = action.text }
+    ∷ drop (index + 1) (replays back group)
 next-replayed back inserts group index count place action counted within place_is found inserts_is =
     let long = replays-length back group in
     let there : slice_get group (if back then length group - 1 - index else index) ≡ Some action =
-    ap (λ n. slice_get group (if back then n - 1 - index else index)) (sym counted) ∙ ap (slice_get group) (sym place_is) ∙ found in
+    ap (λ n. slice_get group (if back then n - 1 - index else index)) (sym counted)
+    ∙ ap (slice_get group) (sym place_is) ∙ found in
     drop_more (replays back group) index action (omega (arith, long, counted, within))
-    ∙ ap (λ a. a ∷ drop (index + 1) (replays back group)) (replays-at back group index action action (omega (arith, counted, within)) there ∙ replayed-is back inserts action inserts_is)
+    ∙ ap (λ a. a ∷ drop (index + 1) (replays back group))
+    (replays-at back group index action action (omega (arith, counted, within)) there
+    ∙ replayed-is back inserts action inserts_is)
 
 -- ---- one action of several
 
@@ -216,7 +288,8 @@ abbrev pub end_behind : Option ℕ → List Action → Option ℕ
 end_behind end [] = end
 end_behind end (action ∷ actions) = end_behind (Some (action_end action)) actions
 
-end-behind-more : (end : Option ℕ) (action : Action) (actions : List Action) → end_behind end (action ∷ actions) ≡ redo_end (action ∷ actions)
+end-behind-more : (end : Option ℕ) (action : Action) (actions : List Action) →
+    end_behind end (action ∷ actions) ≡ redo_end (action ∷ actions)
 end-behind-more end action [] = refl
 end-behind-more end action (next ∷ actions) = end-behind-more (Some (action_end action)) next actions
 
@@ -225,7 +298,8 @@ end-behind-none [] = refl
 end-behind-none (action ∷ actions) = end-behind-more None action actions
 
 -- the first of some actions that can be made
-first-goes : (found : Option (List ℕ)) (after_it : List ℕ → Option (List ℕ)) → IsSome (option_and_then after_it found) → (next : List ℕ) × (found ≡ Some next) × IsSome (after_it next)
+first-goes : (found : Option (List ℕ)) (after_it : List ℕ → Option (List ℕ)) → IsSome (option_and_then after_it found) →
+    (next : List ℕ) × (found ≡ Some next) × IsSome (after_it next)
 first-goes None after_it goes = absurd (false≢true goes)
 first-goes (Some next) after_it goes = (next, refl, goes)
 
@@ -233,76 +307,105 @@ pub guarded-holds : {A : Type 0} (test : Bool) (x y : A) → (if test then Some 
 guarded-holds true x y is = refl
 guarded-holds false x y is = absurd (let h : None ≡ Some y = is in cc)
 
-can-put : (limit at : ℕ) (text all found : List ℕ) → limit < 2 ^ 64 → put_in limit at text all ≡ Some found → Replays true at (length text) (length all)
+can-put : (limit at : ℕ) (text all found : List ℕ) → limit < 2 ^ 64 → put_in limit at text all ≡ Some found →
+    Replays true at (length text) (length all)
 can-put limit at text all found bound is =
     let tests = and_parts (nat_lt at (length all)) (nat_le (length all + length text) limit)
-    (guarded-holds (nat_lt at (length all) && nat_le (length all + length text) limit) (inserted at text all) found is) in
+    (guarded-holds (nat_lt at (length all) && nat_le (length all + length text) limit) (inserted at text all) found is)
+    in
     let inside = ltb-true at (length all) tests.0 in let short = leb-true (length all + length text) limit tests.1 in
     record { puts = λ _. inside; room = λ _. omega (arith, short, bound); takes = λ is. absurd (false≢true (sym is)) }
 
-can-take : (at : ℕ) (text all found : List ℕ) → take_out at text all ≡ Some found → Replays false at (length text) (length all)
+can-take : (at : ℕ) (text all found : List ℕ) → take_out at text all ≡ Some found →
+    Replays false at (length text) (length all)
 can-take at text all found is =
-    let tests = and_parts (nat_lt (at + length text) (length all)) (bytes_eq (slice_range all at (at + length text)) text)
-    (guarded-holds (nat_lt (at + length text) (length all) && bytes_eq (slice_range all at (at + length text)) text) (removed at (at + length text) all) found is) in
-    record { puts = λ is. absurd (false≢true is); room = λ is. absurd (false≢true is); takes = λ _. ltb-true (at + length text) (length all) tests.0 }
+    let tests = and_parts (nat_lt (at + length text) (length all))
+    (bytes_eq (slice_range all at (at + length text)) text)
+    (guarded-holds (nat_lt (at + length text) (length all) && bytes_eq (slice_range all at (at + length text)) text)
+    (removed at (at + length text) all) found is) in
+    record {
+      puts = λ is. absurd (false≢true is);
+      room = λ is. absurd (false≢true is);
+      takes = λ _. ltb-true (at + length text) (length all) tests.0;
+    }
 
-pub can-replay : (limit : ℕ) (action : Action) (all found : List ℕ) → limit < 2 ^ 64 → repeated limit action all ≡ Some found → Replays action.inserts action.at (length action.text) (length all)
+pub can-replay : (limit : ℕ) (action : Action) (all found : List ℕ) → limit < 2 ^ 64 →
+    repeated limit action all ≡ Some found → Replays action.inserts action.at (length action.text) (length all)
 can-replay limit action all found bound is =
-    elim action.inserts as (λ b. (if b then put_in limit action.at action.text all else take_out action.at action.text all) ≡ Some found → Replays b action.at (length action.text) (length all)) [
+    elim action.inserts as (λ b. (if b then put_in limit action.at action.text all
+    else take_out action.at action.text all) ≡ Some found → Replays b action.at (length action.text) (length all)) [
       | true ↦ can-put limit action.at action.text all found bound
       | false ↦ can-take action.at action.text all found
     ] is
 
 -- the first of the actions are made, and these are left
-pub record ReplayedSoFar (limit : ℕ) (content : Content) (draft now : Draft) (cursor : Cursor) (all left : List Action) (end : Option ℕ) : Type 0 where
+pub record ReplayedSoFar (limit : ℕ) (content : Content) (draft now : Draft) (cursor : Cursor) (all left : List Action)
+    (end : Option ℕ) : Type 0 where
   pub follows : Follows content now cursor
   pub goes : IsSome (repeated_group limit left (characters (after now.steps content).cells))
   pub ends : end_behind end left ≡ redo_end all
   pub bound : IfSome end (λ at. at ≤ cursor.len)
   pub makes : (log : Log) → group_redone left (drawn_up now content log) ≡ group_redone all (drawn_up draft content log)
 
-pub replay-first : (limit : ℕ) (content : Content) (draft : Draft) (cursor : Cursor) (all : List Action) → Follows content draft cursor
-    → IsSome (repeated_group limit all (characters (after draft.steps content).cells)) → ReplayedSoFar limit content draft draft cursor all all None
-replay-first limit content draft cursor all follows goes = record { follows = follows; goes = goes; ends = end-behind-none all; bound = tt; makes = λ log. refl }
+pub replay-first : (limit : ℕ) (content : Content) (draft : Draft) (cursor : Cursor) (all : List Action) →
+    Follows content draft cursor
+    → IsSome (repeated_group limit all (characters (after draft.steps content).cells)) →
+    ReplayedSoFar limit content draft draft cursor all all None
+replay-first limit content draft cursor all follows goes =
+    record { follows = follows; goes = goes; ends = end-behind-none all; bound = tt; makes = λ log. refl }
 
 -- what the next action wants
-pub replay-fits : (limit : ℕ) (content : Content) (draft now : Draft) (cursor : Cursor) (all left rest : List Action) (action : Action) (end : Option ℕ) → limit < 2 ^ 64
-    → ReplayedSoFar limit content draft now cursor all left end → left ≡ action ∷ rest → Replays action.inserts action.at (length action.text) cursor.len
+pub replay-fits : (limit : ℕ) (content : Content) (draft now : Draft) (cursor : Cursor) (all left rest : List Action)
+    (action : Action) (end : Option ℕ) → limit < 2 ^ 64
+    → ReplayedSoFar limit content draft now cursor all left end → left ≡ action ∷ rest →
+    Replays action.inserts action.at (length action.text) cursor.len
 replay-fits limit content draft now cursor all left rest action end bound so_far is =
     let text = characters (after now.steps content).cells in
-    let goes : IsSome (repeated_group limit (action ∷ rest) text) = subst (λ l. IsSome (repeated_group limit l text)) is so_far.goes in
+    let goes : IsSome (repeated_group limit (action ∷ rest) text) = subst (λ l. IsSome (repeated_group limit l text)) is
+    so_far.goes in
     let first = first-goes (repeated limit action text) (repeated_group limit rest) goes in
-    subst (Replays action.inserts action.at (length action.text)) (length-characters (after now.steps content).cells ∙ follows-length content now cursor so_far.follows)
+    subst (Replays action.inserts action.at (length action.text)) (length-characters (after now.steps content).cells
+    ∙ follows-length content now cursor so_far.follows)
     (can-replay limit action text first.0 bound first.1)
 
-pub replay-more : (limit : ℕ) (content : Content) (draft now new : Draft) (cursor moved : Cursor) (all left rest : List Action) (action : Action) (end : Option ℕ) (at : ℕ)
+pub replay-more : (limit : ℕ) (content : Content) (draft now new : Draft) (cursor moved : Cursor)
+    (all left rest : List Action) (action : Action) (end : Option ℕ) (at : ℕ)
     → ReplayedSoFar limit content draft now cursor all left end → left ≡ action ∷ rest → Follows content new moved
-    → ((log : Log) → drawn_up new content log ≡ action_redone action (drawn_up now content log)) → at ≡ action_end action → at ≤ moved.len → Log
+    → ((log : Log) → drawn_up new content log ≡ action_redone action (drawn_up now content log)) →
+    at ≡ action_end action → at ≤ moved.len → Log
     → ReplayedSoFar limit content draft new moved all rest (Some at)
-replay-more limit content draft now new cursor moved all left rest action end at so_far is follows made at_is within log =
+replay-more limit content draft now new cursor moved all left rest action end at so_far is follows made at_is within log
+    =
     let text = characters (after now.steps content).cells in
-    let goes : IsSome (repeated_group limit (action ∷ rest) text) = subst (λ l. IsSome (repeated_group limit l text)) is so_far.goes in
+    let goes : IsSome (repeated_group limit (action ∷ rest) text) = subst (λ l. IsSome (repeated_group limit l text)) is
+    so_far.goes in
     let first = first-goes (repeated limit action text) (repeated_group limit rest) goes in
-    let text_is : characters (after new.steps content).cells ≡ first.0 = ap (λ (s : State). characters s.content.cells) (made log) ∙ redone-text limit action first.0 (drawn_up now content log) first.1 in
+    let text_is : characters (after new.steps content).cells
+    ≡ first.0 = ap (λ (s : State). characters s.content.cells) (made log)
+    ∙ redone-text limit action first.0 (drawn_up now content log) first.1 in
     record {
       follows = follows;
       goes = subst (λ t. IsSome (repeated_group limit rest t)) (sym text_is) first.2;
       ends = ap (λ n. end_behind (Some n) rest) at_is ∙ ap (end_behind end) (sym is) ∙ so_far.ends;
       bound = within;
-      makes = λ log. ap (group_redone rest) (made log) ∙ ap (λ l. group_redone l (drawn_up now content log)) (sym is) ∙ so_far.makes log;
+      makes = λ log. ap (group_redone rest) (made log) ∙ ap (λ l. group_redone l (drawn_up now content log)) (sym is)
+          ∙ so_far.makes log;
     }
 
 -- ---- what a plan leaves
 
 pub undone-is : (mark : ℕ) (found : Option (List Action)) (state : State)
-    → state_of (replayed_group mark (option_map (replays true) found) state).content (replayed_group mark (option_map (replays true) found) state).anchors (group_moved log_undone found state.log)
+    → state_of (replayed_group mark (option_map (replays true) found) state).content
+    (replayed_group mark (option_map (replays true) found) state).anchors (group_moved log_undone found state.log)
     ≡ undone_group mark found state
 undone-is mark None state = refl
 undone-is mark (Some group) state =
-    ap₂ (λ (made : State) end. state_of (stood mark end state.content made.content) made.anchors (log_undone group state.log)) (back-undone group state) (back-end group)
+    ap₂ (λ (made : State) end. state_of (stood mark end state.content made.content) made.anchors
+    (log_undone group state.log)) (back-undone group state) (back-end group)
 
 pub redone-is : (mark : ℕ) (found : Option (List Action)) (state : State)
-    → state_of (replayed_group mark (option_map (replays false) found) state).content (replayed_group mark (option_map (replays false) found) state).anchors (group_moved log_redone found state.log)
+    → state_of (replayed_group mark (option_map (replays false) found) state).content
+    (replayed_group mark (option_map (replays false) found) state).anchors (group_moved log_redone found state.log)
     ≡ redone_group mark found state
 redone-is mark None state = refl
 redone-is mark (Some group) state = refl
@@ -310,21 +413,26 @@ redone-is mark (Some group) state = refl
 -- the anchors of as many widgets
 redone-widgets : (action : Action) (state : State) → length (action_redone action state).anchors ≡ length state.anchors
 redone-widgets action state =
-    elim action.inserts as (λ b. length (if b then put_back action.at action.text state else taken_back action.at (action.at + length action.text) state).anchors ≡ length state.anchors) [
+    elim action.inserts as (λ b. length (if b then put_back action.at action.text state
+    else taken_back action.at (action.at + length action.text) state).anchors ≡ length state.anchors) [
       | true ↦ length-map state.anchors (anchors_moved action.at (length action.text))
-      | false ↦ length-map state.anchors (anchors_removed (characters state.content.cells) action.at (action.at + length action.text))
+      | false ↦ length-map state.anchors (anchors_removed (characters state.content.cells) action.at
+          (action.at + length action.text))
     ]
 
 group-widgets : (group : List Action) (state : State) → length (group_redone group state).anchors ≡ length state.anchors
 group-widgets [] state = refl
-group-widgets (action ∷ actions) state = group-widgets actions (action_redone action state) ∙ redone-widgets action state
+group-widgets (action ∷ actions) state =
+    group-widgets actions (action_redone action state) ∙ redone-widgets action state
 
-pub replayed-widgets : (mark : ℕ) (found : Option (List Action)) (state : State) → length (replayed_group mark found state).anchors ≡ length state.anchors
+pub replayed-widgets : (mark : ℕ) (found : Option (List Action)) (state : State) →
+    length (replayed_group mark found state).anchors ≡ length state.anchors
 replayed-widgets mark None state = refl
 replayed-widgets mark (Some group) state = group-widgets group state
 
 -- the mark of a number stands where the group ended
-pub mark-stood : (draft new : Draft) (content : Content) (mark : MarkNo) (found : Option Place) (place : Place) (made : State) (log : Log) → found ≡ Some place
+pub mark-stood : (draft new : Draft) (content : Content) (mark : MarkNo) (found : Option Place) (place : Place)
+    (made : State) (log : Log) → found ≡ Some place
     → new ≡ record draft { steps = draft.steps ++ PutMark mark place ∷ [] } → drawn_up draft content log ≡ made
     → drawn_up new content log ≡ record made { content = with_mark mark.0 found made.content }
 mark-stood draft new content mark found place made log is new_is made_is =
@@ -332,58 +440,74 @@ mark-stood draft new content mark found place made log is new_is made_is =
     ∙ ap (λ c. state_of c draft.anchors log) (after-append draft.steps (PutMark mark place ∷ []) content)
     ∙ ap₂ (λ (s : State) o. record s { content = with_mark mark.0 o s.content }) made_is (sym is)
 
-pub mark-stays : (draft new : Draft) (content : Content) (mark : MarkNo) (found : Option Place) (made : State) (log : Log) → found ≡ None → new ≡ draft → drawn_up draft content log ≡ made
+pub mark-stays : (draft new : Draft) (content : Content) (mark : MarkNo) (found : Option Place) (made : State)
+    (log : Log) → found ≡ None → new ≡ draft → drawn_up draft content log ≡ made
     → drawn_up new content log ≡ record made { content = with_mark mark.0 found made.content }
 mark-stays draft new content mark found made log is new_is made_is =
-    ap (λ (d : Draft). drawn_up d content log) new_is ∙ made_is ∙ ap (λ o. record made { content = with_mark mark.0 o made.content }) (sym is)
+    ap (λ (d : Draft). drawn_up d content log) new_is ∙ made_is
+    ∙ ap (λ o. record made { content = with_mark mark.0 o made.content }) (sym is)
 
 -- where it stands lies in the text
 pub stood-within : (place : Option Place) (end : Option ℕ) (len : ℕ) (found : Place) → IfSome end (λ at. at ≤ len)
-    → option_and_then (λ (place : Place). option_map (λ at. record place { offset = at }) end) place ≡ Some found → found.offset ≤ len
+    → option_and_then (λ (place : Place). option_map (λ at. record place { offset = at }) end) place ≡ Some found →
+    found.offset ≤ len
 stood-within None end len found bound is = absurd (let h : None ≡ Some found = is in cc)
 stood-within (Some place) None len found bound is = absurd (let h : None ≡ Some found = is in cc)
 stood-within (Some place) (Some at) len found bound is =
-    subst (λ (p : Place). p.offset ≤ len) (let h : Some (record place { offset = at }) ≡ Some found = is in let same : record place { offset = at } ≡ found = cc in same) bound
+    subst (λ (p : Place). p.offset ≤ len) (let h : Some (record place { offset = at }) ≡ Some found = is in
+    let same : record place { offset = at } ≡ found = cc in same) bound
 
 -- ---- plans
 
-pub undo-fits-replay : (limit : ℕ) (history : History) (text : List ℕ) (found : Option (List Action)) → FitsText limit text history → found ≡ next_undo history
+pub undo-fits-replay : (limit : ℕ) (history : History) (text : List ℕ) (found : Option (List Action)) →
+    FitsText limit text history → found ≡ next_undo history
     → IfSome found (λ group. IsSome (repeated_group limit (replays true group) text))
 undo-fits-replay limit history text None fits is = tt
 undo-fits-replay limit history text (Some group) fits is =
     let goes = undo-goes limit history text group fits (sym is) in
     subst (λ (found : Option (List ℕ)). IsSome found) (sym (back-reverted limit group text ∙ goes.1)) refl
 
-pub redo-fits-replay : (limit : ℕ) (history : History) (text : List ℕ) (found : Option (List Action)) → FitsText limit text history → found ≡ next_redo history
+pub redo-fits-replay : (limit : ℕ) (history : History) (text : List ℕ) (found : Option (List Action)) →
+    FitsText limit text history → found ≡ next_redo history
     → IfSome found (λ group. IsSome (repeated_group limit (replays false group) text))
 redo-fits-replay limit history text None fits is = tt
 redo-fits-replay limit history text (Some group) fits is =
     let goes = redo-goes limit history text group fits (sym is) in
     subst (λ (found : Option (List ℕ)). IsSome found) (sym goes.1) refl
 
-pub plan-widgets : (mark : ℕ) (back : Bool) (found : Option (List Action)) (made content : Content) (anchors old : List Anchors) (log : Log)
-    → ((log : Log) → state_of made anchors log ≡ replayed_group mark (option_map (replays back) found) (state_of content old log)) → length anchors ≡ length old
+pub plan-widgets : (mark : ℕ) (back : Bool) (found : Option (List Action)) (made content : Content)
+    (anchors old : List Anchors) (log : Log)
+    → ((log : Log) → state_of made anchors log
+    ≡ replayed_group mark (option_map (replays back) found) (state_of content old log)) →
+    length anchors ≡ length old
 plan-widgets mark back found made content anchors old log makes =
-    ap (λ (s : State). length s.anchors) (makes log) ∙ replayed-widgets mark (option_map (replays back) found) (state_of content old log)
+    ap (λ (s : State). length s.anchors) (makes log)
+    ∙ replayed-widgets mark (option_map (replays back) found) (state_of content old log)
 
-pub undo-planned : (mark : ℕ) (found : Option (List Action)) (notes : Notes) (made content : Content) (anchors old : List Anchors) (log : Log) → notes ≡ Undone → found ≡ next_undo log.history
-    → ((log : Log) → state_of made anchors log ≡ replayed_group mark (option_map (replays true) found) (state_of content old log))
+pub undo-planned : (mark : ℕ) (found : Option (List Action)) (notes : Notes) (made content : Content)
+    (anchors old : List Anchors) (log : Log) → notes ≡ Undone → found ≡ next_undo log.history
+    → ((log : Log) → state_of made anchors log
+    ≡ replayed_group mark (option_map (replays true) found) (state_of content old log))
     → planned notes made anchors log ≡ undone mark (state_of content old log)
 undo-planned mark found notes made content anchors old log notes_are found_is makes =
     let state = state_of content old log in
     ap (λ n. planned n made anchors log) notes_are
     ∙ ap (λ (s : State). state_of s.content s.anchors (group_moved log_undone (next_undo log.history) log)) (makes log)
-    ∙ ap (λ f. state_of (replayed_group mark (option_map (replays true) f) state).content (replayed_group mark (option_map (replays true) f) state).anchors
+    ∙ ap (λ f. state_of (replayed_group mark (option_map (replays true) f) state).content
+    (replayed_group mark (option_map (replays true) f) state).anchors
     (group_moved log_undone (next_undo log.history) log)) found_is
     ∙ undone-is mark (next_undo log.history) state
 
-pub redo-planned : (mark : ℕ) (found : Option (List Action)) (notes : Notes) (made content : Content) (anchors old : List Anchors) (log : Log) → notes ≡ Redone → found ≡ next_redo log.history
-    → ((log : Log) → state_of made anchors log ≡ replayed_group mark (option_map (replays false) found) (state_of content old log))
+pub redo-planned : (mark : ℕ) (found : Option (List Action)) (notes : Notes) (made content : Content)
+    (anchors old : List Anchors) (log : Log) → notes ≡ Redone → found ≡ next_redo log.history
+    → ((log : Log) → state_of made anchors log
+    ≡ replayed_group mark (option_map (replays false) found) (state_of content old log))
     → planned notes made anchors log ≡ redone mark (state_of content old log)
 redo-planned mark found notes made content anchors old log notes_are found_is makes =
     let state = state_of content old log in
     ap (λ n. planned n made anchors log) notes_are
     ∙ ap (λ (s : State). state_of s.content s.anchors (group_moved log_redone (next_redo log.history) log)) (makes log)
-    ∙ ap (λ f. state_of (replayed_group mark (option_map (replays false) f) state).content (replayed_group mark (option_map (replays false) f) state).anchors
+    ∙ ap (λ f. state_of (replayed_group mark (option_map (replays false) f) state).content
+    (replayed_group mark (option_map (replays false) f) state).anchors
     (group_moved log_redone (next_redo log.history) log)) found_is
     ∙ redone-is mark (next_redo log.history) state

@@ -1,5 +1,6 @@
 -- Where the anchors of a widget go: they stand at line starts, or at the end of the text.
-use Rattle.std.specs.Prelude.{ℕ, ◌+◌, ◌-◌, ◌≤◌, ◌&&◌, ◌==◌, not, nat_lt, nat_le, List, length, IfSome, option_map, unwrap_or, if◌then◌else◌}
+use Rattle.std.specs.Prelude.{ℕ, ◌+◌, ◌-◌, ◌≤◌, ◌&&◌, ◌==◌, not, nat_lt, nat_le, List, length, IfSome, option_map}
+use Rattle.std.specs.Prelude.{unwrap_or, if◌then◌else◌}
 use Rattle.text_model.specs.Lines.{IsLineStart, line_of, line_start}
 use Rattle.text_model.specs.Splices.{removed}
 use Rattle.text_cursor.specs.Around.{next_line}
@@ -26,13 +27,14 @@ anchors_moved at count anchors = record {
   end = option_map (anchor_moved at count) anchors.end;
 }
 
--- Characters from one offset to another are taken out of a line that begins at `line`, and afterwards the next line begins
--- at `next`. An anchor above them moves along, and a start among them goes to where the line begins.
+-- Characters from one offset to another are taken out of a line that begins at `line`, and afterwards the next line
+-- begins at `next`. An anchor above them moves along, and a start among them goes to where the line begins.
 abbrev pub start_drawn : ℕ → ℕ → ℕ → ℕ → ℕ
-start_drawn line from to anchor = if nat_le anchor from then anchor else if nat_le anchor to then line else anchor - (to - from)
+start_drawn line from to anchor =
+    if nat_le anchor from then anchor else if nat_le anchor to then line else anchor - (to - from)
 
--- An end among them does so too; but where the widget begins no later than they, and the line keeps characters before them,
--- the widget goes on to show that line.
+-- An end among them does so too; but where the widget begins no later than they, and the line keeps characters before
+-- them, the widget goes on to show that line.
 abbrev pub end_drawn : ℕ → ℕ → ℕ → ℕ → ℕ → ℕ → ℕ
 end_drawn line next start from to anchor =
     if nat_le anchor from then anchor

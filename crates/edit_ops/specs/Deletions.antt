@@ -1,5 +1,6 @@
 -- What it does to delete spans of what a widget shows.
-use Rattle.std.specs.Prelude.{ℕ, zero, suc, ◌+◌, ◌-◌, ◌<◌, ◌==◌, ◌&&◌, ◌||◌, nat_le, nat_lt, not, Bool, List, [], ◌∷◌, length, get_or, ⊤, if◌then◌else◌}
+use Rattle.std.specs.Prelude.{ℕ, zero, suc, ◌+◌, ◌-◌, ◌<◌, ◌==◌, ◌&&◌, ◌||◌, nat_le, nat_lt, not, Bool, List, [], ◌∷◌}
+use Rattle.std.specs.Prelude.{length, get_or, ⊤, if◌then◌else◌}
 use Rattle.std.specs.List.{list_any}
 use Rattle.text_model.specs.Content.{characters}
 use Rattle.text_model.specs.Lines.{is_newline}
@@ -21,19 +22,21 @@ abbrev pub run_start : (ℕ → Bool) → ℕ → ℕ
 run_start set zero = 0
 run_start set (suc offset) = if set offset then run_start set offset else suc offset
 
--- The characters that go when a set of offsets is deleted of what a widget shows from `start` to `end`. The last one that it
--- shows stays; where it is in the set, the newline before its run goes instead, if the widget shows that.
+-- The characters that go when a set of offsets is deleted of what a widget shows from `start` to `end`. The last one
+-- that it shows stays; where it is in the set, the newline before its run goes instead, if the widget shows that.
 abbrev pub delete_set : List ℕ → ℕ → ℕ → (ℕ → Bool) → ℕ → Bool
 delete_set text start end set offset =
     if set (end - 1) then
-    set offset && not (offset == end - 1) || (offset + 1 == run_start set (end - 1) && nat_le start offset && is_newline (get_or text offset 0))
+    set offset && not (offset == end - 1) || (offset + 1 == run_start set (end - 1) && nat_le start offset
+    && is_newline (get_or text offset 0))
     else set offset
 
 -- runs of offsets, the last first, and one offset more that stands above them all
 abbrev pub onto_runs : ℕ → List Span → List Span
 onto_runs offset [] = record { from = offset; to = offset + 1 } ∷ []
 onto_runs offset (run ∷ runs) =
-    if run.to == offset then record run { to = offset + 1 } ∷ runs else record { from = offset; to = offset + 1 } ∷ run ∷ runs
+    if run.to == offset then record run { to = offset + 1 } ∷ runs
+    else record { from = offset; to = offset + 1 } ∷ run ∷ runs
 
 -- the longest runs of offsets below a bound that are all in a set, the last first
 abbrev pub runs_below : ℕ → (ℕ → Bool) → List Span
@@ -51,10 +54,11 @@ removed_spans recording kind [] state = state
 removed_spans recording kind (span ∷ spans) state =
     removed_spans recording kind spans (removed_span recording kind span.from span.to state)
 
--- Spans are deleted of what a widget shows: the last character that it shows loses its slots if it is among them, and the
--- runs of those that go are taken out, the last first.
+-- Spans are deleted of what a widget shows: the last character that it shows loses its slots if it is among them, and
+-- the runs of those that go are taken out, the last first.
 abbrev pub deleted : Recording → ℕ → ℕ → List Span → State → State
 deleted recording start end spans state =
     removed_spans recording Delete
     (runs_below (length state.content.cells) (delete_set (characters state.content.cells) start end (in_spans spans)))
-    (if in_spans spans (end - 1) then record state { content = after_step (ClearTags (end - 1)) state.content } else state)
+    (if in_spans spans (end - 1) then record state { content = after_step (ClearTags (end - 1)) state.content }
+    else state)

@@ -1,5 +1,6 @@
 -- What it does to put texts in.
-use Rattle.std.specs.Prelude.{◌≡◌, ◌<◌, ℕ, ◌+◌, ◌==◌, true, List, [], ◌∷◌, length, map, get_or, sum_by, Option, None, Some, if◌then◌else◌}
+use Rattle.std.specs.Prelude.{◌≡◌, ◌<◌, ℕ, ◌+◌, ◌==◌, true, List, [], ◌∷◌, length, map, get_or, sum_by, Option, None}
+use Rattle.std.specs.Prelude.{Some, if◌then◌else◌}
 use Rattle.std.specs.FinSet as set
 use Rattle.text_model.specs.declared.cells.Cell.{Cell}
 use Rattle.text_model.specs.Content.{Slots, slot_sets}
@@ -21,7 +22,8 @@ abbrev pub inserted_text : Recording → EditKind → ℕ → Piece → State �
 inserted_text recording kind at piece state =
     if length piece.text == 0 then state
     else record {
-      content = after_insertion at piece.text (slots_or piece.slots (shared_slots at state.content.cells)) state.content;
+      content =
+          after_insertion at piece.text (slots_or piece.slots (shared_slots at state.content.cells)) state.content;
       anchors = map (anchors_moved at (length piece.text)) state.anchors;
       log = log_noted recording kind (record { inserts = true; at = at; text = piece.text }) state.log;
     }
@@ -36,7 +38,8 @@ inserted_texts recording kind at (piece ∷ pieces) state =
 abbrev pub total : List Piece → ℕ
 total pieces = sum_by (λ (piece : Piece). length piece.text) pieces
 
--- Before a place in a text of so many cells, and behind it, stand cells that share some slots, and the one behind has these.
+-- Before a place in a text of so many cells, and behind it, stand cells that share some slots, and the one behind has
+-- these.
 pub record IsBetween (shared behind : Slots) (len at : ℕ) (cells : List Cell) : Type 0 where
   pub counted : length cells ≡ len
   pub within : at < len

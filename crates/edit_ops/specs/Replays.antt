@@ -1,5 +1,6 @@
 -- A group of actions is made once more, or reverted, by a draft with a cursor in what it makes.
-use Rattle.std.specs.Prelude.{◌≡◌, ℕ, ◌+◌, Bool, true, false, not, List, map, length, reverse, Option, None, Some, if◌then◌else◌}
+use Rattle.std.specs.Prelude.{◌≡◌, ℕ, ◌+◌, Bool, true, false, not, List, map, length, reverse, Option, None, Some}
+use Rattle.std.specs.Prelude.{if◌then◌else◌}
 use Rattle.std.specs.List.{All}
 use Rattle.text_model.specs.Content.{Content}
 use Rattle.text_model.specs.Steps.{Fits, after}
@@ -40,4 +41,5 @@ replays true group = map (replayed true) (reverse group)
 abbrev pub replayed_group : ℕ → Option (List Action) → State → State
 replayed_group mark None state = state
 replayed_group mark (Some group) state =
-    let made = group_redone group state in record made { content = stood mark (redo_end group) state.content made.content }
+    let made = group_redone group state in
+    record made { content = stood mark (redo_end group) state.content made.content }

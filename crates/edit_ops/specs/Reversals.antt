@@ -1,5 +1,6 @@
 -- What it does to undo the group of actions that was made last, and to redo the one that was undone last.
-use Rattle.std.specs.Prelude.{ℕ, ◌+◌, List, [], ◌∷◌, length, map, Option, None, Some, option_map, option_and_then, if◌then◌else◌}
+use Rattle.std.specs.Prelude.{ℕ, ◌+◌, List, [], ◌∷◌, length, map, Option, None, Some, option_map, option_and_then}
+use Rattle.std.specs.Prelude.{if◌then◌else◌}
 use Rattle.std.specs.FinMap as finite
 use Rattle.text_model.specs.Content.{Content, characters}
 use Rattle.text_model.specs.Steps.{after_insertion, after_removal}
@@ -29,11 +30,13 @@ taken_back from to state = record state {
 -- an action is made once more, or reverted; nothing is noted
 abbrev pub action_redone : Action → State → State
 action_redone action state =
-    if action.inserts then put_back action.at action.text state else taken_back action.at (action.at + length action.text) state
+    if action.inserts then put_back action.at action.text state
+    else taken_back action.at (action.at + length action.text) state
 
 abbrev pub action_undone : Action → State → State
 action_undone action state =
-    if action.inserts then taken_back action.at (action.at + length action.text) state else put_back action.at action.text state
+    if action.inserts then taken_back action.at (action.at + length action.text) state
+    else put_back action.at action.text state
 
 -- the actions of a group, the first first
 abbrev pub group_redone : List Action → State → State
@@ -45,8 +48,8 @@ abbrev pub group_undone : List Action → State → State
 group_undone [] state = state
 group_undone (action ∷ actions) state = action_undone action (group_undone actions state)
 
--- The end of the last text that was put back, or the beginning of what was taken out last, whichever came last: of a group
--- that is redone the last action, and of one that is undone the first.
+-- The end of the last text that was put back, or the beginning of what was taken out last, whichever came last: of a
+-- group that is redone the last action, and of one that is undone the first.
 abbrev pub redo_end : List Action → Option ℕ
 redo_end [] = None
 redo_end (action ∷ []) = Some (if action.inserts then action.at + length action.text else action.at)
@@ -59,13 +62,18 @@ undo_end (action ∷ actions) = Some (if action.inserts then action.at else acti
 -- the mark of a number, if there is one, stands at an offset
 abbrev pub stood : ℕ → Option ℕ → Content → Content → Content
 stood number offset old content =
-    with_mark number (option_and_then (λ (place : Place). option_map (λ at. record place { offset = at }) offset) (finite.get old.marks number)) content
+    with_mark number (option_and_then (λ (place : Place). option_map (λ at. record place { offset = at }) offset)
+    (finite.get old.marks number)) content
 
 abbrev pub log_undone : List Action → Log → Log
-log_undone group log = record log { history = after_undo group log.history; modified = times (length group) counted_down log.modified }
+log_undone group log =
+    record log { history = after_undo group log.history; modified = times (length group) counted_down log.modified }
 
 abbrev pub log_redone : List Action → Log → Log
-log_redone group log = record log { history = after_redo group log.most log.history; modified = times (length group) counted_up log.modified }
+log_redone group log = record log {
+  history = after_redo group log.most log.history;
+  modified = times (length group) counted_up log.modified;
+}
 
 abbrev pub undone_group : ℕ → Option (List Action) → State → State
 undone_group mark None state = state

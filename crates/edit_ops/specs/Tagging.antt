@@ -14,7 +14,8 @@ pub record SpanFits (len : ℕ) (span : Span) : Type 0 where
 
 abbrev pub tagged : ℕ → Bool → List Span → Content → Content
 tagged slot on [] content = content
-tagged slot on (span ∷ spans) content = tagged slot on spans (record content { cells = changed (with_slot slot on) span.from span.to content.cells })
+tagged slot on (span ∷ spans) content =
+    tagged slot on spans (record content { cells = changed (with_slot slot on) span.from span.to content.cells })
 
 -- some slots less
 abbrev pub without : List ℕ → Slots → Slots

@@ -1,9 +1,10 @@
 ghost use Rattle.std.specs.Prelude.{◌≡◌, ◌+◌, ◌<◌, ◌≤◌, ◌^◌, IfSome, true, map, option_map};
 ghost use Rattle.std.specs.List.{All};
-ghost use Rattle.edit_ops.specs.Anchors.{AnchorsStand, anchor_moved, anchors_moved, start_drawn, end_drawn, anchors_drawn};
+ghost use Rattle.edit_ops.specs.Anchors.{AnchorsStand, anchor_moved, anchors_moved, start_drawn, end_drawn};
+ghost use Rattle.edit_ops.specs.Anchors.{anchors_drawn};
 
-/// Where the part of a text that a widget shows begins and ends, in characters from the start of the text, each if it is
-/// set (text(n), "-startline" and "-endline"). Anchors stand at starts of lines, or at the length of the text.
+/// Where the part of a text that a widget shows begins and ends, in characters from the start of the text, each if it
+/// is set (text(n), "-startline" and "-endline"). Anchors stand at starts of lines, or at the length of the text.
 #[derive(Clone, Copy, Debug, PartialEq, Eq)]
 pub struct Anchors {
     pub start: Option<usize>,
@@ -85,8 +86,8 @@ impl Anchors {
         }
     }
 
-    /// Where the anchors stand after the characters from one offset to another are taken out of a line that begins at `line`,
-    /// where the line after it then begins at `next`.
+    /// Where the anchors stand after the characters from one offset to another are taken out of a line that begins at
+    /// `line`, where the line after it then begins at `next`.
     fn drawn(self, line: usize, next: usize, from: usize, to: usize) -> Anchors
         requires { from ≤ to }
         ensures { result ≡ anchors_drawn line next from to self }

@@ -1,4 +1,5 @@
-ghost use Rattle.std.specs.Prelude.{◌≡◌, true, slice_range, ℕ, ◌+◌, ◌-◌, ◌<◌, ◌≤◌, ◌^◌, ◌&&◌, ◌∷◌, [], nat_le, nat_lt, get_or, length, OnOk, IfOk, IfErr, if◌then◌else◌};
+ghost use Rattle.std.specs.Prelude.{◌≡◌, true, slice_range, ℕ, ◌+◌, ◌-◌, ◌<◌, ◌≤◌, ◌^◌, ◌&&◌, ◌∷◌, [], nat_le, nat_lt};
+ghost use Rattle.std.specs.Prelude.{get_or, length, OnOk, IfOk, IfErr, if◌then◌else◌};
 ghost use Rattle.std.specs.List.{All};
 ghost use Rattle.edit_ops.specs.Deletions.{in_spans, delete_set, AreApart, deleted, removed_spans};
 ghost use Rattle.edit_ops.specs.Plans.{planned, HasRoom};
@@ -43,7 +44,8 @@ fn kept_text<S: TextStore>(
 ) -> Result<Text, AllocError>
     requires ordered { span.from ≤ span.to }
     requires within { span.to ≤ length (S.content store.now).cells }
-    ensures { IfOk result (λ text. keeps ≡ true → text ≡ slice_range (characters (S.content store.now).cells) span.from span.to) }
+    ensures { IfOk result (λ text. keeps ≡ true → text
+        ≡ slice_range (characters (S.content store.now).cells) span.from span.to) }
 {
     if !keeps {
         return Ok(Text::new(String::new(alloc)));
@@ -67,7 +69,8 @@ impl Draft {
             Fits self.old.steps state.content →
             characters (after self.old.steps state.content).cells ≡ characters (S.content store.now).cells →
             Fits self.new.steps state.content ×
-            (drafted recording kind self.new state ≡ removed_spans recording kind spans.now (drafted recording kind self.old state))) }
+            (drafted recording kind self.new state
+            ≡ removed_spans recording kind spans.now (drafted recording kind self.old state))) }
     {
         let mut border = store.len();
         let mut rest = 0;
@@ -86,12 +89,14 @@ impl Draft {
 /// Whether a newline stands before an offset, which a widget shows that begins at `start`.
 fn newline_before<S: TextStore>(store: &S, start: usize, offset: usize) -> bool
     requires { offset ≤ length (S.content store.now).cells }
-    ensures { result ≡ (nat_lt start offset && is_newline (get_or (characters (S.content store.now).cells) (offset - 1) 0)) }
+    ensures { result ≡ (nat_lt start offset
+        && is_newline (get_or (characters (S.content store.now).cells) (offset - 1) 0)) }
 {
     start < offset && store.char_at(offset - 1) == '\n'
 }
 
-/// Makes of runs of characters that are to be deleted those that go: the last character that a widget shows from `start` to
+/// Makes of runs of characters that are to be deleted those that go: the last character that a widget shows from
+/// `start` to
 /// `end` stays. Whether it was among them.
 fn spare_shown<S: TextStore>(store: &S, start: usize, end: usize, runs: &mut Vec<Span>) -> bool
     requires shows { start < end }
@@ -148,10 +153,10 @@ fn draft_delete<S: TextStore>(
     Ok(draft)
 }
 
-/// A plan that deletes spans, in any order, of what a widget shows from `start` to `end`; spans may overlap or be empty. The
-/// last character that it shows stays, and if it is in a span it loses its tags; then a newline before the run that held it
-/// goes in its place, if the widget shows that. What goes is taken out run by run, the last first, and each run is an action
-/// (text(n), "delete").
+/// A plan that deletes spans, in any order, of what a widget shows from `start` to `end`; spans may overlap or be
+/// empty. The last character that it shows stays, and if it is in a span it loses its tags; then a newline before the
+/// run that held it goes in its place, if the widget shows that. What goes is taken out run by run, the last first, and
+/// each run is an action (text(n), "delete").
 pub fn plan_delete<S: TextStore>(
     alloc: Global,
     store: &mut S,

@@ -9,8 +9,8 @@ use std::marker::Model;
 use text_model::{MarkNo, Place, Step, StepList, TagSet, Text};
 use undo_stack::Action;
 
-/// What an edit does, as it is put together: steps, where the anchors of each widget stand after them, and the actions to
-/// be noted.
+/// What an edit does, as it is put together: steps, where the anchors of each widget stand after them, and the actions
+/// to be noted.
 #[derive(Drop)]
 pub struct Draft {
     alloc: Global,
@@ -116,7 +116,8 @@ impl Draft {
         Ok(())
     }
 
-    /// Takes out the characters from one offset to another, of a line that begins at `line`; the line after it then begins at
+    /// Takes out the characters from one offset to another, of a line that begins at `line`; the line after it then
+    /// begins at
     /// `next`. It isn't noted.
     pub fn take_out(
         &mut self,
@@ -163,7 +164,10 @@ impl Draft {
 
     /// Puts the mark of a number at a place.
     pub fn put_mark(&mut self, number: MarkNo, place: Place) -> Result<(), AllocError>
-        ensures { OnOk result (self.new ≡ record self.old { steps = self.old.steps ++ Step.PutMark number place ∷ [] }) }
+        ensures { OnOk result (self.new ≡ record self.old {
+          steps = self.old.steps ++ Step.PutMark number place
+              ∷ [];
+        }) }
     {
         self.steps.push(Step::PutMark(number, place))?;
         Ok(())

@@ -1,10 +1,12 @@
-ghost use Rattle.std.specs.Prelude.{◌≡◌, ◌≢◌, ◌+◌, ◌<◌, ◌≤◌, ◌^◌, ◌↔◌, ◌-◌, nat_lt, min, length, OnOk, IfOk, Err, false};
+ghost use Rattle.std.specs.Prelude.{◌≡◌, ◌≢◌, ◌+◌, ◌<◌, ◌≤◌, ◌^◌, ◌↔◌, ◌-◌, nat_lt, min, length, OnOk, IfOk, Err};
+ghost use Rattle.std.specs.Prelude.{false, ℕ, Some, slice_get};
 ghost use Rattle.std.specs.List.{All};
 ghost use Rattle.edit_ops.specs.Anchors.{AnchorsStand};
 ghost use Rattle.edit_ops.specs.Insertions.{inserted_texts, slots_or, total, IsBetween};
 ghost use Rattle.edit_ops.specs.Plans.{planned, HasRoom};
 ghost use Rattle.edit_ops.specs.States.{State, Log, log_of, state_of, drafted};
 ghost use Rattle.text_cursor.specs.Around.{slots_around};
+ghost use Rattle.text_model.specs.Content.{slot_sets};
 ghost use Rattle.text_model.specs.Steps.{Fits, after};
 
 use crate::anchors::Anchors;
@@ -42,16 +44,17 @@ pub fn is_too_long(limits: &Limits, len: usize, pieces: &[Piece]) -> bool
     len.saturating_add(total_of(pieces)) > limits.chars()
 }
 
-/// The slots that the character before an offset shares with the one at another offset; none at the start.
-pub fn shared_around<S: TextStore>(store: &S, from: usize, to: usize) -> TagSet
-    requires ordered { from ≤ to }
-    requires within { to < length (S.content store.now).cells }
-    ensures { result ≡ slots_around from to (S.content store.now).cells }
+/// The slots that the character before an offset shares with the one at another offset, which has those of a set; none
+/// at the start.
+pub fn shared_around<S: TextStore>(store: &S, from: usize, behind: TagSet) -> TagSet
+    requires within { from < length (S.content store.now).cells }
+    ensures { (to : ℕ) → slice_get (slot_sets (S.content store.now).cells) to ≡ Some behind →
+        result ≡ slots_around from to (S.content store.now).cells }
 {
     if from == 0 {
         return TagSet::empty();
     }
-    store.tags_at(from - 1).common(&store.tags_at(to))
+    store.tags_at(from - 1).common(&behind)
 }
 
 fn slots_or(slots: Option<TagSet>, shared: TagSet) -> TagSet
@@ -64,8 +67,8 @@ fn slots_or(slots: Option<TagSet>, shared: TagSet) -> TagSet
 }
 
 impl Draft {
-    /// Puts texts in at an offset of a text of so many characters, each right behind the one before it. The characters on both
-    /// sides of the offset share some slots, and the one behind it has others too.
+    /// Puts texts in at an offset of a text of so many characters, each right behind the one before it. The characters
+    /// on both sides of the offset share some slots, and the one behind it has others too.
     pub fn insert_pieces(
         &mut self,
         at: usize,
@@ -79,9 +82,12 @@ impl Draft {
         requires fits { len + total pieces.now < 2 ^ 64 }
         ensures widgets { OnOk result (length self.new.anchors ≡ length self.old.anchors) }
         ensures makes { OnOk result ((recording : Recording) (kind : EditKind) (state : State) →
-            Fits self.old.steps state.content → IsBetween shared behind len at (after self.old.steps state.content).cells →
-            Fits self.new.steps state.content × (length (after self.new.steps state.content).cells ≡ len + total pieces.now) ×
-            (drafted recording kind self.new state ≡ inserted_texts recording kind at pieces.now (drafted recording kind self.old state))) }
+            Fits self.old.steps state.content →
+            IsBetween shared behind len at (after self.old.steps state.content).cells →
+            Fits self.new.steps state.content
+            × (length (after self.new.steps state.content).cells ≡ len + total pieces.now) ×
+            (drafted recording kind self.new state
+            ≡ inserted_texts recording kind at pieces.now (drafted recording kind self.old state))) }
     {
         let mut at = at;
         let mut len = len;
@@ -118,20 +124,21 @@ fn draft_insert<S: TextStore>(
         ≡ inserted_texts recording kind at pieces.now (state_of (S.content store.now) anchors.now log))) }
 {
     let mut draft = Draft::new(alloc, anchors, pieces.len())?;
+    let behind = store.tags_at(at);
     draft.insert_pieces(
         at,
         pieces,
-        shared_around(store, at, at),
-        store.tags_at(at),
+        shared_around(store, at, behind),
+        behind,
         store.len(),
     )?;
     Ok(draft)
 }
 
-/// A plan that puts texts in before the character at an offset, each right behind the one before it. A text without slots
-/// gets those that the characters on both sides of it have, the text before it among them, and none at the start. A mark above
-/// the offset moves along, and so does one that stands there with right gravity; an anchor moves if it stands above it. Each
-/// text that isn't empty is an action (text(n), "insert").
+/// A plan that puts texts in before the character at an offset, each right behind the one before it. A text without
+/// slots gets those that the characters on both sides of it have, the text before it among them, and none at the start.
+/// A mark above the offset moves along, and so does one that stands there with right gravity; an anchor moves if it
+/// stands above it. Each text that isn't empty is an action (text(n), "insert").
 pub fn plan_insert<S: TextStore>(
     alloc: Global,
     limits: &Limits,
@@ -146,14 +153,16 @@ pub fn plan_insert<S: TextStore>(
     requires stand { All (AnchorsStand (length (S.content store.old).cells)) anchors.now }
     ensures content { S.content store.new ≡ S.content store.old }
     ensures log { log_of history.new ≡ log_of history.old }
-    ensures too_long { (result ≡ Err EditFault.TextTooLong) ↔ (limits.now.chars < length (S.content store.old).cells + total pieces.now) }
+    ensures too_long { (result ≡ Err EditFault.TextTooLong)
+        ↔ (limits.now.chars < length (S.content store.old).cells + total pieces.now) }
     ensures never { result ≢ Err EditFault.IndexOrder }
     ensures ready { IfOk result (λ plan. S.ready store.new plan.prepared) }
     ensures room { IfOk result (λ plan. HasRoom plan.notes history.new) }
     ensures widgets { IfOk result (λ plan. length plan.anchors.items ≡ length anchors.now) }
     ensures outcome { IfOk result (λ plan.
         planned plan.notes (S.outcome store.new plan.prepared) plan.anchors.items (log_of history.old)
-        ≡ inserted_texts recording EditKind.Insert at pieces.now (state_of (S.content store.old) anchors.now (log_of history.old))) }
+        ≡ inserted_texts recording EditKind.Insert at pieces.now
+        (state_of (S.content store.old) anchors.now (log_of history.old))) }
 {
     if is_too_long(limits, store.len(), pieces) {
         return Err(EditFault::TextTooLong);

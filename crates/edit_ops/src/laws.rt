@@ -21,14 +21,16 @@ ghost use Rattle.edit_ops.specs.Tagging.{SpanFits, tagged};
 /// Where a history fits a text, it fits what an edit makes of the two, whether or not actions are kept.
 pub fn edits_fit()
     ensures inserted { (limit at : ℕ) (recording : Recording) (kind : EditKind) (pieces : List Piece) (state : State) →
-        IsKept limit recording state → at < length state.content.cells → length state.content.cells + total pieces ≤ limit →
+        IsKept limit recording state → at < length state.content.cells →
+        length state.content.cells + total pieces ≤ limit →
         IsKept limit recording (inserted_texts recording kind at pieces state) }
     ensures replaced { (limit mark last from to : ℕ) (recording : Recording) (pieces : List Piece) (state : State) →
         IsKept limit recording state → last < length state.content.cells → from ≤ to →
         length state.content.cells - (min to last - min from last) + total pieces ≤ limit →
         IsKept limit recording (replaced recording mark last from to pieces state) }
     ensures deleted { (limit start end : ℕ) (recording : Recording) (spans : List Span) (state : State) →
-        IsKept limit recording state → start < end → end ≤ length state.content.cells → All (λ (span : Span). span.to ≤ end) spans →
+        IsKept limit recording state → start < end → end ≤ length state.content.cells →
+        All (λ (span : Span). span.to ≤ end) spans →
         IsKept limit recording (deleted recording start end spans state) }
     ensures undone { (limit mark : ℕ) (recording : Recording) (state : State) →
         IsKept limit recording state → IsKept limit recording (undone mark state) }
@@ -39,26 +41,34 @@ pub fn edits_fit()
         IsKept limit recording (state_of (tagged slot on spans state.content) state.anchors state.log) }
 {}
 
-/// Where the anchors of each widget stand at starts of lines of a text that ends with a newline, or at its end, they do so after
-/// an edit.
+/// Where the anchors of each widget stand at starts of lines of a text that ends with a newline, or at its end, they do
+/// so after an edit.
 pub fn anchors_stand_yet()
-    ensures within { (text : List ℕ) (anchors : Anchors) → AreAnchored text anchors → AnchorsStand (length text) anchors }
+    ensures within { (text : List ℕ) (anchors : Anchors) → AreAnchored text anchors →
+        AnchorsStand (length text) anchors }
     ensures inserted { (at : ℕ) (recording : Recording) (kind : EditKind) (pieces : List Piece) (state : State) →
-        IsAnchored state → at < length state.content.cells → IsAnchored (inserted_texts recording kind at pieces state) }
+        IsAnchored state → at < length state.content.cells →
+        IsAnchored (inserted_texts recording kind at pieces state) }
     ensures removed { (from to : ℕ) (recording : Recording) (kind : EditKind) (state : State) →
-        IsAnchored state → ends_in_newline (characters state.content.cells) ≡ true → from ≤ to → to < length state.content.cells →
+        IsAnchored state → ends_in_newline (characters state.content.cells) ≡ true → from ≤ to →
+        to < length state.content.cells →
         IsAnchored (removed_span recording kind from to state) }
     ensures spans { (border : ℕ) (recording : Recording) (kind : EditKind) (spans : List Span) (state : State) →
-        IsAnchored state → ends_in_newline (characters state.content.cells) ≡ true → AreApart border spans → border ≤ length state.content.cells →
+        IsAnchored state → ends_in_newline (characters state.content.cells) ≡ true → AreApart border spans →
+        border ≤ length state.content.cells →
         IsAnchored (removed_spans recording kind spans state) }
     ensures replaced { (mark last from to : ℕ) (recording : Recording) (pieces : List Piece) (state : State) →
-        IsAnchored state → ends_in_newline (characters state.content.cells) ≡ true → last < length state.content.cells → from ≤ to →
+        IsAnchored state → ends_in_newline (characters state.content.cells) ≡ true → last < length state.content.cells →
+        from ≤ to →
         IsAnchored (replaced recording mark last from to pieces state) }
     ensures deleted { (start end : ℕ) (recording : Recording) (spans : List Span) (state : State) →
-        IsAnchored state → ends_in_newline (characters state.content.cells) ≡ true → start < end → end ≤ length state.content.cells →
+        IsAnchored state → ends_in_newline (characters state.content.cells) ≡ true → start < end →
+        end ≤ length state.content.cells →
         All (λ (span : Span). span.to ≤ end) spans → IsAnchored (deleted recording start end spans state) }
     ensures undone { (limit mark : ℕ) (recording : Recording) (state : State) →
-        IsAnchored state → ends_in_newline (characters state.content.cells) ≡ true → IsKept limit recording state → IsAnchored (undone mark state) }
+        IsAnchored state → ends_in_newline (characters state.content.cells) ≡ true → IsKept limit recording state →
+        IsAnchored (undone mark state) }
     ensures redone { (limit mark : ℕ) (recording : Recording) (state : State) →
-        IsAnchored state → ends_in_newline (characters state.content.cells) ≡ true → IsKept limit recording state → IsAnchored (redone mark state) }
+        IsAnchored state → ends_in_newline (characters state.content.cells) ≡ true → IsKept limit recording state →
+        IsAnchored (redone mark state) }
 {}

@@ -1,5 +1,5 @@
-//! Plans of edits: what a command does to a text, its marks, the anchors of the widgets that show it and the history, as a
-//! whole or not at all.
+//! Plans of edits: what a command does to a text, its marks, the anchors of the widgets that show it and the history,
+//! as a whole or not at all.
 #![tactic(auto)]
 
 mod anchors;

@@ -2,8 +2,8 @@ ghost use Rattle.std.specs.Prelude.{◌<◌};
 
 use text_model::{TagSet, Text};
 
-/// A text to be put in, with the slots of each of its characters; without them it gets those that the characters on both
-/// sides of it have.
+/// A text to be put in, with the slots of each of its characters; without them it gets those that the characters on
+/// both sides of it have.
 #[derive(Drop)]
 pub struct Piece {
     pub text: Text,

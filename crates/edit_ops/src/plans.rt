@@ -10,8 +10,8 @@ use std::collections::VecDeque;
 use text_model::{Edit, StepList, TextStore};
 use undo_stack::{Action, EditKind, UndoStack};
 
-/// Whether actions are kept to be undone, and whether an edit of another kind than the one before begins a group of its own
-/// (text(n), "-undo" and "-autoseparators").
+/// Whether actions are kept to be undone, and whether an edit of another kind than the one before begins a group of its
+/// own (text(n), "-undo" and "-autoseparators").
 #[derive(Clone, Copy, Debug, PartialEq, Eq)]
 pub struct Recording {
     pub undo: bool,
@@ -124,8 +124,8 @@ pub fn prepare<S: TextStore>(
     prepare_steps(store, steps, anchors, notes)
 }
 
-/// Carries out a plan, which can't fail. The store, the history and the number of widgets have to be as the call that made
-/// it left them.
+/// Carries out a plan, which can't fail. The store, the history and the number of widgets have to be as the call that
+/// made it left them.
 pub fn commit<S: TextStore>(
     plan: Plan<S>,
     store: &mut S,

@@ -33,9 +33,11 @@ fn draft_removal<S: TextStore>(
     requires within { to < length (S.content store.now).cells }
     requires stand { All (AnchorsStand (length (S.content store.now).cells)) anchors.now }
     ensures widgets { IfOk result (λ draft. length draft.anchors ≡ length anchors.now) }
-    ensures stand { IfOk result (λ draft. All (AnchorsStand (length (S.content store.now).cells - (to - from))) draft.anchors) }
+    ensures stand { IfOk result (λ draft. All (AnchorsStand (length (S.content store.now).cells - (to - from)))
+        draft.anchors) }
     ensures fits { IfOk result (λ draft. Fits draft.steps (S.content store.now)) }
-    ensures cells { IfOk result (λ draft. (after draft.steps (S.content store.now)).cells ≡ removed from to (S.content store.now).cells) }
+    ensures cells { IfOk result (λ draft. (after draft.steps (S.content store.now)).cells
+        ≡ removed from to (S.content store.now).cells) }
     ensures makes { IfOk result (λ draft. (recording : Recording) (kind : EditKind) (log : Log) →
         drafted recording kind draft (state_of (S.content store.now) anchors.now log)
         ≡ removed_span recording kind from to (state_of (S.content store.now) anchors.now log)) }
@@ -86,11 +88,12 @@ fn draft_replace<S: TextStore>(
 {
     let mut draft = draft_removal(alloc, store, anchors, from, to, pieces.len() + 2)?;
     let len = store.len() - (to - from);
+    let behind = store.tags_at(to);
     draft.insert_pieces(
         from,
         pieces,
-        shared_around(store, from, to),
-        store.tags_at(to),
+        shared_around(store, from, behind),
+        behind,
         len,
     )?;
     match clipped(store.mark_place(mark), from, to, total_of(pieces)) {
@@ -100,10 +103,10 @@ fn draft_replace<S: TextStore>(
     Ok(draft)
 }
 
-/// A plan that puts texts in the place of the characters from one offset to another, where both are cut to `last` (the last
-/// character that the acting widget shows). The characters are taken out, and the texts put in as by `plan_insert`; each is an
-/// action of a replacement. The mark of a number, if it stands before a character that is taken out, stays as far behind the
-/// place as it was, or goes to the end of the new text (text(n), "replace").
+/// A plan that puts texts in the place of the characters from one offset to another, where both are cut to `last` (the
+/// last character that the acting widget shows). The characters are taken out, and the texts put in as by
+/// `plan_insert`; each is an action of a replacement. The mark of a number, if it stands before a character that is
+/// taken out, stays as far behind the place as it was, or goes to the end of the new text (text(n), "replace").
 pub fn plan_replace<S: TextStore>(
     alloc: Global,
     limits: &Limits,
@@ -129,7 +132,8 @@ pub fn plan_replace<S: TextStore>(
     ensures widgets { IfOk result (λ plan. length plan.anchors.items ≡ length anchors.now) }
     ensures outcome { IfOk result (λ plan.
         planned plan.notes (S.outcome store.new plan.prepared) plan.anchors.items (log_of history.old)
-        ≡ replaced recording mark.0 last from to pieces.now (state_of (S.content store.old) anchors.now (log_of history.old))) }
+        ≡ replaced recording mark.0 last from to pieces.now
+        (state_of (S.content store.old) anchors.now (log_of history.old))) }
 {
     if to < from {
         return Err(EditFault::IndexOrder);

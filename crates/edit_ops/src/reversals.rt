@@ -1,10 +1,12 @@
-ghost use Rattle.std.specs.Prelude.{◌≡◌, ◌+◌, ◌-◌, ◌<◌, ◌≤◌, ◌^◌, not, length, option_map, OnOk, IfOk, IfErr, Some, IsSome, IfSome, true, false, if◌then◌else◌};
+ghost use Rattle.std.specs.Prelude.{◌≡◌, ◌+◌, ◌-◌, ◌<◌, ◌≤◌, ◌^◌, not, length, option_map, OnOk, IfOk, IfErr, Some};
+ghost use Rattle.std.specs.Prelude.{IsSome, IfSome, true, false, if◌then◌else◌};
 ghost use Rattle.std.specs.Prelude.{option_and_then};
 ghost use Rattle.std.specs.List.{All};
 ghost use Rattle.edit_ops.specs.Anchors.{AnchorsStand};
 ghost use Rattle.edit_ops.specs.Plans.{planned, HasRoom};
 ghost use Rattle.edit_ops.specs.Replays.{Follows, drawn_up, replays, replayed_group};
-ghost use Rattle.edit_ops.specs.Reversals.{put_back, taken_back, action_redone, group_redone, redo_end, stood, undone, redone};
+ghost use Rattle.edit_ops.specs.Reversals.{put_back, taken_back, action_redone, group_redone, redo_end, stood, undone};
+ghost use Rattle.edit_ops.specs.Reversals.{redone};
 ghost use Rattle.edit_ops.specs.States.{Log, log_of, state_of};
 ghost use Rattle.text_model.specs.Content.{characters};
 ghost use Rattle.text_model.specs.Steps.{Fits, after};
@@ -68,7 +70,8 @@ impl Draft {
         ensures follows { OnOk result (Follows (S.content store.now) self.new cursor.new) }
         ensures len { OnOk result (cursor.new.len ≡ cursor.old.len + length text.now) }
         ensures makes { OnOk result ((log : Log) →
-            drawn_up self.new (S.content store.now) log ≡ put_back at text.now (drawn_up self.old (S.content store.now) log)) }
+            drawn_up self.new (S.content store.now) log
+            ≡ put_back at text.now (drawn_up self.old (S.content store.now) log)) }
     {
         let count = count_of(text);
         cursor.seek(at)?;
@@ -92,7 +95,8 @@ impl Draft {
         ensures follows { OnOk result (Follows (S.content store.now) self.new cursor.new) }
         ensures len { OnOk result (cursor.new.len ≡ cursor.old.len - (to - from)) }
         ensures makes { OnOk result ((log : Log) →
-            drawn_up self.new (S.content store.now) log ≡ taken_back from to (drawn_up self.old (S.content store.now) log)) }
+            drawn_up self.new (S.content store.now) log
+            ≡ taken_back from to (drawn_up self.old (S.content store.now) log)) }
     {
         // Read, so that the prover sees its range.
         let _len = cursor.len;
@@ -122,7 +126,8 @@ impl Draft {
         ensures bound { IfOk result (λ end. end ≤ cursor.new.len) }
         ensures makes { OnOk result ((log : Log) →
             drawn_up self.new (S.content store.now) log
-            ≡ action_redone (record { inserts = inserts; at = at; text = text.now }) (drawn_up self.old (S.content store.now) log)) }
+            ≡ action_redone (record { inserts = inserts; at = at; text = text.now })
+            (drawn_up self.old (S.content store.now) log)) }
     {
         // Read, so that the prover sees its range.
         let _len = cursor.len;
@@ -146,12 +151,14 @@ impl Draft {
         limit: usize,
     ) -> Result<Option<usize>, AllocError>
         requires follows { Follows (S.content store.now) self.old cursor.old }
-        requires fits { IsSome (repeated_group limit (replays back group.now) (characters (after self.old.steps (S.content store.now)).cells)) }
+        requires fits { IsSome (repeated_group limit (replays back group.now)
+            (characters (after self.old.steps (S.content store.now)).cells)) }
         ensures follows { OnOk result (Follows (S.content store.now) self.new cursor.new) }
         ensures end { IfOk result (λ end. end ≡ redo_end (replays back group.now)) }
         ensures bound { IfOk result (λ end. IfSome end (λ at. at ≤ cursor.new.len)) }
         ensures makes { OnOk result ((log : Log) →
-            drawn_up self.new (S.content store.now) log ≡ group_redone (replays back group.now) (drawn_up self.old (S.content store.now) log)) }
+            drawn_up self.new (S.content store.now) log
+            ≡ group_redone (replays back group.now) (drawn_up self.old (S.content store.now) log)) }
     {
         let count = group.len();
         let mut end = None;
@@ -177,7 +184,8 @@ impl Draft {
         requires bound { IfSome end (λ at. at ≤ length (after self.old.steps (S.content store.now)).cells) }
         ensures fits { OnOk result (Fits self.new.steps (S.content store.now)) }
         ensures makes { OnOk result ((log : Log) → let made = drawn_up self.old (S.content store.now) log in
-            drawn_up self.new (S.content store.now) log ≡ record made { content = stood mark.0 end (S.content store.now) made.content }) }
+            drawn_up self.new (S.content store.now) log
+            ≡ record made { content = stood mark.0 end (S.content store.now) made.content }) }
     {
         match stood(store.mark_place(mark), end) {
             None => {}
@@ -222,10 +230,12 @@ fn draft_reversal<S: TextStore>(
     limit: usize,
 ) -> Result<Draft, AllocError>
     requires stand { All (AnchorsStand (length (S.content store.now).cells)) anchors.now }
-    requires fits { IfSome group (λ group. IsSome (repeated_group limit (replays back group) (characters (S.content store.now).cells))) }
+    requires fits { IfSome group (λ group.
+        IsSome (repeated_group limit (replays back group) (characters (S.content store.now).cells))) }
     ensures fits { IfOk result (λ draft. Fits draft.steps (S.content store.now)) }
     ensures makes { IfOk result (λ draft. (log : Log) → drawn_up draft (S.content store.now) log
-        ≡ replayed_group mark.0 (option_map (replays back) group.entry) (state_of (S.content store.now) anchors.now log)) }
+        ≡ replayed_group mark.0 (option_map (replays back) group.entry)
+        (state_of (S.content store.now) anchors.now log)) }
 {
     match group {
         None => Draft::new(alloc, anchors, 0),
@@ -245,23 +255,27 @@ fn plan_reversal<S: TextStore>(
     notes: Notes,
 ) -> Result<Plan<S>, EditFault>
     requires stand { All (AnchorsStand (length (S.content store.old).cells)) anchors.now }
-    requires fits { IfSome group (λ group. IsSome (repeated_group limits.now.chars (replays back group) (characters (S.content store.old).cells))) }
+    requires fits { IfSome group (λ group.
+        IsSome (repeated_group limits.now.chars (replays back group) (characters (S.content store.old).cells))) }
     ensures content { S.content store.new ≡ S.content store.old }
     ensures refused { IfErr result (λ fault. fault ≡ EditFault.Memory) }
     ensures ready { IfOk result (λ plan. S.ready store.new plan.prepared) }
     ensures notes { IfOk result (λ plan. plan.notes ≡ notes) }
-    ensures outcome { IfOk result (λ plan. (log : Log) → state_of (S.outcome store.new plan.prepared) plan.anchors.items log
-        ≡ replayed_group mark.0 (option_map (replays back) group.entry) (state_of (S.content store.old) anchors.now log)) }
+    ensures outcome { IfOk result (λ plan. (log : Log) →
+        state_of (S.outcome store.new plan.prepared) plan.anchors.items log
+        ≡ replayed_group mark.0 (option_map (replays back) group.entry)
+        (state_of (S.content store.old) anchors.now log)) }
 {
     let draft = draft_reversal(alloc, store, anchors, group, back, mark, limits.chars())?;
     let Draft { steps, anchors, .. } = draft;
     Ok(prepare_steps(store, steps, anchors, notes)?)
 }
 
-/// A plan that reverts the actions of the last group, the last first; nothing, where there is no group. A text that was put in
-/// is taken out, and one that was taken out comes back with the slots that the characters on both sides share. The mark of a
-/// number, if there is one, then stands where the last of that ends. The group counts as undone, and nothing is noted (text(n),
-/// "edit undo"). It isn't refused for its length, since the history fits the text within the limit.
+/// A plan that reverts the actions of the last group, the last first; nothing, where there is no group. A text that was
+/// put in is taken out, and one that was taken out comes back with the slots that the characters on both sides share.
+/// The mark of a number, if there is one, then stands where the last of that ends. The group counts as undone, and
+/// nothing is noted (text(n), "edit undo"). It isn't refused for its length, since the history fits the text within the
+/// limit.
 pub fn plan_undo<S: TextStore>(
     alloc: Global,
     limits: &Limits,
@@ -294,9 +308,9 @@ pub fn plan_undo<S: TextStore>(
     Ok(plan)
 }
 
-/// A plan that makes the actions of the group that was undone last once more, the first first; nothing, where there is no such
-/// group. Texts come back and are taken out as by `plan_undo`, and the mark of a number stands where the last of that ends. The
-/// group no longer counts as undone (text(n), "edit redo").
+/// A plan that makes the actions of the group that was undone last once more, the first first; nothing, where there is
+/// no such group. Texts come back and are taken out as by `plan_undo`, and the mark of a number stands where the last
+/// of that ends. The group no longer counts as undone (text(n), "edit redo").
 pub fn plan_redo<S: TextStore>(
     alloc: Global,
     limits: &Limits,

@@ -34,7 +34,8 @@ fn by_end(alloc: Global, spans: &[Span]) -> Result<Vec<Span>, AllocError>
 
 /// The longest runs of offsets that lie in some spans, the last first.
 pub fn union(alloc: Global, spans: &[Span]) -> Result<Vec<Span>, AllocError>
-    ensures apart { (end : ℕ) → All (λ span. span.to ≤ end) spans.now → IfOk result (λ runs. AreApart (end + 1) runs.items) }
+    ensures apart { (end : ℕ) → All (λ span. span.to ≤ end) spans.now →
+        IfOk result (λ runs. AreApart (end + 1) runs.items) }
     ensures covers { IfOk result (λ runs. (offset : ℕ) → in_spans runs.items offset ≡ in_spans spans.now offset) }
 {
     let mut left = by_end(alloc, spans)?;
@@ -56,7 +57,8 @@ pub fn union(alloc: Global, spans: &[Span]) -> Result<Vec<Span>, AllocError>
     Ok(runs)
 }
 
-/// Takes an offset, the last of all, out of the runs that hold it; the offset before the run that held it may join them.
+/// Takes an offset, the last of all, out of the runs that hold it; the offset before the run that held it may join
+/// them.
 pub fn spare_last(runs: &mut Vec<Span>, last: usize, joins: bool)
     requires some { 0 < length runs.old.items }
     requires apart { AreApart (last + 2) runs.old.items }
@@ -64,7 +66,8 @@ pub fn spare_last(runs: &mut Vec<Span>, last: usize, joins: bool)
     requires before { (d : Span) → joins ≡ true → 0 < (get_or runs.old.items 0 d).from }
     ensures apart { AreApart (last + 1) runs.new.items }
     ensures covers { (d : Span) (offset : ℕ) → in_spans runs.new.items offset
-        ≡ (in_spans runs.old.items offset && not (offset == last) || (joins && (offset + 1 == (get_or runs.old.items 0 d).from))) }
+        ≡ (in_spans runs.old.items offset && not (offset == last)
+        || (joins && (offset + 1 == (get_or runs.old.items 0 d).from))) }
 {
     let mut from = runs[0].from;
     if joins {

@@ -122,7 +122,8 @@ pub fn plan_clear<S: TextStore>(
     ensures widgets { IfOk result (λ plan. length plan.anchors.items ≡ length anchors.now) }
     ensures outcome { IfOk result (λ plan.
         planned plan.notes (S.outcome store.new plan.prepared) plan.anchors.items (log_of history.old)
-        ≡ state_of (cleared (map (λ (slot : TagSlot). slot.0) slots.now) (S.content store.old)) anchors.now (log_of history.old)) }
+        ≡ state_of (cleared (map (λ (slot : TagSlot). slot.0) slots.now) (S.content store.old)) anchors.now
+        (log_of history.old)) }
 {
     let steps = clear_steps(alloc, slots)?;
     plan_steps(alloc, store, history, anchors, steps)

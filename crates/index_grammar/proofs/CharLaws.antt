@@ -1,5 +1,6 @@
 -- Where a word is cut at a blank or a sign, its characters are too.
-use Rattle.std.proofs.Common.{◌≡◌, ℕ, ◌+◌, ◌<◌, ◌≤◌, Bool, true, false, cond, not, ◌&&◌, List, [], ◌∷◌, ◌++◌, take, drop, length, get_or, refl, sym, ap, ◌∙◌, arith}
+use Rattle.std.proofs.Common.{◌≡◌, ℕ, ◌+◌, ◌<◌, ◌≤◌, Bool, true, false, cond, not, ◌&&◌, List, [], ◌∷◌, ◌++◌, take}
+use Rattle.std.proofs.Common.{drop, length, get_or, refl, sym, ap, ◌∙◌, arith}
 use Rattle.std.specs.Prelude.{chars, IsUtf8, IsCharBoundary, encode_utf8_all, nat_lt, Option, Some, None, option_map}
 use lib.Utf8.{encode}
 use Rattle.std.specs.List.{list_all, prefix_len}
@@ -8,7 +9,8 @@ use Rattle.std.proofs.lemmas.Bool.{false≢true}
 use Rattle.std.proofs.lemmas.List.{take-append-drop, drop_more}
 use Rattle.std.proofs.lemmas.List.Sums.{prefix_len-le-length}
 use Rattle.std.proofs.lemmas.List.Folds.{list_all-append}
-use Rattle.std.proofs.lemmas.Str.{encodes-chars, encode_ascii, chars-append, chars-nil, chars-IsAscii, IsUtf8-take, IsUtf8-from_ascii, IsCharBoundary-before_ascii}
+use Rattle.std.proofs.lemmas.Str.{encodes-chars, encode_ascii, chars-append, chars-nil, chars-IsAscii, IsUtf8-take}
+use Rattle.std.proofs.lemmas.Str.{IsUtf8-from_ascii, IsCharBoundary-before_ascii}
 use Rattle.index_grammar.specs.Characters.{is_break, closes}
 use Rattle.index_grammar.specs.Grammar.{place_base, place_of, of_length, saturated_base}
 use Rattle.index_grammar.specs.Reading.{read_of}
@@ -30,9 +32,11 @@ break-low c breaks = grind (arith, nat_tests)
 inside-encodes : (cs : List ℕ) → list_all inside (encode_utf8_all cs) ≡ true → list_all inside cs ≡ true
 inside-encodes [] all = refl
 inside-encodes (c ∷ cs) all =
-    let parts = both (list_all inside (encode c)) (list_all inside (encode_utf8_all cs)) (sym (list_all-append inside (encode c) (encode_utf8_all cs)) ∙ all) in
+    let parts = both (list_all inside (encode c)) (list_all inside (encode_utf8_all cs))
+    (sym (list_all-append inside (encode c) (encode_utf8_all cs)) ∙ all) in
     let first : inside c ≡ true = elim (nat_lt c 128) as (λ b. nat_lt c 128 ≡ b → inside c ≡ true) [
-      | true ↦ λ low. (both (inside c) true (sym (ap (list_all inside) (encode_ascii c ((Decides-ltb c 128).0 low))) ∙ parts.0)).0
+      | true ↦ λ low. (both (inside c) true (sym (ap (list_all inside) (encode_ascii c ((Decides-ltb c 128).0 low)))
+          ∙ parts.0)).0
       | false ↦ λ high. inside-high c high
     ] refl in
     ap (λ b. b && list_all inside cs) first ∙ inside-encodes cs parts.1
@@ -40,13 +44,16 @@ inside-encodes (c ∷ cs) all =
 pub inside-chars : (bytes : List ℕ) → IsUtf8 bytes → list_all inside bytes ≡ true → list_all inside (chars bytes) ≡ true
 inside-chars bytes text all = inside-encodes (chars bytes) (ap (list_all inside) (encodes-chars bytes text) ∙ all)
 
-pub chars-cut : (bytes : List ℕ) (at : ℕ) → IsUtf8 bytes → IsCharBoundary bytes at → chars bytes ≡ chars (take at bytes) ++ chars (drop at bytes)
-chars-cut bytes at text boundary = ap chars (sym (take-append-drop at bytes)) ∙ chars-append (take at bytes) (drop at bytes) (IsUtf8-take bytes at text boundary)
+pub chars-cut : (bytes : List ℕ) (at : ℕ) → IsUtf8 bytes → IsCharBoundary bytes at →
+    chars bytes ≡ chars (take at bytes) ++ chars (drop at bytes)
+chars-cut bytes at text boundary = ap chars (sym (take-append-drop at bytes))
+    ∙ chars-append (take at bytes) (drop at bytes) (IsUtf8-take bytes at text boundary)
 
 pub chars-low : (c : ℕ) (cs : List ℕ) → nat_lt c 128 ≡ true → chars (c ∷ cs) ≡ c ∷ chars cs
 chars-low c cs low =
     let ascii = ascii_of (c ∷ []) (ap (λ b. b && true) low) in
-    chars-append (c ∷ []) cs (IsUtf8-from_ascii (c ∷ []) ascii) ∙ ap (λ xs. xs ++ chars cs) (chars-IsAscii (c ∷ []) ascii)
+    chars-append (c ∷ []) cs (IsUtf8-from_ascii (c ∷ []) ascii)
+    ∙ ap (λ xs. xs ++ chars cs) (chars-IsAscii (c ∷ []) ascii)
 
 pub closes-chars : (bytes : List ℕ) → closes bytes ≡ true → closes (chars bytes) ≡ true
 closes-chars [] closed = ap closes chars-nil
@@ -58,27 +65,31 @@ closes-none (c ∷ cs) closed = ap (λ b. cond (not b) (1 + prefix_len inside cs
 
 pub closes-rest : (bytes : List ℕ) → closes (drop (prefix_len inside bytes) bytes) ≡ true
 closes-rest [] = refl
-closes-rest (c ∷ cs) = elim (is_break c) as (λ b. is_break c ≡ b → closes (drop (cond (not b) (1 + prefix_len inside cs) 0) (c ∷ cs)) ≡ true) [
-  | true ↦ λ is. is
-  | false ↦ λ _. ap (λ k. closes (drop k (c ∷ cs))) (one (prefix_len inside cs)) ∙ closes-rest cs
-] refl
+closes-rest (c ∷ cs) = elim (is_break c) as (λ b. is_break c ≡ b →
+    closes (drop (cond (not b) (1 + prefix_len inside cs) 0) (c ∷ cs)) ≡ true) [
+      | true ↦ λ is. is
+      | false ↦ λ _. ap (λ k. closes (drop k (c ∷ cs))) (one (prefix_len inside cs)) ∙ closes-rest cs
+    ] refl
 
 inside-front : (bytes : List ℕ) → list_all inside (take (prefix_len inside bytes) bytes) ≡ true
 inside-front [] = refl
-inside-front (c ∷ cs) = elim (is_break c) as (λ b. is_break c ≡ b → list_all inside (take (cond (not b) (1 + prefix_len inside cs) 0) (c ∷ cs)) ≡ true) [
-  | true ↦ λ _. refl
-  | false ↦ λ other. ap (λ k. list_all inside (take k (c ∷ cs))) (one (prefix_len inside cs))
-      ∙ ap (λ b. not b && list_all inside (take (prefix_len inside cs) cs)) other ∙ inside-front cs
-] refl
+inside-front (c ∷ cs) = elim (is_break c) as (λ b. is_break c ≡ b →
+    list_all inside (take (cond (not b) (1 + prefix_len inside cs) 0) (c ∷ cs)) ≡ true) [
+      | true ↦ λ _. refl
+      | false ↦ λ other. ap (λ k. list_all inside (take k (c ∷ cs))) (one (prefix_len inside cs))
+          ∙ ap (λ b. not b && list_all inside (take (prefix_len inside cs) cs)) other ∙ inside-front cs
+    ] refl
 
 -- a blank or a sign is a byte of its own
-pub break-boundary : (bytes : List ℕ) (at : ℕ) → at ≤ length bytes → closes (drop at bytes) ≡ true → IsCharBoundary bytes at
+pub break-boundary : (bytes : List ℕ) (at : ℕ) → at ≤ length bytes → closes (drop at bytes) ≡ true →
+    IsCharBoundary bytes at
 break-boundary bytes at within closed =
     elim (nat_lt at (length bytes)) as (λ b. nat_lt at (length bytes) ≡ b → IsCharBoundary bytes at) [
       | true ↦ λ is.
           let lt : at < length bytes = (Decides-ltb at (length bytes)).0 is in
           let here : is_break (get_or bytes at 0) ≡ true = sym (ap closes (drop_more bytes at 0 lt)) ∙ closed in
-          IsCharBoundary-before_ascii bytes at lt ((Decides-ltb (get_or bytes at 0) 128).0 (break-low (get_or bytes at 0) here))
+          IsCharBoundary-before_ascii bytes at lt
+          ((Decides-ltb (get_or bytes at 0) 128).0 (break-low (get_or bytes at 0) here))
       | false ↦ λ isn't.
           let far : length bytes ≤ at = grind (arith, nat_tests) in
           (within, λ lt _. omega (arith, far, lt))
@@ -86,24 +97,35 @@ break-boundary bytes at within closed =
 
 pub front-boundary : (bytes : List ℕ) (end : ℕ) → end ≡ prefix_len inside bytes → IsCharBoundary bytes end
 front-boundary bytes end is =
-    break-boundary bytes end (omega (arith, is, prefix_len-le-length inside bytes)) (ap (λ k. closes (drop k bytes)) is ∙ closes-rest bytes)
+    break-boundary bytes end (omega (arith, is, prefix_len-le-length inside bytes)) (ap (λ k. closes (drop k bytes)) is
+    ∙ closes-rest bytes)
 
 -- the characters before the first blank or sign, and those behind
-count-front : (bytes : List ℕ) (end : ℕ) → IsUtf8 bytes → end ≡ prefix_len inside bytes → prefix_len inside (chars bytes) ≡ length (chars (take end bytes))
+count-front : (bytes : List ℕ) (end : ℕ) → IsUtf8 bytes → end ≡ prefix_len inside bytes →
+    prefix_len inside (chars bytes) ≡ length (chars (take end bytes))
 count-front bytes end text is =
     let boundary = front-boundary bytes end is in
-    let front : list_all inside (chars (take end bytes)) ≡ true = inside-chars (take end bytes) (IsUtf8-take bytes end text boundary)
+    let front : list_all inside (chars (take end bytes))
+    ≡ true = inside-chars (take end bytes) (IsUtf8-take bytes end text boundary)
     (ap (λ k. list_all inside (take k bytes)) is ∙ inside-front bytes) in
-    let rest : prefix_len inside (chars (drop end bytes)) ≡ 0 = closes-none (chars (drop end bytes)) (closes-chars (drop end bytes) (ap (λ k. closes (drop k bytes)) is ∙ closes-rest bytes)) in
-    ap (prefix_len inside) (chars-cut bytes end text boundary) ∙ prefix-append inside (chars (take end bytes)) (chars (drop end bytes)) front rest
+    let rest : prefix_len inside (chars (drop end bytes))
+    ≡ 0 = closes-none (chars (drop end bytes))
+    (closes-chars (drop end bytes) (ap (λ k. closes (drop k bytes)) is ∙ closes-rest bytes)) in
+    ap (prefix_len inside) (chars-cut bytes end text boundary)
+    ∙ prefix-append inside (chars (take end bytes)) (chars (drop end bytes)) front rest
 
-pub take-chars : (bytes : List ℕ) (at : ℕ) → IsUtf8 bytes → IsCharBoundary bytes at → take (length (chars (take at bytes))) (chars bytes) ≡ chars (take at bytes)
-take-chars bytes at text boundary = ap (take (length (chars (take at bytes)))) (chars-cut bytes at text boundary) ∙ take-front (chars (take at bytes)) (chars (drop at bytes))
+pub take-chars : (bytes : List ℕ) (at : ℕ) → IsUtf8 bytes → IsCharBoundary bytes at →
+    take (length (chars (take at bytes))) (chars bytes) ≡ chars (take at bytes)
+take-chars bytes at text boundary = ap (take (length (chars (take at bytes)))) (chars-cut bytes at text boundary)
+    ∙ take-front (chars (take at bytes)) (chars (drop at bytes))
 
-pub drop-chars : (bytes : List ℕ) (at : ℕ) → IsUtf8 bytes → IsCharBoundary bytes at → drop (length (chars (take at bytes))) (chars bytes) ≡ chars (drop at bytes)
-drop-chars bytes at text boundary = ap (drop (length (chars (take at bytes)))) (chars-cut bytes at text boundary) ∙ drop-front (chars (take at bytes)) (chars (drop at bytes))
+pub drop-chars : (bytes : List ℕ) (at : ℕ) → IsUtf8 bytes → IsCharBoundary bytes at →
+    drop (length (chars (take at bytes))) (chars bytes) ≡ chars (drop at bytes)
+drop-chars bytes at text boundary = ap (drop (length (chars (take at bytes)))) (chars-cut bytes at text boundary)
+    ∙ drop-front (chars (take at bytes)) (chars (drop at bytes))
 
-read-place : (text front rest : List ℕ) (count : ℕ) (place found : Option Base) → length front ≡ count → take count text ≡ front → drop count text ≡ rest
+read-place : (text front rest : List ℕ) (count : ℕ) (place found : Option Base) → length front ≡ count →
+    take count text ≡ front → drop count text ≡ rest
     → place ≡ place_of front → found ≡ option_map saturated_base place → prefix_len inside text ≡ count
     → read_of text (place_base text) ≡ option_map (λ base. (base, rest)) found
 read-place text front rest count place found long front_is rest_is place_is found_is count_is =
@@ -111,15 +133,19 @@ read-place text front rest count place found long front_is rest_is place_is foun
     ∙ ap (λ ts. read_of text (option_map (of_length (length ts)) (place_of ts))) front_is
     ∙ ap (λ p. read_of text (option_map (of_length (length front)) p)) (sym place_is)
     ∙ ap (λ k. read_of text (option_map (of_length k) place)) long
-    ∙ elim place as (λ p. read_of text (option_map (of_length count) p) ≡ option_map (λ base. (base, rest)) (option_map saturated_base p)) [
+    ∙ elim place as (λ p. read_of text (option_map (of_length count) p)
+    ≡ option_map (λ base. (base, rest)) (option_map saturated_base p)) [
       | None ↦ refl
       | Some base ↦ ap (λ r. Some (saturated_base base, r)) rest_is
     ]
     ∙ ap (option_map (λ base. (base, rest))) (sym found_is)
 
-pub place-read : (bytes : List ℕ) (end : ℕ) (found : Option Base) → IsUtf8 bytes → end ≡ prefix_len inside bytes → found ≡ option_map saturated_base (place_of (take end bytes))
+pub place-read : (bytes : List ℕ) (end : ℕ) (found : Option Base) → IsUtf8 bytes → end ≡ prefix_len inside bytes →
+    found ≡ option_map saturated_base (place_of (take end bytes))
     → read_of (chars bytes) (place_base (chars bytes)) ≡ option_map (λ base. (base, chars (drop end bytes))) found
 place-read bytes end found text is found_is =
     let boundary = front-boundary bytes end is in
-    read-place (chars bytes) (chars (take end bytes)) (chars (drop end bytes)) (length (chars (take end bytes))) (place_of (take end bytes)) found
-    refl (take-chars bytes end text boundary) (drop-chars bytes end text boundary) (place_of-chars (take end bytes) (IsUtf8-take bytes end text boundary)) found_is (count-front bytes end text is)
+    read-place (chars bytes) (chars (take end bytes)) (chars (drop end bytes)) (length (chars (take end bytes)))
+    (place_of (take end bytes)) found
+    refl (take-chars bytes end text boundary) (drop-chars bytes end text boundary)
+    (place_of-chars (take end bytes) (IsUtf8-take bytes end text boundary)) found_is (count-front bytes end text is)

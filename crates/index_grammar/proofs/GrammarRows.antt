@@ -36,15 +36,24 @@ pub blanks_and_any : read (codes "1.end\t+ 3 any  li ") ≡ Some (base.LineEnd 1
 unfolding tokens_from
 blanks_and_any = refl
 
-pub without_blanks : read (codes "1.0+2i-1l") ≡ Some (base.At 1 0, modifier.Forward unit.Characters 2 ∷ modifier.Back unit.Lines 1 ∷ [])
+pub without_blanks : read (codes "1.0+2i-1l") ≡ Some (
+  base.At 1 0,
+  modifier.Forward unit.Characters 2 ∷ modifier.Back unit.Lines 1 ∷ [],
+)
 unfolding tokens_from
 without_blanks = refl
 
-pub long_number : read (codes "1.0+100000000000000000000c") ≡ Some (base.At 1 0, modifier.Forward unit.Characters 100000000000000000000 ∷ [])
+pub long_number : read (codes "1.0+100000000000000000000c")
+    ≡ Some (base.At 1 0, modifier.Forward unit.Characters 100000000000000000000 ∷ [])
 unfolding tokens_from
 long_number = refl
 
-pub keywords : read (codes "insert linest lineend words worde") ≡ Some (base.Mark (record { 0 = 0 }), modifier.LineStart ∷ modifier.LineEnd ∷ modifier.WordStart ∷ modifier.WordEnd ∷ [])
+pub keywords : read (codes "insert linest lineend words worde")
+    ≡ Some (
+      base.Mark (record { 0 = 0 }),
+      modifier.LineStart ∷ modifier.LineEnd ∷ modifier.WordStart ∷ modifier.WordEnd
+          ∷ [],
+    )
 unfolding tokens_from
 keywords = refl
 

@@ -1,5 +1,6 @@
 -- Places of bytes, and with numbers up to the greatest that a machine has.
-use Rattle.std.proofs.Common.{◌≡◌, ℕ, suc, ◌+◌, ◌≤◌, min, true, false, ◌&&◌, List, [], ◌∷◌, ◌++◌, Option, Some, None, take, drop, get_or, refl, sym, ap, ◌∙◌, arith}
+use Rattle.std.proofs.Common.{◌≡◌, ℕ, suc, ◌+◌, ◌≤◌, min, true, false, ◌&&◌, List, [], ◌∷◌, ◌++◌, Option, Some, None}
+use Rattle.std.proofs.Common.{take, drop, get_or, refl, sym, ap, ◌∙◌, arith}
 use Rattle.std.specs.Str.{chars}
 use Rattle.std.specs.Char.{is_ascii_digit}
 use Rattle.std.specs.Prelude.{fold, bytes_eq, codes, position, option_map, option_and_then, if◌then◌else◌}
@@ -33,62 +34,87 @@ min_twice : (n : ℕ) → min most (min most n) ≡ min most n
 min_twice n = omega arith
 
 -- what follows a line is `end`
-pub in_line-end : (line : ℕ) (text : List ℕ) → line ≤ most → bytes_eq text (101 ∷ 110 ∷ 100 ∷ []) ≡ true → Some (base.LineEnd line) ≡ option_map saturated_base (in_line line text)
+pub in_line-end : (line : ℕ) (text : List ℕ) → line ≤ most → bytes_eq text (101 ∷ 110 ∷ 100 ∷ []) ≡ true →
+    Some (base.LineEnd line) ≡ option_map saturated_base (in_line line text)
 in_line-end line text within same =
     ap (λ n. Some (base.LineEnd n)) (sym (min_most line within))
-    ∙ sym (ap (λ e. option_map saturated_base (if bytes_eq text e then Some (base.LineEnd line) else option_map (base.At line) (number_of text))) end_bytes
-    ∙ ap (λ b. option_map saturated_base (if b then Some (base.LineEnd line) else option_map (base.At line) (number_of text))) same)
+    ∙ sym (ap (λ e. option_map saturated_base (if bytes_eq text e then Some (base.LineEnd line)
+    else option_map (base.At line) (number_of text))) end_bytes
+    ∙ ap (λ b. option_map saturated_base (if b then Some (base.LineEnd line)
+    else option_map (base.At line) (number_of text))) same)
 
-saturated_at : (line : ℕ) (found : Option ℕ) → line ≤ most → option_map (base.At line) (option_map (min most) found) ≡ option_map saturated_base (option_map (base.At line) found)
+saturated_at : (line : ℕ) (found : Option ℕ) → line ≤ most →
+    option_map (base.At line) (option_map (min most) found)
+    ≡ option_map saturated_base (option_map (base.At line) found)
 saturated_at line None within = refl
 saturated_at line (Some n) within = ap (λ m. Some (base.At m (min most n))) (sym (min_most line within))
 
 -- what follows a line is a number, or nothing that may
-pub in_line-number : (line : ℕ) (text : List ℕ) (found : Option ℕ) → line ≤ most → bytes_eq text (101 ∷ 110 ∷ 100 ∷ []) ≡ false
-    → found ≡ option_map (min most) (number_of text) → option_map (base.At line) found ≡ option_map saturated_base (in_line line text)
+pub in_line-number : (line : ℕ) (text : List ℕ) (found : Option ℕ) → line ≤ most →
+    bytes_eq text (101 ∷ 110 ∷ 100 ∷ []) ≡ false
+    → found ≡ option_map (min most) (number_of text) → option_map (base.At line) found
+    ≡ option_map saturated_base (in_line line text)
 in_line-number line text found within other is =
     ap (option_map (base.At line)) is ∙ saturated_at line (number_of text) within
-    ∙ sym (ap (λ e. option_map saturated_base (if bytes_eq text e then Some (base.LineEnd line) else option_map (base.At line) (number_of text))) end_bytes
-    ∙ ap (λ b. option_map saturated_base (if b then Some (base.LineEnd line) else option_map (base.At line) (number_of text))) other)
+    ∙ sym (ap (λ e. option_map saturated_base (if bytes_eq text e then Some (base.LineEnd line)
+    else option_map (base.At line) (number_of text))) end_bytes
+    ∙ ap (λ b. option_map saturated_base (if b then Some (base.LineEnd line)
+    else option_map (base.At line) (number_of text))) other)
 
-at_saturated : (line : ℕ) (found : Option ℕ) → option_map saturated_base (option_map (base.At (min most line)) found) ≡ option_map saturated_base (option_map (base.At line) found)
+at_saturated : (line : ℕ) (found : Option ℕ) → option_map saturated_base (option_map (base.At (min most line)) found)
+    ≡ option_map saturated_base (option_map (base.At line) found)
 at_saturated line None = refl
 at_saturated line (Some n) = ap (λ m. Some (base.At m (min most n))) (min_twice line)
 
-in_line-saturated : (line : ℕ) (text : List ℕ) → option_map saturated_base (in_line (min most line) text) ≡ option_map saturated_base (in_line line text)
+in_line-saturated : (line : ℕ) (text : List ℕ) → option_map saturated_base (in_line (min most line) text)
+    ≡ option_map saturated_base (in_line line text)
 in_line-saturated line text =
     elim (bytes_eq text (codes "end")) as (λ b.
-    option_map saturated_base (if b then Some (base.LineEnd (min most line)) else option_map (base.At (min most line)) (number_of text))
+    option_map saturated_base (if b then Some (base.LineEnd (min most line))
+    else option_map (base.At (min most line)) (number_of text))
     ≡ option_map saturated_base (if b then Some (base.LineEnd line) else option_map (base.At line) (number_of text))) [
       | true ↦ ap (λ m. Some (base.LineEnd m)) (min_twice line)
       | false ↦ at_saturated line (number_of text)
     ]
 
 -- before the dot no number stands
-pub around_dot-none : (text : List ℕ) (dot : ℕ) (place : Option ℕ) → place ≡ Some dot → None ≡ option_map (min most) (number_of (take dot text))
+pub around_dot-none : (text : List ℕ) (dot : ℕ) (place : Option ℕ) → place ≡ Some dot →
+    None ≡ option_map (min most) (number_of (take dot text))
     → None ≡ option_map saturated_base (around_dot text place)
-around_dot-none text dot place at none = rw at (elim (number_of (take dot text)) as (λ o. None ≡ option_map (min most) o → None ≡ option_map saturated_base (option_and_then (λ line. in_line line (drop (suc dot) text)) o)) [
-  | None ↦ λ _. refl
-  | Some n ↦ λ is. absurd (let h : None ≡ Some (min most n) = is in cc)
-] none)
+around_dot-none text dot place at none = rw at
+    (elim (number_of (take dot text)) as (λ o. None ≡ option_map (min most) o →
+    None ≡ option_map saturated_base (option_and_then (λ line. in_line line (drop (suc dot) text)) o)) [
+      | None ↦ λ _. refl
+      | Some n ↦ λ is. absurd (let h : None ≡ Some (min most n) = is in cc)
+    ] none)
 
 -- before the dot a number stands
 pub around_dot-some : (text : List ℕ) (dot line : ℕ) (place : Option ℕ) (found : Option Base) → place ≡ Some dot
-    → Some line ≡ option_map (min most) (number_of (take dot text)) → found ≡ option_map saturated_base (in_line line (drop (dot + 1) text))
+    → Some line ≡ option_map (min most) (number_of (take dot text)) →
+    found ≡ option_map saturated_base (in_line line (drop (dot + 1) text))
     → found ≡ option_map saturated_base (around_dot text place)
-around_dot-some text dot line place found at some is = rw at (elim (number_of (take dot text)) as (λ o. Some line ≡ option_map (min most) o → found ≡ option_map saturated_base (option_and_then (λ n. in_line n (drop (suc dot) text)) o)) [
-  | None ↦ λ none. absurd (let h : Some line ≡ None = none in cc)
-  | Some n ↦ λ same. let line_is : line ≡ min most n = cc in
-      is ∙ ap (λ m. option_map saturated_base (in_line m (drop (dot + 1) text))) line_is ∙ in_line-saturated n (drop (dot + 1) text)
-      ∙ ap (λ k. option_map saturated_base (in_line n (drop k text))) (let e : dot + 1 ≡ suc dot = omega arith in e)
-] some)
+around_dot-some text dot line place found at some is = rw at
+    (elim (number_of (take dot text)) as (λ o. Some line ≡ option_map (min most) o →
+    found ≡ option_map saturated_base (option_and_then (λ n. in_line n (drop (suc dot) text)) o)) [
+      | None ↦ λ none. absurd (let h : Some line ≡ None = none in cc)
+      | Some n ↦ λ same. let line_is : line ≡ min most n = cc in
+          is ∙ ap (λ m. option_map saturated_base (in_line m (drop (dot + 1) text))) line_is
+          ∙ in_line-saturated n (drop (dot + 1) text)
+          ∙ ap (λ k. option_map saturated_base (in_line n (drop k text))) (let e : dot + 1 ≡ suc dot = omega arith in e)
+    ] some)
 
-pub place_of-end : (text : List ℕ) → bytes_eq text (101 ∷ 110 ∷ 100 ∷ []) ≡ true → Some base.End ≡ option_map saturated_base (place_of text)
-place_of-end text same = sym (ap (λ e. option_map saturated_base (if bytes_eq text e then Some base.End else around_dot text (position is_dot text))) end_bytes
+pub place_of-end : (text : List ℕ) → bytes_eq text (101 ∷ 110 ∷ 100 ∷ []) ≡ true →
+    Some base.End ≡ option_map saturated_base (place_of text)
+place_of-end text same = sym (ap (λ e. option_map saturated_base (if bytes_eq text e then Some base.End
+    else around_dot text (position is_dot text))) end_bytes
     ∙ ap (λ b. option_map saturated_base (if b then Some base.End else around_dot text (position is_dot text))) same)
 
-pub place_of-dot : (text : List ℕ) (found : Option Base) → bytes_eq text (101 ∷ 110 ∷ 100 ∷ []) ≡ false → found ≡ option_map saturated_base (around_dot text (position is_dot text)) → found ≡ option_map saturated_base (place_of text)
-place_of-dot text found other is = is ∙ sym (ap (λ e. option_map saturated_base (if bytes_eq text e then Some base.End else around_dot text (position is_dot text))) end_bytes
+pub place_of-dot : (text : List ℕ) (found : Option Base) → bytes_eq text (101 ∷ 110 ∷ 100 ∷ []) ≡ false →
+    found ≡ option_map saturated_base (around_dot text (position is_dot text)) →
+    found ≡ option_map saturated_base (place_of text)
+place_of-dot text found other is = is
+    ∙ sym (ap (λ e. option_map saturated_base (if bytes_eq text e then Some base.End
+    else around_dot text (position is_dot text))) end_bytes
     ∙ ap (λ b. option_map saturated_base (if b then Some base.End else around_dot text (position is_dot text))) other)
 
 -- ---- no index has a character beyond ASCII
@@ -98,52 +124,65 @@ low_digit c digit = grind (arith, nat_tests)
 pub low_digits : (text : List ℕ) → list_all is_ascii_digit text ≡ true → list_all is_low text ≡ true
 low_digits [] digits = refl
 low_digits (c ∷ text) digits =
-    elim (is_ascii_digit c) as (λ b. is_ascii_digit c ≡ b → (b && list_all is_ascii_digit text) ≡ true → (is_low c && list_all is_low text) ≡ true) [
+    elim (is_ascii_digit c) as (λ b. is_ascii_digit c ≡ b → (b && list_all is_ascii_digit text) ≡ true →
+    (is_low c && list_all is_low text) ≡ true) [
       | true ↦ λ here rest. ap (λ b. b && list_all is_low text) (low_digit c here) ∙ low_digits text rest
       | false ↦ λ _ none. absurd (false≢true none)
     ] refl digits
 
 pub low_number : (text : List ℕ) (n : ℕ) → number_of text ≡ Some n → list_all is_low text ≡ true
 low_number [] n is = refl
-low_number (c ∷ text) n is = elim (list_all is_ascii_digit (c ∷ text)) as (λ b. list_all is_ascii_digit (c ∷ text) ≡ b → (if b then Some (fold add_digit 0 (c ∷ text)) else None) ≡ Some n → list_all is_low (c ∷ text) ≡ true) [
-  | true ↦ λ digits _. low_digits (c ∷ text) digits
-  | false ↦ λ _ none. absurd (let h : None ≡ Some n = none in cc)
-] refl is
+low_number (c ∷ text) n is = elim (list_all is_ascii_digit (c ∷ text)) as (λ b. list_all is_ascii_digit (c ∷ text) ≡ b →
+    (if b then Some (fold add_digit 0 (c ∷ text)) else None) ≡ Some n → list_all is_low (c ∷ text) ≡ true) [
+      | true ↦ λ digits _. low_digits (c ∷ text) digits
+      | false ↦ λ _ none. absurd (let h : None ≡ Some n = none in cc)
+    ] refl is
 
 low_end : (text : List ℕ) → bytes_eq text (codes "end") ≡ true → list_all is_low text ≡ true
 low_end text same = ap (list_all is_low) ((bytes_eq-Decides text (codes "end")).0 same ∙ end_bytes)
 
 low_behind : (line : ℕ) (text : List ℕ) (index : Base) → in_line line text ≡ Some index → list_all is_low text ≡ true
 low_behind line text index is =
-    elim (bytes_eq text (codes "end")) as (λ b. bytes_eq text (codes "end") ≡ b → (if b then Some (base.LineEnd line) else option_map (base.At line) (number_of text)) ≡ Some index → list_all is_low text ≡ true) [
+    elim (bytes_eq text (codes "end")) as (λ b. bytes_eq text (codes "end") ≡ b →
+    (if b then Some (base.LineEnd line) else option_map (base.At line) (number_of text)) ≡ Some index →
+    list_all is_low text ≡ true) [
       | true ↦ λ same _. low_end text same
-      | false ↦ λ _. elim (number_of text) as (λ o. number_of text ≡ o → option_map (base.At line) o ≡ Some index → list_all is_low text ≡ true) [
-        | None ↦ λ _ none. absurd (let h : None ≡ Some index = none in cc)
-        | Some n ↦ λ number _. low_number text n number
-      ] refl
+      | false ↦ λ _. elim (number_of text) as (λ o. number_of text ≡ o → option_map (base.At line) o ≡ Some index →
+          list_all is_low text ≡ true) [
+            | None ↦ λ _ none. absurd (let h : None ≡ Some index = none in cc)
+            | Some n ↦ λ number _. low_number text n number
+          ] refl
     ] refl is
 
 -- the parts round a dot have no such character, so the whole has none
-low_parts : (text : List ℕ) (dot : ℕ) → position is_dot text ≡ Some dot → list_all is_low (take dot text) ≡ true → list_all is_low (drop (suc dot) text) ≡ true → list_all is_low text ≡ true
+low_parts : (text : List ℕ) (dot : ℕ) → position is_dot text ≡ Some dot → list_all is_low (take dot text) ≡ true →
+    list_all is_low (drop (suc dot) text) ≡ true → list_all is_low text ≡ true
 low_parts text dot at before behind =
     let found = position-Some is_dot text dot 0 at in
     let here : get_or text dot 0 ≡ 46 = (Decides-eqb (get_or text dot 0) 46).0 found.1 in
-    let rest : drop dot text ≡ 46 ∷ drop (suc dot) text = drop_more text dot 0 found.0 ∙ ap (λ c. c ∷ drop (dot + 1) text) here ∙ ap (λ k. 46 ∷ drop k text) (let e : dot + 1 ≡ suc dot = omega arith in e) in
+    let rest : drop dot text ≡ 46 ∷ drop (suc dot) text = drop_more text dot 0 found.0
+    ∙ ap (λ c. c ∷ drop (dot + 1) text) here
+    ∙ ap (λ k. 46 ∷ drop k text) (let e : dot + 1 ≡ suc dot = omega arith in e) in
     ap (list_all is_low) (sym (take-append-drop dot text) ∙ ap (λ ys. take dot text ++ ys) rest)
     ∙ list_all-append is_low (take dot text) (46 ∷ drop (suc dot) text)
     ∙ ap (λ b. b && list_all is_low (drop (suc dot) text)) before ∙ behind
 
-low_around : (text : List ℕ) (place : Option ℕ) (index : Base) → position is_dot text ≡ place → around_dot text place ≡ Some index → list_all is_low text ≡ true
+low_around : (text : List ℕ) (place : Option ℕ) (index : Base) → position is_dot text ≡ place →
+    around_dot text place ≡ Some index → list_all is_low text ≡ true
 low_around text None index at is = absurd (let h : None ≡ Some index = is in cc)
 low_around text (Some dot) index at is =
-    elim (number_of (take dot text)) as (λ o. number_of (take dot text) ≡ o → option_and_then (λ line. in_line line (drop (suc dot) text)) o ≡ Some index → list_all is_low text ≡ true) [
+    elim (number_of (take dot text)) as (λ o. number_of (take dot text) ≡ o →
+    option_and_then (λ line. in_line line (drop (suc dot) text)) o ≡ Some index → list_all is_low text ≡ true) [
       | None ↦ λ _ none. absurd (let h : None ≡ Some index = none in cc)
-      | Some line ↦ λ number behind. low_parts text dot at (low_number (take dot text) line number) (low_behind line (drop (suc dot) text) index behind)
+      | Some line ↦ λ number behind. low_parts text dot at (low_number (take dot text) line number)
+          (low_behind line (drop (suc dot) text) index behind)
     ] refl is
 
 pub low_place : (text : List ℕ) (index : Base) → place_of text ≡ Some index → list_all is_low text ≡ true
 low_place text index is =
-    elim (bytes_eq text (codes "end")) as (λ b. bytes_eq text (codes "end") ≡ b → (if b then Some base.End else around_dot text (position is_dot text)) ≡ Some index → list_all is_low text ≡ true) [
+    elim (bytes_eq text (codes "end")) as (λ b. bytes_eq text (codes "end") ≡ b →
+    (if b then Some base.End else around_dot text (position is_dot text)) ≡ Some index →
+    list_all is_low text ≡ true) [
       | true ↦ λ same _. low_end text same
       | false ↦ λ _ around. low_around text (position is_dot text) index refl around
     ] refl is

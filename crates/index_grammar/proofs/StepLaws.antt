@@ -1,9 +1,11 @@
 -- The first modifier of a list of tokens.
-use Rattle.std.proofs.Common.{◌≡◌, ℕ, Bool, true, false, List, [], ◌∷◌, ◌++◌, Option, Some, None, refl, sym, ap, ◌∙◌, append_assoc}
+use Rattle.std.proofs.Common.{◌≡◌, ℕ, Bool, true, false, List, [], ◌∷◌, ◌++◌, Option, Some, None, refl, sym, ap, ◌∙◌}
+use Rattle.std.proofs.Common.{append_assoc}
 use Rattle.std.specs.Prelude.{bytes_eq, codes, option_map, if◌then◌else◌}
 use Rattle.std.proofs.lemmas.List.{append-nil}
 use Rattle.std.proofs.lemmas.Slice.Eq.{bytes_eq-Decides}
-use Rattle.index_grammar.specs.Grammar.{Token, modifiers_of, before, counted, number_of, saturated_modifier, keyword_of, abbreviates}
+use Rattle.index_grammar.specs.Grammar.{Token, modifiers_of, before, counted, number_of, saturated_modifier, keyword_of}
+use Rattle.index_grammar.specs.Grammar.{abbreviates}
 use Rattle.index_grammar.specs.Grammar.Token.{Sign, Digits, Word}
 use Rattle.index_grammar.specs.Pieces.{digits_first, unit_first}
 use Rattle.index_grammar.specs.Steps.{saturated, after}
@@ -13,17 +15,21 @@ use Rattle.index_grammar.specs.declared.indices.Modifier.TheVariants as modifier
 abbrev pub any_bytes : List ℕ
 any_bytes = 97 ∷ 110 ∷ 121 ∷ []
 
-saturated-before : (first : Option Modifier) (others : Option (List Modifier)) → saturated (before first others) ≡ before (option_map saturated_modifier first) (saturated others)
+saturated-before : (first : Option Modifier) (others : Option (List Modifier)) →
+    saturated (before first others) ≡ before (option_map saturated_modifier first) (saturated others)
 saturated-before None others = refl
 saturated-before (Some m) None = refl
 saturated-before (Some m) (Some ms) = refl
 
-any-unit : (forward : Bool) (number : Option ℕ) (others : Option (List Modifier)) → before (counted forward number any_bytes) others ≡ None
+any-unit : (forward : Bool) (number : Option ℕ) (others : Option (List Modifier)) →
+    before (counted forward number any_bytes) others ≡ None
 any-unit forward None others = refl
 any-unit forward (Some n) others = refl
 
-any-alone : (forward : Bool) (digits word : List ℕ) (others : Option (List Modifier)) → bytes_eq word any_bytes ≡ true → before (counted forward (number_of digits) word) others ≡ None
-any-alone forward digits word others same = ap (λ w. before (counted forward (number_of digits) w) others) ((bytes_eq-Decides word any_bytes).0 same) ∙ any-unit forward (number_of digits) others
+any-alone : (forward : Bool) (digits word : List ℕ) (others : Option (List Modifier)) → bytes_eq word any_bytes ≡ true →
+    before (counted forward (number_of digits) word) others ≡ None
+any-alone forward digits word others same = ap (λ w. before (counted forward (number_of digits) w) others)
+    ((bytes_eq-Decides word any_bytes).0 same) ∙ any-unit forward (number_of digits) others
 
 -- a count of a unit before other modifiers, by the unit that is found behind the digits
 abbrev before_unit : Bool → List ℕ → Option (List ℕ × List Token) → Option (List Modifier)
@@ -36,24 +42,30 @@ before_counted forward (Some found) = before_unit forward found.0 (unit_first fo
 
 -- a word that no other word follows
 lone-word : (forward : Bool) (digits word : List ℕ) (behind : List Token)
-    → before (counted forward (number_of digits) word) (modifiers_of behind) ≡ before_unit forward digits (if bytes_eq word any_bytes then None else Some (word, behind))
+    → before (counted forward (number_of digits) word) (modifiers_of behind)
+    ≡ before_unit forward digits (if bytes_eq word any_bytes then None else Some (word, behind))
 lone-word forward digits word behind =
     elim (bytes_eq word any_bytes) as (λ b. bytes_eq word any_bytes ≡ b
-    → before (counted forward (number_of digits) word) (modifiers_of behind) ≡ before_unit forward digits (if b then None else Some (word, behind))) [
+    → before (counted forward (number_of digits) word) (modifiers_of behind)
+    ≡ before_unit forward digits (if b then None else Some (word, behind))) [
       | true ↦ λ same. any-alone forward digits word (modifiers_of behind) same
       | false ↦ λ _. refl
     ] refl
 
 two-words : (forward : Bool) (digits word next : List ℕ) (tokens : List Token)
-    → modifiers_of (Sign forward ∷ Digits digits ∷ Word word ∷ Word next ∷ tokens) ≡ before_unit forward digits (unit_first (Word word ∷ Word next ∷ tokens))
+    → modifiers_of (Sign forward ∷ Digits digits ∷ Word word ∷ Word next ∷ tokens)
+    ≡ before_unit forward digits (unit_first (Word word ∷ Word next ∷ tokens))
 two-words forward digits word next tokens =
-    elim (bytes_eq word any_bytes) as (λ b. (if b then before (counted forward (number_of digits) next) (modifiers_of tokens) else before (counted forward (number_of digits) word) (modifiers_of (Word next ∷ tokens)))
+    elim (bytes_eq word any_bytes) as (λ b.
+    (if b then before (counted forward (number_of digits) next) (modifiers_of tokens)
+    else before (counted forward (number_of digits) word) (modifiers_of (Word next ∷ tokens)))
     ≡ before_unit forward digits (if b then Some (next, tokens) else Some (word, Word next ∷ tokens))) [
       | true ↦ refl
       | false ↦ refl
     ]
 
-counted-unit : (forward : Bool) (digits : List ℕ) (tokens : List Token) → modifiers_of (Sign forward ∷ Digits digits ∷ tokens) ≡ before_unit forward digits (unit_first tokens)
+counted-unit : (forward : Bool) (digits : List ℕ) (tokens : List Token) →
+    modifiers_of (Sign forward ∷ Digits digits ∷ tokens) ≡ before_unit forward digits (unit_first tokens)
 counted-unit forward digits [] = refl
 counted-unit forward digits (Sign f ∷ tokens) = refl
 counted-unit forward digits (Digits d ∷ tokens) = refl
@@ -62,24 +74,30 @@ counted-unit forward digits (Word word ∷ Sign f ∷ tokens) = lone-word forwar
 counted-unit forward digits (Word word ∷ Digits d ∷ tokens) = lone-word forward digits word (Digits d ∷ tokens)
 counted-unit forward digits (Word word ∷ Word next ∷ tokens) = two-words forward digits word next tokens
 
-counted-as : (forward : Bool) (tokens : List Token) → modifiers_of (Sign forward ∷ tokens) ≡ before_counted forward (digits_first tokens)
+counted-as : (forward : Bool) (tokens : List Token) → modifiers_of (Sign forward ∷ tokens)
+    ≡ before_counted forward (digits_first tokens)
 counted-as forward [] = refl
 counted-as forward (Sign f ∷ tokens) = refl
 counted-as forward (Digits d ∷ tokens) = counted-unit forward d tokens
 counted-as forward (Word w ∷ tokens) = refl
 
 -- what follows a sign, by the digits and the unit that are found
-pub no-digits : (forward : Bool) (tokens : List Token) → digits_first tokens ≡ None → saturated (modifiers_of (Sign forward ∷ tokens)) ≡ None
-no-digits forward tokens none = ap saturated (counted-as forward tokens) ∙ ap (λ found. saturated (before_counted forward found)) none
+pub no-digits : (forward : Bool) (tokens : List Token) → digits_first tokens ≡ None →
+    saturated (modifiers_of (Sign forward ∷ tokens)) ≡ None
+no-digits forward tokens none =
+    ap saturated (counted-as forward tokens) ∙ ap (λ found. saturated (before_counted forward found)) none
 
-pub no-unit : (forward : Bool) (digits : List ℕ) (tokens behind : List Token) → digits_first tokens ≡ Some (digits, behind) → unit_first behind ≡ None
+pub no-unit : (forward : Bool) (digits : List ℕ) (tokens behind : List Token) →
+    digits_first tokens ≡ Some (digits, behind) → unit_first behind ≡ None
     → saturated (modifiers_of (Sign forward ∷ tokens)) ≡ None
 no-unit forward digits tokens behind some none =
     ap saturated (counted-as forward tokens) ∙ ap (λ found. saturated (before_counted forward found)) some
     ∙ ap (λ found. saturated (before_unit forward digits found)) none
 
-pub counted-found : (forward : Bool) (digits word : List ℕ) (tokens middle behind : List Token) (found : Option Modifier) → digits_first tokens ≡ Some (digits, middle)
-    → unit_first middle ≡ Some (word, behind) → found ≡ option_map saturated_modifier (counted forward (number_of digits) word)
+pub counted-found : (forward : Bool) (digits word : List ℕ) (tokens middle behind : List Token)
+    (found : Option Modifier) → digits_first tokens ≡ Some (digits, middle)
+    → unit_first middle ≡ Some (word, behind) → found
+    ≡ option_map saturated_modifier (counted forward (number_of digits) word)
     → saturated (modifiers_of (Sign forward ∷ tokens)) ≡ before found (saturated (modifiers_of behind))
 counted-found forward digits word tokens middle behind found some unit is =
     ap saturated (counted-as forward tokens) ∙ ap (λ first. saturated (before_counted forward first)) some
@@ -87,10 +105,13 @@ counted-found forward digits word tokens middle behind found some unit is =
     ∙ saturated-before (counted forward (number_of digits) word) (modifiers_of behind)
     ∙ ap (λ m. before m (saturated (modifiers_of behind))) (sym is)
 
-pub keyword-step : (word : List ℕ) (tokens : List Token) → saturated (modifiers_of (Word word ∷ tokens)) ≡ before (option_map saturated_modifier (keyword_of word)) (saturated (modifiers_of tokens))
+pub keyword-step : (word : List ℕ) (tokens : List Token) →
+    saturated (modifiers_of (Word word ∷ tokens))
+    ≡ before (option_map saturated_modifier (keyword_of word)) (saturated (modifiers_of tokens))
 keyword-step word tokens = saturated-before (keyword_of word) (modifiers_of tokens)
 
-pub after-step : (first : List Modifier) (m : Modifier) (others : Option (List Modifier)) → after first (before (Some m) others) ≡ after (first ++ m ∷ []) others
+pub after-step : (first : List Modifier) (m : Modifier) (others : Option (List Modifier)) →
+    after first (before (Some m) others) ≡ after (first ++ m ∷ []) others
 after-step first m None = refl
 after-step first m (Some ms) = ap Some (sym (append_assoc first (m ∷ []) ms))
 
@@ -101,8 +122,11 @@ pub after-first : (others : Option (List Modifier)) → others ≡ after [] othe
 after-first None = refl
 after-first (Some ms) = refl
 
-keywords : (a b c d : Bool) → option_map saturated_modifier (if a then Some modifier.LineStart else (if b then Some modifier.LineEnd else (if c then Some modifier.WordStart else (if d then Some modifier.WordEnd else None))))
-    ≡ (if a then Some modifier.LineStart else (if b then Some modifier.LineEnd else (if c then Some modifier.WordStart else (if d then Some modifier.WordEnd else None))))
+keywords : (a b c d : Bool) → option_map saturated_modifier (if a then Some modifier.LineStart
+    else (if b then Some modifier.LineEnd else (if c then Some modifier.WordStart
+    else (if d then Some modifier.WordEnd else None))))
+    ≡ (if a then Some modifier.LineStart else (if b then Some modifier.LineEnd
+    else (if c then Some modifier.WordStart else (if d then Some modifier.WordEnd else None))))
 keywords true b c d = refl
 keywords false true c d = refl
 keywords false false true d = refl
@@ -113,4 +137,6 @@ pub keyword-found : (word : List ℕ) (tokens : List Token) (found : Option Modi
     → saturated (modifiers_of (Word word ∷ tokens)) ≡ before found (saturated (modifiers_of tokens))
 keyword-found word tokens found is =
     keyword-step word tokens
-    ∙ ap (λ m. before m (saturated (modifiers_of tokens))) (keywords (abbreviates word 5 (codes "linestart")) (abbreviates word 5 (codes "lineend")) (abbreviates word 5 (codes "wordstart")) (abbreviates word 5 (codes "wordend")) ∙ sym is)
+    ∙ ap (λ m. before m (saturated (modifiers_of tokens)))
+    (keywords (abbreviates word 5 (codes "linestart")) (abbreviates word 5 (codes "lineend"))
+    (abbreviates word 5 (codes "wordstart")) (abbreviates word 5 (codes "wordend")) ∙ sym is)

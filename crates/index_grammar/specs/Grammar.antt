@@ -1,5 +1,7 @@
 -- Which words are which indices (text(n), "INDICES").
-use Rattle.std.specs.Prelude.{ℕ, min, ◌++◌, ◌||◌, zero, suc, ◌+◌, ◌-◌, ◌*◌, nat_le, ◌==◌, Bool, true, false, ◌&&◌, not, List, [], ◌∷◌, length, take, drop, fold, position, codes, bytes_eq, encode_utf8_all, Option, None, Some, option_map, option_and_then, nat_eq, if◌then◌else◌}
+use Rattle.std.specs.Prelude.{ℕ, min, ◌++◌, ◌||◌, zero, suc, ◌+◌, ◌-◌, ◌*◌, nat_le, ◌==◌, Bool, true, false, ◌&&◌, not}
+use Rattle.std.specs.Prelude.{List, [], ◌∷◌, length, take, drop, fold, position, codes, bytes_eq, encode_utf8_all}
+use Rattle.std.specs.Prelude.{Option, None, Some, option_map, option_and_then, nat_eq, if◌then◌else◌}
 use Rattle.std.specs.Option.{option_or}
 use Rattle.std.specs.List.{list_all, starts_with, ends_with, prefix_len, take_while}
 use Rattle.std.specs.Char.{is_ascii_digit}
@@ -26,7 +28,8 @@ number_of (digit ∷ digits) =
 
 -- what stands behind the dot: a number, or `end`
 abbrev pub in_line : ℕ → List ℕ → Option Base
-in_line line text = if bytes_eq text (codes "end") then Some (base.LineEnd line) else option_map (base.At line) (number_of text)
+in_line line text =
+    if bytes_eq text (codes "end") then Some (base.LineEnd line) else option_map (base.At line) (number_of text)
 
 abbrev pub around_dot : List ℕ → Option ℕ → Option Base
 around_dot text None = None
@@ -55,7 +58,8 @@ longest found (suc count) = option_or (found (suc count)) (longest found count)
 
 -- what is looked for in a front that is closed
 abbrev pub closed_front : (List ℕ → Option Base) → List ℕ → ℕ → Option (Base × ℕ)
-closed_front named text count = if closes (drop count text) then option_map (of_length count) (named (take count text)) else None
+closed_front named text count =
+    if closes (drop count text) then option_map (of_length count) (named (take count text)) else None
 
 -- the third form: a mark's name
 abbrev pub marked : (List ℕ → Option ℕ) → List ℕ → Option Base
@@ -73,8 +77,10 @@ last_tagged name slot = base.Last (record { 0 = slot }) (length (encode_utf8_all
 -- the fourth form: a tag's name before `.first` or `.last`; the longer of two such fronts has the longer name
 abbrev pub tagged : (List ℕ → Option ℕ) → List ℕ → Option Base
 tagged tags front =
-    if ends_with nat_eq front (codes ".first") then option_map (first_tagged (without_last 6 front)) (tags (without_last 6 front))
-    else (if ends_with nat_eq front (codes ".last") then option_map (last_tagged (without_last 5 front)) (tags (without_last 5 front))
+    if ends_with nat_eq front (codes ".first")
+    then option_map (first_tagged (without_last 6 front)) (tags (without_last 6 front))
+    else (if ends_with nat_eq front (codes ".last")
+    then option_map (last_tagged (without_last 5 front)) (tags (without_last 5 front))
     else None)
 
 -- the longest closed front
@@ -83,7 +89,8 @@ longest_front named text = longest (closed_front named text) (length text)
 
 -- the first of the forms that fits; of the marks and of the tags the one with the longest name
 abbrev pub base_of : (List ℕ → Option ℕ) → (List ℕ → Option ℕ) → List ℕ → Option (Base × ℕ)
-base_of marks tags text = option_or (place_base text) (option_or (longest_front (marked marks) text) (longest_front (tagged tags) text))
+base_of marks tags text =
+    option_or (place_base text) (option_or (longest_front (marked marks) text) (longest_front (tagged tags) text))
 
 -- ---- modifiers
 
@@ -149,14 +156,16 @@ abbrev pub counted : Bool → Option ℕ → List ℕ → Option Modifier
 counted forward None word = None
 counted forward (Some count) word = option_map (by_count forward count) (unit_of word)
 
--- The modifiers that tokens spell: each a sign with a count and a unit, with `any` before the unit or without, or a keyword.
+-- The modifiers that tokens spell: each a sign with a count and a unit, with `any` before the unit or without, or a
+-- keyword.
 abbrev pub modifiers_of : List Token → Option (List Modifier)
 modifiers_of [] = Some []
 modifiers_of (Word word ∷ tokens) = before (keyword_of word) (modifiers_of tokens)
 modifiers_of (Sign forward ∷ Digits digits ∷ Word word ∷ Word next ∷ tokens) =
     if bytes_eq word (codes "any") then before (counted forward (number_of digits) next) (modifiers_of tokens)
     else before (counted forward (number_of digits) word) (modifiers_of (Word next ∷ tokens))
-modifiers_of (Sign forward ∷ Digits digits ∷ Word word ∷ tokens) = before (counted forward (number_of digits) word) (modifiers_of tokens)
+modifiers_of (Sign forward ∷ Digits digits ∷ Word word ∷ tokens) =
+    before (counted forward (number_of digits) word) (modifiers_of tokens)
 modifiers_of _ = None
 
 -- ---- indices
@@ -167,7 +176,8 @@ WholeIndex = Base × List Modifier
 -- a word is an index if what follows its base is a list of modifiers; the base is never another
 abbrev pub index_of : (List ℕ → Option ℕ) → (List ℕ → Option ℕ) → List ℕ → Option WholeIndex
 index_of marks tags text =
-    option_and_then (λ (found : Base × ℕ). option_map (λ modifiers. (found.0, modifiers)) (modifiers_of (tokens_of (drop found.1 text)))) (base_of marks tags text)
+    option_and_then (λ (found : Base × ℕ). option_map (λ modifiers. (found.0, modifiers))
+    (modifiers_of (tokens_of (drop found.1 text)))) (base_of marks tags text)
 
 -- an index whose numbers are at most the greatest that a machine has
 abbrev pub saturated_base : Base → Base

@@ -1,5 +1,6 @@
 -- The tokens that the pieces of a text are.
-use Rattle.std.specs.Prelude.{ℕ, List, [], ◌∷◌, length, codes, bytes_eq, Option, Some, None, option_map, option_and_then, if◌then◌else◌}
+use Rattle.std.specs.Prelude.{ℕ, List, [], ◌∷◌, length, codes, bytes_eq, Option, Some, None, option_map}
+use Rattle.std.specs.Prelude.{option_and_then, if◌then◌else◌}
 use Rattle.std.specs.Borrow.{Bor}
 use Rattle.index_grammar.specs.Grammar.{Token, tokens_of}
 use Rattle.index_grammar.specs.declared.tokens.Piece.{Piece}

@@ -18,4 +18,5 @@ abbrev pub after : List Modifier → Option (List Modifier) → Option (List Mod
 after first others = option_map (λ rest. first ++ rest) others
 
 abbrev pub saturated_index : Option WholeIndex → Option WholeIndex
-saturated_index found = option_map (λ (index : WholeIndex). (saturated_base index.0, map saturated_modifier index.1)) found
+saturated_index found =
+    option_map (λ (index : WholeIndex). (saturated_base index.0, map saturated_modifier index.1)) found

@@ -7,8 +7,8 @@ use mark_table::MarkTable;
 use tag_table::TagTable;
 use text_model::{MarkNo, TagSlot};
 
-/// The names that an index can have in it: the tags and the shared marks of a document, and the widget's own two marks and
-/// its own `sel`, by the slot of that `sel`.
+/// The names that an index can have in it: the tags and the shared marks of a document, and the widget's own two marks
+/// and its own `sel`, by the slot of that `sel`.
 #[derive(Drop)]
 pub struct Names<'a> {
     pub tags: &'a TagTable,
@@ -20,7 +20,8 @@ impl<'a> Names<'a> {
     /// The mark that a name means: `insert` and `current` are the widget's own.
     pub fn mark(&self, name: &str) -> Option<MarkNo>
         requires { self.now.widget.0 < MOST_WIDGETS }
-        ensures { option_map (λ number. number.0) result ≡ known_marks self.now.marks.now.marks self.now.widget.0 (chars name.now) }
+        ensures { option_map (λ number. number.0) result
+            ≡ known_marks self.now.marks.now.marks self.now.widget.0 (chars name.now) }
     {
         if name == "insert" {
             return Some(MarkNo(2 * self.widget.0));
@@ -33,7 +34,8 @@ impl<'a> Names<'a> {
 
     /// The tag that a name means: `sel` is the widget's own.
     pub fn tag(&self, name: &str) -> Option<TagSlot>
-        ensures value { option_map (λ slot. slot.0) result ≡ known_tags self.now.tags.now.tags self.now.widget.0 (chars name.now) }
+        ensures value { option_map (λ slot. slot.0) result
+            ≡ known_tags self.now.tags.now.tags self.now.widget.0 (chars name.now) }
         ensures bound { self.now.widget.0 < slot_count → IfSome result (λ slot. slot.0 < slot_count) }
     {
         match self.tags.find(name) {

@@ -15,8 +15,8 @@ use crate::places::find_place;
 use crate::steps::read_steps;
 use std::alloc::Global;
 
-/// The base of the index that a word is, and what stands behind it: a place in a line or the end, else the longest mark,
-/// else the longest tag.
+/// The base of the index that a word is, and what stands behind it: a place in a line or the end, else the longest
+/// mark, else the longest tag.
 fn find_base<'a>(word: &'a str, names: &Names) -> Option<(Base, &'a str)>
     requires { names.now.widget.0 < MOST_WIDGETS }
     ensures value { read_of (chars word.now) (base_of (known_marks names.now.marks.now.marks names.now.widget.0)
@@ -35,10 +35,13 @@ fn find_base<'a>(word: &'a str, names: &Names) -> Option<(Base, &'a str)>
 /// The index that a word is (text(n), "INDICES"). Numbers above the greatest `usize` read as that.
 pub fn parse(alloc: Global, word: &str, names: &Names) -> Result<Index, IndexFault>
     requires { names.now.widget.0 < MOST_WIDGETS }
-    ensures ok { IfOk result (λ index. saturated_index (index_of (known_marks names.now.marks.now.marks names.now.widget.0)
-        (known_tags names.now.tags.now.tags names.now.widget.0) (chars word.now)) ≡ Some (index.base, index.modifiers)) }
+    ensures ok { IfOk result (λ index.
+        saturated_index (index_of (known_marks names.now.marks.now.marks names.now.widget.0)
+        (known_tags names.now.tags.now.tags names.now.widget.0) (chars word.now))
+        ≡ Some (index.base, index.modifiers)) }
     ensures slot { IfOk result (λ index. HasSlot index.base) }
-    ensures err { IfErr result (λ fault. fault ≢ Memory → (fault ≡ BadIndex) × (index_of (known_marks names.now.marks.now.marks names.now.widget.0)
+    ensures err { IfErr result (λ fault. fault ≢ Memory → (fault ≡ BadIndex)
+        × (index_of (known_marks names.now.marks.now.marks names.now.widget.0)
         (known_tags names.now.tags.now.tags names.now.widget.0) (chars word.now) ≡ None)) }
 {
     let Some((base, rest)) = find_base(word, names) else {

@@ -1,4 +1,5 @@
-ghost use Rattle.std.specs.Prelude.{◌≡◌, ◌≢◌, ◌≤◌, ◌+◌, ◌∷◌, length, None, Some, IfOk, IfErr, IfSome, IsTrue, option_map};
+ghost use Rattle.std.specs.Prelude.{◌≡◌, ◌≢◌, ◌≤◌, ◌+◌, ◌∷◌, length, None, Some, IfOk, IfErr, IfSome, IsTrue};
+ghost use Rattle.std.specs.Prelude.{option_map};
 ghost use Rattle.index_grammar.specs.Grammar.{abbreviates, unit_of, keyword_of, tokens_of, modifiers_of};
 ghost use Rattle.index_grammar.specs.Grammar as grammar;
 ghost use Rattle.index_grammar.specs.Pieces.{token_of, piece_len, digits_first, word_first, unit_first, bytes_first};
@@ -54,7 +55,8 @@ fn read_keyword(word: &[u8]) -> Option<Modifier>
 
 /// A count of units, forward or back.
 fn read_count(is_plus: bool, digits: &[u8], word: &[u8]) -> Option<Modifier>
-    ensures { result ≡ option_map grammar.saturated_modifier (grammar.counted is_plus (grammar.number_of digits.now) word.now) }
+    ensures { result ≡ option_map grammar.saturated_modifier
+        (grammar.counted is_plus (grammar.number_of digits.now) word.now) }
 {
     let count = read_number(digits)?;
     let unit = read_unit(word)?;
@@ -124,7 +126,8 @@ fn read_step<'a>(first: Piece<'a>, text: &'a [u8]) -> Option<(Modifier, &'a [u8]
 /// The modifiers that a text is.
 pub(crate) fn read_steps(alloc: Global, text: &[u8]) -> Result<Modifiers, IndexFault>
     ensures ok { IfOk result (λ steps. saturated (modifiers_of (tokens_of text.now)) ≡ Some steps) }
-    ensures err { IfErr result (λ fault. fault ≢ Memory → (fault ≡ BadIndex) × (saturated (modifiers_of (tokens_of text.now)) ≡ None)) }
+    ensures err { IfErr result (λ fault. fault ≢ Memory → (fault ≡ BadIndex)
+        × (saturated (modifiers_of (tokens_of text.now)) ≡ None)) }
 {
     // No modifier has fewer than three bytes.
     let mut modifiers = Vec::with_capacity(alloc, text.len() / 3)?;

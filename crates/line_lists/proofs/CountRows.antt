@@ -14,7 +14,8 @@ use Rattle.line_lists.proofs.TagLaws.{behind-append}
 
 pub count-append : (xs ys : List LineContent) → count_of (xs ++ ys) ≡ plus (count_of xs) (count_of ys)
 count-append [] ys = sym (no_text-plus (count_of ys))
-count-append (x ∷ xs) ys = ap (plus (line_count x)) (count-append xs ys) ∙ sym (plus-associative (line_count x) (count_of xs) (count_of ys))
+count-append (x ∷ xs) ys =
+    ap (plus (line_count x)) (count-append xs ys) ∙ sym (plus-associative (line_count x) (count_of xs) (count_of ys))
 
 pub count-lines : (lines : List LineContent) → (count_of lines).lines ≡ length lines
 count-lines [] = refl
@@ -22,11 +23,13 @@ count-lines (line ∷ lines) = omega (arith, count-lines lines)
 
 pub count-characters : (lines : List LineContent) → (count_of lines).characters ≡ length (whole lines).columns
 count-characters [] = refl
-count-characters (line ∷ lines) = ap (λ n. length line.columns + n) (count-characters lines) ∙ sym (length-append line.columns (whole lines).columns)
+count-characters (line ∷ lines) =
+    ap (λ n. length line.columns + n) (count-characters lines) ∙ sym (length-append line.columns (whole lines).columns)
 
 pub count-parity : (lines : List LineContent) → (count_of lines).parity ≡ tags_behind (whole lines).columns
 count-parity [] = refl
-count-parity (line ∷ lines) = ap (differing (tags_behind line.columns)) (count-parity lines) ∙ sym (behind-append line.columns (whole lines).columns)
+count-parity (line ∷ lines) = ap (differing (tags_behind line.columns)) (count-parity lines)
+    ∙ sym (behind-append line.columns (whole lines).columns)
 
 map-row : (xs ys : List Column) → toggles (xs ++ ys) ≡ toggles xs ++ toggles ys
 map-row [] ys = refl
@@ -36,7 +39,8 @@ pub count-presence : (lines : List LineContent) → (count_of lines).presence �
 count-presence [] = refl
 count-presence (line ∷ lines) =
     ap (set.union (presence (toggles line.columns))) (count-presence lines)
-    ∙ sym (ap presence (map-row line.columns (whole lines).columns) ∙ presence-append (toggles line.columns) (toggles (whole lines).columns))
+    ∙ sym (ap presence (map-row line.columns (whole lines).columns)
+    ∙ presence-append (toggles line.columns) (toggles (whole lines).columns))
 
 -- a part of lines that are counted is counted, and so is one more line of them
 pub counted-part : (xs ys : List LineContent) → IsCounted (count_of (xs ++ ys)) → IsCounted (count_of xs)
@@ -47,7 +51,8 @@ counted-part xs ys all =
       marks = omega (arith, all.marks, ap (λ (c : Count). c.marks) sums);
     }
 
-pub counted-more : (xs ys : List LineContent) (line : LineContent) → IsCounted (count_of (xs ++ line ∷ ys)) → CountsFit (count_of xs) (line_count line)
+pub counted-more : (xs ys : List LineContent) (line : LineContent) → IsCounted (count_of (xs ++ line ∷ ys)) →
+    CountsFit (count_of xs) (line_count line)
 counted-more xs ys line all =
     let sums = count-append xs (line ∷ ys) in record {
       lines = omega (arith, all.lines, ap (λ (c : Count). c.lines) sums);

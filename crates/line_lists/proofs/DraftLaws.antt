@@ -1,5 +1,6 @@
 -- Copies of lines in a row, and the lines that they make.
-use Rattle.std.proofs.Common.{◌≡◌, ℕ, zero, suc, ◌+◌, ◌-◌, ◌<◌, ◌≤◌, ◌^◌, List, [], ◌∷◌, ◌++◌, length, take, drop, refl, sym, ap, ap₂, ◌∙◌, subst, arith, append_assoc, length-append}
+use Rattle.std.proofs.Common.{◌≡◌, ℕ, zero, suc, ◌+◌, ◌-◌, ◌<◌, ◌≤◌, ◌^◌, List, [], ◌∷◌, ◌++◌, length, take, drop, refl}
+use Rattle.std.proofs.Common.{sym, ap, ap₂, ◌∙◌, subst, arith, append_assoc, length-append}
 use Rattle.std.specs.Prelude.{None, Option, Some, reverse, slice_get}
 use Rattle.std.proofs.lemmas.List.{append-nil, drop-drop, map-append, reverse-append}
 use Rattle.text_model.specs.SlotSets.{differing}
@@ -9,7 +10,8 @@ use Rattle.segments.specs.Columns.{LineContent}
 use Rattle.line_lists.specs.declared.drafts.Copied.{Copied}
 use Rattle.line_lists.specs.declared.drafts.Reached.{Reached}
 use Rattle.line_lists.specs.declared.drafts.Stop.{Stop}
-use Rattle.line_lists.specs.Drafts.{AreStops, BeginsBehind, BeginsBy, CanFollow, IsDraft, IsReached, NextBegins, copies_of, covered, drafted, in_order, line_start, lines_before, made_lines, used}
+use Rattle.line_lists.specs.Drafts.{AreStops, BeginsBehind, BeginsBy, CanFollow, IsDraft, IsReached, NextBegins}
+use Rattle.line_lists.specs.Drafts.{copies_of, covered, drafted, in_order, line_start, lines_before, made_lines, used}
 use Rattle.line_lists.specs.Lists.{IsCounted, count_of}
 use Rattle.line_lists.specs.Texts.{whole}
 use Rattle.line_lists.specs.Toggling.{tags_behind}
@@ -26,50 +28,62 @@ used-append (x ∷ xs) ys = omega (arith, used-append xs ys)
 drop-rest : {A : Type 0} (m n : ℕ) (xs : List A) → drop n (drop m xs) ≡ drop (m + n) xs
 drop-rest m n xs = drop-drop n m xs
 
-pub made-append : (xs ys : List Copied) (lines : List LineContent) → made_lines (xs ++ ys) lines ≡ made_lines xs lines ++ made_lines ys (drop (used xs) lines)
+pub made-append : (xs ys : List Copied) (lines : List LineContent) →
+    made_lines (xs ++ ys) lines ≡ made_lines xs lines ++ made_lines ys (drop (used xs) lines)
 made-append [] ys lines = refl
 made-append (x ∷ xs) ys lines =
     ap (λ rest. take x.kept lines ++ x.line ∷ rest)
     (made-append xs ys (drop (covered x) lines)
     ∙ ap (λ rest. made_lines xs (drop (covered x) lines) ++ made_lines ys rest) (drop-rest (covered x) (used xs) lines))
-    ∙ sym (append_assoc (take x.kept lines) (x.line ∷ made_lines xs (drop (covered x) lines)) (made_lines ys (drop (covered x + used xs) lines)))
+    ∙ sym (append_assoc (take x.kept lines) (x.line ∷ made_lines xs (drop (covered x) lines))
+    (made_lines ys (drop (covered x + used xs) lines)))
 
-pub drafted-append : (xs ys : List Copied) (lines : List LineContent) → drafted (xs ++ ys) lines ≡ made_lines xs lines ++ drafted ys (drop (used xs) lines)
+pub drafted-append : (xs ys : List Copied) (lines : List LineContent) →
+    drafted (xs ++ ys) lines ≡ made_lines xs lines ++ drafted ys (drop (used xs) lines)
 drafted-append xs ys lines =
-    ap₂ (λ front rest. front ++ rest) (made-append xs ys lines) (ap (λ n. drop n lines) (used-append xs ys) ∙ sym (drop-rest (used xs) (used ys) lines))
+    ap₂ (λ front rest. front ++ rest) (made-append xs ys lines) (ap (λ n. drop n lines) (used-append xs ys)
+    ∙ sym (drop-rest (used xs) (used ys) lines))
     ∙ append_assoc (made_lines xs lines) (made_lines ys (drop (used xs) lines)) (drop (used ys) (drop (used xs) lines))
 
 -- the place moves by a copy
 pub copies-snoc : (front : List Stop) (stop : Stop) → copies_of (front ++ stop ∷ []) ≡ copies_of front ++ stop.copy ∷ []
 copies-snoc front stop = map-append (λ (x : Stop). x.copy) front (stop ∷ [])
 
-pub in_order-moved : (front : List Stop) (back : List Copied) (stop : Stop) → in_order (front ++ stop ∷ []) back ≡ in_order front (back ++ stop.copy ∷ [])
+pub in_order-moved : (front : List Stop) (back : List Copied) (stop : Stop) →
+    in_order (front ++ stop ∷ []) back ≡ in_order front (back ++ stop.copy ∷ [])
 in_order-moved front back stop =
     ap (λ copies. copies ++ reverse back) (copies-snoc front stop)
     ∙ append_assoc (copies_of front) (stop.copy ∷ []) (reverse back)
     ∙ ap (λ rest. copies_of front ++ rest) (sym (reverse-append back (stop.copy ∷ [])))
 
 pub stops-snoc : (lines : List LineContent) (before : List Copied) (front : List Stop) (stop : Stop)
-    → AreStops lines before front → IsReached stop.reached (before ++ copies_of front) lines → AreStops lines before (front ++ stop ∷ [])
-stops-snoc lines before [] stop stops reached = (subst (λ copies. IsReached stop.reached copies lines) (append-nil before) reached, tt)
+    → AreStops lines before front → IsReached stop.reached (before ++ copies_of front) lines →
+    AreStops lines before (front ++ stop ∷ [])
+stops-snoc lines before [] stop stops reached =
+    (subst (λ copies. IsReached stop.reached copies lines) (append-nil before) reached, tt)
 stops-snoc lines before (first ∷ front) stop stops reached = (
   stops.0,
   stops-snoc lines (before ++ first.copy ∷ []) front stop stops.1
-      (subst (λ copies. IsReached stop.reached copies lines) (sym (append_assoc before (first.copy ∷ []) (copies_of front))) reached),
+      (subst (λ copies. IsReached stop.reached copies lines)
+      (sym (append_assoc before (first.copy ∷ []) (copies_of front))) reached),
 )
 
-pub stops-front : (lines : List LineContent) (before : List Copied) (front : List Stop) (stop : Stop) → AreStops lines before (front ++ stop ∷ []) → AreStops lines before front
+pub stops-front : (lines : List LineContent) (before : List Copied) (front : List Stop) (stop : Stop) →
+    AreStops lines before (front ++ stop ∷ []) → AreStops lines before front
 stops-front lines before [] stop stops = tt
-stops-front lines before (first ∷ front) stop stops = (stops.0, stops-front lines (before ++ first.copy ∷ []) front stop stops.1)
+stops-front lines before (first ∷ front) stop stops =
+    (stops.0, stops-front lines (before ++ first.copy ∷ []) front stop stops.1)
 
 pub stops-last : (lines : List LineContent) (before : List Copied) (front : List Stop) (stop : Stop)
     → AreStops lines before (front ++ stop ∷ []) → IsReached stop.reached (before ++ copies_of front) lines
-stops-last lines before [] stop stops = subst (λ copies. IsReached stop.reached copies lines) (sym (append-nil before)) stops.0
+stops-last lines before [] stop stops =
+    subst (λ copies. IsReached stop.reached copies lines) (sym (append-nil before)) stops.0
 stops-last lines before (first ∷ front) stop stops =
     subst (λ copies. IsReached stop.reached copies lines) (append_assoc before (first.copy ∷ []) (copies_of front))
     (stops-last lines (before ++ first.copy ∷ []) front stop stops.1)
 
-pub draft-back : (lines : List LineContent) (front : List Stop) (back : List Copied) (stop : Stop) → IsDraft lines (front ++ stop ∷ []) back → IsDraft lines front (back ++ stop.copy ∷ [])
+pub draft-back : (lines : List LineContent) (front : List Stop) (back : List Copied) (stop : Stop) →
+    IsDraft lines (front ++ stop ∷ []) back → IsDraft lines front (back ++ stop.copy ∷ [])
 draft-back lines front back stop draft =
     let same = in_order-moved front back stop in record {
       stops = stops-front lines [] front stop draft.stops;
@@ -77,7 +91,8 @@ draft-back lines front back stop draft =
       counted = subst (λ copies. length (whole (drafted copies lines)).columns < 2 ^ 64) same draft.counted;
     }
 
-pub draft-forth : (lines : List LineContent) (front : List Stop) (back : List Copied) (stop : Stop) → IsDraft lines front (back ++ stop.copy ∷ []) → IsReached stop.reached (copies_of front) lines
+pub draft-forth : (lines : List LineContent) (front : List Stop) (back : List Copied) (stop : Stop) →
+    IsDraft lines front (back ++ stop.copy ∷ []) → IsReached stop.reached (copies_of front) lines
     → IsDraft lines (front ++ stop ∷ []) back
 draft-forth lines front back stop draft reached =
     let same = sym (in_order-moved front back stop) in record {
@@ -90,22 +105,29 @@ add_groups : (a b c : ℕ) → a + (b + c) ≡ (a + b) + c
 add_groups a b c = omega arith
 
 pub made-snoc : (copies : List Copied) (copy : Copied) (lines : List LineContent)
-    → made_lines (copies ++ copy ∷ []) lines ≡ made_lines copies lines ++ (take copy.kept (drop (used copies) lines) ++ copy.line ∷ [])
+    → made_lines (copies ++ copy ∷ []) lines ≡ made_lines copies lines
+    ++ (take copy.kept (drop (used copies) lines) ++ copy.line ∷ [])
 made-snoc copies copy lines = made-append copies (copy ∷ []) lines
 
-pub length-whole : (xs ys : List LineContent) → length (whole (xs ++ ys)).columns ≡ length (whole xs).columns + length (whole ys).columns
-length-whole xs ys = ap (λ (line : LineContent). length line.columns) (whole-append xs ys) ∙ length-append (whole xs).columns (whole ys).columns
+pub length-whole : (xs ys : List LineContent) → length (whole (xs ++ ys)).columns
+    ≡ length (whole xs).columns + length (whole ys).columns
+length-whole xs ys = ap (λ (line : LineContent). length line.columns) (whole-append xs ys)
+    ∙ length-append (whole xs).columns (whole ys).columns
 
-pub behind-whole : (xs ys : List LineContent) → tags_behind (whole (xs ++ ys)).columns ≡ differing (tags_behind (whole xs).columns) (tags_behind (whole ys).columns)
-behind-whole xs ys = ap (λ (line : LineContent). tags_behind line.columns) (whole-append xs ys) ∙ behind-append (whole xs).columns (whole ys).columns
+pub behind-whole : (xs ys : List LineContent) → tags_behind (whole (xs ++ ys)).columns
+    ≡ differing (tags_behind (whole xs).columns) (tags_behind (whole ys).columns)
+behind-whole xs ys = ap (λ (line : LineContent). tags_behind line.columns) (whole-append xs ys)
+    ∙ behind-append (whole xs).columns (whole ys).columns
 
 -- the lines from one on, so many of them, by what is counted before them and behind them
 pub take-more : (n k : ℕ) (lines : List LineContent) → take (n + k) lines ≡ take n lines ++ take k (drop n lines)
 take-more n k lines =
-    take-slice n (n + k) lines (omega arith) ∙ ap (λ m. take n lines ++ take m (drop n lines)) (let same : (n + k) - n ≡ k = omega arith in same)
+    take-slice n (n + k) lines (omega arith)
+    ∙ ap (λ m. take n lines ++ take m (drop n lines)) (let same : (n + k) - n ≡ k = omega arith in same)
 
 pub counted-between : (n k : ℕ) (lines : List LineContent)
-    → (count_of (take (n + k) lines)).characters ≡ (count_of (take n lines)).characters + length (whole (take k (drop n lines))).columns
+    → (count_of (take (n + k) lines)).characters ≡ (count_of (take n lines)).characters
+    + length (whole (take k (drop n lines))).columns
 counted-between n k lines =
     let part = take k (drop n lines) in
     ap (λ xs. (count_of xs).characters) (take-more n k lines)
@@ -113,7 +135,8 @@ counted-between n k lines =
     ∙ ap (λ m. (count_of (take n lines)).characters + m) (count-characters part)
 
 pub parity-between : (n k : ℕ) (lines : List LineContent)
-    → differing (count_of (take n lines)).parity (count_of (take (n + k) lines)).parity ≡ tags_behind (whole (take k (drop n lines))).columns
+    → differing (count_of (take n lines)).parity (count_of (take (n + k) lines)).parity
+    ≡ tags_behind (whole (take k (drop n lines))).columns
 parity-between n k lines =
     let part = take k (drop n lines) in
     let before = (count_of (take n lines)).parity in
@@ -123,14 +146,18 @@ parity-between n k lines =
     ∙ count-parity part
 
 -- what copies cover, with one more
-pub reached-more : (reached new : Reached) (copies : List Copied) (copy : Copied) (lines : List LineContent) → IsReached reached copies lines
+pub reached-more : (reached new : Reached) (copies : List Copied) (copy : Copied) (lines : List LineContent) →
+    IsReached reached copies lines
     → new.used ≡ reached.used + covered copy
-    → new.characters ≡ reached.characters + length (whole (take copy.kept (drop reached.used lines))).columns + length copy.line.columns
-    → new.tags ≡ differing (differing reached.tags (tags_behind (whole (take copy.kept (drop reached.used lines))).columns)) (tags_behind copy.line.columns)
+    → new.characters ≡ reached.characters + length (whole (take copy.kept (drop reached.used lines))).columns
+    + length copy.line.columns
+    → new.tags ≡ differing (differing reached.tags
+    (tags_behind (whole (take copy.kept (drop reached.used lines))).columns)) (tags_behind copy.line.columns)
     → IsReached new (copies ++ copy ∷ []) lines
 reached-more reached new copies copy lines so_far used_is characters_are tags_are =
     let kept = take copy.kept (drop (used copies) lines) in
-    let kept_is : take copy.kept (drop reached.used lines) ≡ kept = ap (λ n. take copy.kept (drop n lines)) so_far.used in
+    let kept_is : take copy.kept (drop reached.used lines)
+    ≡ kept = ap (λ n. take copy.kept (drop n lines)) so_far.used in
     let made = made_lines copies lines in
     let snoc = made-snoc copies copy lines in
     record {
@@ -139,14 +166,19 @@ reached-more reached new copies copy lines so_far used_is characters_are tags_ar
           characters_are
           ∙ ap₂ (λ n part. n + length (whole part).columns + length copy.line.columns) so_far.characters kept_is
           ∙ sym (ap (λ xs. length (whole xs).columns) snoc ∙ length-whole made (kept ++ copy.line ∷ [])
-          ∙ ap (λ n. length (whole made).columns + n) (length-whole kept (copy.line ∷ []) ∙ ap (λ (line : LineContent). length (whole kept).columns + length line.columns) (whole-one copy.line))
+          ∙ ap (λ n. length (whole made).columns + n) (length-whole kept (copy.line ∷ [])
+          ∙ ap (λ (line : LineContent). length (whole kept).columns + length line.columns) (whole-one copy.line))
           ∙ add_groups (length (whole made).columns) (length (whole kept).columns) (length copy.line.columns));
       tags =
           tags_are
-          ∙ ap₂ (λ s part. differing (differing s (tags_behind (whole part).columns)) (tags_behind copy.line.columns)) so_far.tags kept_is
-          ∙ differing-associative (tags_behind (whole made).columns) (tags_behind (whole kept).columns) (tags_behind copy.line.columns)
+          ∙ ap₂ (λ s part. differing (differing s (tags_behind (whole part).columns)) (tags_behind copy.line.columns))
+          so_far.tags kept_is
+          ∙ differing-associative (tags_behind (whole made).columns) (tags_behind (whole kept).columns)
+          (tags_behind copy.line.columns)
           ∙ sym (ap (λ xs. tags_behind (whole xs).columns) snoc ∙ behind-whole made (kept ++ copy.line ∷ [])
-          ∙ ap (differing (tags_behind (whole made).columns)) (behind-whole kept (copy.line ∷ []) ∙ ap (λ (line : LineContent). differing (tags_behind (whole kept).columns) (tags_behind line.columns)) (whole-one copy.line)));
+          ∙ ap (differing (tags_behind (whole made).columns)) (behind-whole kept (copy.line ∷ [])
+          ∙ ap (λ (line : LineContent). differing (tags_behind (whole kept).columns) (tags_behind line.columns))
+          (whole-one copy.line)));
     }
 
 -- nothing is copied
@@ -158,7 +190,8 @@ draft-none lines all = record {
 }
 
 -- the last of the copies before the place can follow those before it
-pub can-follow : (lines : List LineContent) (front : List Stop) (back : List Copied) (stop : Stop) → IsDraft lines (front ++ stop ∷ []) back → CanFollow stop.reached stop.copy lines
+pub can-follow : (lines : List LineContent) (front : List Stop) (back : List Copied) (stop : Stop) →
+    IsDraft lines (front ++ stop ∷ []) back → CanFollow stop.reached stop.copy lines
 can-follow lines front back stop draft =
     let copies = copies_of front in
     let copy = stop.copy in
@@ -168,22 +201,30 @@ can-follow lines front back stop draft =
     let all = in_order (front ++ stop ∷ []) back in
     let order : all ≡ (copies ++ copy ∷ []) ++ reverse back = ap (λ xs. xs ++ reverse back) (copies-snoc front stop) in
     let covers : used all ≡ (used copies + used (copy ∷ [])) + used (reverse back) =
-    ap used order ∙ used-append (copies ++ copy ∷ []) (reverse back) ∙ ap (λ n. n + used (reverse back)) (used-append copies (copy ∷ [])) in
-    let long : length (whole (drafted all lines)).columns ≡ length (whole (made_lines (copies ++ copy ∷ []) lines)).columns + length (whole (drafted (reverse back) (drop (used (copies ++ copy ∷ [])) lines))).columns =
+    ap used order ∙ used-append (copies ++ copy ∷ []) (reverse back)
+    ∙ ap (λ n. n + used (reverse back)) (used-append copies (copy ∷ [])) in
+    let long : length (whole (drafted all lines)).columns
+    ≡ length (whole (made_lines (copies ++ copy ∷ []) lines)).columns
+    + length (whole (drafted (reverse back) (drop (used (copies ++ copy ∷ [])) lines))).columns =
     ap (λ xs. length (whole (drafted xs lines)).columns) order
     ∙ ap (λ xs. length (whole xs).columns) (drafted-append (copies ++ copy ∷ []) (reverse back) lines)
-    ∙ length-whole (made_lines (copies ++ copy ∷ []) lines) (drafted (reverse back) (drop (used (copies ++ copy ∷ [])) lines)) in
-    let part : length (whole (made_lines (copies ++ copy ∷ []) lines)).columns ≡ length (whole made).columns + (length (whole kept).columns + length copy.line.columns) =
+    ∙ length-whole (made_lines (copies ++ copy ∷ []) lines)
+    (drafted (reverse back) (drop (used (copies ++ copy ∷ [])) lines)) in
+    let part : length (whole (made_lines (copies ++ copy ∷ []) lines)).columns
+    ≡ length (whole made).columns + (length (whole kept).columns + length copy.line.columns) =
     ap (λ xs. length (whole xs).columns) (made-snoc copies copy lines) ∙ length-whole made (kept ++ copy.line ∷ [])
-    ∙ ap (λ n. length (whole made).columns + n) (length-whole kept (copy.line ∷ []) ∙ ap (λ (line : LineContent). length (whole kept).columns + length line.columns) (whole-one copy.line)) in
-    let here : length (whole (take copy.kept (drop stop.reached.used lines))).columns ≡ length (whole kept).columns = ap (λ n. length (whole (take copy.kept (drop n lines))).columns) reached.used in
+    ∙ ap (λ n. length (whole made).columns + n) (length-whole kept (copy.line ∷ [])
+    ∙ ap (λ (line : LineContent). length (whole kept).columns + length line.columns) (whole-one copy.line)) in
+    let here : length (whole (take copy.kept (drop stop.reached.used lines))).columns
+    ≡ length (whole kept).columns = ap (λ n. length (whole (take copy.kept (drop n lines))).columns) reached.used in
     record {
       there = omega (arith, reached.used, covers, draft.there);
       counted = omega (arith, reached.characters, here, long, part, draft.counted);
     }
 
 -- the last of a list
-snoc_at : {A : Type 0} (xs : List A) (n : ℕ) (x : A) → length xs ≡ suc n → slice_get xs n ≡ Some x → xs ≡ take n xs ++ x ∷ []
+snoc_at : {A : Type 0} (xs : List A) (n : ℕ) (x : A) → length xs ≡ suc n → slice_get xs n ≡ Some x →
+    xs ≡ take n xs ++ x ∷ []
 snoc_at [] n x long is = absurd (omega (arith, long))
 snoc_at (y ∷ []) zero x long is = let same : y ≡ x = cc in ap (λ z. z ∷ []) same
 snoc_at (y ∷ z ∷ zs) zero x long is = absurd (omega (arith, long))
@@ -201,12 +242,14 @@ empty_of (x ∷ xs) small = absurd (omega (arith, small))
 pub no_last : {A : Type 0} (xs : List A) → None ≡ slice_get xs (length xs - 1) → xs ≡ []
 no_last xs is = empty_of xs (none_at xs (length xs - 1) (sym is))
 
-pub last_is : {A : Type 0} (xs : List A) (x : A) → Some x ≡ slice_get xs (length xs - 1) → xs ≡ take (length xs - 1) xs ++ x ∷ []
+pub last_is : {A : Type 0} (xs : List A) (x : A) → Some x ≡ slice_get xs (length xs - 1) →
+    xs ≡ take (length xs - 1) xs ++ x ∷ []
 last_is {A = A} [] x is = let no : ◌≡◌ {A = Option A} (Some x) None = is in absurd (cc)
 last_is (y ∷ ys) x is = snoc_at (y ∷ ys) (suc (length ys) - 1) x (omega arith) (sym is)
 
 -- where the line of a copy begins
-pub start-is : (lines : List LineContent) (copies : List Copied) (reached : Reached) (copy : Copied) → IsReached reached copies lines
+pub start-is : (lines : List LineContent) (copies : List Copied) (reached : Reached) (copy : Copied) →
+    IsReached reached copies lines
     → line_start reached copy lines ≡ length (whole (lines_before copies copy lines)).columns
 start-is lines copies reached copy is =
     ap₂ (λ n k. n + length (whole (take copy.kept (drop k lines))).columns) is.characters is.used
@@ -219,39 +262,67 @@ last_of : {A : Type 0} (xs : List A) (x : A) → slice_get (xs ++ x ∷ []) (len
 last_of [] x = refl
 last_of (y ∷ ys) x = last_of ys x
 
-pub last_same : {A : Type 0} (all before : List A) (x y : A) → Some x ≡ slice_get all (length all - 1) → all ≡ before ++ y ∷ [] → x ≡ y
+pub last_same : {A : Type 0} (all before : List A) (x y : A) → Some x ≡ slice_get all (length all - 1) →
+    all ≡ before ++ y ∷ [] → x ≡ y
 last_same all before x y last is =
     let long : length all - 1 ≡ length before = omega (arith, ap length is, length-append before (y ∷ [])) in
     some_same x y (last ∙ ap₂ slice_get is long ∙ last_of before y)
 
-pub begins-by : (lines : List LineContent) (offset : ℕ) (front : List Stop) (back : List Copied) (stop : Stop) → IsDraft lines front back
-    → Some stop ≡ slice_get front (length front - 1) → line_start stop.reached stop.copy lines ≤ offset → BeginsBy lines offset front
+pub begins-by : (lines : List LineContent) (offset : ℕ) (front : List Stop) (back : List Copied) (stop : Stop) →
+    IsDraft lines front back
+    → Some stop ≡ slice_get front (length front - 1) → line_start stop.reached stop.copy lines ≤ offset →
+    BeginsBy lines offset front
 begins-by lines offset front back stop draft last small before other is =
     let same = last_same front before stop other last is in
     let stops = subst (AreStops lines []) is draft.stops in
-    omega (arith, small, ap (λ (x : Stop). line_start x.reached x.copy lines) same, start-is lines (copies_of before) other.reached other.copy (stops-last lines [] before other stops))
+    omega (
+      arith,
+      small,
+      ap (λ (x : Stop). line_start x.reached x.copy lines) same,
+      start-is lines (copies_of before) other.reached other.copy (stops-last lines [] before other stops),
+    )
 
 pub begins-none : (lines : List LineContent) (offset : ℕ) (front : List Stop) → front ≡ [] → BeginsBy lines offset front
 begins-none lines offset front none before other is =
-    let long : 0 ≡ length before + 1 = sym (ap length none) ∙ ap length is ∙ length-append before (other ∷ []) in absurd (omega (arith, long))
+    let long : 0 ≡ length before + 1 = sym (ap length none) ∙ ap length is ∙ length-append before (other ∷ []) in
+    absurd (omega (arith, long))
 
-pub begins-behind : (lines : List LineContent) (offset : ℕ) (front : List Stop) (back : List Copied) (reached : Reached) (copy : Copied) → IsReached reached (copies_of front) lines
-    → Some copy ≡ slice_get back (length back - 1) → offset < line_start reached copy lines → BeginsBehind lines offset front back
+pub begins-behind : (lines : List LineContent) (offset : ℕ) (front : List Stop) (back : List Copied) (reached : Reached)
+    (copy : Copied) → IsReached reached (copies_of front) lines
+    → Some copy ≡ slice_get back (length back - 1) → offset < line_start reached copy lines →
+    BeginsBehind lines offset front back
 begins-behind lines offset front back reached copy is last large behind other back_is =
     let same = last_same back behind copy other last back_is in
-    omega (arith, large, ap (λ (x : Copied). line_start reached x lines) same, start-is lines (copies_of front) reached other is)
+    omega (
+      arith,
+      large,
+      ap (λ (x : Copied). line_start reached x lines) same,
+      start-is lines (copies_of front) reached other is,
+    )
 
-pub next-begins : (lines : List LineContent) (offset : ℕ) (front : List Stop) (back : List Copied) (reached : Reached) (copy : Copied) → IsReached reached (copies_of front) lines
-    → Some copy ≡ slice_get back (length back - 1) → line_start reached copy lines ≤ offset → NextBegins lines offset front back
+pub next-begins : (lines : List LineContent) (offset : ℕ) (front : List Stop) (back : List Copied) (reached : Reached)
+    (copy : Copied) → IsReached reached (copies_of front) lines
+    → Some copy ≡ slice_get back (length back - 1) → line_start reached copy lines ≤ offset →
+    NextBegins lines offset front back
 next-begins lines offset front back reached copy is last small behind other back_is =
     let same = last_same back behind copy other last back_is in
-    omega (arith, small, ap (λ (x : Copied). line_start reached x lines) same, start-is lines (copies_of front) reached other is)
+    omega (
+      arith,
+      small,
+      ap (λ (x : Copied). line_start reached x lines) same,
+      start-is lines (copies_of front) reached other is,
+    )
 
-pub behind-none : (lines : List LineContent) (offset : ℕ) (front : List Stop) (back : List Copied) → back ≡ [] → BeginsBehind lines offset front back
+pub behind-none : (lines : List LineContent) (offset : ℕ) (front : List Stop) (back : List Copied) → back ≡ [] →
+    BeginsBehind lines offset front back
 behind-none lines offset front back none behind other is =
-    let long : 0 ≡ length behind + 1 = sym (ap length none) ∙ ap length is ∙ length-append behind (other ∷ []) in absurd (omega (arith, long))
+    let long : 0 ≡ length behind + 1 = sym (ap length none) ∙ ap length is ∙ length-append behind (other ∷ []) in
+    absurd (omega (arith, long))
 
-pub can-follow-next : (lines : List LineContent) (front : List Stop) (back behind : List Copied) (reached : Reached) (copy : Copied) → IsDraft lines front back → IsReached reached (copies_of front) lines
+pub can-follow-next : (lines : List LineContent) (front : List Stop) (back behind : List Copied) (reached : Reached)
+    (copy : Copied) → IsDraft lines front back → IsReached reached (copies_of front) lines
     → back ≡ behind ++ copy ∷ [] → CanFollow reached copy lines
 can-follow-next lines front back behind reached copy draft is back_is =
-    can-follow lines front behind (record { reached = reached; copy = copy }) (draft-forth lines front behind (record { reached = reached; copy = copy }) (subst (λ items. IsDraft lines front items) back_is draft) is)
+    can-follow lines front behind (record { reached = reached; copy = copy })
+    (draft-forth lines front behind (record { reached = reached; copy = copy })
+    (subst (λ items. IsDraft lines front items) back_is draft) is)

@@ -1,5 +1,7 @@
 -- Lines of a list that copies keep, by where they stand in the text.
-use Rattle.std.proofs.Common.{◌≡◌, ℕ, zero, suc, ◌+◌, ◌-◌, ◌<◌, ◌≤◌, ◌^◌, List, [], ◌∷◌, ◌++◌, Option, None, Some, length, take, drop, inl, inr, refl, sym, ap, ap₂, subst, ◌∙◌, arith, append_assoc, length-append, take-append-drop}
+use Rattle.std.proofs.Common.{◌≡◌, ℕ, zero, suc, ◌+◌, ◌-◌, ◌<◌, ◌≤◌, ◌^◌, List, [], ◌∷◌, ◌++◌, Option, None, Some}
+use Rattle.std.proofs.Common.{length, take, drop, inl, inr, refl, sym, ap, ap₂, subst, ◌∙◌, arith, append_assoc}
+use Rattle.std.proofs.Common.{length-append, take-append-drop}
 use Rattle.std.specs.Prelude.{IfSome, reverse, slice_get}
 use Rattle.std.proofs.lemmas.Bool.{cases_lt}
 use Rattle.std.proofs.lemmas.List.{drop-drop, reverse-append}
@@ -7,11 +9,14 @@ use Rattle.segments.specs.Columns.{LineContent}
 use Rattle.line_lists.specs.declared.drafts.Copied.{Copied}
 use Rattle.line_lists.specs.declared.drafts.Reached.{Reached}
 use Rattle.line_lists.specs.declared.drafts.Stop.{Stop}
-use Rattle.line_lists.specs.Drafts.{AreStops, IsDraft, IsFound, IsReached, IsTaken, StandsAt, copies_of, covered, drafted, drafted_at, in_order, line_start, lines_before, made_lines, taken_lines, used}
+use Rattle.line_lists.specs.Drafts.{AreStops, IsDraft, IsFound, IsReached, IsTaken, StandsAt, copies_of, covered}
+use Rattle.line_lists.specs.Drafts.{drafted, drafted_at, in_order, line_start, lines_before, made_lines, taken_lines}
+use Rattle.line_lists.specs.Drafts.{used}
 use Rattle.line_lists.specs.Lists.{Holds}
 use Rattle.line_lists.specs.Texts.{whole}
 use Rattle.line_lists.proofs.CountRows.{count-characters}
-use Rattle.line_lists.proofs.DraftLaws.{copies-snoc, counted-between, drafted-append, length-whole, made-snoc, none_at, start-is, stops-front, stops-last, stops-snoc, take-more, used-append}
+use Rattle.line_lists.proofs.DraftLaws.{copies-snoc, counted-between, drafted-append, length-whole, made-snoc, none_at}
+use Rattle.line_lists.proofs.DraftLaws.{start-is, stops-front, stops-last, stops-snoc, take-more, used-append}
 use Rattle.line_lists.proofs.PlaceRows.{split_at}
 use Rattle.line_lists.proofs.WholeLaws.{whole-one}
 
@@ -19,36 +24,51 @@ use Rattle.line_lists.proofs.WholeLaws.{whole-one}
 abbrev pub begin : List LineContent → ℕ → ℕ
 begin lines line = length (whole (take line lines)).columns
 
-pub begin-more : (lines : List LineContent) (n k : ℕ) → begin lines (n + k) ≡ begin lines n + length (whole (take k (drop n lines))).columns
-begin-more lines n k = sym (count-characters (take (n + k) lines)) ∙ counted-between n k lines ∙ ap (λ m. m + length (whole (take k (drop n lines))).columns) (count-characters (take n lines))
+pub begin-more : (lines : List LineContent) (n k : ℕ) → begin lines (n + k)
+    ≡ begin lines n + length (whole (take k (drop n lines))).columns
+begin-more lines n k = sym (count-characters (take (n + k) lines)) ∙ counted-between n k lines
+    ∙ ap (λ m. m + length (whole (take k (drop n lines))).columns) (count-characters (take n lines))
 
 pub begin-rises : (lines : List LineContent) (i j : ℕ) → i ≤ j → begin lines i ≤ begin lines j
 begin-rises lines i j ordered =
     let more = begin-more lines i (j - i) in
-    let same : begin lines (i + (j - i)) ≡ begin lines j = ap (begin lines) (let n : i + (j - i) ≡ j = omega arith in n) in
+    let same : begin lines (i + (j - i)) ≡ begin lines j = ap (begin lines) (let n : i + (j - i) ≡ j = omega arith in
+    n) in
     omega (arith, more, same)
 
 -- where a line ends
-begin_after : (lines : List LineContent) (n : ℕ) (line : LineContent) → slice_get lines n ≡ Some line → begin lines (suc n) ≡ begin lines n + length line.columns
+begin_after : (lines : List LineContent) (n : ℕ) (line : LineContent) → slice_get lines n ≡ Some line →
+    begin lines (suc n) ≡ begin lines n + length line.columns
 begin_after [] n line is = let no : ◌≡◌ {A = Option LineContent} None (Some line) = is in absurd (cc)
-begin_after (x ∷ xs) zero line is = let same : x ≡ line = cc in omega (arith, length-append x.columns [], ap (λ (y : LineContent). length y.columns) same)
-begin_after (x ∷ xs) (suc n) line is = omega (arith, begin_after xs n line is, length-append x.columns (whole (take (suc n) xs)).columns, length-append x.columns (whole (take n xs)).columns)
+begin_after (x ∷ xs) zero line is = let same : x ≡ line = cc in
+    omega (arith, length-append x.columns [], ap (λ (y : LineContent). length y.columns) same)
+begin_after (x ∷ xs) (suc n) line is = omega (
+  arith,
+  begin_after xs n line is,
+  length-append x.columns (whole (take (suc n) xs)).columns,
+  length-append x.columns (whole (take n xs)).columns,
+)
 
-pub begin-next : (lines : List LineContent) (n : ℕ) (line : LineContent) → slice_get lines n ≡ Some line → begin lines (n + 1) ≡ begin lines n + length line.columns
-begin-next lines n line is = ap (begin lines) (let same : n + 1 ≡ suc n = omega arith in same) ∙ begin_after lines n line is
+pub begin-next : (lines : List LineContent) (n : ℕ) (line : LineContent) → slice_get lines n ≡ Some line →
+    begin lines (n + 1) ≡ begin lines n + length line.columns
+begin-next lines n line is =
+    ap (begin lines) (let same : n + 1 ≡ suc n = omega arith in same) ∙ begin_after lines n line is
 
-line_ends : (lines : List LineContent) (line column : ℕ) (here : Option LineContent) → slice_get lines line ≡ here → line < length lines → IfSome here (λ (x : LineContent). column < length x.columns)
+line_ends : (lines : List LineContent) (line column : ℕ) (here : Option LineContent) → slice_get lines line ≡ here →
+    line < length lines → IfSome here (λ (x : LineContent). column < length x.columns)
     → begin lines line + column < begin lines (line + 1)
 line_ends lines line column None is within inside = absurd (omega (arith, within, none_at lines line is))
 line_ends lines line column (Some x) is within inside = omega (arith, inside, begin-next lines line x is)
 
-pub found : (reached : Reached) (lines : List LineContent) (offset place line column : ℕ) → reached.characters ≤ offset → place ≡ offset - reached.characters + begin lines reached.used
+pub found : (reached : Reached) (lines : List LineContent) (offset place line column : ℕ) →
+    reached.characters ≤ offset → place ≡ offset - reached.characters + begin lines reached.used
     → Holds lines place line column → IsFound reached lines offset line column
 found reached lines offset place line column behind place_is holds =
     let ends = line_ends lines line column (slice_get lines line) refl holds.within holds.inside in
     record {
       first = elim (cases_lt line reached.used) [
-        | inl before ↦ absurd (let rises = begin-rises lines (line + 1) reached.used (omega (arith, before)) in omega (arith, rises, ends, holds.behind, place_is))
+        | inl before ↦ absurd (let rises = begin-rises lines (line + 1) reached.used (omega (arith, before)) in
+            omega (arith, rises, ends, holds.behind, place_is))
         | inr behind ↦ behind
       ];
       within = holds.within;
@@ -60,7 +80,8 @@ found reached lines offset place line column behind place_is holds =
 pub slice_get-drop : {A : Type 0} (u b : ℕ) (xs : List A) → slice_get (drop u xs) b ≡ slice_get xs (u + b)
 slice_get-drop zero b xs = ap (slice_get xs) (let same : b ≡ 0 + b = omega arith in same)
 slice_get-drop (suc u) b [] = refl
-slice_get-drop (suc u) b (x ∷ xs) = slice_get-drop u b xs ∙ sym (ap (slice_get (x ∷ xs)) (let same : suc u + b ≡ suc (u + b) = omega arith in same))
+slice_get-drop (suc u) b (x ∷ xs) =
+    slice_get-drop u b xs ∙ sym (ap (slice_get (x ∷ xs)) (let same : suc u + b ≡ suc (u + b) = omega arith in same))
 
 pub drop_after : {A : Type 0} (xs : List A) (n : ℕ) (x : A) → slice_get xs n ≡ Some x → drop n xs ≡ x ∷ drop (suc n) xs
 drop_after {A = A} [] n x is = let no : ◌≡◌ {A = Option A} None (Some x) = is in absurd (cc)
@@ -71,7 +92,8 @@ drop-rest : {A : Type 0} (m n : ℕ) (xs : List A) → drop n (drop m xs) ≡ dr
 drop-rest m n xs = drop-drop n m xs
 
 -- the lines with a copy behind the others that stand before the place
-pub taken-is : (lines : List LineContent) (front : List Stop) (back : List Copied) (stop : Stop) → drafted_at lines (front ++ stop ∷ []) back ≡ taken_lines lines front back stop.copy
+pub taken-is : (lines : List LineContent) (front : List Stop) (back : List Copied) (stop : Stop) →
+    drafted_at lines (front ++ stop ∷ []) back ≡ taken_lines lines front back stop.copy
 taken-is lines front back stop =
     let copies = copies_of front in
     let copy = stop.copy in
@@ -80,47 +102,70 @@ taken-is lines front back stop =
     let behind = drafted (reverse back) (drop (used copies + covered copy) lines) in
     ap (λ xs. drafted (xs ++ reverse back) lines) (copies-snoc front stop)
     ∙ drafted-append (copies ++ copy ∷ []) (reverse back) lines
-    ∙ ap₂ (λ xs n. xs ++ drafted (reverse back) (drop n lines)) (made-snoc copies copy lines ∙ sym (append_assoc before kept (copy.line ∷ [])))
-    (let same : used (copies ++ copy ∷ []) ≡ used copies + covered copy = omega (arith, used-append copies (copy ∷ [])) in same)
+    ∙ ap₂ (λ xs n. xs ++ drafted (reverse back) (drop n lines)) (made-snoc copies copy lines
+    ∙ sym (append_assoc before kept (copy.line ∷ [])))
+    (let same : used (copies ++ copy ∷ []) ≡ used copies
+    + covered copy = omega (arith, used-append copies (copy ∷ [])) in same)
     ∙ append_assoc (before ++ kept) (copy.line ∷ []) behind
 
-pub put-back : (lines : List LineContent) (front : List Stop) (back : List Copied) (stop : Stop) → IsTaken lines front back stop → length (whole (taken_lines lines front back stop.copy)).columns < 2 ^ 64
+pub put-back : (lines : List LineContent) (front : List Stop) (back : List Copied) (stop : Stop) →
+    IsTaken lines front back stop → length (whole (taken_lines lines front back stop.copy)).columns < 2 ^ 64
     → IsDraft lines (front ++ stop ∷ []) back
 put-back lines front back stop taken small =
     let copies = copies_of front in
-    let order : in_order (front ++ stop ∷ []) back ≡ (copies ++ stop.copy ∷ []) ++ reverse back = ap (λ xs. xs ++ reverse back) (copies-snoc front stop) in
+    let order : in_order (front ++ stop ∷ []) back ≡ (copies ++ stop.copy ∷ [])
+    ++ reverse back = ap (λ xs. xs ++ reverse back) (copies-snoc front stop) in
     record {
       stops = stops-snoc lines [] front stop taken.stops taken.reached;
-      there = omega (arith, taken.there, ap used order, used-append (copies ++ stop.copy ∷ []) (reverse back), used-append copies (stop.copy ∷ []));
+      there = omega (
+        arith,
+        taken.there,
+        ap used order,
+        used-append (copies ++ stop.copy ∷ []) (reverse back),
+        used-append copies (stop.copy ∷ []),
+      );
       counted = subst (λ xs. length (whole xs).columns < 2 ^ 64) (sym (taken-is lines front back stop)) small;
     }
 
-pub taken-last : (lines : List LineContent) (front : List Stop) (back : List Copied) (stop : Stop) → IsDraft lines (front ++ stop ∷ []) back → IsTaken lines front back stop
+pub taken-last : (lines : List LineContent) (front : List Stop) (back : List Copied) (stop : Stop) →
+    IsDraft lines (front ++ stop ∷ []) back → IsTaken lines front back stop
 taken-last lines front back stop draft =
     let copies = copies_of front in
-    let order : in_order (front ++ stop ∷ []) back ≡ (copies ++ stop.copy ∷ []) ++ reverse back = ap (λ xs. xs ++ reverse back) (copies-snoc front stop) in
+    let order : in_order (front ++ stop ∷ []) back ≡ (copies ++ stop.copy ∷ [])
+    ++ reverse back = ap (λ xs. xs ++ reverse back) (copies-snoc front stop) in
     record {
       stops = stops-front lines [] front stop draft.stops;
       reached = stops-last lines [] front stop draft.stops;
-      there = omega (arith, draft.there, ap used order, used-append (copies ++ stop.copy ∷ []) (reverse back), used-append copies (stop.copy ∷ []));
+      there = omega (
+        arith,
+        draft.there,
+        ap used order,
+        used-append (copies ++ stop.copy ∷ []) (reverse back),
+        used-append copies (stop.copy ∷ []),
+      );
     }
 
 -- a kept line is copied behind all copies
-pub opened-rest : (lines : List LineContent) (front : List Stop) (copy : Copied) → copy.gone ≡ 1 → slice_get lines (used (copies_of front) + copy.kept) ≡ Some copy.line
+pub opened-rest : (lines : List LineContent) (front : List Stop) (copy : Copied) → copy.gone ≡ 1 →
+    slice_get lines (used (copies_of front) + copy.kept) ≡ Some copy.line
     → taken_lines lines front [] copy ≡ drafted_at lines front []
 opened-rest lines front copy one is =
     let copies = copies_of front in
     let rest = drop (used copies) lines in
     let before = made_lines copies lines in
     let here : slice_get rest copy.kept ≡ Some copy.line = slice_get-drop (used copies) copy.kept lines ∙ is in
-    ap (λ n. (before ++ take copy.kept rest) ++ copy.line ∷ drop n lines) (let same : used copies + covered copy ≡ used copies + (copy.kept + 1) = omega (arith, one) in same)
+    ap (λ n. (before ++ take copy.kept rest) ++ copy.line ∷ drop n lines) (let same : used copies + covered copy
+    ≡ used copies + (copy.kept + 1) = omega (arith, one) in same)
     ∙ ap (λ xs. (before ++ take copy.kept rest) ++ copy.line ∷ xs) (sym (drop-rest (used copies) (copy.kept + 1) lines))
     ∙ append_assoc before (take copy.kept rest) (copy.line ∷ drop (copy.kept + 1) rest)
-    ∙ ap (λ xs. before ++ xs) (sym (split_at rest copy.kept copy.line here ∙ ap (λ n. take copy.kept rest ++ copy.line ∷ drop n rest) (let same : suc copy.kept ≡ copy.kept + 1 = omega arith in same)))
+    ∙ ap (λ xs. before ++ xs) (sym (split_at rest copy.kept copy.line here
+    ∙ ap (λ n. take copy.kept rest ++ copy.line ∷ drop n rest) (let same : suc copy.kept
+    ≡ copy.kept + 1 = omega arith in same)))
     ∙ sym (drafted-append copies [] lines)
 
 -- a kept line is copied before the next copy
-pub opened_next : (rest : List LineContent) (b : ℕ) (line : LineContent) (next less : Copied) (cs : List Copied) → slice_get rest b ≡ Some line → b < next.kept
+pub opened_next : (rest : List LineContent) (b : ℕ) (line : LineContent) (next less : Copied) (cs : List Copied) →
+    slice_get rest b ≡ Some line → b < next.kept
     → less.kept ≡ next.kept - (b + 1) → less.gone ≡ next.gone → less.line ≡ next.line
     → drafted (next ∷ cs) rest ≡ take b rest ++ line ∷ drafted (less ∷ cs) (drop (b + 1) rest)
 opened_next rest b line next less cs is small kept gone same =
@@ -133,96 +178,166 @@ opened_next rest b line next less cs is small kept gone same =
     (ap₂ take (let n : next.kept - b ≡ suc less.kept = omega (arith, small, kept) in n) (drop_after rest b line is)
     ∙ ap (λ n. line ∷ take less.kept (drop n rest)) one) in
     let covers : covered next ≡ (b + 1) + covered less = omega (arith, small, kept, gone) in
-    let second : drop (covered next) rest ≡ drop (covered less) others = ap (λ n. drop n rest) covers ∙ sym (drop-rest (b + 1) (covered less) rest) in
+    let second : drop (covered next) rest ≡ drop (covered less) others = ap (λ n. drop n rest) covers
+    ∙ sym (drop-rest (b + 1) (covered less) rest) in
     let third : drop (covered next + used cs) rest ≡ drop (covered less + used cs) others =
-    ap (λ n. drop n rest) (let n : covered next + used cs ≡ (b + 1) + (covered less + used cs) = omega (arith, covers) in n) ∙ sym (drop-rest (b + 1) (covered less + used cs) rest) in
+    ap (λ n. drop n rest) (let n : covered next + used cs
+    ≡ (b + 1) + (covered less + used cs) = omega (arith, covers) in n)
+    ∙ sym (drop-rest (b + 1) (covered less + used cs) rest) in
     let behind = less.line ∷ made_lines cs (drop (covered less) others) in
     ap₂ (λ xs ys. xs ++ ys) (ap₂ (λ xs ys. xs ++ ys) first (ap₂ (λ l ys. l ∷ made_lines cs ys) (sym same) second)) third
-    ∙ ap (λ xs. xs ++ drop (covered less + used cs) others) (append_assoc (take b rest) (line ∷ take less.kept others) behind)
+    ∙ ap (λ xs. xs ++ drop (covered less + used cs) others)
+    (append_assoc (take b rest) (line ∷ take less.kept others) behind)
     ∙ append_assoc (take b rest) ((line ∷ take less.kept others) ++ behind) (drop (covered less + used cs) others)
 
-pub opened-kept : (lines : List LineContent) (front : List Stop) (back : List Copied) (copy next less : Copied) → copy.gone ≡ 1
-    → slice_get lines (used (copies_of front) + copy.kept) ≡ Some copy.line → copy.kept < next.kept → less.kept ≡ next.kept - (copy.kept + 1) → less.gone ≡ next.gone → less.line ≡ next.line
+pub opened-kept : (lines : List LineContent) (front : List Stop) (back : List Copied) (copy next less : Copied) →
+    copy.gone ≡ 1
+    → slice_get lines (used (copies_of front) + copy.kept) ≡ Some copy.line → copy.kept < next.kept →
+    less.kept ≡ next.kept - (copy.kept + 1) → less.gone ≡ next.gone → less.line ≡ next.line
     → taken_lines lines front (back ++ less ∷ []) copy ≡ drafted_at lines front (back ++ next ∷ [])
 opened-kept lines front back copy next less one is small kept gone same =
     let copies = copies_of front in
     let rest = drop (used copies) lines in
     let before = made_lines copies lines in
     let here : slice_get rest copy.kept ≡ Some copy.line = slice_get-drop (used copies) copy.kept lines ∙ is in
-    ap₂ (λ xs n. (before ++ take copy.kept rest) ++ copy.line ∷ drafted xs (drop n lines)) (reverse-append back (less ∷ []))
+    ap₂ (λ xs n. (before ++ take copy.kept rest) ++ copy.line ∷ drafted xs (drop n lines))
+    (reverse-append back (less ∷ []))
     (let n : used copies + covered copy ≡ used copies + (copy.kept + 1) = omega (arith, one) in n)
-    ∙ ap (λ xs. (before ++ take copy.kept rest) ++ copy.line ∷ drafted (less ∷ reverse back) xs) (sym (drop-rest (used copies) (copy.kept + 1) lines))
+    ∙ ap (λ xs. (before ++ take copy.kept rest) ++ copy.line ∷ drafted (less ∷ reverse back) xs)
+    (sym (drop-rest (used copies) (copy.kept + 1) lines))
     ∙ append_assoc before (take copy.kept rest) (copy.line ∷ drafted (less ∷ reverse back) (drop (copy.kept + 1) rest))
-    ∙ ap (λ xs. before ++ xs) (sym (opened_next rest copy.kept copy.line next less (reverse back) here small kept gone same))
-    ∙ sym (ap (λ xs. drafted (copies ++ xs) lines) (reverse-append back (next ∷ [])) ∙ drafted-append copies (next ∷ reverse back) lines)
+    ∙ ap (λ xs. before ++ xs)
+    (sym (opened_next rest copy.kept copy.line next less (reverse back) here small kept gone same))
+    ∙ sym (ap (λ xs. drafted (copies ++ xs) lines) (reverse-append back (next ∷ []))
+    ∙ drafted-append copies (next ∷ reverse back) lines)
 
 -- where it stands
-pub opened-place : (lines : List LineContent) (front : List Stop) (reached : Reached) (copy : Copied) (offset line column : ℕ) → IsReached reached (copies_of front) lines
-    → IsFound reached lines offset line column → copy.kept ≡ line - reached.used → offset ≡ length (whole (lines_before (copies_of front) copy lines)).columns + column
+pub opened-place : (lines : List LineContent) (front : List Stop) (reached : Reached) (copy : Copied)
+    (offset line column : ℕ) → IsReached reached (copies_of front) lines
+    → IsFound reached lines offset line column → copy.kept ≡ line - reached.used →
+    offset ≡ length (whole (lines_before (copies_of front) copy lines)).columns + column
 opened-place lines front reached copy offset line column is find kept =
     let more = begin-more lines reached.used copy.kept in
-    let same : begin lines (reached.used + copy.kept) ≡ begin lines line = ap (begin lines) (let n : reached.used + copy.kept ≡ line = omega (arith, kept, find.first) in n) in
+    let same : begin lines (reached.used + copy.kept)
+    ≡ begin lines line = ap (begin lines) (let n : reached.used + copy.kept
+    ≡ line = omega (arith, kept, find.first) in n) in
     omega (arith, start-is lines (copies_of front) reached copy is, more, same, find.place)
 
 -- where the line of the last copy ends
 pub made-ends : (lines : List LineContent) (copies : List Copied) (copy : Copied)
-    → length (whole (made_lines (copies ++ copy ∷ []) lines)).columns ≡ length (whole (lines_before copies copy lines)).columns + length copy.line.columns
+    → length (whole (made_lines (copies ++ copy ∷ []) lines)).columns
+    ≡ length (whole (lines_before copies copy lines)).columns + length copy.line.columns
 made-ends lines copies copy =
-    ap (λ xs. length (whole xs).columns) (made-snoc copies copy lines ∙ sym (append_assoc (made_lines copies lines) (take copy.kept (drop (used copies) lines)) (copy.line ∷ [])))
+    ap (λ xs. length (whole xs).columns) (made-snoc copies copy lines
+    ∙ sym (append_assoc (made_lines copies lines) (take copy.kept (drop (used copies) lines)) (copy.line ∷ [])))
     ∙ length-whole (lines_before copies copy lines) (copy.line ∷ [])
-    ∙ ap (λ (line : LineContent). length (whole (lines_before copies copy lines)).columns + length line.columns) (whole-one copy.line)
+    ∙ ap (λ (line : LineContent). length (whole (lines_before copies copy lines)).columns + length line.columns)
+    (whole-one copy.line)
 
-pub last-stands : (lines : List LineContent) (before : List Stop) (stop : Stop) (offset start : ℕ) → AreStops lines [] (before ++ stop ∷ []) → start ≡ line_start stop.reached stop.copy lines → start ≤ offset
-    → offset < length (whole (made_lines (copies_of (before ++ stop ∷ [])) lines)).columns → StandsAt lines before stop.copy offset (offset - start)
+-- it begins at an offset or before it
+pub last-begun : (lines : List LineContent) (before : List Stop) (stop : Stop) (offset : ℕ) →
+    AreStops lines [] (before ++ stop ∷ [])
+    → length (whole (lines_before (copies_of before) stop.copy lines)).columns ≤ offset
+    → line_start stop.reached stop.copy lines ≤ offset
+last-begun lines before stop offset stops begun =
+    omega (
+      arith,
+      begun,
+      start-is lines (copies_of before) stop.reached stop.copy (stops-last lines [] before stop stops),
+    )
+
+-- where it begins
+pub last-starts : (lines : List LineContent) (before : List Stop) (stop : Stop) (end : ℕ) →
+    AreStops lines [] (before ++ stop ∷ [])
+    → end ≡ length (whole (made_lines (copies_of (before ++ stop ∷ [])) lines)).columns
+    → line_start stop.reached stop.copy lines + length stop.copy.line.columns ≡ end
+last-starts lines before stop end stops is =
+    omega (
+      arith,
+      is,
+      start-is lines (copies_of before) stop.reached stop.copy (stops-last lines [] before stop stops),
+      ap (λ copies. length (whole (made_lines copies lines)).columns) (copies-snoc before stop),
+      made-ends lines (copies_of before) stop.copy,
+    )
+
+pub last-stands : (lines : List LineContent) (before : List Stop) (stop : Stop) (offset start : ℕ) →
+    AreStops lines [] (before ++ stop ∷ []) → start ≡ line_start stop.reached stop.copy lines → start ≤ offset
+    → offset < length (whole (made_lines (copies_of (before ++ stop ∷ [])) lines)).columns →
+    StandsAt lines before stop.copy offset (offset - start)
 last-stands lines before stop offset start stops start_is small within =
     let is = start-is lines (copies_of before) stop.reached stop.copy (stops-last lines [] before stop stops) in
     record {
       place = omega (arith, start_is, is, small);
-      inside = omega (arith, start_is, is, small, within, ap (λ copies. length (whole (made_lines copies lines)).columns) (copies-snoc before stop), made-ends lines (copies_of before) stop.copy);
+      inside = omega (
+        arith,
+        start_is,
+        is,
+        small,
+        within,
+        ap (λ copies. length (whole (made_lines copies lines)).columns) (copies-snoc before stop),
+        made-ends lines (copies_of before) stop.copy,
+      );
     }
 
 -- an offset behind all copies lies in the rest of the list
-pub rest-within : (lines : List LineContent) (front : List Stop) (reached : Reached) (offset : ℕ) → IsReached reached (copies_of front) lines → offset < length (whole (drafted_at lines front [])).columns
+pub rest-within : (lines : List LineContent) (front : List Stop) (reached : Reached) (offset : ℕ) →
+    IsReached reached (copies_of front) lines → offset < length (whole (drafted_at lines front [])).columns
     → offset + begin lines reached.used < reached.characters + length (whole lines).columns
 rest-within lines front reached offset is within =
     let copies = copies_of front in
     let rest = drop (used copies) lines in
-    let all = ap (λ xs. length (whole xs).columns) (drafted-append copies [] lines) ∙ length-whole (made_lines copies lines) rest in
-    let whole_is = ap (λ xs. length (whole xs).columns) (sym (take-append-drop (used copies) lines)) ∙ length-whole (take (used copies) lines) rest in
+    let all = ap (λ xs. length (whole xs).columns) (drafted-append copies [] lines)
+    ∙ length-whole (made_lines copies lines) rest in
+    let whole_is = ap (λ xs. length (whole xs).columns) (sym (take-append-drop (used copies) lines))
+    ∙ length-whole (take (used copies) lines) rest in
     omega (arith, within, all, whole_is, is.characters, ap (begin lines) is.used)
 
 -- an offset before the next copy lies before it in the list
-pub kept-within : (lines : List LineContent) (front : List Stop) (reached : Reached) (next : Copied) (offset : ℕ) → IsReached reached (copies_of front) lines
-    → offset < length (whole (lines_before (copies_of front) next lines)).columns → offset + begin lines reached.used < reached.characters + begin lines (reached.used + next.kept)
+pub kept-within : (lines : List LineContent) (front : List Stop) (reached : Reached) (next : Copied) (offset : ℕ) →
+    IsReached reached (copies_of front) lines
+    → offset < length (whole (lines_before (copies_of front) next lines)).columns →
+    offset + begin lines reached.used < reached.characters + begin lines (reached.used + next.kept)
 kept-within lines front reached next offset is within =
     omega (arith, within, start-is lines (copies_of front) reached next is, begin-more lines reached.used next.kept)
 
 -- the line that is copied
-pub found-line : (lines : List LineContent) (front : List Stop) (reached : Reached) (line : ℕ) (here : LineContent) → IsReached reached (copies_of front) lines → reached.used ≤ line
+pub found-line : (lines : List LineContent) (front : List Stop) (reached : Reached) (line : ℕ) (here : LineContent) →
+    IsReached reached (copies_of front) lines → reached.used ≤ line
     → slice_get lines line ≡ Some here → slice_get lines (used (copies_of front) + (line - reached.used)) ≡ Some here
-found-line lines front reached line here is first get = ap (slice_get lines) (let n : used (copies_of front) + (line - reached.used) ≡ line = omega (arith, first, is.used) in n) ∙ get
+found-line lines front reached line here is first get = ap (slice_get lines)
+    (let n : used (copies_of front) + (line - reached.used) ≡ line = omega (arith, first, is.used) in n) ∙ get
 
-pub inside-line : (column : ℕ) (found : Option LineContent) (here : LineContent) → found ≡ Some here → IfSome found (λ (x : LineContent). column < length x.columns) → column < length here.columns
-inside-line column found here is inside = subst (λ x. IfSome x (λ (y : LineContent). column < length y.columns)) is inside
+pub inside-line : (column : ℕ) (found : Option LineContent) (here : LineContent) → found ≡ Some here →
+    IfSome found (λ (x : LineContent). column < length x.columns) → column < length here.columns
+inside-line column found here is inside =
+    subst (λ x. IfSome x (λ (y : LineContent). column < length y.columns)) is inside
 
 pub begin-le : (lines : List LineContent) (n : ℕ) → begin lines n ≤ length (whole lines).columns
-begin-le lines n = let all = ap (λ xs. length (whole xs).columns) (sym (take-append-drop n lines)) ∙ length-whole (take n lines) (drop n lines) in omega (arith, all)
+begin-le lines n = let all = ap (λ xs. length (whole xs).columns) (sym (take-append-drop n lines))
+    ∙ length-whole (take n lines) (drop n lines) in omega (arith, all)
 
 -- the line that is found stands before the next copy
-pub found-before : (reached : Reached) (lines : List LineContent) (next : Copied) (offset line column : ℕ) → IsFound reached lines offset line column
-    → offset + begin lines reached.used < reached.characters + begin lines (reached.used + next.kept) → line - reached.used < next.kept
+pub found-before : (reached : Reached) (lines : List LineContent) (next : Copied) (offset line column : ℕ) →
+    IsFound reached lines offset line column
+    → offset + begin lines reached.used < reached.characters + begin lines (reached.used + next.kept) →
+    line - reached.used < next.kept
 found-before reached lines next offset line column find within =
     elim (cases_lt (line - reached.used) next.kept) [
       | inl before ↦ before
-      | inr behind ↦ absurd (let rises = begin-rises lines (reached.used + next.kept) line (omega (arith, behind, find.first)) in omega (arith, rises, find.place, within))
+      | inr behind ↦ absurd (let rises = begin-rises lines (reached.used + next.kept) line
+          (omega (arith, behind, find.first)) in omega (arith, rises, find.place, within))
     ]
 
 -- what copies cover is there
-pub reached-there : (lines : List LineContent) (front : List Stop) (back : List Copied) (reached : Reached) → IsDraft lines front back → IsReached reached (copies_of front) lines → reached.used ≤ length lines
-reached-there lines front back reached draft is = omega (arith, is.used, draft.there, used-append (copies_of front) (reverse back))
+pub reached-there : (lines : List LineContent) (front : List Stop) (back : List Copied) (reached : Reached) →
+    IsDraft lines front back → IsReached reached (copies_of front) lines → reached.used ≤ length lines
+reached-there lines front back reached draft is =
+    omega (arith, is.used, draft.there, used-append (copies_of front) (reverse back))
 
-pub taken-kept : (lines : List LineContent) (front : List Stop) (back : List Copied) (reached : Reached) (copy next less : Copied) → IsDraft lines front (back ++ next ∷ []) → IsReached reached (copies_of front) lines
-    → copy.gone ≡ 1 → copy.kept < next.kept → less.kept ≡ next.kept - (copy.kept + 1) → less.gone ≡ next.gone → IsTaken lines front (back ++ less ∷ []) (record { reached = reached; copy = copy })
+pub taken-kept : (lines : List LineContent) (front : List Stop) (back : List Copied) (reached : Reached)
+    (copy next less : Copied) → IsDraft lines front (back ++ next ∷ []) → IsReached reached (copies_of front) lines
+    → copy.gone ≡ 1 → copy.kept < next.kept → less.kept ≡ next.kept - (copy.kept + 1) → less.gone ≡ next.gone →
+    IsTaken lines front (back ++ less ∷ []) (record { reached = reached; copy = copy })
 taken-kept lines front back reached copy next less draft is one small kept gone = record {
   stops = draft.stops;
   reached = is;

@@ -1,10 +1,12 @@
 -- Lines that are looked through one by one, from the first on or from the last back.
-use Rattle.std.proofs.Common.{◌≡◌, ℕ, ◌+◌, ◌-◌, ◌<◌, ◌≤◌, Bool, true, false, cond, List, [], ◌∷◌, ◌++◌, None, Some, length, get_or, take, drop, sym, ap, subst, ◌∙◌, arith, length-append, take-append-drop}
+use Rattle.std.proofs.Common.{◌≡◌, ℕ, ◌+◌, ◌-◌, ◌<◌, ◌≤◌, Bool, true, false, cond, List, [], ◌∷◌, ◌++◌, None, Some}
+use Rattle.std.proofs.Common.{length, get_or, take, drop, sym, ap, subst, ◌∙◌, arith, length-append, take-append-drop}
 use Rattle.std.specs.Prelude.{IfSome, nat_lt, not}
 use Rattle.std.specs.List.{position, prefix_len, suffix_len}
 use Rattle.std.proofs.lemmas.Bool.Decides.{nat_tests}
 use Rattle.std.proofs.lemmas.List.{drop_all, drop_more, take_more}
-use Rattle.std.proofs.lemmas.List.Sums.{prefix_len-drop_all, prefix_len-drop_no, prefix_len-drop_yes, suffix_len-take_no, suffix_len-take_yes}
+use Rattle.std.proofs.lemmas.List.Sums.{prefix_len-drop_all, prefix_len-drop_no, prefix_len-drop_yes}
+use Rattle.std.proofs.lemmas.List.Sums.{suffix_len-take_no, suffix_len-take_yes}
 use Rattle.std.proofs.lemmas.Option.{slice_get-get_or}
 use Rattle.toggle_sums.specs.CountLaws.{plus-no_text}
 use Rattle.toggle_sums.specs.Counts.{CountsFit, plus}
@@ -18,21 +20,36 @@ use Rattle.line_lists.proofs.WholeLaws.{whole-append, whole-one}
 abbrev pub Passed : (LineContent → Bool) → List LineContent → ℕ → Type 0
 Passed test xs i = prefix_len (λ x. not (test x)) xs ≡ i + prefix_len (λ x. not (test x)) (drop i xs)
 
-pub passed-more : (test : LineContent → Bool) (xs : List LineContent) (i : ℕ) (x : LineContent) → i < length xs → x ≡ get_or xs i x → test x ≡ false
+pub passed-more : (test : LineContent → Bool) (xs : List LineContent) (i : ℕ) (x : LineContent) → i < length xs →
+    x ≡ get_or xs i x → test x ≡ false
     → Passed test xs i → Passed test xs (i + 1)
 passed-more test xs i x within is hasn't so_far =
-    omega (arith, so_far, prefix_len-drop_yes (λ y. not (test y)) xs i x within (ap (λ y. not (test y)) (sym is) ∙ ap not hasn't))
+    omega (
+      arith,
+      so_far,
+      prefix_len-drop_yes (λ y. not (test y)) xs i x within (ap (λ y. not (test y)) (sym is)
+          ∙ ap not hasn't),
+    )
 
-pub passed-stops : (test : LineContent → Bool) (xs : List LineContent) (i : ℕ) (x : LineContent) → i < length xs → x ≡ get_or xs i x → test x ≡ true
+pub passed-stops : (test : LineContent → Bool) (xs : List LineContent) (i : ℕ) (x : LineContent) → i < length xs →
+    x ≡ get_or xs i x → test x ≡ true
     → Passed test xs i → Some i ≡ position test xs
 passed-stops test xs i x within is has so_far =
-    let here : prefix_len (λ y. not (test y)) xs ≡ i = omega (arith, so_far, prefix_len-drop_no (λ y. not (test y)) xs i x within (ap (λ y. not (test y)) (sym is) ∙ ap not has)) in
+    let here : prefix_len (λ y. not (test y)) xs
+    ≡ i = omega (
+      arith,
+      so_far,
+      prefix_len-drop_no (λ y. not (test y)) xs i x within
+          (ap (λ y. not (test y)) (sym is) ∙ ap not has),
+    ) in
     let below : nat_lt i (length xs) ≡ true = grind (arith, nat_tests) in
     sym (ap (λ n. cond (nat_lt n (length xs)) (Some n) None) here ∙ ap (λ b. cond b (Some i) None) below)
 
-pub passed-all : (test : LineContent → Bool) (xs : List LineContent) (i : ℕ) → length xs ≤ i → i ≤ length xs → Passed test xs i → None ≡ position test xs
+pub passed-all : (test : LineContent → Bool) (xs : List LineContent) (i : ℕ) → length xs ≤ i → i ≤ length xs →
+    Passed test xs i → None ≡ position test xs
 passed-all test xs i behind within so_far =
-    let here : prefix_len (λ y. not (test y)) xs ≡ i = omega (arith, so_far, prefix_len-drop_all (λ y. not (test y)) xs i behind) in
+    let here : prefix_len (λ y. not (test y)) xs
+    ≡ i = omega (arith, so_far, prefix_len-drop_all (λ y. not (test y)) xs i behind) in
     let below : nat_lt i (length xs) ≡ false = grind (arith, nat_tests) in
     sym (ap (λ n. cond (nat_lt n (length xs)) (Some n) None) here ∙ ap (λ b. cond b (Some i) None) below)
 
@@ -40,28 +57,44 @@ passed-all test xs i behind within so_far =
 abbrev pub Left : (LineContent → Bool) → List LineContent → ℕ → Type 0
 Left test xs n = n + suffix_len (λ x. not (test x)) xs ≡ length xs + suffix_len (λ x. not (test x)) (take n xs)
 
-pub left-more : (test : LineContent → Bool) (xs : List LineContent) (n : ℕ) (x : LineContent) → 0 < n → n ≤ length xs → x ≡ get_or xs (n - 1) x → test x ≡ false
+pub left-more : (test : LineContent → Bool) (xs : List LineContent) (n : ℕ) (x : LineContent) → 0 < n → n ≤ length xs →
+    x ≡ get_or xs (n - 1) x → test x ≡ false
     → Left test xs n → Left test xs (n - 1)
 left-more test xs n x some within is hasn't so_far =
-    omega (arith, so_far, suffix_len-take_yes (λ y. not (test y)) xs n x some within (ap (λ y. not (test y)) (sym is) ∙ ap not hasn't))
+    omega (
+      arith,
+      so_far,
+      suffix_len-take_yes (λ y. not (test y)) xs n x some within (ap (λ y. not (test y)) (sym is)
+          ∙ ap not hasn't),
+    )
 
-pub left-stops : (test : LineContent → Bool) (xs : List LineContent) (n : ℕ) (x : LineContent) → 0 < n → n ≤ length xs → x ≡ get_or xs (n - 1) x → test x ≡ true
+pub left-stops : (test : LineContent → Bool) (xs : List LineContent) (n : ℕ) (x : LineContent) → 0 < n → n ≤ length xs →
+    x ≡ get_or xs (n - 1) x → test x ≡ true
     → Left test xs n → length xs - n ≡ suffix_len (λ y. not (test y)) xs
 left-stops test xs n x some within is has so_far =
-    omega (arith, so_far, suffix_len-take_no (λ y. not (test y)) xs n x some within (ap (λ y. not (test y)) (sym is) ∙ ap not has))
+    omega (
+      arith,
+      so_far,
+      suffix_len-take_no (λ y. not (test y)) xs n x some within (ap (λ y. not (test y)) (sym is)
+          ∙ ap not has),
+    )
 
-pub left-none : (test : LineContent → Bool) (xs : List LineContent) (n : ℕ) → n ≡ 0 → Left test xs n → length xs - n ≡ suffix_len (λ y. not (test y)) xs
+pub left-none : (test : LineContent → Bool) (xs : List LineContent) (n : ℕ) → n ≡ 0 → Left test xs n →
+    length xs - n ≡ suffix_len (λ y. not (test y)) xs
 left-none test xs n none so_far =
     omega (arith, none, so_far, ap (λ k. suffix_len (λ y. not (test y)) (take k xs)) none)
 
 -- the sum so far, with one line more
-pub sum-fits : (xs : List LineContent) (i : ℕ) (x : LineContent) → i < length xs → x ≡ get_or xs i x → IsCounted (count_of xs) → CountsFit (count_of (take i xs)) (line_count x)
+pub sum-fits : (xs : List LineContent) (i : ℕ) (x : LineContent) → i < length xs → x ≡ get_or xs i x →
+    IsCounted (count_of xs) → CountsFit (count_of (take i xs)) (line_count x)
 sum-fits xs i x within is all =
     let rest = drop_more xs i x within ∙ ap (λ y. y ∷ drop (i + 1) xs) (sym is) in
-    let whole_list : xs ≡ take i xs ++ x ∷ drop (i + 1) xs = sym (take-append-drop i xs) ∙ ap (λ ys. take i xs ++ ys) rest in
+    let whole_list : xs ≡ take i xs ++ x ∷ drop (i + 1) xs = sym (take-append-drop i xs)
+    ∙ ap (λ ys. take i xs ++ ys) rest in
     counted-more (take i xs) (drop (i + 1) xs) x (subst (λ ys. IsCounted (count_of ys)) whole_list all)
 
-pub sum-more : (xs : List LineContent) (i : ℕ) (x : LineContent) → i < length xs → x ≡ get_or xs i x → plus (count_of (take i xs)) (line_count x) ≡ count_of (take (i + 1) xs)
+pub sum-more : (xs : List LineContent) (i : ℕ) (x : LineContent) → i < length xs → x ≡ get_or xs i x →
+    plus (count_of (take i xs)) (line_count x) ≡ count_of (take (i + 1) xs)
 sum-more xs i x within is =
     sym (ap count_of (take_more xs i x within ∙ ap (λ y. take i xs ++ y ∷ []) (sym is))
     ∙ count-append (take i xs) (x ∷ []) ∙ ap (plus (count_of (take i xs))) (plus-no_text (line_count x)))
@@ -71,11 +104,13 @@ pub record Remains (lines : List LineContent) (offset index column : ℕ) : Type
   pub behind : offset ≡ length (whole (take index lines)).columns + column
   pub inside : column < length (whole (drop index lines)).columns
 
-pub column-more : (xs : List LineContent) (offset i column : ℕ) (x : LineContent) → i < length xs → x ≡ get_or xs i x → length x.columns ≤ column
+pub column-more : (xs : List LineContent) (offset i column : ℕ) (x : LineContent) → i < length xs → x ≡ get_or xs i x →
+    length x.columns ≤ column
     → Remains xs offset i column → Remains xs offset (i + 1) (column - length x.columns)
 column-more xs offset i column x within is past so_far =
     let front = ap (λ ys. length (whole ys).columns) (take_more xs i x within ∙ ap (λ y. take i xs ++ y ∷ []) (sym is))
-    ∙ ap (λ line. length line.columns) (whole-append (take i xs) (x ∷ []) ∙ ap (λ line. joined (whole (take i xs)) line) (whole-one x))
+    ∙ ap (λ line. length line.columns) (whole-append (take i xs) (x ∷ [])
+    ∙ ap (λ line. joined (whole (take i xs)) line) (whole-one x))
     ∙ length-append (whole (take i xs)).columns x.columns in
     let back = ap (λ ys. length (whole ys).columns) (drop_more xs i x within ∙ ap (λ y. y ∷ drop (i + 1) xs) (sym is))
     ∙ length-append x.columns (whole (drop (i + 1) xs)).columns in
@@ -84,11 +119,13 @@ column-more xs offset i column x within is past so_far =
       inside = omega (arith, so_far.inside, back, past);
     }
 
-pub column-holds : (xs : List LineContent) (offset i column : ℕ) (x : LineContent) → i < length xs → x ≡ get_or xs i x → column < length x.columns
+pub column-holds : (xs : List LineContent) (offset i column : ℕ) (x : LineContent) → i < length xs → x ≡ get_or xs i x →
+    column < length x.columns
     → Remains xs offset i column → Holds xs offset i column
 column-holds xs offset i column x within is inside so_far = record {
   behind = so_far.behind;
-  inside = subst (λ found. IfSome found (λ (here : LineContent). column < length here.columns)) (sym (slice_get-get_or xs i x within ∙ ap (λ y. Some y) (sym is))) inside;
+  inside = subst (λ found. IfSome found (λ (here : LineContent). column < length here.columns))
+      (sym (slice_get-get_or xs i x within ∙ ap (λ y. Some y) (sym is))) inside;
   within = within;
 }
 

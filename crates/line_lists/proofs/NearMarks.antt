@@ -1,12 +1,14 @@
 -- The nearest mark of lines in a row: in the line of the offset, else in the nearest line that has one.
-use Rattle.std.proofs.Common.{◌≡◌, ℕ, suc, ◌+◌, ◌<◌, ◌≤◌, true, List, Option, None, Some, length, refl, sym, ap, subst, ◌∙◌, inl, inr, arith}
+use Rattle.std.proofs.Common.{◌≡◌, ℕ, suc, ◌+◌, ◌<◌, ◌≤◌, true, List, Option, None, Some, length, refl, sym, ap, subst}
+use Rattle.std.proofs.Common.{◌∙◌, inl, inr, arith}
 use Rattle.std.specs.FinMap as finite
 use Rattle.std.specs.Prelude.{IfSome, slice_get}
 use Rattle.std.proofs.lemmas.Bool.{cases_lt}
 use Rattle.text_model.specs.declared.places.Place.{Place}
 use Rattle.text_model.specs.Content.{Marks}
 use Rattle.text_model.specs.MarkOrder.{next_mark, previous_mark}
-use Rattle.text_model.proofs.MarkOrderLaws.{IsMarked, next_mark-above, next_mark-least, next_mark-marked, previous_mark-below, previous_mark-greatest, previous_mark-marked}
+use Rattle.text_model.proofs.MarkOrderLaws.{IsMarked, next_mark-above, next_mark-least, next_mark-marked}
+use Rattle.text_model.proofs.MarkOrderLaws.{previous_mark-below, previous_mark-greatest, previous_mark-marked}
 use Rattle.segments.specs.Columns.{LineContent, later}
 use Rattle.line_lists.specs.Lists.{AreRows, has_marks}
 use Rattle.line_lists.specs.Places.{IsAt}
@@ -24,7 +26,8 @@ pub record Next (at : ℕ) (marks : Marks) (n : ℕ) : Type 0 where
 pub record Previous (at : ℕ) (marks : Marks) (n : ℕ) : Type 0 where
   pub marked : IsMarked marks n
   pub below : n < at
-  pub greatest : (number : ℕ) (place : Place) → finite.get marks number ≡ Some place → place.offset < at → place.offset ≤ n
+  pub greatest : (number : ℕ) (place : Place) → finite.get marks number ≡ Some place → place.offset < at →
+      place.offset ≤ n
 
 abbrev pub NoneNext : ℕ → Marks → Type 0
 NoneNext at marks = (number : ℕ) (place : Place) → finite.get marks number ≡ Some place → place.offset < at
@@ -61,7 +64,8 @@ pub none-next-of : (at : ℕ) (marks : Marks) → next_mark at marks ≡ None �
 none-next-of at marks is number place got =
     elim (cases_lt place.offset at) [
       | inl less ↦ less
-      | inr more ↦ let near = next_mark-least at marks number place got more in absurd (let no : None ≡ Some near.0 = sym is ∙ near.1 in cc)
+      | inr more ↦ let near =
+          next_mark-least at marks number place got more in absurd (let no : None ≡ Some near.0 = sym is ∙ near.1 in cc)
     ]
 
 none_next : (at : ℕ) (marks : Marks) (found : Option ℕ) → next_mark at marks ≡ found → NoneNext at marks → found ≡ None
@@ -95,15 +99,22 @@ previous-is at marks n previous =
 pub none-previous-of : (at : ℕ) (marks : Marks) → previous_mark at marks ≡ None → NonePrevious at marks
 none-previous-of at marks is number place got =
     elim (cases_lt place.offset at) [
-      | inl less ↦ let near = previous_mark-greatest at marks number place got less in absurd (let no : None ≡ Some near.0 = sym is ∙ near.1 in cc)
+      | inl less ↦ let near = previous_mark-greatest at marks number place got less in
+          absurd (let no : None ≡ Some near.0 = sym is ∙ near.1 in cc)
       | inr more ↦ more
     ]
 
-none_previous : (at : ℕ) (marks : Marks) (found : Option ℕ) → previous_mark at marks ≡ found → NonePrevious at marks → found ≡ None
+none_previous : (at : ℕ) (marks : Marks) (found : Option ℕ) → previous_mark at marks ≡ found → NonePrevious at marks →
+    found ≡ None
 none_previous at marks None is none = refl
 none_previous at marks (Some n) is none =
     let previous = previous-of at marks n is in
-    absurd (omega (arith, previous.below, previous.marked.3, none previous.marked.0 previous.marked.1 previous.marked.2))
+    absurd (omega (
+      arith,
+      previous.below,
+      previous.marked.3,
+      none previous.marked.0 previous.marked.1 previous.marked.2,
+    ))
 
 pub none-previous-is : (at : ℕ) (marks : Marks) → NonePrevious at marks → previous_mark at marks ≡ None
 none-previous-is at marks none = none_previous at marks (previous_mark at marks) refl none
@@ -121,35 +132,48 @@ three_ways j k less same more = elim (cases_lt j k) [
 
 module _ (lines : List LineContent) (rows : AreRows lines) where
   -- the offset of what stands in a line
-  offset_in : (number : ℕ) (place : Place) (k : ℕ) (inner : Place) → InLine lines number place k inner → place.offset ≡ start_of lines k + inner.offset
+  offset_in : (number : ℕ) (place : Place) (k : ℕ) (inner : Place) → InLine lines number place k inner →
+      place.offset ≡ start_of lines k + inner.offset
   offset_in number place k inner stands = let same = ap (λ (p : Place). p.offset) stands.at in omega (arith, same)
 
-  -- what stands in a line before another stands before its start, and what stands in one behind at its start or behind it
-  pub stands-before : (number : ℕ) (place : Place) (j : ℕ) (inner : Place) (k : ℕ) → InLine lines number place j inner → j < k → k < length lines → place.offset < start_of lines k
+  -- what stands in a line before another stands before its start, and what stands in one behind at its start or behind
+  -- it
+  pub stands-before : (number : ℕ) (place : Place) (j : ℕ) (inner : Place) (k : ℕ) → InLine lines number place j inner →
+      j < k → k < length lines → place.offset < start_of lines k
   stands-before number place j inner k stands less within =
       let last : suc j < length lines = omega arith in
       let most : k ≤ length lines = omega arith in
-      omega (arith, offset_in number place j inner stands, mark-before lines j rows last number inner stands.is, start-before lines j k less most)
+      omega (
+        arith,
+        offset_in number place j inner stands,
+        mark-before lines j rows last number inner stands.is,
+        start-before lines j k less most,
+      )
 
-  stands-behind : (number : ℕ) (place : Place) (j : ℕ) (inner : Place) (k : ℕ) → InLine lines number place j inner → k < j → start_of lines k + length_at lines k ≤ place.offset
+  stands-behind : (number : ℕ) (place : Place) (j : ℕ) (inner : Place) (k : ℕ) → InLine lines number place j inner →
+      k < j → start_of lines k + length_at lines k ≤ place.offset
   stands-behind number place j inner k stands more =
       let most : j ≤ length lines = omega (arith, stands.within) in
       omega (arith, offset_in number place j inner stands, start-before lines k j more most)
 
   -- a mark of a line is one of the text
-  marked-out : (k n : ℕ) → k < length lines → IsMarked (line_at lines k).marks n → IsMarked (whole lines).marks (start_of lines k + n)
+  marked-out : (k n : ℕ) → k < length lines → IsMarked (line_at lines k).marks n →
+      IsMarked (whole lines).marks (start_of lines k + n)
   marked-out k n within mark = (
     mark.0,
     later (start_of lines k) mark.1,
-    mark-out lines mark.0 (later (start_of lines k) mark.1) k mark.1 rows (record { within = within; is = mark.2; at = refl }),
+    mark-out lines mark.0 (later (start_of lines k) mark.1) k mark.1 rows
+        (record { within = within; is = mark.2; at = refl }),
     omega (arith, mark.3),
   )
 
-  inner_is : (j k number : ℕ) (inner : Place) → j ≡ k → finite.get (line_at lines j).marks number ≡ Some inner → finite.get (line_at lines k).marks number ≡ Some inner
+  inner_is : (j k number : ℕ) (inner : Place) → j ≡ k → finite.get (line_at lines j).marks number ≡ Some inner →
+      finite.get (line_at lines k).marks number ≡ Some inner
   inner_is j k number inner same is = subst (λ i. finite.get (line_at lines i).marks number ≡ Some inner) same is
 
   module _ (offset k column : ℕ) (at : IsAt lines offset k column) where
-    pub next-here : (n : ℕ) → next_mark column (line_at lines k).marks ≡ Some n → next_mark offset (whole lines).marks ≡ Some (start_of lines k + n)
+    pub next-here : (n : ℕ) → next_mark column (line_at lines k).marks ≡ Some n →
+        next_mark offset (whole lines).marks ≡ Some (start_of lines k + n)
     next-here n is =
         let next = next-of column (line_at lines k).marks n is in
         let bound = mark-within lines k rows at.within next.marked.0 next.marked.1 next.marked.2 in
@@ -161,14 +185,27 @@ module _ (lines : List LineContent) (rows : AreRows lines) where
               let j = found.0 in let inner = found.1 in let stands = found.2 in
               let here = offset_in number place j inner stands in
               three_ways j k
-              (λ less. absurd (omega (arith, stands-before number place j inner k stands less at.within, above, at.behind)))
+              (λ less. absurd (omega (
+                arith,
+                stands-before number place j inner k stands less at.within,
+                above,
+                at.behind,
+              )))
               (λ same.
               let starts = ap (start_of lines) same in
-              omega (arith, starts, here, at.behind, next.least number inner (inner_is j k number inner same stands.is) (omega (arith, starts, here, above, at.behind))))
+              omega (
+                arith,
+                starts,
+                here,
+                at.behind,
+                next.least number inner (inner_is j k number inner same stands.is)
+                    (omega (arith, starts, here, above, at.behind)),
+              ))
               (λ more. omega (arith, stands-behind number place j inner k stands more, bound, next.marked.3));
         })
 
-    pub next-later : (j n : ℕ) → next_mark column (line_at lines k).marks ≡ None → NextAt has_marks (suc k) lines j → next_mark 0 (line_at lines j).marks ≡ Some n
+    pub next-later : (j n : ℕ) → next_mark column (line_at lines k).marks ≡ None → NextAt has_marks (suc k) lines j →
+        next_mark 0 (line_at lines j).marks ≡ Some n
         → next_mark offset (whole lines).marks ≡ Some (start_of lines j + n)
     next-later j n none near is =
         let next = next-of 0 (line_at lines j).marks n is in
@@ -183,19 +220,39 @@ module _ (lines : List LineContent) (rows : AreRows lines) where
               let i = found.0 in let inner = found.1 in let stands = found.2 in
               let here = offset_in number place i inner stands in
               three_ways i k
-              (λ less. absurd (omega (arith, stands-before number place i inner k stands less at.within, above, at.behind)))
+              (λ less. absurd (omega (
+                arith,
+                stands-before number place i inner k stands less at.within,
+                above,
+                at.behind,
+              )))
               (λ same.
               let starts = ap (start_of lines) same in
-              absurd (omega (arith, starts, here, at.behind, above, none-next-of column (line_at lines k).marks none number inner (inner_is i k number inner same stands.is))))
+              absurd (omega (
+                arith,
+                starts,
+                here,
+                at.behind,
+                above,
+                none-next-of column (line_at lines k).marks none number inner
+                    (inner_is i k number inner same stands.is),
+              )))
               (λ more. three_ways i j
-              (λ less. absurd (has-none (line_at lines i) number inner (near.free i (omega (arith, more)) less) stands.is))
+              (λ less. absurd (has-none (line_at lines i) number inner (near.free i (omega (arith, more)) less)
+              stands.is))
               (λ same.
               let starts = ap (start_of lines) same in
-              omega (arith, starts, here, next.least number inner (inner_is i j number inner same stands.is) (omega arith)))
+              omega (
+                arith,
+                starts,
+                here,
+                next.least number inner (inner_is i j number inner same stands.is) (omega arith),
+              ))
               (λ behind. omega (arith, stands-behind number place i inner j stands behind, bound, next.marked.3)));
         })
 
-    pub next-nowhere : next_mark column (line_at lines k).marks ≡ None → FailFrom has_marks lines (suc k) (length lines) → next_mark offset (whole lines).marks ≡ None
+    pub next-nowhere : next_mark column (line_at lines k).marks ≡ None →
+        FailFrom has_marks lines (suc k) (length lines) → next_mark offset (whole lines).marks ≡ None
     next-nowhere none free =
         none-next-is offset (whole lines).marks (λ number place got.
         let found = mark-in lines number place got in
@@ -205,15 +262,29 @@ module _ (lines : List LineContent) (rows : AreRows lines) where
         (λ less. omega (arith, stands-before number place i inner k stands less at.within, at.behind))
         (λ same.
         let starts = ap (start_of lines) same in
-        omega (arith, starts, here, at.behind, none-next-of column (line_at lines k).marks none number inner (inner_is i k number inner same stands.is)))
-        (λ more. absurd (has-none (line_at lines i) number inner (free i (omega (arith, more)) stands.within) stands.is)))
+        omega (
+          arith,
+          starts,
+          here,
+          at.behind,
+          none-next-of column (line_at lines k).marks none number inner (inner_is i k number inner same stands.is),
+        ))
+        (λ more. absurd (has-none (line_at lines i) number inner (free i (omega (arith, more)) stands.within)
+        stands.is)))
 
-    pub behind_at : (number : ℕ) (place : Place) (i : ℕ) (inner : Place) → InLine lines number place i inner → k < i → offset < place.offset
+    pub behind_at : (number : ℕ) (place : Place) (i : ℕ) (inner : Place) → InLine lines number place i inner → k < i →
+        offset < place.offset
     behind_at number place i inner stands more =
         let last : suc k < length lines = omega (arith, stands.within, more) in
-        omega (arith, stands-behind number place i inner k stands more, at.behind, at-inside lines offset k column at last)
+        omega (
+          arith,
+          stands-behind number place i inner k stands more,
+          at.behind,
+          at-inside lines offset k column at last,
+        )
 
-    pub previous-here : (n : ℕ) → previous_mark column (line_at lines k).marks ≡ Some n → previous_mark offset (whole lines).marks ≡ Some (start_of lines k + n)
+    pub previous-here : (n : ℕ) → previous_mark column (line_at lines k).marks ≡ Some n →
+        previous_mark offset (whole lines).marks ≡ Some (start_of lines k + n)
     previous-here n is =
         let previous = previous-of column (line_at lines k).marks n is in
         previous-is offset (whole lines).marks (start_of lines k + n) (record {
@@ -227,11 +298,19 @@ module _ (lines : List LineContent) (rows : AreRows lines) where
               (λ less. omega (arith, stands-before number place i inner k stands less at.within))
               (λ same.
               let starts = ap (start_of lines) same in
-              omega (arith, starts, here, at.behind, previous.greatest number inner (inner_is i k number inner same stands.is) (omega (arith, starts, here, below, at.behind))))
+              omega (
+                arith,
+                starts,
+                here,
+                at.behind,
+                previous.greatest number inner (inner_is i k number inner same stands.is)
+                    (omega (arith, starts, here, below, at.behind)),
+              ))
               (λ more. absurd (omega (arith, behind_at number place i inner stands more, below)));
         })
 
-    pub previous-earlier : (j n : ℕ) → previous_mark column (line_at lines k).marks ≡ None → PreviousAt has_marks k lines j → previous_mark (length_at lines j) (line_at lines j).marks ≡ Some n
+    pub previous-earlier : (j n : ℕ) → previous_mark column (line_at lines k).marks ≡ None →
+        PreviousAt has_marks k lines j → previous_mark (length_at lines j) (line_at lines j).marks ≡ Some n
         → previous_mark offset (whole lines).marks ≡ Some (start_of lines j + n)
     previous-earlier j n none near is =
         let previous = previous-of (length_at lines j) (line_at lines j).marks n is in
@@ -251,15 +330,30 @@ module _ (lines : List LineContent) (rows : AreRows lines) where
               (λ same.
               let starts = ap (start_of lines) same in
               let inside = inner_is i j number inner same stands.is in
-              omega (arith, starts, here, previous.greatest number inner inside (mark-before lines j rows last number inner inside)))
-              (λ behind. absurd (has-none (line_at lines i) number inner (near.free i (omega (arith, behind)) less) stands.is)))
+              omega (
+                arith,
+                starts,
+                here,
+                previous.greatest number inner inside (mark-before lines j rows last number inner inside),
+              ))
+              (λ behind. absurd (has-none (line_at lines i) number inner (near.free i (omega (arith, behind)) less)
+              stands.is)))
               (λ same.
               let starts = ap (start_of lines) same in
-              absurd (omega (arith, starts, here, below, at.behind, none-previous-of column (line_at lines k).marks none number inner (inner_is i k number inner same stands.is))))
+              absurd (omega (
+                arith,
+                starts,
+                here,
+                below,
+                at.behind,
+                none-previous-of column (line_at lines k).marks none number inner
+                    (inner_is i k number inner same stands.is),
+              )))
               (λ more. absurd (omega (arith, behind_at number place i inner stands more, below)));
         })
 
-    pub previous-nowhere : previous_mark column (line_at lines k).marks ≡ None → FailFrom has_marks lines 0 k → previous_mark offset (whole lines).marks ≡ None
+    pub previous-nowhere : previous_mark column (line_at lines k).marks ≡ None → FailFrom has_marks lines 0 k →
+        previous_mark offset (whole lines).marks ≡ None
     previous-nowhere none free =
         none-previous-is offset (whole lines).marks (λ number place got.
         let found = mark-in lines number place got in
@@ -269,7 +363,14 @@ module _ (lines : List LineContent) (rows : AreRows lines) where
         (λ less. absurd (has-none (line_at lines i) number inner (free i (omega arith) less) stands.is))
         (λ same.
         let starts = ap (start_of lines) same in
-        omega (arith, starts, here, at.behind, none-previous-of column (line_at lines k).marks none number inner (inner_is i k number inner same stands.is)))
+        omega (
+          arith,
+          starts,
+          here,
+          at.behind,
+          none-previous-of column (line_at lines k).marks none number inner
+              (inner_is i k number inner same stands.is),
+        ))
         (λ more. omega (arith, behind_at number place i inner stands more)))
 
 -- a line with marks has a nearest one from either end
@@ -278,11 +379,19 @@ next-some line some none =
     let mark = has-some line some in
     absurd (omega (arith, none-next-of 0 line.marks none mark.0 mark.1 mark.2))
 
-pub previous-some : {A : Type 0} (lines : List LineContent) (k : ℕ) → AreRows lines → suc k < length lines → has_marks (line_at lines k) ≡ true → previous_mark (length_at lines k) (line_at lines k).marks ≡ None → A
+pub previous-some : {A : Type 0} (lines : List LineContent) (k : ℕ) → AreRows lines → suc k < length lines →
+    has_marks (line_at lines k) ≡ true → previous_mark (length_at lines k) (line_at lines k).marks ≡ None → A
 previous-some lines k rows more some none =
     let mark = has-some (line_at lines k) some in
-    absurd (omega (arith, none-previous-of (length_at lines k) (line_at lines k).marks none mark.0 mark.1 mark.2, mark-before lines k rows more mark.0 mark.1 mark.2))
+    absurd (omega (
+      arith,
+      none-previous-of (length_at lines k) (line_at lines k).marks none mark.0 mark.1 mark.2,
+      mark-before lines k rows more mark.0 mark.1 mark.2,
+    ))
 
 -- what a line that is lent tells
-pub lent-found : (lines : List LineContent) (k : ℕ) (line : LineContent) (f : Marks → Option ℕ) (result found : Option ℕ) → slice_get lines k ≡ Some line → result ≡ f line.marks → result ≡ found → f (line_at lines k).marks ≡ found
-lent-found lines k line f result found is value same = ap (λ (l : LineContent). f l.marks) (lent lines k line is) ∙ sym value ∙ same
+pub lent-found : (lines : List LineContent) (k : ℕ) (line : LineContent) (f : Marks →
+    Option ℕ) (result found : Option ℕ) → slice_get lines k ≡ Some line → result ≡ f line.marks → result ≡ found →
+    f (line_at lines k).marks ≡ found
+lent-found lines k line f result found is value same =
+    ap (λ (l : LineContent). f l.marks) (lent lines k line is) ∙ sym value ∙ same

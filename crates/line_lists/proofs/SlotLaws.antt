@@ -31,7 +31,8 @@ either-set true false a b = refl
 either-set false on a b = refl
 
 -- a slot is put in a set, and is no longer among those that differ
-pub differing-set : (slot : ℕ) (on : Bool) (s t : Slots) → differing (set_slot slot on s) (set_slot slot false t) ≡ set_slot slot on (differing s t)
+pub differing-set : (slot : ℕ) (on : Bool) (s t : Slots) →
+    differing (set_slot slot on s) (set_slot slot false t) ≡ set_slot slot on (differing s t)
 differing-set slot on s t =
     same_slots _ _ (λ q.
     contains-differing (set_slot slot on s) (set_slot slot false t) q
@@ -44,4 +45,5 @@ either-self true = refl
 either-self false = refl
 
 pub differing-self : (s : Slots) → differing s s ≡ set.empty
-differing-self s = same_slots _ _ (λ q. contains-differing s s q ∙ either-self (set.contains s q) ∙ sym (set.contains-empty nat_cmp q))
+differing-self s =
+    same_slots _ _ (λ q. contains-differing s s q ∙ either-self (set.contains s q) ∙ sym (set.contains-empty nat_cmp q))

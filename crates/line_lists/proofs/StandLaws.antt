@@ -1,21 +1,26 @@
 -- Where the mark of a number stands in the lines of a draft.
-use Rattle.std.proofs.Common.{◌≡◌, ◌≢◌, ℕ, suc, ◌+◌, ◌-◌, min, ◌<◌, ◌≤◌, true, false, List, [], ◌∷◌, ◌++◌, Option, None, Some, IfSome, length, take, drop, get_or, inl, inr, refl, sym, ap, ap₂, subst, ◌∙◌, arith, append_assoc, length-append, take-append-drop, length-drop}
+use Rattle.std.proofs.Common.{◌≡◌, ◌≢◌, ℕ, suc, ◌+◌, ◌-◌, min, ◌<◌, ◌≤◌, true, false, List, [], ◌∷◌, ◌++◌, Option, None}
+use Rattle.std.proofs.Common.{Some, IfSome, length, take, drop, get_or, inl, inr, refl, sym, ap, ap₂, subst, ◌∙◌, arith}
+use Rattle.std.proofs.Common.{append_assoc, length-append, take-append-drop, length-drop}
 use Rattle.std.specs.FinMap as finite
 use Rattle.std.specs.Ordering.{nat_cmp}
 use Rattle.std.specs.Prelude.{is_some, option_map, reverse, slice_get}
 use Rattle.std.proofs.lemmas.Bool.{cases_lt}
-use Rattle.std.proofs.lemmas.List.{append-nil, drop-drop, drop_more, get_or-take, length-take-le, map-append, reverse-append, take_all, take_more}
+use Rattle.std.proofs.lemmas.List.{append-nil, drop-drop, drop_more, get_or-take, length-take-le, map-append}
+use Rattle.std.proofs.lemmas.List.{reverse-append, take_all, take_more}
 use Rattle.text_model.specs.declared.places.Place.{Place}
 use Rattle.segments.specs.Columns.{LineContent, later}
 use Rattle.segments.proofs.MarkLaws.{or_else}
 use Rattle.line_lists.specs.declared.drafts.Copied.{Copied}
 use Rattle.line_lists.specs.declared.drafts.Reached.{Reached}
 use Rattle.line_lists.specs.declared.drafts.Stop.{Stop}
-use Rattle.line_lists.specs.Drafts.{AreStops, CanFollow, IsReached, IsText, StandsBy, copies_of, covered, drafted, drafted_at, in_order, made_lines, text_at, used}
+use Rattle.line_lists.specs.Drafts.{AreStops, CanFollow, IsReached, IsText, StandsBy, copies_of, covered, drafted}
+use Rattle.line_lists.specs.Drafts.{drafted_at, in_order, made_lines, text_at, used}
 use Rattle.line_lists.specs.Lists.{AreRows, GoesBefore, StandBefore, has_mark, next_line}
 use Rattle.line_lists.specs.Marking.{StandsIn, lines_with}
 use Rattle.line_lists.specs.Texts.{whole}
-use Rattle.line_lists.proofs.DraftLaws.{copies-snoc, drafted-append, length-whole, made-snoc, stops-last, take-more, used-append}
+use Rattle.line_lists.proofs.DraftLaws.{copies-snoc, drafted-append, length-whole, made-snoc, stops-last, take-more}
+use Rattle.line_lists.proofs.DraftLaws.{used-append}
 use Rattle.line_lists.proofs.EditLaws.{some-columns}
 use Rattle.line_lists.proofs.FindLaws.{begin-le, begin-next, drop_after, slice_get-drop}
 use Rattle.line_lists.proofs.FoundMarks.{length-around}
@@ -38,10 +43,20 @@ from_none n = omega arith
 add_groups : (a b c : ℕ) → a + (b + c) ≡ (a + b) + c
 add_groups a b c = omega arith
 
-pub stands-one : (number column : ℕ) (line : LineContent) (place : Place) → finite.get line.marks number ≡ Some place → column ≡ clamped line place → StandsIn number column (line ∷ [])
-stands-one number column line place is at = record { before = []; line = line; behind = []; place = place; all = refl; here = is; at = at ∙ from_none (clamped line place) }
+pub stands-one : (number column : ℕ) (line : LineContent) (place : Place) → finite.get line.marks number ≡ Some place →
+    column ≡ clamped line place → StandsIn number column (line ∷ [])
+stands-one number column line place is at = record {
+  before = [];
+  line = line;
+  behind = [];
+  place = place;
+  all = refl;
+  here = is;
+  at = at ∙ from_none (clamped line place);
+}
 
-pub stands-behind : (number offset : ℕ) (front lines : List LineContent) → StandsIn number offset lines → StandsIn number (length (whole front).columns + offset) (front ++ lines)
+pub stands-behind : (number offset : ℕ) (front lines : List LineContent) → StandsIn number offset lines →
+    StandsIn number (length (whole front).columns + offset) (front ++ lines)
 stands-behind number offset front lines stands = record {
   before = front ++ stands.before;
   line = stands.line;
@@ -50,11 +65,14 @@ stands-behind number offset front lines stands = record {
   all = ap (λ xs. front ++ xs) stands.all ∙ sym (append_assoc front stands.before (stands.line ∷ stands.behind));
   here = stands.here;
   at =
-      ap (λ n. length (whole front).columns + n) stands.at ∙ add_groups (length (whole front).columns) (length (whole stands.before).columns) (clamped stands.line stands.place)
+      ap (λ n. length (whole front).columns + n) stands.at
+      ∙ add_groups (length (whole front).columns) (length (whole stands.before).columns)
+      (clamped stands.line stands.place)
       ∙ ap (λ n. n + clamped stands.line stands.place) (sym (length-whole front stands.before));
 }
 
-pub stands-before : (number offset : ℕ) (lines rest : List LineContent) → StandsIn number offset lines → StandsIn number offset (lines ++ rest)
+pub stands-before : (number offset : ℕ) (lines rest : List LineContent) → StandsIn number offset lines →
+    StandsIn number offset (lines ++ rest)
 stands-before number offset lines rest stands = record {
   before = stands.before;
   line = stands.line;
@@ -66,11 +84,13 @@ stands-before number offset lines rest stands = record {
 }
 
 -- ---- in the lines of a text
-stands_before : (line : LineContent) (behind : List LineContent) → GoesBefore line behind → 0 < length (whole behind).columns → StandBefore (length line.columns) line.marks
+stands_before : (line : LineContent) (behind : List LineContent) → GoesBefore line behind →
+    0 < length (whole behind).columns → StandBefore (length line.columns) line.marks
 stands_before line [] goes some = absurd (omega (arith, some))
 stands_before line (next ∷ others) goes some = goes.0
 
-clamp : (one two three place offset all : ℕ) → offset ≡ one + min place (two - 1) → 0 < two → all ≡ one + (two + three) → (0 < three → place < two) → (offset < all) × (offset ≡ min (place + one) (all - 1))
+clamp : (one two three place offset all : ℕ) → offset ≡ one + min place (two - 1) → 0 < two →
+    all ≡ one + (two + three) → (0 < three → place < two) → (offset < all) × (offset ≡ min (place + one) (all - 1))
 clamp one two three place offset all at some long more =
     elim (cases_lt place two) [
       | inl less ↦ (omega (arith, at, some, long), omega (arith, at, some, long, less))
@@ -82,7 +102,8 @@ clamp one two three place offset all at some long more =
           (omega (arith, at, some, long), omega (arith, at, some, long, large, none))
     ]
 
-pub stands-found : (number offset : ℕ) (lines : List LineContent) → AreRows lines → StandsIn number offset lines → (offset < length (whole lines).columns) × StandsBy number offset (whole lines)
+pub stands-found : (number offset : ℕ) (lines : List LineContent) → AreRows lines → StandsIn number offset lines →
+    (offset < length (whole lines).columns) × StandsBy number offset (whole lines)
 stands-found number offset lines rows stands =
     let line = stands.line in
     let place = stands.place in
@@ -94,167 +115,226 @@ stands-found number offset lines rows stands =
     let long = ap (λ xs. length (whole xs).columns) stands.all ∙ length-around stands.before stands.behind line in
     let apart = apart-rest line stands.behind rest.1 number place stands.here in
     let is : finite.get (whole lines).marks number ≡ Some (later one place) =
-    ap (λ xs. finite.get (whole xs).marks number) stands.all ∙ ap (λ (x : LineContent). finite.get x.marks number) (whole-around stands.before stands.behind line)
+    ap (λ xs. finite.get (whole xs).marks number) stands.all
+    ∙ ap (λ (x : LineContent). finite.get x.marks number) (whole-around stands.before stands.behind line)
     ∙ get-row one two front.marks line.marks back.marks number
-    ∙ ap₂ (λ third second. or_else (option_map (later one) (or_else (option_map (later two) third) second)) (finite.get front.marks number)) apart stands.here in
-    let both = clamp one two (length back.columns) place.offset offset (length (whole lines).columns) stands.at (some-columns line.columns rest.0.ends) long
-    (λ more. stands_before line stands.behind rest.1 more number place stands.here) in
-    (both.0, subst (λ found. IfSome found (λ (p : Place). offset ≡ min p.offset (length (whole lines).columns - 1))) (sym is) both.1)
+    ∙ ap₂ (λ third second. or_else (option_map (later one) (or_else (option_map (later two) third) second))
+    (finite.get front.marks number)) apart stands.here in
+    let both = clamp one two (length back.columns) place.offset offset (length (whole lines).columns) stands.at
+    (some-columns line.columns rest.0.ends) long
+    (λ more. stands_before line stands.behind rest.1 more number place stands.here) in (
+      both.0,
+      subst (λ found. IfSome found (λ (p : Place). offset ≡ min p.offset (length (whole lines).columns - 1)))
+          (sym is) both.1,
+    )
 
 -- ---- in the lines of a list
-pub stands-kept : (number from to index count column : ℕ) (lines : List LineContent) (line : LineContent) → from ≤ index → index < to → slice_get lines index ≡ Some line
+pub stands-kept : (number from to index count column : ℕ) (lines : List LineContent) (line : LineContent) →
+    from ≤ index → index < to → slice_get lines index ≡ Some line
     → count ≡ length (whole (take (index - from) (drop from lines))).columns → StandsIn number column (line ∷ [])
     → StandsIn number (count + column) (take (to - from) (drop from lines))
 stands-kept number from to index count column lines line first last is count_is stands =
     let others = drop from lines in
     let m = index - from in
     let k = to - index - 1 in
-    let here : slice_get others m ≡ Some line = slice_get-drop from m lines ∙ ap (slice_get lines) (let same : from + m ≡ index = omega (arith, first) in same) ∙ is in
+    let here : slice_get others m ≡ Some line = slice_get-drop from m lines
+    ∙ ap (slice_get lines) (let same : from + m ≡ index = omega (arith, first) in same) ∙ is in
     let all : take (to - from) others ≡ take m others ++ line ∷ take k (drop (suc m) others) =
-    ap (λ n. take n others) (let same : to - from ≡ m + suc k = omega (arith, first, last) in same) ∙ take-more m (suc k) others
+    ap (λ n. take n others) (let same : to - from ≡ m + suc k = omega (arith, first, last) in same)
+    ∙ take-more m (suc k) others
     ∙ ap (λ xs. take m others ++ take (suc k) xs) (drop_after others m line here) in
-    let offset : length (whole (take m others)).columns + column ≡ count + column = ap (λ n. n + column) (sym count_is) in
+    let offset : length (whole (take m others)).columns + column
+    ≡ count + column = ap (λ n. n + column) (sym count_is) in
     subst (λ n. StandsIn number n (take (to - from) others)) offset
     (subst (StandsIn number (length (whole (take m others)).columns + column)) (sym all)
-    (stands-behind number column (take m others) (line ∷ take k (drop (suc m) others)) (stands-before number column (line ∷ []) (take k (drop (suc m) others)) stands)))
+    (stands-behind number column (take m others) (line ∷ take k (drop (suc m) others))
+    (stands-before number column (line ∷ []) (take k (drop (suc m) others)) stands)))
 
-free-take : (number n : ℕ) (lines : List LineContent) → finite.get (whole lines).marks number ≡ None → finite.get (whole (take n lines)).marks number ≡ None
-free-take number n lines free = (free-front (take n lines) (drop n lines) number (ap (λ xs. finite.get (whole xs).marks number) (take-append-drop n lines) ∙ free)).0
+free-take : (number n : ℕ) (lines : List LineContent) → finite.get (whole lines).marks number ≡ None →
+    finite.get (whole (take n lines)).marks number ≡ None
+free-take number n lines free = (free-front (take n lines) (drop n lines) number
+    (ap (λ xs. finite.get (whole xs).marks number) (take-append-drop n lines) ∙ free)).0
 
-free-drop : (number n : ℕ) (lines : List LineContent) → finite.get (whole lines).marks number ≡ None → finite.get (whole (drop n lines)).marks number ≡ None
-free-drop number n lines free = (free-front (take n lines) (drop n lines) number (ap (λ xs. finite.get (whole xs).marks number) (take-append-drop n lines) ∙ free)).1
+free-drop : (number n : ℕ) (lines : List LineContent) → finite.get (whole lines).marks number ≡ None →
+    finite.get (whole (drop n lines)).marks number ≡ None
+free-drop number n lines free = (free-front (take n lines) (drop n lines) number
+    (ap (λ xs. finite.get (whole xs).marks number) (take-append-drop n lines) ∙ free)).1
 
-pub kept-none : (number from to : ℕ) (lines : List LineContent) → next_line (has_mark number) 0 lines ≡ None → finite.get (whole (take (to - from) (drop from lines))).marks number ≡ None
+pub kept-none : (number from to : ℕ) (lines : List LineContent) → next_line (has_mark number) 0 lines ≡ None →
+    finite.get (whole (take (to - from) (drop from lines))).marks number ≡ None
 kept-none number from to lines none =
-    free-take number (to - from) (drop from lines) (free-drop number from lines (mark-nowhere lines number (next-none (has_mark number) 0 lines none)))
+    free-take number (to - from) (drop from lines)
+    (free-drop number from lines (mark-nowhere lines number (next-none (has_mark number) 0 lines none)))
 
 some_place : (found : Option Place) → is_some found ≡ true → (place : Place) × (found ≡ Some place)
 some_place None is = absurd (let no : false ≡ true = is in cc)
 some_place (Some place) is = (place, refl)
 
-pub kept-behind : (number from to index : ℕ) (lines : List LineContent) → AreRows lines → next_line (has_mark number) 0 lines ≡ Some index → index < from
+pub kept-behind : (number from to index : ℕ) (lines : List LineContent) → AreRows lines →
+    next_line (has_mark number) 0 lines ≡ Some index → index < from
     → finite.get (whole (take (to - from) (drop from lines))).marks number ≡ None
 kept-behind number from to index lines rows is less =
     let near = next-found (has_mark number) 0 lines index is in
     let line = line_at lines index in
     let stands = some_place (finite.get line.marks number) near.passes in
     let free : finite.get (whole (drop (suc index) lines)).marks number ≡ None =
-    apart-rest line (drop (suc index) lines) (row-at lines index line rows (there lines index near.within)).before number stands.0 stands.1 in
+    apart-rest line (drop (suc index) lines) (row-at lines index line rows (there lines index near.within)).before
+    number stands.0 stands.1 in
     let rest : drop (from - suc index) (drop (suc index) lines) ≡ drop from lines =
-    drop-drop (from - suc index) (suc index) lines ∙ ap (λ n. drop n lines) (let same : suc index + (from - suc index) ≡ from = omega (arith, less) in same) in
-    free-take number (to - from) (drop from lines) (subst (λ xs. finite.get (whole xs).marks number ≡ None) rest (free-drop number (from - suc index) (drop (suc index) lines) free))
+    drop-drop (from - suc index) (suc index) lines
+    ∙ ap (λ n. drop n lines) (let same : suc index + (from - suc index) ≡ from = omega (arith, less) in same) in
+    free-take number (to - from) (drop from lines)
+    (subst (λ xs. finite.get (whole xs).marks number ≡ None) rest
+    (free-drop number (from - suc index) (drop (suc index) lines) free))
 
-pub kept-before : (number from to index : ℕ) (lines : List LineContent) → from ≤ to → next_line (has_mark number) 0 lines ≡ Some index → to ≤ index
+pub kept-before : (number from to index : ℕ) (lines : List LineContent) → from ≤ to →
+    next_line (has_mark number) 0 lines ≡ Some index → to ≤ index
     → finite.get (whole (take (to - from) (drop from lines))).marks number ≡ None
 kept-before number from to index lines ordered is large =
     let near = next-found (has_mark number) 0 lines index is in
     let short : length (take index lines) ≡ index = length-take-le index lines (omega (arith, near.within)) in
     let free : finite.get (whole (take index lines)).marks number ≡ None =
-    mark-nowhere (take index lines) number (λ j more less. ap (has_mark number) (get_or-take index lines j _ (omega (arith, less, short))) ∙ near.free j more (omega (arith, less, short))) in
+    mark-nowhere (take index lines) number (λ j more less.
+    ap (has_mark number) (get_or-take index lines j _ (omega (arith, less, short)))
+    ∙ near.free j more (omega (arith, less, short))) in
     let others = drop from lines in
     let part = take (to - from) others in
     let rest = take (index - to) (drop (to - from) others) in
     let all : take index lines ≡ take from lines ++ (part ++ rest) =
-    ap (λ n. take n lines) (let same : index ≡ from + (index - from) = omega (arith, ordered, large) in same) ∙ take-more from (index - from) lines
+    ap (λ n. take n lines) (let same : index ≡ from + (index - from) = omega (arith, ordered, large) in same)
+    ∙ take-more from (index - from) lines
     ∙ ap (λ xs. take from lines ++ xs)
-    (ap (λ n. take n others) (let same : index - from ≡ (to - from) + (index - to) = omega (arith, ordered, large) in same) ∙ take-more (to - from) (index - to) others) in
-    (free-front part rest number (free-front (take from lines) (part ++ rest) number (ap (λ xs. finite.get (whole xs).marks number) (sym all) ∙ free)).1).0
+    (ap (λ n. take n others) (let same : index - from ≡ (to - from) + (index - to) = omega (arith, ordered, large) in
+    same) ∙ take-more (to - from) (index - to) others) in
+    (free-front part rest number (free-front (take from lines) (part ++ rest) number
+    (ap (λ xs. finite.get (whole xs).marks number) (sym all) ∙ free)).1).0
 
 -- ---- in the lines before a copy, and in its own
 pub stands-copied : (number column count : ℕ) (reached : Reached) (copy : Copied) (lines : List LineContent)
-    → count ≡ length (whole (take copy.kept (drop reached.used lines))).columns → StandsIn number column (copy.line ∷ [])
+    → count ≡ length (whole (take copy.kept (drop reached.used lines))).columns →
+    StandsIn number column (copy.line ∷ [])
     → StandsIn number (count + column) (lines_with reached copy lines)
 stands-copied number column count reached copy lines count_is stands =
     let kept = take copy.kept (drop reached.used lines) in
     subst (λ n. StandsIn number n (lines_with reached copy lines)) (ap (λ n. n + column) (sym count_is))
     (stands-behind number column kept (copy.line ∷ []) stands)
 
-pub copied-none : (number : ℕ) (reached : Reached) (copy : Copied) (lines : List LineContent) → finite.get copy.line.marks number ≡ None
-    → finite.get (whole (take copy.kept (drop reached.used lines))).marks number ≡ None → finite.get (whole (lines_with reached copy lines)).marks number ≡ None
+pub copied-none : (number : ℕ) (reached : Reached) (copy : Copied) (lines : List LineContent) →
+    finite.get copy.line.marks number ≡ None
+    → finite.get (whole (take copy.kept (drop reached.used lines))).marks number ≡ None →
+    finite.get (whole (lines_with reached copy lines)).marks number ≡ None
 copied-none number reached copy lines none free =
     let kept = take copy.kept (drop reached.used lines) in
     ap (λ (x : LineContent). finite.get x.marks number) (whole-append kept (copy.line ∷ []))
-    ∙ free-joined (whole kept) (whole (copy.line ∷ [])) number free (free-joined copy.line (whole []) number none (finite.get-empty nat_cmp number))
+    ∙ free-joined (whole kept) (whole (copy.line ∷ [])) number free
+    (free-joined copy.line (whole []) number none (finite.get-empty nat_cmp number))
 
 -- ---- in the lines of a draft
 -- a copy of a draft, and what it is among
-pub record AtCopy (lines : List LineContent) (front : List Stop) (back before : List Copied) (reached : Reached) (copy : Copied) : Type 0 where
+pub record AtCopy (lines : List LineContent) (front : List Stop) (back before : List Copied) (reached : Reached)
+    (copy : Copied) : Type 0 where
   pub is : IsReached reached before lines
   pub follows : CanFollow reached copy lines
   pub some : 0 < length copy.line.columns
   pub rest : List LineContent
   pub all : drafted_at lines front back ≡ made_lines before lines ++ (lines_with reached copy lines ++ rest)
 
-at-copy : (lines : List LineContent) (front : List Stop) (back before behind : List Copied) (reached : Reached) (copy : Copied) → IsText lines front back
-    → in_order front back ≡ before ++ copy ∷ behind → IsReached reached before lines → AtCopy lines front back before reached copy
+at-copy : (lines : List LineContent) (front : List Stop) (back before behind : List Copied) (reached : Reached)
+    (copy : Copied) → IsText lines front back
+    → in_order front back ≡ before ++ copy ∷ behind → IsReached reached before lines →
+    AtCopy lines front back before reached copy
 at-copy lines front back before behind reached copy text split is =
     let others = drop (used before) lines in
     let made = made_lines before lines in
     let kept = take copy.kept others in
     let rest = drafted behind (drop (covered copy) others) in
     let same : drafted_at lines front back ≡ made ++ (kept ++ copy.line ∷ rest) =
-    ap (λ xs. drafted xs lines) split ∙ drafted-append before (copy ∷ behind) lines ∙ ap (λ xs. made ++ xs) (drafted-cons copy behind others) in
+    ap (λ xs. drafted xs lines) split ∙ drafted-append before (copy ∷ behind) lines
+    ∙ ap (λ xs. made ++ xs) (drafted-cons copy behind others) in
     let kept_is : take copy.kept (drop reached.used lines) ≡ kept = ap (λ n. take copy.kept (drop n lines)) is.used in
-    let long : length (whole (drafted_at lines front back)).columns ≡ length (whole made).columns + (length (whole kept).columns + (length copy.line.columns + length (whole rest).columns)) =
+    let long : length (whole (drafted_at lines front back)).columns
+    ≡ length (whole made).columns + (length (whole kept).columns
+    + (length copy.line.columns + length (whole rest).columns)) =
     ap (λ xs. length (whole xs).columns) same ∙ length-whole made (kept ++ copy.line ∷ rest)
-    ∙ ap (λ n. length (whole made).columns + n) (length-whole kept (copy.line ∷ rest) ∙ ap (λ n. length (whole kept).columns + n) (length-append copy.line.columns (whole rest).columns)) in
-    let here : length (whole (take copy.kept (drop reached.used lines))).columns ≡ length (whole kept).columns = ap (λ xs. length (whole xs).columns) kept_is in
+    ∙ ap (λ n. length (whole made).columns + n) (length-whole kept (copy.line ∷ rest)
+    ∙ ap (λ n. length (whole kept).columns + n) (length-append copy.line.columns (whole rest).columns)) in
+    let here : length (whole (take copy.kept (drop reached.used lines))).columns
+    ≡ length (whole kept).columns = ap (λ xs. length (whole xs).columns) kept_is in
     record {
       is = is;
       follows = record {
         there = omega (arith, is.used, ap used split, used-append before (copy ∷ behind), text.draft.there);
         counted = omega (arith, is.characters, here, long, text.draft.counted);
       };
-      some = some-columns copy.line.columns (rows-behind kept (copy.line ∷ rest) (rows-behind made (kept ++ copy.line ∷ rest) (subst AreRows same text.rows))).0.ends;
+      some = some-columns copy.line.columns (rows-behind kept (copy.line ∷ rest)
+          (rows-behind made (kept ++ copy.line ∷ rest) (subst AreRows same text.rows))).0.ends;
       rest = rest;
-      all = same ∙ ap (λ xs. made ++ xs) (sym (append_assoc kept (copy.line ∷ []) rest) ∙ ap (λ xs. (xs ++ copy.line ∷ []) ++ rest) (sym kept_is));
+      all = same ∙ ap (λ xs. made ++ xs) (sym (append_assoc kept (copy.line ∷ []) rest)
+          ∙ ap (λ xs. (xs ++ copy.line ∷ []) ++ rest) (sym kept_is));
     }
 
-stops-part : (lines : List LineContent) (before : List Copied) (front rest : List Stop) → AreStops lines before (front ++ rest) → AreStops lines before front
+stops-part : (lines : List LineContent) (before : List Copied) (front rest : List Stop) →
+    AreStops lines before (front ++ rest) → AreStops lines before front
 stops-part lines before [] rest stops = tt
-stops-part lines before (first ∷ front) rest stops = (stops.0, stops-part lines (before ++ first.copy ∷ []) front rest stops.1)
+stops-part lines before (first ∷ front) rest stops =
+    (stops.0, stops-part lines (before ++ first.copy ∷ []) front rest stops.1)
 
 -- one before the place
-pub at-front : (lines : List LineContent) (front : List Stop) (back : List Copied) (i : ℕ) (stop : Stop) → IsText lines front back → i < length front → stop ≡ get_or front i stop
+pub at-front : (lines : List LineContent) (front : List Stop) (back : List Copied) (i : ℕ) (stop : Stop) →
+    IsText lines front back → i < length front → stop ≡ get_or front i stop
     → AtCopy lines front back (copies_of (take i front)) stop.reached stop.copy
 at-front lines front back i stop text within is =
     let before = take i front in
     let behind = drop (i + 1) front in
-    let all : front ≡ (before ++ stop ∷ []) ++ behind = sym (take-append-drop (i + 1) front) ∙ ap (λ xs. xs ++ behind) (take_more front i stop within ∙ ap (λ x. before ++ x ∷ []) (sym is)) in
+    let all : front ≡ (before ++ stop ∷ []) ++ behind = sym (take-append-drop (i + 1) front)
+    ∙ ap (λ xs. xs ++ behind) (take_more front i stop within ∙ ap (λ x. before ++ x ∷ []) (sym is)) in
     let stops = stops-part lines [] (before ++ stop ∷ []) behind (subst (AreStops lines []) all text.draft.stops) in
     let split : in_order front back ≡ copies_of before ++ stop.copy ∷ (copies_of behind ++ reverse back) =
     ap (λ xs. copies_of xs ++ reverse back) (all ∙ append_assoc before (stop ∷ []) behind)
-    ∙ ap (λ xs. xs ++ reverse back) (map-append (λ (x : Stop). x.copy) before (stop ∷ behind)) ∙ append_assoc (copies_of before) (stop.copy ∷ copies_of behind) (reverse back) in
-    at-copy lines front back (copies_of before) (copies_of behind ++ reverse back) stop.reached stop.copy text split (stops-last lines [] before stop stops)
+    ∙ ap (λ xs. xs ++ reverse back) (map-append (λ (x : Stop). x.copy) before (stop ∷ behind))
+    ∙ append_assoc (copies_of before) (stop.copy ∷ copies_of behind) (reverse back) in
+    at-copy lines front back (copies_of before) (copies_of behind ++ reverse back) stop.reached stop.copy text split
+    (stops-last lines [] before stop stops)
 
 -- one behind it
 abbrev pub copies_to : List Stop → List Copied → ℕ → List Copied
 copies_to front back n = copies_of front ++ reverse (drop n back)
 
-pub at-back : (lines : List LineContent) (front : List Stop) (back : List Copied) (i n : ℕ) (reached : Reached) (copy : Copied) → IsText lines front back → n ≡ i + 1 → i < length back → copy ≡ get_or back i copy
+pub at-back : (lines : List LineContent) (front : List Stop) (back : List Copied) (i n : ℕ) (reached : Reached)
+    (copy : Copied) → IsText lines front back → n ≡ i + 1 → i < length back → copy ≡ get_or back i copy
     → IsReached reached (copies_to front back n) lines → AtCopy lines front back (copies_to front back n) reached copy
 at-back lines front back i n reached copy text next within is so_far =
     let behind = drop n back in
     let all : back ≡ take i back ++ copy ∷ behind =
-    sym (take-append-drop (i + 1) back) ∙ ap (λ xs. xs ++ drop (i + 1) back) (take_more back i copy within ∙ ap (λ x. take i back ++ x ∷ []) (sym is))
-    ∙ append_assoc (take i back) (copy ∷ []) (drop (i + 1) back) ∙ ap (λ m. take i back ++ copy ∷ drop m back) (sym next) in
+    sym (take-append-drop (i + 1) back) ∙ ap (λ xs. xs ++ drop (i + 1) back) (take_more back i copy within
+    ∙ ap (λ x. take i back ++ x ∷ []) (sym is))
+    ∙ append_assoc (take i back) (copy ∷ []) (drop (i + 1) back)
+    ∙ ap (λ m. take i back ++ copy ∷ drop m back) (sym next) in
     let split : in_order front back ≡ copies_to front back n ++ copy ∷ reverse (take i back) =
     ap (λ xs. copies_of front ++ reverse xs) all
-    ∙ ap (λ xs. copies_of front ++ xs) (reverse-append (take i back) (copy ∷ behind) ∙ ap (λ xs. xs ++ reverse (take i back)) (reverse-append (copy ∷ []) behind) ∙ append_assoc (reverse behind) (copy ∷ []) (reverse (take i back)))
+    ∙ ap (λ xs. copies_of front ++ xs) (reverse-append (take i back) (copy ∷ behind)
+    ∙ ap (λ xs. xs ++ reverse (take i back)) (reverse-append (copy ∷ []) behind)
+    ∙ append_assoc (reverse behind) (copy ∷ []) (reverse (take i back)))
     ∙ sym (append_assoc (copies_of front) (reverse behind) (copy ∷ reverse (take i back))) in
     at-copy lines front back (copies_to front back n) (reverse (take i back)) reached copy text split so_far
 
-pub front-more : (front : List Stop) (i : ℕ) (stop : Stop) → i < length front → stop ≡ get_or front i stop → copies_of (take i front) ++ stop.copy ∷ [] ≡ copies_of (take (i + 1) front)
-front-more front i stop within is = sym (ap copies_of (take_more front i stop within ∙ ap (λ x. take i front ++ x ∷ []) (sym is)) ∙ copies-snoc (take i front) stop)
+pub front-more : (front : List Stop) (i : ℕ) (stop : Stop) → i < length front → stop ≡ get_or front i stop →
+    copies_of (take i front) ++ stop.copy ∷ [] ≡ copies_of (take (i + 1) front)
+front-more front i stop within is = sym (ap copies_of (take_more front i stop within
+    ∙ ap (λ x. take i front ++ x ∷ []) (sym is)) ∙ copies-snoc (take i front) stop)
 
-pub back-more : (front : List Stop) (back : List Copied) (i n : ℕ) (copy : Copied) → n ≡ i + 1 → i < length back → copy ≡ get_or back i copy → copies_to front back n ++ copy ∷ [] ≡ copies_to front back i
+pub back-more : (front : List Stop) (back : List Copied) (i n : ℕ) (copy : Copied) → n ≡ i + 1 → i < length back →
+    copy ≡ get_or back i copy → copies_to front back n ++ copy ∷ [] ≡ copies_to front back i
 back-more front back i n copy next within is =
-    let first : drop i back ≡ copy ∷ drop n back = drop_more back i copy within ∙ ap₂ (λ x m. x ∷ drop m back) (sym is) (sym next) in
+    let first : drop i back ≡ copy ∷ drop n back = drop_more back i copy within
+    ∙ ap₂ (λ x m. x ∷ drop m back) (sym is) (sym next) in
     append_assoc (copies_of front) (reverse (drop n back)) (copy ∷ [])
     ∙ ap (λ xs. copies_of front ++ xs) (sym (ap reverse first ∙ reverse-append (copy ∷ []) (drop n back)))
 
-pub stands-at : (number offset : ℕ) (lines : List LineContent) (front : List Stop) (back before : List Copied) (reached : Reached) (copy : Copied) → AtCopy lines front back before reached copy
-    → StandsIn number offset (lines_with reached copy lines) → StandsIn number (reached.characters + offset) (drafted_at lines front back)
+pub stands-at : (number offset : ℕ) (lines : List LineContent) (front : List Stop) (back before : List Copied)
+    (reached : Reached) (copy : Copied) → AtCopy lines front back before reached copy
+    → StandsIn number offset (lines_with reached copy lines) →
+    StandsIn number (reached.characters + offset) (drafted_at lines front back)
 stands-at number offset lines front back before reached copy at stands =
     let made = made_lines before lines in
     let with = lines_with reached copy lines in
@@ -262,75 +342,104 @@ stands-at number offset lines front back before reached copy at stands =
     (subst (StandsIn number (length (whole made).columns + offset)) (sym at.all)
     (stands-behind number offset made (with ++ at.rest) (stands-before number offset with at.rest stands)))
 
-pub none-more : (number : ℕ) (lines : List LineContent) (front : List Stop) (back before more : List Copied) (reached : Reached) (copy : Copied) → AtCopy lines front back before reached copy → before ++ copy ∷ [] ≡ more
-    → finite.get (whole (made_lines before lines)).marks number ≡ None → finite.get (whole (lines_with reached copy lines)).marks number ≡ None
+pub none-more : (number : ℕ) (lines : List LineContent) (front : List Stop) (back before more : List Copied)
+    (reached : Reached) (copy : Copied) → AtCopy lines front back before reached copy → before ++ copy ∷ [] ≡ more
+    → finite.get (whole (made_lines before lines)).marks number ≡ None →
+    finite.get (whole (lines_with reached copy lines)).marks number ≡ None
     → finite.get (whole (made_lines more lines)).marks number ≡ None
 none-more number lines front back before more reached copy at more_is free none =
     let made = made_lines before lines in
     let with = lines_with reached copy lines in
     let all : made_lines more lines ≡ made ++ with =
-    ap (λ xs. made_lines xs lines) (sym more_is) ∙ made-snoc before copy lines ∙ ap (λ n. made ++ (take copy.kept (drop n lines) ++ copy.line ∷ [])) (sym at.is.used) in
-    ap (λ xs. finite.get (whole xs).marks number) all ∙ ap (λ (x : LineContent). finite.get x.marks number) (whole-append made with) ∙ free-joined (whole made) (whole with) number free none
+    ap (λ xs. made_lines xs lines) (sym more_is) ∙ made-snoc before copy lines
+    ∙ ap (λ n. made ++ (take copy.kept (drop n lines) ++ copy.line ∷ [])) (sym at.is.used) in
+    ap (λ xs. finite.get (whole xs).marks number) all
+    ∙ ap (λ (x : LineContent). finite.get x.marks number) (whole-append made with)
+    ∙ free-joined (whole made) (whole with) number free none
 
 -- the lines behind all copies
-rest_all : (lines : List LineContent) (front : List Stop) (back : List Copied) (reached : Reached) (n : ℕ) → IsReached reached (in_order front back) lines → n ≡ length lines
-    → drafted_at lines front back ≡ made_lines (in_order front back) lines ++ take (n - reached.used) (drop reached.used lines)
+rest_all : (lines : List LineContent) (front : List Stop) (back : List Copied) (reached : Reached) (n : ℕ) →
+    IsReached reached (in_order front back) lines → n ≡ length lines
+    → drafted_at lines front back ≡ made_lines (in_order front back) lines
+    ++ take (n - reached.used) (drop reached.used lines)
 rest_all lines front back reached n is all =
     ap (λ xs. made_lines (in_order front back) lines ++ xs)
-    (ap (λ k. drop k lines) (sym is.used) ∙ sym (take_all (n - reached.used) (drop reached.used lines) (omega (arith, all, length-drop reached.used lines))))
+    (ap (λ k. drop k lines) (sym is.used)
+    ∙ sym (take_all (n - reached.used) (drop reached.used lines)
+    (omega (arith, all, length-drop reached.used lines))))
 
-pub stands-rest : (number offset n : ℕ) (lines : List LineContent) (front : List Stop) (back : List Copied) (reached : Reached) → IsReached reached (in_order front back) lines → n ≡ length lines
-    → StandsIn number offset (take (n - reached.used) (drop reached.used lines)) → StandsIn number (reached.characters + offset) (drafted_at lines front back)
+pub stands-rest : (number offset n : ℕ) (lines : List LineContent) (front : List Stop) (back : List Copied)
+    (reached : Reached) → IsReached reached (in_order front back) lines → n ≡ length lines
+    → StandsIn number offset (take (n - reached.used) (drop reached.used lines)) →
+    StandsIn number (reached.characters + offset) (drafted_at lines front back)
 stands-rest number offset n lines front back reached is all stands =
     let made = made_lines (in_order front back) lines in
     subst (λ m. StandsIn number (m + offset) (drafted_at lines front back)) (sym is.characters)
     (subst (StandsIn number (length (whole made).columns + offset)) (sym (rest_all lines front back reached n is all))
     (stands-behind number offset made (take (n - reached.used) (drop reached.used lines)) stands))
 
-pub none-rest : (number n : ℕ) (lines : List LineContent) (front : List Stop) (back : List Copied) (reached : Reached) → IsReached reached (in_order front back) lines → n ≡ length lines
-    → finite.get (whole (made_lines (in_order front back) lines)).marks number ≡ None → finite.get (whole (take (n - reached.used) (drop reached.used lines))).marks number ≡ None
+pub none-rest : (number n : ℕ) (lines : List LineContent) (front : List Stop) (back : List Copied) (reached : Reached) →
+    IsReached reached (in_order front back) lines → n ≡ length lines
+    → finite.get (whole (made_lines (in_order front back) lines)).marks number ≡ None →
+    finite.get (whole (take (n - reached.used) (drop reached.used lines))).marks number ≡ None
     → finite.get (text_at lines front back).marks number ≡ None
 none-rest number n lines front back reached is all free none =
     let made = made_lines (in_order front back) lines in
     let rest = take (n - reached.used) (drop reached.used lines) in
     ap (λ xs. finite.get (whole xs).marks number) (rest_all lines front back reached n is all)
-    ∙ ap (λ (x : LineContent). finite.get x.marks number) (whole-append made rest) ∙ free-joined (whole made) (whole rest) number free none
+    ∙ ap (λ (x : LineContent). finite.get x.marks number) (whole-append made rest)
+    ∙ free-joined (whole made) (whole rest) number free none
 
 -- ---- lines of the list
-pub line-some : (lines : List LineContent) (k : ℕ) (line : LineContent) → AreRows lines → slice_get lines k ≡ Some line → 0 < length line.columns
+pub line-some : (lines : List LineContent) (k : ℕ) (line : LineContent) → AreRows lines →
+    slice_get lines k ≡ Some line → 0 < length line.columns
 line-some lines k line rows is = some-columns line.columns (row-at lines k line rows is).alone.ends
 
 -- a line that is found by the mark of a number has it
-pub kept-there : (number index : ℕ) (lines : List LineContent) (line : LineContent) → next_line (has_mark number) 0 lines ≡ Some index → slice_get lines index ≡ Some line → finite.get line.marks number ≢ None
+pub kept-there : (number index : ℕ) (lines : List LineContent) (line : LineContent) →
+    next_line (has_mark number) 0 lines ≡ Some index → slice_get lines index ≡ Some line →
+    finite.get line.marks number ≢ None
 kept-there number index lines line found is none =
     let near = next-found (has_mark number) 0 lines index found in
-    let no : false ≡ true = sym (ap (has_mark number) (lent lines index line is) ∙ ap is_some none) ∙ near.passes in absurd (cc)
+    let no : false ≡ true = sym (ap (has_mark number) (lent lines index line is) ∙ ap is_some none) ∙ near.passes in
+    absurd (cc)
 
 -- a column of a line of the list can be counted
-pub kept-counted : (lines : List LineContent) (index column : ℕ) (line : LineContent) → slice_get lines index ≡ Some line → column < length line.columns
+pub kept-counted : (lines : List LineContent) (index column : ℕ) (line : LineContent) →
+    slice_get lines index ≡ Some line → column < length line.columns
     → length (whole (take index lines)).columns + column < length (whole lines).columns
-kept-counted lines index column line is inside = omega (arith, begin-next lines index line is, begin-le lines (index + 1), inside)
+kept-counted lines index column line is inside =
+    omega (arith, begin-next lines index line is, begin-le lines (index + 1), inside)
 
 -- what is found in the lines that are kept before a copy
-kept_lines : (reached : Reached) (copy : Copied) (lines : List LineContent) → take ((reached.used + copy.kept) - reached.used) (drop reached.used lines) ≡ take copy.kept (drop reached.used lines)
-kept_lines reached copy lines = ap (λ n. take n (drop reached.used lines)) (let same : (reached.used + copy.kept) - reached.used ≡ copy.kept = omega arith in same)
+kept_lines : (reached : Reached) (copy : Copied) (lines : List LineContent) →
+    take ((reached.used + copy.kept) - reached.used) (drop reached.used lines)
+    ≡ take copy.kept (drop reached.used lines)
+kept_lines reached copy lines = ap (λ n. take n (drop reached.used lines))
+    (let same : (reached.used + copy.kept) - reached.used ≡ copy.kept = omega arith in same)
 
 pub kept-found : (number : ℕ) (reached : Reached) (copy : Copied) (lines : List LineContent) (found : Option ℕ)
-    → IfSome found (λ offset. StandsIn number offset (take ((reached.used + copy.kept) - reached.used) (drop reached.used lines)))
+    → IfSome found (λ offset. StandsIn number offset
+    (take ((reached.used + copy.kept) - reached.used) (drop reached.used lines)))
     → IfSome found (λ offset. StandsIn number offset (lines_with reached copy lines))
 kept-found number reached copy lines None is = tt
 kept-found number reached copy lines (Some offset) is =
-    stands-before number offset (take copy.kept (drop reached.used lines)) (copy.line ∷ []) (subst (StandsIn number offset) (kept_lines reached copy lines) is)
+    stands-before number offset (take copy.kept (drop reached.used lines)) (copy.line ∷ [])
+    (subst (StandsIn number offset) (kept_lines reached copy lines) is)
 
 pub kept-nowhere : (number : ℕ) (reached : Reached) (copy : Copied) (lines : List LineContent)
-    → finite.get (whole (take ((reached.used + copy.kept) - reached.used) (drop reached.used lines))).marks number ≡ None
+    → finite.get (whole (take ((reached.used + copy.kept) - reached.used) (drop reached.used lines))).marks number
+    ≡ None
     → finite.get (whole (take copy.kept (drop reached.used lines))).marks number ≡ None
-kept-nowhere number reached copy lines none = subst (λ xs. finite.get (whole xs).marks number ≡ None) (kept_lines reached copy lines) none
+kept-nowhere number reached copy lines none =
+    subst (λ xs. finite.get (whole xs).marks number ≡ None) (kept_lines reached copy lines) none
 
 -- none of the copies behind the place
-pub back-none : (front : List Stop) (back : List Copied) (n : ℕ) → n ≡ length back → copies_of front ≡ copies_to front back n
+pub back-none : (front : List Stop) (back : List Copied) (n : ℕ) → n ≡ length back →
+    copies_of front ≡ copies_to front back n
 back-none front back n all =
-    sym (ap (λ xs. copies_of front ++ reverse xs) (ap (λ m. drop m back) all ∙ drop_all back) ∙ append-nil (copies_of front))
+    sym (ap (λ xs. copies_of front ++ reverse xs) (ap (λ m. drop m back) all ∙ drop_all back)
+    ∙ append-nil (copies_of front))
   where
     drop_all : (xs : List Copied) → drop (length xs) xs ≡ []
     drop_all [] = refl

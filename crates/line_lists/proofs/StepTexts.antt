@@ -1,5 +1,7 @@
 -- What the steps of an edit make of the text of a draft.
-use Rattle.std.proofs.Common.{◌≡◌, ℕ, ◌+◌, ◌-◌, ◌<◌, ◌≤◌, Bool, true, false, cond, List, [], ◌∷◌, ◌++◌, Option, None, Some, Result, Err, Ok, get_or, length, map, take, drop, inl, inr, refl, sym, ap, ap₂, subst, ◌∙◌, arith}
+use Rattle.std.proofs.Common.{◌≡◌, ℕ, ◌+◌, ◌-◌, ◌<◌, ◌≤◌, Bool, true, false, cond, List, [], ◌∷◌, ◌++◌, Option, None}
+use Rattle.std.proofs.Common.{Some, Result, Err, Ok, get_or, length, map, take, drop, inl, inr, refl, sym, ap, ap₂}
+use Rattle.std.proofs.Common.{subst, ◌∙◌, arith}
 use Rattle.std.specs.Cmp.{nat_cmp_total}
 use Rattle.std.specs.FinMap as finite
 use Rattle.std.specs.FinSet as set
@@ -36,24 +38,31 @@ use Rattle.line_lists.proofs.PlaceRows.{length-cells}
 use Rattle.line_lists.proofs.WholeLaws.{length-toggled}
 
 -- ---- slots that are toggled nowhere
-pub toggled-end : (at : ℕ) (slots : Slots) (line : LineContent) → length line.columns ≤ at → line ≡ with_toggled at slots line
+pub toggled-end : (at : ℕ) (slots : Slots) (line : LineContent) → length line.columns ≤ at →
+    line ≡ with_toggled at slots line
 toggled-end at slots line behind =
     let columns : toggled_before at slots line.columns ≡ line.columns =
-    ap₂ (λ front back. front ++ toggled_first slots back) (take_all at line.columns behind) (drop_all at line.columns behind) ∙ append-nil line.columns in
+    ap₂ (λ front back. front ++ toggled_first slots back) (take_all at line.columns behind)
+    (drop_all at line.columns behind) ∙ append-nil line.columns in
     λ i. record { columns = sym columns i; marks = line.marks }
 
 toggled-none : (columns : List Column) → toggled_first set.empty columns ≡ columns
 toggled-none [] = refl
-toggled-none (column ∷ columns) = ap (λ toggled. record { character = column.character; toggled = toggled } ∷ columns) (empty-differing column.toggled)
+toggled-none (column ∷ columns) = ap (λ toggled. record { character = column.character; toggled = toggled } ∷ columns)
+    (empty-differing column.toggled)
 
-pub toggled-empty : (at : ℕ) (slots : Slots) (line : LineContent) → slots ≡ set.empty → line ≡ with_toggled at slots line
+pub toggled-empty : (at : ℕ) (slots : Slots) (line : LineContent) → slots ≡ set.empty →
+    line ≡ with_toggled at slots line
 toggled-empty at slots line none =
     let columns : toggled_before at slots line.columns ≡ line.columns =
-    ap (λ s. toggled_before at s line.columns) none ∙ ap (λ back. take at line.columns ++ back) (toggled-none (drop at line.columns)) ∙ take-append-drop at line.columns in
+    ap (λ s. toggled_before at s line.columns) none
+    ∙ ap (λ back. take at line.columns ++ back) (toggled-none (drop at line.columns))
+    ∙ take-append-drop at line.columns in
     λ i. record { columns = sym columns i; marks = line.marks }
 
 -- what is toggled at the end makes no difference
-toggled-same : (at : ℕ) (s t : Slots) (line : LineContent) → (at < length line.columns → s ≡ t) → with_toggled at s line ≡ with_toggled at t line
+toggled-same : (at : ℕ) (s t : Slots) (line : LineContent) → (at < length line.columns → s ≡ t) →
+    with_toggled at s line ≡ with_toggled at t line
 toggled-same at s t line same =
     elim (cases_lt at (length line.columns)) [
       | inl before ↦ ap (λ slots. with_toggled at slots line) (same before)
@@ -61,71 +70,105 @@ toggled-same at s t line same =
     ]
 
 -- ---- steps that are made of others
-pub toggled-long : (at : ℕ) (slots : Slots) (text new : LineContent) (len : ℕ) → len ≡ length text.columns → new ≡ with_toggled at slots text → len ≡ length new.columns
+pub toggled-long : (at : ℕ) (slots : Slots) (text new : LineContent) (len : ℕ) → len ≡ length text.columns →
+    new ≡ with_toggled at slots text → len ≡ length new.columns
 toggled-long at slots text new len is toggled =
     omega (arith, is, ap (λ (line : LineContent). length line.columns) toggled, length-toggled at slots text.columns)
 
-pub cleared-long : (slot from to : ℕ) (text new : LineContent) (len : ℕ) → from ≤ to → to ≤ len → len ≡ length text.columns → new ≡ with_cleared slot from to text → len ≡ length new.columns
+pub cleared-long : (slot from to : ℕ) (text new : LineContent) (len : ℕ) → from ≤ to → to ≤ len →
+    len ≡ length text.columns → new ≡ with_cleared slot from to text → len ≡ length new.columns
 cleared-long slot from to text new len ordered within is clears =
-    omega (arith, is, ap (λ (line : LineContent). length line.columns) clears, length-changed (with_toggle slot false) from to text.columns ordered (omega (arith, within, is)))
+    omega (
+      arith,
+      is,
+      ap (λ (line : LineContent). length line.columns) clears,
+      length-changed (with_toggle slot false) from to text.columns ordered (omega (arith, within, is)),
+    )
 
-pub inserted-long : (at : ℕ) (text : List ℕ) (old new : LineContent) (len longer : ℕ) → at < len → len ≡ length old.columns → longer ≡ len + length text → new ≡ after_text at text old → longer ≡ length new.columns
+pub inserted-long : (at : ℕ) (text : List ℕ) (old new : LineContent) (len longer : ℕ) → at < len →
+    len ≡ length old.columns → longer ≡ len + length text → new ≡ after_text at text old → longer ≡ length new.columns
 inserted-long at text old new len longer within is sum new_is =
-    omega (arith, is, sum, ap (λ (line : LineContent). length line.columns) new_is, length-text at text old.columns (omega (arith, within, is)))
+    omega (
+      arith,
+      is,
+      sum,
+      ap (λ (line : LineContent). length line.columns) new_is,
+      length-text at text old.columns (omega (arith, within, is)),
+    )
 
-sum-there : {E : Type 0} (found : Option ℕ) (refused : E) (bound sum longer : ℕ) → SomeIff found (sum < bound) sum → Ok longer ≡ ok_or found refused → (sum < bound) × (longer ≡ sum)
-sum-there {E = E} None refused bound sum longer some is = let no : ◌≡◌ {A = Result ℕ E} (Ok longer) (Err refused) = is in absurd (cc)
-sum-there {E = E} (Some x) refused bound sum longer some is = let same : ◌≡◌ {A = Result ℕ E} (Ok longer) (Ok x) = is in let eq : longer ≡ x = cc in (some.0, eq ∙ some.1)
+sum-there : {E : Type 0} (found : Option ℕ) (refused : E) (bound sum longer : ℕ) → SomeIff found (sum < bound) sum →
+    Ok longer ≡ ok_or found refused → (sum < bound) × (longer ≡ sum)
+sum-there {E = E} None refused bound sum longer some is = let no : ◌≡◌ {A = Result ℕ E} (Ok longer) (Err refused) = is
+    in absurd (cc)
+sum-there {E = E} (Some x) refused bound sum longer some is = let same : ◌≡◌ {A = Result ℕ E} (Ok longer) (Ok x) = is in
+    let eq : longer ≡ x = cc in (some.0, eq ∙ some.1)
 
 -- so many characters more, where they can be counted
-pub more-there : {E : Type 0} (found : Option ℕ) (refused : E) (bound len count more longer : ℕ) → SomeIff found (len + count < bound) (len + count) → Ok longer ≡ ok_or found refused → count ≡ more
+pub more-there : {E : Type 0} (found : Option ℕ) (refused : E) (bound len count more longer : ℕ) →
+    SomeIff found (len + count < bound) (len + count) → Ok longer ≡ ok_or found refused → count ≡ more
     → (len + more < bound) × (longer ≡ len + more)
 more-there found refused bound len count more longer some is counted =
-    let there = sum-there found refused bound (len + count) longer some is in (omega (arith, there.0, counted), omega (arith, there.1, counted))
+    let there = sum-there found refused bound (len + count) longer some is in
+    (omega (arith, there.0, counted), omega (arith, there.1, counted))
 
-pub inserted-made : (at end : ℕ) (text : List ℕ) (slots differ : Slots) (old one two : LineContent) → end ≡ at + length text → differ ≡ differing (tags_behind (take at old.columns)) slots
-    → one ≡ after_text at text old → two ≡ with_toggled end differ one → with_toggled at differ two ≡ made (Insert at text slots) old
+pub inserted-made : (at end : ℕ) (text : List ℕ) (slots differ : Slots) (old one two : LineContent) →
+    end ≡ at + length text → differ ≡ differing (tags_behind (take at old.columns)) slots
+    → one ≡ after_text at text old → two ≡ with_toggled end differ one →
+    with_toggled at differ two ≡ made (Insert at text slots) old
 inserted-made at end text slots differ old one two end_is differ_is one_is two_is =
     ap (with_toggled at differ) (two_is ∙ ap₂ (λ n (line : LineContent). with_toggled n differ line) end_is one_is)
     ∙ ap (λ s. with_toggled at s (with_toggled (at + length text) s (after_text at text old))) differ_is
 
-pub tagged-made : (from to : ℕ) (slot : TagSlot) (on : Bool) (first last : Slots) (len : ℕ) (old bare text : LineContent) → from ≤ to → to ≤ len → len ≡ length old.columns
-    → (from < len → first ≡ switched (set_slot slot.0 on) from old.columns) → (to < len → last ≡ switched (set_slot slot.0 on) to old.columns)
-    → bare ≡ with_cleared slot.0 from to old → text ≡ with_toggled to last bare → with_toggled from first text ≡ made (SetTag from to slot on) old
+pub tagged-made : (from to : ℕ) (slot : TagSlot) (on : Bool) (first last : Slots) (len : ℕ)
+    (old bare text : LineContent) → from ≤ to → to ≤ len → len ≡ length old.columns
+    → (from < len → first ≡ switched (set_slot slot.0 on) from old.columns) →
+    (to < len → last ≡ switched (set_slot slot.0 on) to old.columns)
+    → bare ≡ with_cleared slot.0 from to old → text ≡ with_toggled to last bare →
+    with_toggled from first text ≡ made (SetTag from to slot on) old
 tagged-made from to slot on first last len old bare text ordered within is first_is last_is bare_is text_is =
     let clear = with_cleared slot.0 from to old in
     let ends = switched (set_slot slot.0 on) to old.columns in
     let begins = switched (set_slot slot.0 on) from old.columns in
     let long = length-changed (with_toggle slot.0 false) from to old.columns ordered (omega (arith, within, is)) in
     let same = length-toggled to ends clear.columns in
-    ap (with_toggled from first) (text_is ∙ ap (with_toggled to last) bare_is ∙ toggled-same to last ends clear (λ before. last_is (omega (arith, before, long, is))))
-    ∙ toggled-same from first begins (with_toggled to ends clear) (λ before. first_is (omega (arith, before, same, long, is)))
+    ap (with_toggled from first) (text_is ∙ ap (with_toggled to last) bare_is
+    ∙ toggled-same to last ends clear (λ before. last_is (omega (arith, before, long, is))))
+    ∙ toggled-same from first begins (with_toggled to ends clear) (λ before.
+    first_is (omega (arith, before, same, long, is)))
 
-pub bare-made : (at : ℕ) (here : Slots) (old text : LineContent) → here ≡ tags_before at old.columns → text ≡ with_toggled (at + 1) here old → with_toggled at here text ≡ made (ClearTags at) old
+pub bare-made : (at : ℕ) (here : Slots) (old text : LineContent) → here ≡ tags_before at old.columns →
+    text ≡ with_toggled (at + 1) here old → with_toggled at here text ≡ made (ClearTags at) old
 bare-made at here old text here_is text_is =
     ap (with_toggled at here) text_is ∙ ap (λ s. with_toggled at s (with_toggled (at + 1) s old)) here_is
 
 -- ---- the slots that are on at a character of the line of a copy
-pub tags-taken : (lines old : List LineContent) (front : List Stop) (back : List Copied) (reached : Reached) (copy : Copied) (offset column : ℕ) → IsReached reached (copies_of front) lines
+pub tags-taken : (lines old : List LineContent) (front : List Stop) (back : List Copied) (reached : Reached)
+    (copy : Copied) (offset column : ℕ) → IsReached reached (copies_of front) lines
     → taken_lines lines front back copy ≡ old → StandsAt lines front copy offset column
     → tags_before offset (whole old).columns
-    ≡ differing (differing reached.tags (tags_behind (whole (take copy.kept (drop reached.used lines))).columns)) (tags_before column copy.line.columns)
+    ≡ differing (differing reached.tags (tags_behind (whole (take copy.kept (drop reached.used lines))).columns))
+    (tags_before column copy.line.columns)
 tags-taken lines old front back reached copy offset column is same stands =
     let copies = copies_of front in
-    tags-around (lines_before copies copy lines) (lines_behind copies copy back lines) old copy.line (offset + 1) (column + 1) same (omega (arith, stands.place)) (omega (arith, stands.inside))
+    tags-around (lines_before copies copy lines) (lines_behind copies copy back lines) old copy.line (offset + 1)
+    (column + 1) same (omega (arith, stands.place)) (omega (arith, stands.inside))
     ∙ ap (λ slots. differing slots (tags_before column copy.line.columns)) (tags-before lines copies reached copy is)
 
 -- ---- a mark that moves
-pub mark-free : (number : ℕ) (text new : LineContent) → new ≡ without_mark number text → finite.get new.marks number ≡ None
+pub mark-free : (number : ℕ) (text new : LineContent) → new ≡ without_mark number text →
+    finite.get new.marks number ≡ None
 mark-free number text new is =
-    ap (λ (line : LineContent). finite.get line.marks number) is ∙ finite.get-remove nat_cmp_total text.marks number number
+    ap (λ (line : LineContent). finite.get line.marks number) is
+    ∙ finite.get-remove nat_cmp_total text.marks number number
     ∙ ap (λ same. cond same None (finite.get text.marks number)) (eq_self number)
 
-put_over : (same : Bool) (place : Place) (found : Option Place) → cond same (Some place) (cond same None found) ≡ cond same (Some place) found
+put_over : (same : Bool) (place : Place) (found : Option Place) →
+    cond same (Some place) (cond same None found) ≡ cond same (Some place) found
 put_over true place found = refl
 put_over false place found = refl
 
-pub mark-moved : (number : ℕ) (place : Place) (line : LineContent) → with_mark number place (without_mark number line) ≡ with_mark number place line
+pub mark-moved : (number : ℕ) (place : Place) (line : LineContent) →
+    with_mark number place (without_mark number line) ≡ with_mark number place line
 mark-moved number place line =
     let marks = same_marks _ _ (λ q.
     finite.get-insert nat_cmp_total (finite.remove line.marks number) number place q
@@ -135,7 +178,8 @@ mark-moved number place line =
     λ i. record { columns = line.columns; marks = marks i }
 
 -- ---- how long a text is after a step
-pub length-made : (step : Step) (line : LineContent) → StepFitsIn step (length line.columns) → length (made step line).columns ≡ length_after step (length line.columns)
+pub length-made : (step : Step) (line : LineContent) → StepFitsIn step (length line.columns) →
+    length (made step line).columns ≡ length_after step (length line.columns)
 length-made step line fits =
     let cells : length (text_of line).cells ≡ length line.columns = length-cells set.empty line.columns in
     sym (length-cells set.empty (made step line).columns)
@@ -143,41 +187,51 @@ length-made step line fits =
     ∙ length-after_step step (text_of line) (subst (StepFitsIn step) (sym cells) fits)
     ∙ ap (length_after step) cells
 
-pub made-long : (step : Step) (text new : LineContent) (len : ℕ) → len ≡ length text.columns → StepFitsIn step len → new ≡ made step text → length_after step len ≡ length new.columns
+pub made-long : (step : Step) (text new : LineContent) (len : ℕ) → len ≡ length text.columns → StepFitsIn step len →
+    new ≡ made step text → length_after step len ≡ length new.columns
 made-long step text new len is fits new_is =
-    ap (length_after step) is ∙ sym (length-made step text (subst (StepFitsIn step) is fits)) ∙ ap (λ (line : LineContent). length line.columns) (sym new_is)
+    ap (length_after step) is ∙ sym (length-made step text (subst (StepFitsIn step) is fits))
+    ∙ ap (λ (line : LineContent). length line.columns) (sym new_is)
 
 -- a slot is cleared everywhere
-pub cleared-all : (slot : ℕ) (line : LineContent) → with_cleared slot 0 (length line.columns) line ≡ record line { columns = map (with_toggle slot false) line.columns }
+pub cleared-all : (slot : ℕ) (line : LineContent) → with_cleared slot 0 (length line.columns) line
+    ≡ record line { columns = map (with_toggle slot false) line.columns }
 cleared-all slot line =
     let clear = with_toggle slot false in
     let columns : changed clear 0 (length line.columns) line.columns ≡ map clear line.columns =
     ap₂ (λ front back. map clear front ++ back)
-    (ap (λ n. take n line.columns) (let same : length line.columns - 0 ≡ length line.columns = omega arith in same) ∙ take_all (length line.columns) line.columns (omega arith))
+    (ap (λ n. take n line.columns) (let same : length line.columns - 0 ≡ length line.columns = omega arith in same)
+    ∙ take_all (length line.columns) line.columns (omega arith))
     (drop_all (length line.columns) line.columns (omega arith))
     ∙ append-nil (map clear line.columns) in
     λ i. record { columns = columns i; marks = line.marks }
 
 -- ---- the steps of an edit, one after the other
-pub record Goes (steps : List Step) (first : LineContent) (rest : List Step) (text : LineContent) (count : ℕ) : Type 0 where
-  pub len : count ≡ length text.columns
-  pub some : 0 < count
-  pub fits : Fits rest (text_of text)
-  pub new : after rest (text_of text) ≡ after steps (text_of first)
+pub record Goes (steps : List Step) (first : LineContent) (rest : List Step) (text : LineContent) (count : ℕ) : Type 0
+  where
+    pub len : count ≡ length text.columns
+    pub some : 0 < count
+    pub fits : Fits rest (text_of text)
+    pub new : after rest (text_of text) ≡ after steps (text_of first)
 
-pub goes-first : (steps : List Step) (text : LineContent) (len : ℕ) → len ≡ length text.columns → 0 < len → Fits steps (text_of text) → Goes steps text steps text len
+pub goes-first : (steps : List Step) (text : LineContent) (len : ℕ) → len ≡ length text.columns → 0 < len →
+    Fits steps (text_of text) → Goes steps text steps text len
 goes-first steps text len is some fits = record { len = is; some = some; fits = fits; new = refl }
 
-pub goes-at : (steps : List Step) (first text : LineContent) (step : Step) (i len : ℕ) → i < length steps → step ≡ get_or steps i step → Goes steps first (drop i steps) text len
+pub goes-at : (steps : List Step) (first text : LineContent) (step : Step) (i len : ℕ) → i < length steps →
+    step ≡ get_or steps i step → Goes steps first (drop i steps) text len
     → Goes steps first (step ∷ drop (i + 1) steps) text len
 goes-at steps first text step i len within is goes =
-    subst (λ rest. Goes steps first rest text len) (drop_more steps i step within ∙ ap (λ here. here ∷ drop (i + 1) steps) (sym is)) goes
+    subst (λ rest. Goes steps first rest text len) (drop_more steps i step within
+    ∙ ap (λ here. here ∷ drop (i + 1) steps) (sym is)) goes
 
-pub step-fits : (steps rest : List Step) (first text : LineContent) (step : Step) (len : ℕ) → Goes steps first (step ∷ rest) text len → StepFitsIn step len
+pub step-fits : (steps rest : List Step) (first text : LineContent) (step : Step) (len : ℕ) →
+    Goes steps first (step ∷ rest) text len → StepFitsIn step len
 step-fits steps rest first text step len goes =
     subst (StepFitsIn step) (length-cells set.empty text.columns ∙ sym goes.len) goes.fits.0
 
-pub goes-on : (steps rest : List Step) (first text new : LineContent) (step : Step) (len after : ℕ) → Goes steps first (step ∷ rest) text len → new ≡ made step text
+pub goes-on : (steps rest : List Step) (first text new : LineContent) (step : Step) (len after : ℕ) →
+    Goes steps first (step ∷ rest) text len → new ≡ made step text
     → after ≡ length new.columns → 0 < after → Goes steps first rest new after
 goes-on steps rest first text new step len count goes is long some =
     let made_is : text_of new ≡ after_step step (text_of text) =

@@ -1,5 +1,6 @@
 -- What a store over lines asks of its list.
-use Rattle.std.proofs.Common.{◌≡◌, ℕ, ◌<◌, ◌≤◌, inl, inr, List, [], ◌∷◌, length, sym, ap, subst, ◌∙◌, arith, length-append}
+use Rattle.std.proofs.Common.{◌≡◌, ℕ, ◌<◌, ◌≤◌, inl, inr, List, [], ◌∷◌, length, sym, ap, subst, ◌∙◌, arith}
+use Rattle.std.proofs.Common.{length-append}
 use Rattle.std.specs.FinMap as finite
 use Rattle.std.specs.FinSet as set
 use Rattle.std.specs.List.{All}
@@ -16,7 +17,8 @@ use Rattle.line_lists.proofs.WholeLaws.{whole-one}
 
 some_text : (lines : List LineContent) → 0 < length lines → AreRows lines → 0 < length (whole lines).columns
 some_text [] some rows = some
-some_text (line ∷ lines) some rows = omega (arith, some-columns line.columns rows.0.ends, length-append line.columns (whole lines).columns)
+some_text (line ∷ lines) some rows =
+    omega (arith, some-columns line.columns rows.0.ends, length-append line.columns (whole lines).columns)
 
 -- a text has a character
 pub some-text : (lines : List LineContent) → AreLines lines → 0 < length (whole lines).columns
@@ -28,13 +30,19 @@ all-names P (first ∷ numbers) all number (inl same) = subst P (sym same) (All-
 all-names P (first ∷ numbers) all number (inr names) = all-names P numbers (All-tail P first numbers all) number names
 
 -- marks whose numbers are among some that are below a bound
-pub below-lines : (bound room : ℕ) → bound ≤ room → (lines : List LineContent) → ((number : ℕ) → Names number (numbers_in lines) → number < bound)
+pub below-lines : (bound room : ℕ) → bound ≤ room → (lines : List LineContent) →
+    ((number : ℕ) → Names number (numbers_in lines) → number < bound)
     → All (λ (line : LineContent). NumbersBelow room line.marks) lines
 below-lines bound room more [] below = All-nil (λ (line : LineContent). NumbersBelow room line.marks)
 below-lines bound room more (line ∷ lines) below =
     All-cons (λ (x : LineContent). NumbersBelow room x.marks) line lines
-    (λ number place is. omega (arith, more, below number (names-left number (numbers_of line) (numbers_in lines) (names_of number line place is))))
-    (below-lines bound room more lines (λ number names. below number (names-right number (numbers_of line) (numbers_in lines) names)))
+    (λ number place is. omega (
+      arith,
+      more,
+      below number (names-left number (numbers_of line) (numbers_in lines) (names_of number line place is)),
+    ))
+    (below-lines bound room more lines (λ number names.
+    below number (names-right number (numbers_of line) (numbers_in lines) names)))
 
 -- the line that a list begins with is the text that a store begins with
 pub new-text : (lines : List LineContent) → lines ≡ plain_line (10 ∷ []) ∷ [] → content_of lines ≡ new_content

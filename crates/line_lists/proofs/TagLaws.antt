@@ -15,31 +15,41 @@ use Rattle.line_lists.proofs.SlotLaws.{differing-set}
 abbrev cell_of : Slots → Column → Cell
 cell_of on column = record { character = column.character; tags = differing on column.toggled }
 
-pub cells-append : (on : Slots) (xs ys : List Column) → cells_from on (xs ++ ys) ≡ cells_from on xs ++ cells_from (differing on (tags_behind xs)) ys
+pub cells-append : (on : Slots) (xs ys : List Column) → cells_from on (xs ++ ys)
+    ≡ cells_from on xs ++ cells_from (differing on (tags_behind xs)) ys
 cells-append on [] ys = ap (λ s. cells_from s ys) (sym (differing-empty on))
 cells-append on (x ∷ xs) ys =
     ap (λ cells. cell_of on x ∷ cells)
     (cells-append (differing on x.toggled) xs ys
-    ∙ ap (λ s. cells_from (differing on x.toggled) xs ++ cells_from s ys) (differing-associative on x.toggled (tags_behind xs)))
+    ∙ ap (λ s. cells_from (differing on x.toggled) xs ++ cells_from s ys)
+    (differing-associative on x.toggled (tags_behind xs)))
 
 -- slots that are toggled before the first column are switched before it
-pub cells-toggled : (on slots : Slots) (xs : List Column) → cells_from on (toggled_first slots xs) ≡ cells_from (differing on slots) xs
+pub cells-toggled : (on slots : Slots) (xs : List Column) →
+    cells_from on (toggled_first slots xs) ≡ cells_from (differing on slots) xs
 cells-toggled on slots [] = refl
 cells-toggled on slots (x ∷ xs) =
-    ap (λ tags. record { character = x.character; tags = tags } ∷ cells_from tags xs) (sym (differing-associative on slots x.toggled))
+    ap (λ tags. record { character = x.character; tags = tags } ∷ cells_from tags xs)
+    (sym (differing-associative on slots x.toggled))
 
 -- a slot without toggles is on all cells, or on none, and the others as before
-pub cells-cleared : (slot : ℕ) (on : Bool) (before : Slots) (xs : List Column) → cells_from (set_slot slot on before) (map (with_toggle slot false) xs) ≡ map (with_slot slot on) (cells_from before xs)
+pub cells-cleared : (slot : ℕ) (on : Bool) (before : Slots) (xs : List Column) →
+    cells_from (set_slot slot on before) (map (with_toggle slot false) xs)
+    ≡ map (with_slot slot on) (cells_from before xs)
 cells-cleared slot on before [] = refl
 cells-cleared slot on before (x ∷ xs) =
-    ap (λ tags. record { character = x.character; tags = tags } ∷ cells_from tags (map (with_toggle slot false) xs)) (differing-set slot on before x.toggled)
+    ap (λ tags. record { character = x.character; tags = tags } ∷ cells_from tags (map (with_toggle slot false) xs))
+    (differing-set slot on before x.toggled)
     ∙ ap (λ cells. with_slot slot on (cell_of before x) ∷ cells) (cells-cleared slot on (differing before x.toggled) xs)
 
 pub behind-cleared : (slot : ℕ) (on : Bool) (before : Slots) (xs : List Column)
-    → differing (set_slot slot on before) (tags_behind (map (with_toggle slot false) xs)) ≡ set_slot slot on (differing before (tags_behind xs))
-behind-cleared slot on before [] = differing-empty (set_slot slot on before) ∙ ap (set_slot slot on) (sym (differing-empty before))
+    → differing (set_slot slot on before) (tags_behind (map (with_toggle slot false) xs))
+    ≡ set_slot slot on (differing before (tags_behind xs))
+behind-cleared slot on before [] =
+    differing-empty (set_slot slot on before) ∙ ap (set_slot slot on) (sym (differing-empty before))
 behind-cleared slot on before (x ∷ xs) =
-    sym (differing-associative (set_slot slot on before) (set_slot slot false x.toggled) (tags_behind (map (with_toggle slot false) xs)))
+    sym (differing-associative (set_slot slot on before) (set_slot slot false x.toggled)
+    (tags_behind (map (with_toggle slot false) xs)))
     ∙ ap (λ s. differing s (tags_behind (map (with_toggle slot false) xs))) (differing-set slot on before x.toggled)
     ∙ behind-cleared slot on (differing before x.toggled) xs
     ∙ ap (set_slot slot on) (differing-associative before x.toggled (tags_behind xs))
@@ -57,4 +67,5 @@ behind-plain (c ∷ text) = empty-differing (tags_behind (plain_columns text)) �
 
 pub behind-append : (xs ys : List Column) → tags_behind (xs ++ ys) ≡ differing (tags_behind xs) (tags_behind ys)
 behind-append [] ys = sym (empty-differing (tags_behind ys))
-behind-append (x ∷ xs) ys = ap (differing x.toggled) (behind-append xs ys) ∙ sym (differing-associative x.toggled (tags_behind xs) (tags_behind ys))
+behind-append (x ∷ xs) ys = ap (differing x.toggled) (behind-append xs ys)
+    ∙ sym (differing-associative x.toggled (tags_behind xs) (tags_behind ys))

@@ -1,9 +1,11 @@
 -- A text is cut behind its first newline.
-use Rattle.std.proofs.Common.{◌≡◌, ℕ, zero, suc, ◌+◌, cond, ◌==◌, List, [], ◌∷◌, ◌++◌, length, take, drop, chars, refl, sym, ap, ap₂, subst, ◌∙◌, arith, append_assoc, take-append-drop}
+use Rattle.std.proofs.Common.{◌≡◌, ℕ, zero, suc, ◌+◌, cond, ◌==◌, List, [], ◌∷◌, ◌++◌, length, take, drop, chars, refl}
+use Rattle.std.proofs.Common.{sym, ap, ap₂, subst, ◌∙◌, arith, append_assoc, take-append-drop}
 use Rattle.std.specs.Str.{IsAscii, IsCharBoundary, IsUtf8, NoCharPasses, NonePass}
 use Rattle.std.specs.Str.Pattern.{HasCharAt}
 use Rattle.std.proofs.lemmas.List.{length-take-le}
-use Rattle.std.proofs.lemmas.Str.{IsUtf8-drop, IsUtf8-take, IsUtf8-from_ascii, chars-append, chars-nil, chars_from_encodes, chars_past_char, encode_ascii}
+use Rattle.std.proofs.lemmas.Str.{IsUtf8-drop, IsUtf8-take, IsUtf8-from_ascii, chars-append, chars-nil}
+use Rattle.std.proofs.lemmas.Str.{chars_from_encodes, chars_past_char, encode_ascii}
 use Rattle.std.proofs.lemmas.Str.Pattern.{drop_at_char}
 use Rattle.std.proofs.Math.Seq.{take-append-add}
 use Rattle.text_model.specs.Documents.{ends_in_newline}
@@ -30,7 +32,8 @@ plain-ends front none =
     }
 
 newline : chars (10 ∷ []) ≡ 10 ∷ []
-newline = chars_past_char (10 ∷ []) [] 10 (IsUtf8-from_ascii (10 ∷ []) one) (sym (ap (λ xs. xs ++ []) (encode_ascii 10 (omega arith)))) ∙ ap (λ xs. 10 ∷ xs) chars-nil
+newline = chars_past_char (10 ∷ []) [] 10 (IsUtf8-from_ascii (10 ∷ []) one)
+    (sym (ap (λ xs. xs ++ []) (encode_ascii 10 (omega arith)))) ∙ ap (λ xs. 10 ∷ xs) chars-nil
   where
     one : IsAscii (10 ∷ [])
     one zero = omega arith
@@ -41,21 +44,30 @@ pub record IsCut (text first rest : List ℕ) : Type 0 where
   pub line : IsLine (plain_line (chars first))
   pub parts : chars text ≡ chars first ++ chars rest
 
-pub first-cut : (text first rest : List ℕ) (at end : ℕ) → IsUtf8 text → IsCharBoundary text at → HasCharAt 10 text at end → NoCharPasses (λ d. d == 10) (take at text)
+pub first-cut : (text first rest : List ℕ) (at end : ℕ) → IsUtf8 text → IsCharBoundary text at →
+    HasCharAt 10 text at end → NoCharPasses (λ d. d == 10) (take at text)
     → first ≡ take (at + 1) text → rest ≡ drop (at + 1) text → IsCut text first rest
 first-cut text first rest at end utf8 boundary found none first_is rest_is =
     let front = take at text in
     let front_utf8 = IsUtf8-take text at utf8 boundary in
-    let next : drop at text ≡ 10 ∷ rest = drop_at_char 10 text at end found (omega arith) ∙ ap (λ n. 10 ∷ drop n text) found.ends ∙ ap (λ xs. 10 ∷ xs) (sym rest_is) in
+    let next : drop at text ≡ 10 ∷ rest = drop_at_char 10 text at end found (omega arith)
+    ∙ ap (λ n. 10 ∷ drop n text) found.ends ∙ ap (λ xs. 10 ∷ xs) (sym rest_is) in
     let rest_utf8 : IsUtf8 (10 ∷ rest) = subst IsUtf8 next (IsUtf8-drop text at utf8 boundary) in
     let whole : text ≡ front ++ 10 ∷ rest = sym (take-append-drop at text) ∙ ap (λ xs. front ++ xs) next in
     let cut : first ≡ front ++ 10 ∷ [] =
-    first_is ∙ ap₂ (λ n xs. take (n + 1) xs) (sym (length-take-le at text boundary.0)) whole ∙ take-append-add front (10 ∷ rest) 1 in
-    let ends : chars first ≡ chars front ++ 10 ∷ [] = ap chars cut ∙ chars-append front (10 ∷ []) front_utf8 ∙ ap (λ xs. chars front ++ xs) newline in
-    let goes_on : chars text ≡ chars front ++ 10 ∷ chars rest = ap chars whole ∙ chars-append front (10 ∷ rest) front_utf8 ∙ ap (λ xs. chars front ++ xs) (chars_past_char (10 ∷ rest) rest 10 rest_utf8 (sym (ap (λ xs. xs ++ rest) (encode_ascii 10 (omega arith))))) in
+    first_is ∙ ap₂ (λ n xs. take (n + 1) xs) (sym (length-take-le at text boundary.0)) whole
+    ∙ take-append-add front (10 ∷ rest) 1 in
+    let ends : chars first ≡ chars front ++ 10 ∷ [] = ap chars cut ∙ chars-append front (10 ∷ []) front_utf8
+    ∙ ap (λ xs. chars front ++ xs) newline in
+    let goes_on : chars text ≡ chars front ++ 10 ∷ chars rest = ap chars whole
+    ∙ chars-append front (10 ∷ rest) front_utf8
+    ∙ ap (λ xs. chars front ++ xs) (chars_past_char (10 ∷ rest) rest 10 rest_utf8
+    (sym (ap (λ xs. xs ++ rest) (encode_ascii 10 (omega arith))))) in
     record {
-      line = subst (λ xs. IsLine (plain_line xs)) (sym ends) (plain-ends (chars front) (no-lines front front_utf8 none));
-      parts = goes_on ∙ sym (append_assoc (chars front) (10 ∷ []) (chars rest)) ∙ ap (λ xs. xs ++ chars rest) (sym ends);
+      line =
+          subst (λ xs. IsLine (plain_line xs)) (sym ends) (plain-ends (chars front) (no-lines front front_utf8 none));
+      parts =
+          goes_on ∙ sym (append_assoc (chars front) (10 ∷ []) (chars rest)) ∙ ap (λ xs. xs ++ chars rest) (sym ends);
     }
 
 nothing : (text : List ℕ) → length text ≡ 0 → text ≡ []

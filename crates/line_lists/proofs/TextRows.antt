@@ -1,6 +1,7 @@
 -- The characters of lines in a row, from one offset to another.
-use Rattle.std.proofs.Common.{◌≡◌, ℕ, zero, suc, ◌+◌, ◌-◌, ◌<◌, ◌≤◌, List, [], ◌∷◌, ◌++◌, length, take, drop, refl, sym, ap, ap₂, ◌∙◌, arith, add-one, inl, inr, length-drop}
-use Rattle.std.specs.Prelude.{slice_range}
+use Rattle.std.proofs.Common.{◌≡◌, ℕ, zero, suc, ◌+◌, ◌-◌, ◌<◌, ◌≤◌, List, [], ◌∷◌, ◌++◌, length, take, drop, refl, sym}
+use Rattle.std.proofs.Common.{ap, ap₂, ◌∙◌, arith, add-one, inl, inr, length-drop}
+use Rattle.std.specs.Prelude.{slice_get, slice_range, Some}
 use Rattle.std.proofs.lemmas.Bool.{cases_lt}
 use Rattle.std.proofs.Math.Seq.{drop-append-add, take-nil}
 use Rattle.std.proofs.lemmas.List.{drop-append-le, length-map, map-append, take-append-le}
@@ -8,14 +9,16 @@ use Rattle.segments.specs.Columns.{Column, LineContent, characters}
 use Rattle.text_model.specs.Content.{characters as cell_characters}
 use Rattle.line_lists.specs.Places.{IsAt}
 use Rattle.line_lists.specs.Texts.{content_of, whole}
-use Rattle.line_lists.proofs.LineStarts.{at-before, at-within, length_at, start-next, start-rises, start_of, there}
+use Rattle.line_lists.proofs.LineStarts.{at-before, at-within, length_at, lent, lent-length, start-next}
+use Rattle.line_lists.proofs.LineStarts.{start-rises, start_of, there}
 use Rattle.line_lists.proofs.PlaceRows.{characters-content, whole-at}
 use Rattle.line_lists.proofs.SearchRows.{line_at}
 
 take-both : {A : Type 0} (m n : ℕ) (xs : List A) → take (m + n) xs ≡ take m xs ++ take n (drop m xs)
 take-both zero n xs = ap (λ k. take k xs) (let same : 0 + n ≡ n = omega arith in same)
 take-both (suc m) n [] = take-nil (suc m + n) ∙ sym (take-nil n)
-take-both (suc m) n (x ∷ xs) = ap (λ k. take k (x ∷ xs)) (let same : suc m + n ≡ suc (m + n) = omega arith in same) ∙ ap (λ rest. x ∷ rest) (take-both m n xs)
+take-both (suc m) n (x ∷ xs) = ap (λ k. take k (x ∷ xs)) (let same : suc m + n ≡ suc (m + n) = omega arith in same)
+    ∙ ap (λ rest. x ∷ rest) (take-both m n xs)
 
 drop-none : {A : Type 0} (k : ℕ) → drop {A = A} k [] ≡ []
 drop-none zero = refl
@@ -24,10 +27,12 @@ drop-none (suc k) = refl
 drop-both : {A : Type 0} (m n : ℕ) (xs : List A) → drop m (drop n xs) ≡ drop (n + m) xs
 drop-both m zero xs = ap (λ k. drop k xs) (let same : m ≡ 0 + m = omega arith in same)
 drop-both m (suc n) [] = drop-none m ∙ sym (drop-none (suc n + m))
-drop-both m (suc n) (x ∷ xs) = drop-both m n xs ∙ ap (λ k. drop k (x ∷ xs)) (let same : suc (n + m) ≡ suc n + m = omega arith in same)
+drop-both m (suc n) (x ∷ xs) =
+    drop-both m n xs ∙ ap (λ k. drop k (x ∷ xs)) (let same : suc (n + m) ≡ suc n + m = omega arith in same)
 
 -- two parts, one behind the other
-pub slice-join : {A : Type 0} (xs : List A) (a b c : ℕ) → a ≤ b → b ≤ c → slice_range xs a b ++ slice_range xs b c ≡ slice_range xs a c
+pub slice-join : {A : Type 0} (xs : List A) (a b c : ℕ) → a ≤ b → b ≤ c →
+    slice_range xs a b ++ slice_range xs b c ≡ slice_range xs a c
 slice-join xs a b c first second =
     let all : (b - a) + (c - b) ≡ c - a = omega arith in
     let here : a + (b - a) ≡ b = omega arith in
@@ -39,13 +44,16 @@ slice-none xs a = ap (λ k. take k (drop a xs)) (let none : a - a ≡ 0 = omega 
 
 -- a part of a line
 pub slice-line : (lines : List LineContent) (k from to : ℕ) → k < length lines → from ≤ to → to ≤ length_at lines k
-    → slice_range (characters (whole lines).columns) (start_of lines k + from) (start_of lines k + to) ≡ slice_range (characters (line_at lines k).columns) from to
+    → slice_range (characters (whole lines).columns) (start_of lines k + from) (start_of lines k + to)
+    ≡ slice_range (characters (line_at lines k).columns) from to
 slice-line lines k from to within ordered inside =
     let of = λ (column : Column). column.character in
     let front = (whole (take k lines)).columns in
     let line = (line_at lines k).columns in
     let back = (whole (drop (suc k) lines)).columns in
-    let row = ap (λ (row : LineContent). characters row.columns) (whole-at lines k (line_at lines k) (there lines k within)) ∙ map-append of front (line ++ back) ∙ ap (λ rest. characters front ++ rest) (map-append of line back) in
+    let row = ap (λ (row : LineContent). characters row.columns)
+    (whole-at lines k (line_at lines k) (there lines k within)) ∙ map-append of front (line ++ back)
+    ∙ ap (λ rest. characters front ++ rest) (map-append of line back) in
     let long : length (characters front) ≡ length front = length-map front of in
     let wide : length (characters line) ≡ length line = length-map line of in
     let at : start_of lines k + from ≡ length (characters front) + from = omega (arith, long) in
@@ -55,13 +63,29 @@ slice-line lines k from to within ordered inside =
     (ap (λ n. drop n (characters front ++ (characters line ++ characters back))) at
     ∙ drop-append-add (characters front) (characters line ++ characters back) from
     ∙ drop-append-le from (characters line) (characters back) (omega (arith, wide)))
-    ∙ take-append-le (to - from) (drop from (characters line)) (characters back) (omega (arith, wide, length-drop from (characters line)))
+    ∙ take-append-le (to - from) (drop from (characters line)) (characters back)
+    (omega (arith, wide, length-drop from (characters line)))
 
-pub slice-content : (lines : List LineContent) (from to : ℕ) → slice_range (cell_characters (content_of lines).cells) from to ≡ slice_range (characters (whole lines).columns) from to
+-- the front of a line that is lent
+pub slice-front : (lines : List LineContent) (k to : ℕ) (line : LineContent) → slice_get lines k ≡ Some line →
+    k < length lines → to ≤ length line.columns → slice_range (characters line.columns) 0 to
+    ≡ slice_range (characters (whole lines).columns) (start_of lines k) (start_of lines k + to)
+slice-front lines k to line is within inside =
+    let inner : to ≤ length_at lines k = omega (arith, inside, lent-length lines k line is) in
+    let here : start_of lines k + 0 ≡ start_of lines k = omega arith in
+    let none : 0 ≤ to = omega arith in
+    ap (λ (here : LineContent). slice_range (characters here.columns) 0 to) (sym (lent lines k line is))
+    ∙ sym (slice-line lines k 0 to within none inner)
+    ∙ ap (λ n. slice_range (characters (whole lines).columns) n (start_of lines k + to)) here
+
+pub slice-content : (lines : List LineContent) (from to : ℕ) →
+    slice_range (cell_characters (content_of lines).cells) from to
+    ≡ slice_range (characters (whole lines).columns) from to
 slice-content lines from to = ap (λ text. slice_range text from to) (characters-content lines)
 
 -- an offset that isn't behind another isn't in a later line
-pub at-ordered : (lines : List LineContent) (start first column end last to : ℕ) → IsAt lines start first column → IsAt lines end last to → start ≤ end → first ≤ last
+pub at-ordered : (lines : List LineContent) (start first column end last to : ℕ) → IsAt lines start first column →
+    IsAt lines end last to → start ≤ end → first ≤ last
 at-ordered lines start first column end last to at there ordered =
     elim (cases_lt last first) [
       | inl less ↦ absurd (omega (arith, at-before lines end last to first there less at.within, at.behind, ordered))
@@ -69,38 +93,66 @@ at-ordered lines start first column end last to at there ordered =
     ]
 
 -- two offsets in one line
-pub copied-line : (lines : List LineContent) (start first column end last to : ℕ) (text : List ℕ) → IsAt lines start first column → IsAt lines end last to → start ≤ end → end ≤ length (whole lines).columns
-    → first ≡ last → text ≡ slice_range (characters (line_at lines first).columns) column to → text ≡ slice_range (cell_characters (content_of lines).cells) start end
-copied-line lines start first column end last to text at there ordered within same is =
-    let starts = ap (start_of lines) same in
-    let longs = ap (length_at lines) same in
-    let inner : to ≤ length_at lines first = omega (arith, longs, at-within lines end last to there within) in
-    let less : column ≤ to = omega (arith, at.behind, there.behind, starts, ordered) in
-    let to_is : start_of lines first + to ≡ end = omega (arith, there.behind, starts) in
-    is ∙ sym (slice-line lines first column to at.within less inner)
-    ∙ ap₂ (slice_range (characters (whole lines).columns)) (sym at.behind) to_is ∙ sym (slice-content lines start end)
+pub copied-line : (lines : List LineContent) (start first column end to : ℕ) (line : LineContent) (text : List ℕ) →
+    IsAt lines start first column → slice_get lines first ≡ Some line → start ≤ end → to ≡ column + (end - start)
+    → to ≤ length line.columns → text ≡ slice_range (characters line.columns) column to →
+    text ≡ slice_range (cell_characters (content_of lines).cells) start end
+copied-line lines start first column end to line text at here ordered to_is inside is =
+    let inner : to ≤ length_at lines first = omega (arith, inside, lent-length lines first line here) in
+    let less : column ≤ to = omega (arith, to_is) in
+    let end_is : start_of lines first + to ≡ end = omega (arith, at.behind, to_is, ordered) in
+    is ∙ ap (λ (l : LineContent). slice_range (characters l.columns) column to) (sym (lent lines first line here))
+    ∙ sym (slice-line lines first column to at.within less inner)
+    ∙ ap₂ (slice_range (characters (whole lines).columns)) (sym at.behind) end_is ∙ sym (slice-content lines start end)
+
+-- an offset behind a line is in a later line
+pub at-later : (lines : List LineContent) (start first column end last to : ℕ) → IsAt lines start first column →
+    IsAt lines end last to → start ≤ end → end ≤ length (whole lines).columns →
+    length_at lines first < column + (end - start) → first < last
+at-later lines start first column end last to at there ordered within behind =
+    elim (cases_lt first last) [
+      | inl less ↦ less
+      | inr more ↦
+          let up = at-ordered lines start first column end last to at there ordered in
+          let same : first ≡ last = omega (arith, up, more) in
+          absurd (omega (
+            arith,
+            at.behind,
+            there.behind,
+            ap (start_of lines) same,
+            ap (length_at lines) same,
+            at-within lines end last to there within,
+            behind,
+          ))
+    ]
 
 -- the rest of a line, the lines up to another, and a part of that
-pub copied-lines : (lines : List LineContent) (start first column end last to : ℕ) (one two three : List ℕ) → IsAt lines start first column → IsAt lines end last to → start ≤ end → end ≤ length (whole lines).columns
+pub copied-lines : (lines : List LineContent) (start first column end last to : ℕ) (one two three : List ℕ) →
+    IsAt lines start first column → IsAt lines end last to → start ≤ end → end ≤ length (whole lines).columns
     → first < last → one ≡ slice_range (characters (line_at lines first).columns) column (length_at lines first)
     → two ≡ one ++ slice_range (characters (whole lines).columns) (start_of lines (first + 1)) (start_of lines last)
-    → three ≡ two ++ slice_range (characters (whole lines).columns) (start_of lines last + 0) (start_of lines last + to)
+    → three ≡ two ++ slice_range (characters (whole lines).columns) (start_of lines last) (start_of lines last + to)
     → three ≡ slice_range (cell_characters (content_of lines).cells) start end
 copied-lines lines start first column end last to one two three at there ordered within less one_is two_is three_is =
     let all = characters (whole lines).columns in
-    let inner : column ≤ length_at lines first = at-within lines start first column at (omega (arith, ordered, within)) in
-    let next : start_of lines first + length_at lines first ≡ start_of lines (first + 1) = sym (start-next lines first at.within) ∙ ap (start_of lines) (sym (add-one first)) in
-    let none : start_of lines last + 0 ≡ start_of lines last = omega arith in
+    let inner : column ≤ length_at lines first = at-within lines start first column at (omega (arith, ordered, within))
+    in
+    let next : start_of lines first + length_at lines first
+    ≡ start_of lines (first + 1) = sym (start-next lines first at.within)
+    ∙ ap (start_of lines) (sym (add-one first)) in
     let more : first + 1 ≤ last = omega (arith, less) in
     let same : length_at lines first ≤ length_at lines first = omega arith in
     let front : one ≡ slice_range all start (start_of lines (first + 1)) =
-    one_is ∙ sym (slice-line lines first column (length_at lines first) at.within inner same) ∙ ap₂ (slice_range all) (sym at.behind) next in
+    one_is ∙ sym (slice-line lines first column (length_at lines first) at.within inner same)
+    ∙ ap₂ (slice_range all) (sym at.behind) next in
     let behind : start ≤ start_of lines (first + 1) = omega (arith, at.behind, inner, next) in
     let rises = start-rises lines (first + 1) last more in
     let upto : start ≤ start_of lines last = omega (arith, behind, rises) in
     let rest : start_of lines last ≤ end = omega (arith, there.behind) in
     three_is
-    ∙ ap₂ (λ text part. text ++ part) (two_is ∙ ap (λ text. text ++ slice_range all (start_of lines (first + 1)) (start_of lines last)) front ∙ slice-join all start (start_of lines (first + 1)) (start_of lines last) behind rises)
-    (ap₂ (slice_range all) none (sym there.behind))
+    ∙ ap₂ (λ text part. text ++ part) (two_is
+    ∙ ap (λ text. text ++ slice_range all (start_of lines (first + 1)) (start_of lines last)) front
+    ∙ slice-join all start (start_of lines (first + 1)) (start_of lines last) behind rises)
+    (ap (slice_range all (start_of lines last)) (sym there.behind))
     ∙ slice-join all start (start_of lines last) end upto rest
     ∙ sym (slice-content lines start end)

@@ -1,5 +1,7 @@
 -- What the list over a `Vec` makes of its lines is what a text may be.
-use Rattle.std.proofs.Common.{◌≡◌, ℕ, ◌+◌, ◌-◌, ◌<◌, ◌≤◌, Bool, true, false, cond, List, [], ◌∷◌, ◌++◌, Option, None, Some, get_or, length, map, take, drop, refl, set, sym, ap, ap₂, subst, ◌∙◌, arith, length-append, take-append-drop}
+use Rattle.std.proofs.Common.{◌≡◌, ℕ, ◌+◌, ◌-◌, ◌<◌, ◌≤◌, Bool, true, false, cond, List, [], ◌∷◌, ◌++◌, Option, None}
+use Rattle.std.proofs.Common.{Some, get_or, length, map, take, drop, refl, set, sym, ap, ap₂, subst, ◌∙◌, arith}
+use Rattle.std.proofs.Common.{length-append, take-append-drop}
 use Rattle.std.specs.Cmp.{nat_cmp_total}
 use Rattle.std.specs.FinMap as finite
 use Rattle.std.specs.Ordering.{eq_by_cmp, nat_cmp}
@@ -20,7 +22,8 @@ use Rattle.line_lists.proofs.CountRows.{counted-part}
 
 -- the part before an index is counted
 pub counted-front : (n : ℕ) (xs : List LineContent) → IsCounted (count_of xs) → IsCounted (count_of (take n xs))
-counted-front n xs all = counted-part (take n xs) (drop n xs) (subst (λ ys. IsCounted (count_of ys)) (sym (take-append-drop n xs)) all)
+counted-front n xs all =
+    counted-part (take n xs) (drop n xs) (subst (λ ys. IsCounted (count_of ys)) (sym (take-append-drop n xs)) all)
 
 -- lines are put in, and those behind them taken out
 pub spliced-made : (from count n : ℕ) (new xs : List LineContent) → from ≤ length xs → n ≡ length new
@@ -28,9 +31,15 @@ pub spliced-made : (from count n : ℕ) (new xs : List LineContent) → from ≤
 spliced-made from count n new xs within is =
     let front = take from xs ++ new in
     let back = drop from xs in
-    let long : length front ≡ from + n = omega (arith, is, length-append (take from xs) new, length-take-le from xs within) in
+    let long : length front ≡ from + n = omega (
+      arith,
+      is,
+      length-append (take from xs) new,
+      length-take-le from xs within,
+    ) in
     ap₂ (λ ys zs. ys ++ zs) (take_at front back (from + n) long)
-    (sym (drop-drop count (from + n) (front ++ back)) ∙ ap (drop count) (drop_at front back (from + n) long) ∙ drop-drop count from xs)
+    (sym (drop-drop count (from + n) (front ++ back)) ∙ ap (drop count) (drop_at front back (from + n) long)
+    ∙ drop-drop count from xs)
 
 -- one line that has its newline alone
 no_mark : (number : ℕ) (place : Place) → finite.get (plain_line (10 ∷ [])).marks number ≡ Some place → ⊥
@@ -40,8 +49,10 @@ newline : chars (10 ∷ []) ≡ 10 ∷ []
 unfolding chars
 newline = refl
 
-pub newline-made : (lines made : List LineContent) (line : LineContent) → made ≡ lines ++ line ∷ [] → lines ≡ [] → line ≡ plain_line (chars (10 ∷ [])) → made ≡ plain_line (10 ∷ []) ∷ []
-newline-made lines made line is none one = is ∙ ap₂ (λ front last. front ++ last ∷ []) none (one ∙ ap plain_line newline)
+pub newline-made : (lines made : List LineContent) (line : LineContent) → made ≡ lines ++ line ∷ [] → lines ≡ [] →
+    line ≡ plain_line (chars (10 ∷ [])) → made ≡ plain_line (10 ∷ []) ∷ []
+newline-made lines made line is none one =
+    is ∙ ap₂ (λ front last. front ++ last ∷ []) none (one ∙ ap plain_line newline)
 
 pub new-lines : (lines : List LineContent) → lines ≡ plain_line (10 ∷ []) ∷ [] → AreLines lines
 new-lines lines is =
@@ -54,16 +65,19 @@ new-lines lines is =
 
 -- the mark of a number is taken from each line
 without_row : (test : Bool) (len : ℕ) (x y : Option Place)
-    → or_else (option_map (later len) (cond test None y)) (cond test None x) ≡ cond test None (or_else (option_map (later len) y) x)
+    → or_else (option_map (later len) (cond test None y)) (cond test None x)
+    ≡ cond test None (or_else (option_map (later len) y) x)
 without_row true len x y = refl
 without_row false len x y = refl
 
-without-joined : (number : ℕ) (first second : LineContent) → joined (without_mark number first) (without_mark number second) ≡ without_mark number (joined first second)
+without-joined : (number : ℕ) (first second : LineContent) →
+    joined (without_mark number first) (without_mark number second) ≡ without_mark number (joined first second)
 without-joined number first second =
     let len = length first.columns in
     let marks = same_marks _ _ (λ q.
     get-joined_marks len (finite.remove first.marks number) (finite.remove second.marks number) q
-    ∙ ap₂ (λ there here. or_else (option_map (later len) there) here) (finite.get-remove nat_cmp_total second.marks number q) (finite.get-remove nat_cmp_total first.marks number q)
+    ∙ ap₂ (λ there here. or_else (option_map (later len) there) here)
+    (finite.get-remove nat_cmp_total second.marks number q) (finite.get-remove nat_cmp_total first.marks number q)
     ∙ without_row (eq_by_cmp nat_cmp q number) len (finite.get first.marks q) (finite.get second.marks q)
     ∙ sym (finite.get-remove nat_cmp_total (joined_marks len first.marks second.marks) number q
     ∙ ap (cond (eq_by_cmp nat_cmp q number) None) (get-joined_marks len first.marks second.marks q))) in
@@ -77,52 +91,74 @@ without-none : (number : ℕ) → plain_line [] ≡ without_mark number (plain_l
 without-none number =
     let marks : finite.empty ≡ finite.remove finite.empty number = same_marks _ _ (λ q.
     finite.get-empty nat_cmp q
-    ∙ sym (finite.get-remove nat_cmp_total finite.empty number q ∙ ap (cond (eq_by_cmp nat_cmp q number) None) (finite.get-empty nat_cmp q) ∙ still_none (eq_by_cmp nat_cmp q number) None refl)) in
+    ∙ sym (finite.get-remove nat_cmp_total finite.empty number q
+    ∙ ap (cond (eq_by_cmp nat_cmp q number) None) (finite.get-empty nat_cmp q)
+    ∙ still_none (eq_by_cmp nat_cmp q number) None refl)) in
     λ i. record { columns = []; marks = marks i }
 
-pub whole-without : (number : ℕ) (lines : List LineContent) → whole (map (without_mark number) lines) ≡ without_mark number (whole lines)
+pub whole-without : (number : ℕ) (lines : List LineContent) →
+    whole (map (without_mark number) lines) ≡ without_mark number (whole lines)
 whole-without number [] = without-none number
-whole-without number (line ∷ lines) = ap (joined (without_mark number line)) (whole-without number lines) ∙ without-joined number line (whole lines)
+whole-without number (line ∷ lines) =
+    ap (joined (without_mark number line)) (whole-without number lines) ∙ without-joined number line (whole lines)
 
-kept_place : (test : Bool) (found : Option Place) (place : Place) → cond test None found ≡ Some place → found ≡ Some place
+kept_place : (test : Bool) (found : Option Place) (place : Place) → cond test None found ≡ Some place →
+    found ≡ Some place
 kept_place true found place is = absurd (let none : None ≡ Some place = is in cc)
 kept_place false found place is = is
 
 -- a mark that is left stood there before
-stood : (number : ℕ) (marks : Marks) (q : ℕ) (place : Place) → finite.get (finite.remove marks number) q ≡ Some place → finite.get marks q ≡ Some place
-stood number marks q place is = kept_place (eq_by_cmp nat_cmp q number) (finite.get marks q) place (sym (finite.get-remove nat_cmp_total marks number q) ∙ is)
+stood : (number : ℕ) (marks : Marks) (q : ℕ) (place : Place) → finite.get (finite.remove marks number) q ≡ Some place →
+    finite.get marks q ≡ Some place
+stood number marks q place is = kept_place (eq_by_cmp nat_cmp q number) (finite.get marks q) place
+    (sym (finite.get-remove nat_cmp_total marks number q) ∙ is)
 
-apart-without : (number : ℕ) (first second : Marks) → AreApart first second → AreApart (finite.remove first number) (finite.remove second number)
+apart-without : (number : ℕ) (first second : Marks) → AreApart first second →
+    AreApart (finite.remove first number) (finite.remove second number)
 apart-without number first second apart = λ q place is.
-    finite.get-remove nat_cmp_total second number q ∙ still_none (eq_by_cmp nat_cmp q number) (finite.get second q) (apart q place (stood number first q place is))
+    finite.get-remove nat_cmp_total second number q
+    ∙ still_none (eq_by_cmp nat_cmp q number) (finite.get second q) (apart q place (stood number first q place is))
 
-before-without : (number : ℕ) (line : LineContent) (lines : List LineContent) → GoesBefore line lines → GoesBefore (without_mark number line) (map (without_mark number) lines)
+before-without : (number : ℕ) (line : LineContent) (lines : List LineContent) → GoesBefore line lines →
+    GoesBefore (without_mark number line) (map (without_mark number) lines)
 before-without number line [] goes = λ q place is. goes q place (stood number line.marks q place is)
 before-without number line (next ∷ lines) goes = (
   (λ q place is. goes.0 q place (stood number line.marks q place is)),
-  subst (λ (rest : LineContent). AreApart (finite.remove line.marks number) rest.marks) (sym (whole-without number (next ∷ lines)))
+  subst (λ (rest : LineContent). AreApart (finite.remove line.marks number) rest.marks)
+      (sym (whole-without number (next ∷ lines)))
       (apart-without number line.marks (whole (next ∷ lines)).marks goes.1),
 )
 
 rows-without : (number : ℕ) (lines : List LineContent) → AreRows lines → AreRows (map (without_mark number) lines)
 rows-without number [] rows = tt
-rows-without number (line ∷ lines) rows =
-    (record { ends = rows.0.ends; once = rows.0.once }, before-without number line lines rows.1, rows-without number lines rows.2)
+rows-without number (line ∷ lines) rows = (
+  record { ends = rows.0.ends; once = rows.0.once },
+  before-without number line lines rows.1,
+  rows-without number lines rows.2,
+)
 
 fewer : (test : Bool) (n m : ℕ) → n ≡ cond test (m - 1) m → n ≤ m
 fewer true n m is = omega (arith, is)
 fewer false n m is = omega (arith, is)
 
-pub marks-without : (number : ℕ) (lines : List LineContent) → (count_of (map (without_mark number) lines)).marks ≤ (count_of lines).marks
+pub marks-without : (number : ℕ) (lines : List LineContent) →
+    (count_of (map (without_mark number) lines)).marks ≤ (count_of lines).marks
 marks-without number [] = omega arith
 marks-without number (line ∷ lines) =
-    omega (arith, marks-without number lines, fewer (finite.contains_key line.marks number) (finite.len (finite.remove line.marks number)) (finite.len line.marks) (finite.len-remove nat_cmp_total line.marks number))
+    omega (
+      arith,
+      marks-without number lines,
+      fewer (finite.contains_key line.marks number) (finite.len (finite.remove line.marks number))
+          (finite.len line.marks) (finite.len-remove nat_cmp_total line.marks number),
+    )
 
-pub characters-without : (number : ℕ) (lines : List LineContent) → (count_of (map (without_mark number) lines)).characters ≡ (count_of lines).characters
+pub characters-without : (number : ℕ) (lines : List LineContent) →
+    (count_of (map (without_mark number) lines)).characters ≡ (count_of lines).characters
 characters-without number [] = refl
 characters-without number (line ∷ lines) = ap (λ n. length line.columns + n) (characters-without number lines)
 
-pub lines-without : (number : ℕ) (lines : List LineContent) → (count_of (map (without_mark number) lines)).lines ≡ (count_of lines).lines
+pub lines-without : (number : ℕ) (lines : List LineContent) →
+    (count_of (map (without_mark number) lines)).lines ≡ (count_of lines).lines
 lines-without number [] = refl
 lines-without number (line ∷ lines) = ap (λ n. 1 + n) (lines-without number lines)
 
@@ -130,7 +166,8 @@ lines-without number (line ∷ lines) = ap (λ n. 1 + n) (lines-without number l
 pub written-over : (n : ℕ) (new xs : List LineContent) → length new ≡ n → take n (new ++ drop (length new) xs) ≡ new
 written-over n new xs long = take_at new (drop (length new) xs) n long
 
-pub lines-are-without : (number : ℕ) (lines : List LineContent) → AreLines lines → AreLines (map (without_mark number) lines)
+pub lines-are-without : (number : ℕ) (lines : List LineContent) → AreLines lines →
+    AreLines (map (without_mark number) lines)
 lines-are-without number lines are = record {
   some = omega (arith, are.some, length-map lines (without_mark number));
   rows = rows-without number lines are.rows;
@@ -141,9 +178,12 @@ lines-are-without number lines are = record {
   };
 }
 
-pub without-more : (number : ℕ) (old lines : List LineContent) (i : ℕ) (item new : LineContent) → i < length old → lines ≡ map (without_mark number) (take i old) ++ drop i old
-    → item ≡ get_or lines i item → new.columns ≡ (get_or lines i item).columns → new.marks ≡ finite.remove (get_or lines i item).marks number
+pub without-more : (number : ℕ) (old lines : List LineContent) (i : ℕ) (item new : LineContent) → i < length old →
+    lines ≡ map (without_mark number) (take i old) ++ drop i old
+    → item ≡ get_or lines i item → new.columns ≡ (get_or lines i item).columns →
+    new.marks ≡ finite.remove (get_or lines i item).marks number
     → set lines i new ≡ map (without_mark number) (take (i + 1) old) ++ drop (i + 1) old
 without-more number old lines i item new within so_far is columns marks =
     let made : new ≡ without_mark number (get_or lines i item) = λ k. record { columns = columns k; marks = marks k } in
-    ap (set lines i) (made ∙ ap (without_mark number) (sym is)) ∙ map_over_more (without_mark number) old lines i item within so_far is
+    ap (set lines i) (made ∙ ap (without_mark number) (sym is))
+    ∙ map_over_more (without_mark number) old lines i item within so_far is

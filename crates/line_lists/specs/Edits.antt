@@ -3,7 +3,8 @@ use Rattle.std.specs.Prelude.{ℕ, false, length, map}
 use Rattle.std.specs.FinMap as finite
 use Rattle.text_model.specs.declared.places.Place.{Place}
 use Rattle.text_model.specs.declared.edits.Step.{Step}
-use Rattle.text_model.specs.declared.edits.Step.TheVariants.{Remove, Insert, SetTag, ClearTags, ClearSlot, PutMark, TakeMark}
+use Rattle.text_model.specs.declared.edits.Step.TheVariants.{Remove, Insert, SetTag, ClearTags, ClearSlot, PutMark}
+use Rattle.text_model.specs.declared.edits.Step.TheVariants.{TakeMark}
 use Rattle.text_model.specs.Content.{Slots, map_marks}
 use Rattle.text_model.specs.Splices.{moved}
 use Rattle.segments.specs.Columns.{LineContent, after_removal, with_toggle}

@@ -1,9 +1,11 @@
-ghost use Rattle.std.specs.Prelude.{◌≡◌, ◌+◌, ◌-◌, ◌<◌, ◌≤◌, ◌^◌, List, [], ◌∷◌, ◌++◌, None, IfOk, IfSome, OnOk, drop, length, min, slice_get, take, true, vec_len};
+ghost use Rattle.std.specs.Prelude.{◌≡◌, ◌+◌, ◌-◌, ◌<◌, ◌≤◌, ◌^◌, List, [], ◌∷◌, ◌++◌, None, IfOk, IfSome, OnOk, drop};
+ghost use Rattle.std.specs.Prelude.{length, min, slice_get, take, true, vec_len};
 ghost use Rattle.text_model.specs.SlotSets.{differing};
 ghost use Rattle.segments.specs.Columns.{LineContent};
 ghost use Rattle.text_model.specs.TagBits.{slot_count};
 ghost use Rattle.line_lists.specs.Clearing.{AreFree, free_end, place_of};
-ghost use Rattle.line_lists.specs.Drafts.{BeginsBehind, BeginsBy, IsDraft, IsReached, IsText, copies_of, drafted_at, made_lines, text_at};
+ghost use Rattle.line_lists.specs.Drafts.{BeginsBehind, BeginsBy, IsDraft, IsReached, IsText, copies_of, drafted_at};
+ghost use Rattle.line_lists.specs.Drafts.{made_lines, text_at};
 ghost use Rattle.line_lists.specs.Edits.{with_cleared};
 ghost use Rattle.line_lists.specs.Lists.{has_toggle};
 ghost use Rattle.line_lists.specs.Texts.{whole};
@@ -56,17 +58,20 @@ impl Reached {
 }
 
 impl<'a, L: LineList> Draft<'a, L> {
-    /// The slots that are on behind so many characters, of which the next is one of the last copy's before the place.
-    fn copied_tags(&self, offset: usize) -> TagSet
+    /// The slots that are on behind so many characters, of which the next is one of the last copy's before the place,
+    /// where the copies end at another offset.
+    fn copied_tags(&self, offset: usize, end: usize) -> TagSet
         requires is { IsDraft (L.lines self.now.list.now) self.now.front.items self.now.back.items }
         requires begun { BeginsBy (L.lines self.now.list.now) offset self.now.front.items }
-        requires within { offset
-            < length (whole (made_lines (copies_of self.now.front.items) (L.lines self.now.list.now))).columns }
+        requires end { end
+            ≡ length (whole (made_lines (copies_of self.now.front.items) (L.lines self.now.list.now))).columns }
+        requires within { offset < end }
         ensures { result ≡ tags_behind (take offset
             (text_at (L.lines self.now.list.now) self.now.front.items self.now.back.items).columns) }
     {
         let stop = self.front.last().unwrap();
-        let column = offset - stop.reached.start(self.list, &stop.copy);
+        let start = end - stop.copy.line.len();
+        let column = offset - start;
         let before = stop.reached.tags_behind(self.list, stop.copy.kept);
         before.differing(&stop.copy.line.tags_behind(column))
     }
@@ -103,7 +108,7 @@ impl<'a, L: LineList> Draft<'a, L> {
         self.forth_to(offset)?;
         let reached = self.reached();
         if offset < reached.characters {
-            return Ok(self.copied_tags(offset));
+            return Ok(self.copied_tags(offset, reached.characters));
         }
         Ok(self.kept_tags(&reached, offset))
     }

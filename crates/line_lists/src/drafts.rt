@@ -1,9 +1,12 @@
-ghost use Rattle.std.specs.Prelude.{◌≡◌, ℕ, ◌+◌, ◌-◌, ◌<◌, ◌≤◌, ◌^◌, List, ◌∷◌, [], ◌++◌, IfOk, OnOk, drop, length, take, vec_len, vec_capacity, true, false, chars, None};
+ghost use Rattle.std.specs.Prelude.{◌≡◌, ℕ, ◌+◌, ◌-◌, ◌<◌, ◌≤◌, ◌^◌, List, ◌∷◌, [], ◌++◌, IfOk, OnOk, drop, length};
+ghost use Rattle.std.specs.Prelude.{take, vec_len, vec_capacity, true, false, chars, None};
 ghost use Rattle.std.specs.FinMap as finite;
 ghost use Rattle.text_model.specs.Lines.{lines};
 ghost use Rattle.segments.specs.Columns.{LineContent, after_text};
 ghost use Rattle.line_lists.specs.Texts.{whole};
-ghost use Rattle.line_lists.specs.Drafts.{BeginsBehind, BeginsBy, CanFollow, IsDraft, IsFound, IsReached, IsTaken, IsText, NextBegins, StandsAt, StandsBy, copies_of, drafted_at, line_start, lines_before, made_lines, taken_lines, text_at};
+ghost use Rattle.line_lists.specs.Drafts.{BeginsBehind, BeginsBy, CanFollow, IsDraft, IsFound, IsReached, IsTaken};
+ghost use Rattle.line_lists.specs.Drafts.{IsText, NextBegins, StandsAt, StandsBy, copies_of, drafted_at, line_start};
+ghost use Rattle.line_lists.specs.Drafts.{lines_before, made_lines, taken_lines, text_at};
 ghost use Rattle.line_lists.specs.Edits.{with_mark, with_toggled, without_mark};
 
 use crate::lists::LineList;
@@ -178,10 +181,12 @@ impl<'a, L: LineList> Draft<'a, L> {
         ensures begun { result ≡ false →
             NextBegins (L.lines self.now.list.now) offset self.now.front.items self.now.back.items }
     {
-        let reached = self.reached();
         match self.back.last() {
             None => true,
-            Some(copy) => offset < reached.start(self.list, copy),
+            Some(copy) => {
+                let reached = self.reached();
+                offset < reached.start(self.list, copy)
+            }
         }
     }
 
@@ -230,22 +235,27 @@ impl<'a, L: LineList> Draft<'a, L> {
         self.list.locate(offset - reached.characters + before)
     }
 
-    /// Takes the last copy before the place out, whose line holds an offset.
-    fn take_last(&mut self, offset: usize) -> Found
+    /// Takes the last copy before the place out, whose line holds an offset, where the copies end at another one.
+    fn take_last(&mut self, offset: usize, end: usize) -> Found
         requires is { IsDraft (L.lines self.old.list.now) self.old.front.items self.old.back.items }
         requires begun { BeginsBy (L.lines self.old.list.now) offset self.old.front.items }
-        requires within { offset
-            < length (whole (made_lines (copies_of self.old.front.items) (L.lines self.old.list.now))).columns }
+        requires end { end
+            ≡ length (whole (made_lines (copies_of self.old.front.items) (L.lines self.old.list.now))).columns }
+        requires within { offset < end }
         ensures list { self.new.list.now ≡ self.old.list.now }
         ensures taken { IsTaken (L.lines self.new.list.now) self.new.front.items self.new.back.items result.stop }
         ensures same { taken_lines (L.lines self.new.list.now) self.new.front.items self.new.back.items result.stop.copy
             ≡ drafted_at (L.lines self.old.list.now) self.old.front.items self.old.back.items }
-        ensures place { StandsAt (L.lines self.new.list.now) self.new.front.items result.stop.copy offset result.column }
+        ensures place { StandsAt (L.lines self.new.list.now) self.new.front.items result.stop.copy offset
+            result.column }
         ensures room { vec_len self.new.front < vec_capacity self.new.front }
     {
         let stop = self.front.pop().unwrap();
-        let column = offset - stop.reached.start(self.list, &stop.copy);
-        Found { stop, column }
+        let start = end - stop.copy.line.len();
+        Found {
+            stop,
+            column: offset - start,
+        }
     }
 
     /// Copies the line of the list that holds an offset behind all copies.
@@ -335,7 +345,7 @@ impl<'a, L: LineList> Draft<'a, L> {
         self.front.reserve(1)?;
         let reached = self.reached();
         if offset < reached.characters {
-            return Ok(self.take_last(offset));
+            return Ok(self.take_last(offset, reached.characters));
         }
         match self.back.pop() {
             None => self.copy_rest(reached, offset),

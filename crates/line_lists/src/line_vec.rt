@@ -170,6 +170,11 @@ impl LineList for LineVec {
         find_column(&self.lines, offset)
     }
 
+    fn line_at(&self, offset: usize) -> (usize, usize, &Line) {
+        let (index, column) = find_column(&self.lines, offset);
+        (index, column, &self.lines[index])
+    }
+
     fn start(&self, line: usize) -> usize {
         sum_of(&self.lines[..line]).characters()
     }

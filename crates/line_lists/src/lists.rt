@@ -1,10 +1,12 @@
-ghost use Rattle.std.specs.Prelude.{◌≡◌, ℕ, ◌+◌, ◌<◌, ◌≤◌, List, [], ◌∷◌, length, map, take, slice_get, Some, IfOk, OnOk};
+ghost use Rattle.std.specs.Prelude.{◌≡◌, ℕ, ◌+◌, ◌<◌, ◌≤◌, List, [], ◌∷◌, length, map, take, slice_get, Some, IfOk};
+ghost use Rattle.std.specs.Prelude.{OnOk};
 ghost use Rattle.std.specs.List.{All};
 ghost use Rattle.text_model.specs.TagBits.{slot_count};
 ghost use Rattle.toggle_sums.specs.Counts.{plus};
 ghost use Rattle.segments.specs.Columns.{LineContent, plain_line};
 ghost use Rattle.line_lists.specs.Edits.{without_mark};
-ghost use Rattle.line_lists.specs.Lists.{AreLines, Holds, IsCounted, NumbersBelow, count_of, has_mark, has_marks, has_toggle, next_line, previous_line, spliced};
+ghost use Rattle.line_lists.specs.Lists.{AreLines, Holds, IsCounted, NumbersBelow, count_of, has_mark, has_marks};
+ghost use Rattle.line_lists.specs.Lists.{has_toggle, next_line, previous_line, spliced};
 ghost use Rattle.line_lists.specs.Texts.{whole};
 
 use segments::Line;
@@ -45,6 +47,12 @@ pub trait LineList: Drop {
     fn locate(&self, offset: usize) -> (usize, usize)
         requires { offset < length (whole (lines self.now)).columns }
         ensures { Holds (lines self.now) offset result.0 result.1 };
+
+    /// The line that holds an offset, lent, behind its number and the column there.
+    fn line_at(&self, offset: usize) -> (usize, usize, &Line)
+        requires { offset < length (whole (lines self.now)).columns }
+        ensures place { Holds (lines self.now) offset result.0 result.1 }
+        ensures line { slice_get (lines self.now) result.0 ≡ Some result.2.now };
 
     /// How many characters stand before a line; all of them, for the line behind the last.
     fn start(&self, line: usize) -> usize

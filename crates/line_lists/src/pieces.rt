@@ -4,7 +4,8 @@ ghost use Rattle.toggle_sums.specs.Counts.{plus};
 ghost use Rattle.segments.specs.Columns.{LineContent};
 ghost use Rattle.line_lists.specs.Drafts.{IsDraft, IsText, copies_of, drafted_at};
 ghost use Rattle.line_lists.specs.Lists.{IsCounted, NumbersBelow, count_of};
-ghost use Rattle.line_lists.specs.Pieces.{CanPlace, copied_lines, freed, named, numbers_in, numbers_of, piece_lines, placed};
+ghost use Rattle.line_lists.specs.Pieces.{CanPlace, copied_lines, freed, named, numbers_in, numbers_of, piece_lines};
+ghost use Rattle.line_lists.specs.Pieces.{placed};
 
 use crate::drafts::{Copied, Draft};
 use crate::lists::LineList;

@@ -1,6 +1,7 @@
 //! The queries of a text over any list of its lines: sums say where a line stands, the rest is asked of that line.
 
-ghost use Rattle.std.specs.Prelude.{◌≡◌, ◌+◌, ◌<◌, ◌≤◌, ◌++◌, length, take, slice_get, slice_range, Some, IfSome, IfOk, OnOk, chars, string_bytes};
+ghost use Rattle.std.specs.Prelude.{◌≡◌, ◌+◌, ◌<◌, ◌≤◌, ◌++◌, length, take, slice_get, slice_range, Some, IfSome, IfOk};
+ghost use Rattle.std.specs.Prelude.{OnOk, chars, string_bytes};
 ghost use Rattle.std.specs.FinMap as finite;
 ghost use Rattle.text_model.specs.Changes.{next_change, previous_change};
 ghost use Rattle.text_model.specs.Content.{characters, flags, slot_sets};
@@ -12,6 +13,7 @@ ghost use Rattle.line_lists.specs.Places.{IsAt};
 ghost use Rattle.line_lists.specs.Texts.{content_of, whole};
 
 use crate::lists::LineList;
+use segments::Line;
 use std::alloc::AllocError;
 use text_model::{MarkNo, Place, TagSet, TagSlot};
 
@@ -34,8 +36,8 @@ pub fn char_at<L: LineList>(list: &L, offset: usize) -> char
     requires { offset < length (content_of (L.lines list.now)).cells }
     ensures { slice_get (characters (content_of (L.lines list.now)).cells) offset ≡ Some result }
 {
-    let (index, column) = list.locate(offset);
-    list.line(index).char_at(column)
+    let (_, column, line) = list.line_at(offset);
+    line.char_at(column)
 }
 
 /// The tags of the character at an offset.
@@ -43,8 +45,8 @@ pub fn tags_at<L: LineList>(list: &L, offset: usize) -> TagSet
     requires { offset < length (content_of (L.lines list.now)).cells }
     ensures { slice_get (slot_sets (content_of (L.lines list.now)).cells) offset ≡ Some result }
 {
-    let (index, column) = list.locate(offset);
-    let here = list.line(index).tags_before(column);
+    let (index, column, line) = list.line_at(offset);
+    let here = line.tags_before(column);
     list.odd_slots(index).differing(&here)
 }
 
@@ -77,15 +79,17 @@ pub fn line_of<L: LineList>(list: &L, offset: usize) -> usize
     list.locate(offset).0
 }
 
-/// The line that holds an offset, and the column there; from the end of the text on they are those of the last line.
-fn place_of<L: LineList>(list: &L, offset: usize) -> (usize, usize)
-    ensures { IsAt (L.lines list.now) offset result.0 result.1 }
+/// The line that holds an offset, lent, behind its number and the column there; from the end of the text on it is the
+/// last line.
+fn place_of<L: LineList>(list: &L, offset: usize) -> (usize, usize, &Line)
+    ensures place { IsAt (L.lines list.now) offset result.0 result.1 }
+    ensures line { slice_get (L.lines list.now) result.0 ≡ Some result.2.now }
 {
     if offset < len(list) {
-        return list.locate(offset);
+        return list.line_at(offset);
     }
     let last = list.len() - 1;
-    (last, offset - list.start(last))
+    (last, offset - list.start(last), list.line(last))
 }
 
 /// The offset of a column of a line.
@@ -117,8 +121,8 @@ pub fn next_mark<L: LineList>(list: &L, offset: usize) -> Option<usize>
     ensures above { IfSome result (λ next. offset ≤ next) }
     ensures bound { IfSome result (λ next. next ≤ length (content_of (L.lines list.now)).cells) }
 {
-    let (index, column) = place_of(list, offset);
-    if let Some(next) = list.line(index).next_mark(column) {
+    let (index, column, here) = place_of(list, offset);
+    if let Some(next) = here.next_mark(column) {
         return Some(offset_of(list, index, next));
     }
     let later = list.next_marked(index + 1)?;
@@ -132,8 +136,8 @@ pub fn previous_mark<L: LineList>(list: &L, offset: usize) -> Option<usize>
     ensures below { IfSome result (λ previous. previous < offset) }
     ensures bound { IfSome result (λ previous. previous ≤ length (content_of (L.lines list.now)).cells) }
 {
-    let (index, column) = place_of(list, offset);
-    if let Some(previous) = list.line(index).previous_mark(column) {
+    let (index, column, here) = place_of(list, offset);
+    if let Some(previous) = here.previous_mark(column) {
         return Some(offset_of(list, index, previous));
     }
     let earlier = list.previous_marked(index)?;
@@ -146,8 +150,8 @@ pub fn previous_mark<L: LineList>(list: &L, offset: usize) -> Option<usize>
 pub fn mark_at<L: LineList>(list: &L, offset: usize, index: usize) -> Option<MarkNo>
     ensures { result ≡ slice_get (marks_at offset (content_of (L.lines list.now)).marks) index }
 {
-    let (line, column) = place_of(list, offset);
-    list.line(line).mark_at(column, index)
+    let (_, column, line) = place_of(list, offset);
+    line.mark_at(column, index)
 }
 
 /// Where the run of characters that are like the one at an offset in a tag ends: the least offset above it at which the
@@ -159,8 +163,8 @@ pub fn next_change<L: LineList>(list: &L, offset: usize, slot: TagSlot) -> usize
     ensures above { offset < result }
     ensures bound { result ≤ length (content_of (L.lines list.now)).cells }
 {
-    let (index, column) = list.locate(offset);
-    if let Some(next) = list.line(index).next_toggle(column + 1, slot) {
+    let (index, column, here) = list.line_at(offset);
+    if let Some(next) = here.next_toggle(column + 1, slot) {
         return offset_of(list, index, next);
     }
     match list.next_with(slot, index + 1) {
@@ -180,8 +184,8 @@ pub fn previous_change<L: LineList>(list: &L, offset: usize, slot: TagSlot) -> u
     ensures value { result ≡ previous_change (flags slot.0 (content_of (L.lines list.now)).cells) offset }
     ensures below { result < offset }
 {
-    let (index, column) = place_of(list, offset);
-    if let Some(previous) = list.line(index).previous_toggle(column, slot) {
+    let (index, column, here) = place_of(list, offset);
+    if let Some(previous) = here.previous_toggle(column, slot) {
         return offset_of(list, index, previous);
     }
     match list.previous_with(slot, index) {
@@ -194,27 +198,6 @@ pub fn previous_change<L: LineList>(list: &L, offset: usize, slot: TagSlot) -> u
             }
         }
     }
-}
-
-/// Adds the characters of a line from one column to another to a text.
-fn push_part<L: LineList>(
-    list: &L,
-    index: usize,
-    from: usize,
-    to: usize,
-    text: &mut String,
-) -> Result<(), AllocError>
-    requires known { index < length (L.lines list.now) }
-    requires ordered { from ≤ to }
-    requires within { IfSome (slice_get (L.lines list.now) index) (λ line. to ≤ length line.columns) }
-    ensures { OnOk result (chars (string_bytes text.new) ≡ chars (string_bytes text.old)
-        ++ slice_range (line_characters (whole (L.lines list.now)).columns)
-        (length (whole (take index (L.lines list.now))).columns + from)
-        (length (whole (take index (L.lines list.now))).columns + to)) }
-{
-    let part = list.line(index).copy_text(from, to)?;
-    text.push_str(&part)?;
-    Ok(())
 }
 
 /// Adds the characters of the lines from one to another to a text.
@@ -232,7 +215,8 @@ fn push_lines<L: LineList>(
         (length (whole (take to (L.lines list.now))).columns)) }
 {
     for index in from..to {
-        push_part(list, index, 0, list.line(index).len(), text)?;
+        let line = list.line(index);
+        line.push_text(0, line.len(), text)?;
     }
     Ok(())
 }
@@ -244,14 +228,16 @@ pub fn copy_text<L: LineList>(list: &L, start: usize, end: usize) -> Result<Stri
     ensures { IfOk result (λ text.
         chars (string_bytes text) ≡ slice_range (characters (content_of (L.lines list.now)).cells) start end) }
 {
-    let (first, column) = place_of(list, start);
-    let (last, to) = place_of(list, end);
-    let line = list.line(first);
-    if first == last {
+    let (first, column, line) = place_of(list, start);
+    let len = line.len();
+    let to = column + (end - start);
+    if to <= len {
         return line.copy_text(column, to);
     }
-    let mut text = line.copy_text(column, line.len())?;
+    let mut text = line.copy_text(column, len)?;
+    text.reserve(to - len)?;
+    let (last, to, line) = place_of(list, end);
     push_lines(list, first + 1, last, &mut text)?;
-    push_part(list, last, 0, to, &mut text)?;
+    line.push_text(0, to, &mut text)?;
     Ok(text)
 }

@@ -14,6 +14,14 @@ fn check_text(rt: &impl Abort, line: &Line, wanted: &str) -> Result<(), AllocErr
     Ok(())
 }
 
+// A part of a line, and the whole line behind it.
+fn check_pushed(rt: &impl Abort, line: &Line, wanted: &str) -> Result<(), AllocError> {
+    let mut text = line.copy_text(line.len() / 2, line.len())?;
+    line.push_text(0, line.len(), &mut text)?;
+    assert!(rt; text.as_str() == wanted);
+    Ok(())
+}
+
 // `abc` with `X` behind the `a`, and without the `a`.
 fn worked_line(rt: &impl Abort, alloc: Global) -> Result<Line, AllocError> {
     let mut line = Line::new(alloc, "abc")?;
@@ -36,6 +44,7 @@ fn worked_row(rt: HostRuntime) -> Result<(), Fail> {
     let is_joined = line.join(tail).is_ok();
     assert!(&rt; is_joined);
     check_text(&rt, &line, "Xbc")?;
+    check_pushed(&rt, &line, "bcXbc")?;
     Ok(())
 }
 

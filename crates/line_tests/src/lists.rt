@@ -56,6 +56,8 @@ fn check_places<L: LineList>(rt: &impl Abort, list: &L)
     assert!(rt; list.locate(1) == (0, 1) && list.locate(2) == (1, 0));
     let line = list.line(1);
     assert!(rt; line.len() == 2 && line.char_at(0) == 'b');
+    let (index, column, line) = list.line_at(3);
+    assert!(rt; index == 1 && column == 1 && line.len() == 2);
     assert!(rt; list.start(2) == 4 && list.odd_slots(2).has(SLOT));
     let sums = list.prefix(1);
     assert!(rt; sums.lines() == 1 && sums.characters() == 2 && sums.marks() == 0);

@@ -19,7 +19,8 @@ among-right q (x ∷ xs) ys a = inr (among-right q xs ys a)
 
 pub among-cases : (q : NodePtr) (xs ys : List NodePtr) → Among q (xs ++ ys) → Among q xs ⊎ Among q ys
 among-cases q [] ys a = inr a
-among-cases q (x ∷ xs) ys a = elim a [ inl e ↦ inl (inl e) | inr b ↦ elim (among-cases q xs ys b) [ inl h ↦ inl (inr h) | inr h ↦ inr h ] ]
+among-cases q (x ∷ xs) ys a =
+    elim a [ inl e ↦ inl (inl e) | inr b ↦ elim (among-cases q xs ys b) [ inl h ↦ inl (inr h) | inr h ↦ inr h ] ]
 
 pub among-take : (q : NodePtr) (n : ℕ) (xs : List NodePtr) → Among q (take n xs) → Among q xs
 among-take q n xs a = subst (Among q) (take-append-drop n xs) (among-left q (take n xs) (drop n xs) a)
@@ -27,7 +28,8 @@ among-take q n xs a = subst (Among q) (take-append-drop n xs) (among-left q (tak
 pub among-drop : (q : NodePtr) (n : ℕ) (xs : List NodePtr) → Among q (drop n xs) → Among q xs
 among-drop q n xs a = subst (Among q) (take-append-drop n xs) (among-right q (take n xs) (drop n xs) a)
 
-pub among-insert : (q : NodePtr) (xs : List NodePtr) (i : ℕ) (y : NodePtr) → Among q (insert xs i y) → Among q xs ⊎ (q ≡ y)
+pub among-insert : (q : NodePtr) (xs : List NodePtr) (i : ℕ) (y : NodePtr) → Among q (insert xs i y) →
+    Among q xs ⊎ (q ≡ y)
 among-insert q xs i y a = elim (among-cases q (take i xs) (y ∷ drop i xs) a) [
   | inl h ↦ inl (among-take q i xs h)
   | inr h ↦ elim h [ inl e ↦ inr e | inr b ↦ inl (among-drop q i xs b) ]
@@ -40,7 +42,8 @@ get-among (x ∷ xs) (suc i) q e = inr (get-among xs i q e)
 
 pub among-get : (q : NodePtr) (xs : List NodePtr) → Among q xs → (i : ℕ) × (slice_get xs i ≡ Some q)
 among-get q [] a = absurd a
-among-get q (x ∷ xs) a = elim a [ inl e ↦ (0, ap (λ y. Some y) (sym e)) | inr b ↦ let r = among-get q xs b in (suc r.0, r.1) ]
+among-get q (x ∷ xs) a =
+    elim a [ inl e ↦ (0, ap (λ y. Some y) (sym e)) | inr b ↦ let r = among-get q xs b in (suc r.0, r.1) ]
 
 pub among-or : (q : NodePtr) (xs : List NodePtr) → Among q xs ⊎ (Among q xs → ⊥)
 among-or q [] = inr (λ a. a)

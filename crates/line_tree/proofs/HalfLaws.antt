@@ -20,16 +20,20 @@ module _ (m : Records) (xs ys : List NodePtr) (first half : ℕ) (is : first ≡
   left-right : drop half (xs ++ ys) ≡ drop (half - first) ys
   left-right = ap (λ n. drop n (xs ++ ys)) at ∙ drop-append-add xs ys (half - first)
 
-  pub right-rest : plus (sum_all m (drop half (xs ++ ys))) (sum_all m (take (half - first) (drop first (xs ++ ys)))) ≡ sum_all m ys
+  pub right-rest : plus (sum_all m (drop half (xs ++ ys))) (sum_all m (take (half - first) (drop first (xs ++ ys))))
+      ≡ sum_all m ys
   right-rest =
       (λ i. plus (sum_all m (left-right i)) (sum_all m (from-right i)))
       ∙ plus-commutative (sum_all m (drop (half - first) ys)) (sum_all m (take (half - first) ys))
-      ∙ sym (ap (sum_all m) (sym (take-append-drop (half - first) ys)) ∙ sum_all-append m (take (half - first) ys) (drop (half - first) ys))
+      ∙ sym (ap (sum_all m) (sym (take-append-drop (half - first) ys))
+      ∙ sum_all-append m (take (half - first) ys) (drop (half - first) ys))
 
-  pub left-more : plus (sum_all m xs) (sum_all m (take (half - first) (drop first (xs ++ ys)))) ≡ sum_all m (take half (xs ++ ys))
+  pub left-more : plus (sum_all m xs) (sum_all m (take (half - first) (drop first (xs ++ ys))))
+      ≡ sum_all m (take half (xs ++ ys))
   left-more =
       ap (λ cs. plus (sum_all m xs) (sum_all m cs)) from-right
-      ∙ sym (ap (λ n. sum_all m (take n (xs ++ ys))) at ∙ ap (sum_all m) (take-append-add xs ys (half - first)) ∙ sum_all-append m xs (take (half - first) ys))
+      ∙ sym (ap (λ n. sum_all m (take n (xs ++ ys))) at ∙ ap (sum_all m) (take-append-add xs ys (half - first))
+      ∙ sum_all-append m xs (take (half - first) ys))
 
 -- ---- some of the left one's go to the right one
 module _ (m : Records) (xs ys : List NodePtr) (first half : ℕ) (is : first ≡ length xs) (less : half ≤ first) where
@@ -43,10 +47,13 @@ module _ (m : Records) (xs ys : List NodePtr) (first half : ℕ) (is : first ≡
   from-left = let n = length-drop half xs in let e : first - half ≡ length (drop half xs) = omega arith in
       ap (take (first - half)) behind ∙ ap (λ k. take k (drop half xs ++ ys)) e ∙ take-append_seam (drop half xs) ys
 
-  pub left-rest : plus (sum_all m (take half (xs ++ ys))) (sum_all m (take (first - half) (drop half (xs ++ ys)))) ≡ sum_all m xs
+  pub left-rest : plus (sum_all m (take half (xs ++ ys))) (sum_all m (take (first - half) (drop half (xs ++ ys))))
+      ≡ sum_all m xs
   left-rest =
       (λ i. plus (sum_all m (front i)) (sum_all m (from-left i)))
       ∙ sym (ap (sum_all m) (sym (take-append-drop half xs)) ∙ sum_all-append m (take half xs) (drop half xs))
 
-  pub right-more : plus (sum_all m (take (first - half) (drop half (xs ++ ys)))) (sum_all m ys) ≡ sum_all m (drop half (xs ++ ys))
-  right-more = ap (λ cs. plus (sum_all m cs) (sum_all m ys)) from-left ∙ sym (ap (sum_all m) behind ∙ sum_all-append m (drop half xs) ys)
+  pub right-more : plus (sum_all m (take (first - half) (drop half (xs ++ ys)))) (sum_all m ys)
+      ≡ sum_all m (drop half (xs ++ ys))
+  right-more = ap (λ cs. plus (sum_all m cs) (sum_all m ys)) from-left
+      ∙ sym (ap (sum_all m) behind ∙ sum_all-append m (drop half xs) ys)

@@ -1,5 +1,6 @@
 -- Which of some lines has the mark of a number.
-use Rattle.std.proofs.Common.{◌≡◌, ℕ, zero, suc, ◌-◌, ◌<◌, ◌≤◌, Bool, true, false, cond, List, [], ◌∷◌, ◌++◌, length, take, drop, refl, sym, ap, ap₂, ◌∙◌, arith}
+use Rattle.std.proofs.Common.{◌≡◌, ℕ, zero, suc, ◌-◌, ◌<◌, ◌≤◌, Bool, true, false, cond, List, [], ◌∷◌, ◌++◌, length}
+use Rattle.std.proofs.Common.{take, drop, refl, sym, ap, ap₂, ◌∙◌, arith}
 use Rattle.std.specs.Prelude.{is_some, slice_get, slice_range}
 use Rattle.std.specs.FinMap as finite
 use Rattle.std.specs.declared.option.Option.{Option}
@@ -31,7 +32,8 @@ first-cond false p o r = refl
 
 pub holder-append : (n : ℕ) (xs ys : List Named) → holder n (xs ++ ys) ≡ first (holder n xs) (holder n ys)
 holder-append n [] ys = refl
-holder-append n (x ∷ xs) ys = ap (λ o. cond (has_mark n x.1) (Some x.0) o) (holder-append n xs ys) ∙ first-cond (has_mark n x.1) x.0 (holder n xs) (holder n ys)
+holder-append n (x ∷ xs) ys = ap (λ o. cond (has_mark n x.1) (Some x.0) o) (holder-append n xs ys)
+    ∙ first-cond (has_mark n x.1) x.0 (holder n xs) (holder n ys)
 
 first-none : (o : Option NodePtr) → first o None ≡ o
 first-none None = refl
@@ -45,7 +47,8 @@ there : (o : Option Place) → is_some o ≡ true → (place : Place) × (o ≡ 
 there None is = absurd (false≢true is)
 there (Some place) is = (place, refl)
 
-pub marked-at : (n : ℕ) (line : LineContent) → has_mark n line ≡ true → (place : Place) × (finite.get line.marks n ≡ Some place)
+pub marked-at : (n : ℕ) (line : LineContent) → has_mark n line ≡ true →
+    (place : Place) × (finite.get line.marks n ≡ Some place)
 marked-at n line is = there (finite.get line.marks n) is
 
 bare-line : (n : ℕ) (line : LineContent) → has_marks line ≡ false → has_mark n line ≡ false
@@ -55,7 +58,8 @@ bare-line n line bare = elim (finite.get line.marks n) as (λ o. finite.get line
 ] refl
 
 -- ---- lines without marks
-bare-lines : (n : ℕ) (ls : List Named) (m : ℕ) → FailFrom has_marks (contents ls) 0 m → m ≤ length ls → holder n (take m ls) ≡ None
+bare-lines : (n : ℕ) (ls : List Named) (m : ℕ) → FailFrom has_marks (contents ls) 0 m → m ≤ length ls →
+    holder n (take m ls) ≡ None
 bare-lines n ls zero free within = refl
 bare-lines n [] (suc m) free within = refl
 bare-lines n (l ∷ ls) (suc m) free within =
@@ -69,22 +73,31 @@ take_nil (suc m) = refl
 less_one : (from to : ℕ) → suc to - suc from ≡ to - from
 less_one from to = omega arith
 
-bare-from : (ls : List Named) (from to : ℕ) → FailFrom has_marks (contents ls) from to → to ≤ length ls → AreBare from to ls
-bare-from ls zero to free within n = let e : to - 0 ≡ to = omega arith in ap (λ m. holder n (take m ls)) e ∙ bare-lines n ls to free within
+bare-from : (ls : List Named) (from to : ℕ) → FailFrom has_marks (contents ls) from to → to ≤ length ls →
+    AreBare from to ls
+bare-from ls zero to free within n = let e : to - 0 ≡ to = omega arith in
+    ap (λ m. holder n (take m ls)) e ∙ bare-lines n ls to free within
 bare-from [] (suc from) to free within n = ap (holder n) (take_nil (to - suc from))
-bare-from (l ∷ ls) (suc from) zero free within n = let e : 0 - suc from ≡ 0 = omega arith in ap (λ m. holder n (take m (drop from ls))) e
+bare-from (l ∷ ls) (suc from) zero free within n = let e : 0 - suc from ≡ 0 = omega arith in
+    ap (λ m. holder n (take m (drop from ls))) e
 bare-from (l ∷ ls) (suc from) (suc to) free within n =
-    ap (λ m. holder n (take m (drop from ls))) (less_one from to) ∙ bare-from ls from to (λ j more less. free (suc j) (omega arith) (omega arith)) (omega arith) n
+    ap (λ m. holder n (take m (drop from ls))) (less_one from to)
+    ∙ bare-from ls from to (λ j more less. free (suc j) (omega arith) (omega arith)) (omega arith) n
 
-pub bare-rest : (ls : List Named) (from to : ℕ) → to ≤ length ls → next_line has_marks from (contents ls) ≡ None → AreBare from to ls
+pub bare-rest : (ls : List Named) (from to : ℕ) → to ≤ length ls → next_line has_marks from (contents ls) ≡ None →
+    AreBare from to ls
 bare-rest ls from to within none =
-    let l = long ls in bare-from ls from to (λ j more less. next-none has_marks from (contents ls) none j more (omega arith)) within
+    let l = long ls in bare-from ls from to (λ j more less.
+    next-none has_marks from (contents ls) none j more (omega arith)) within
 
-pub bare-until : (ls : List Named) (from to k : ℕ) → to ≤ length ls → to ≤ k → next_line has_marks from (contents ls) ≡ Some k → AreBare from to ls
+pub bare-until : (ls : List Named) (from to k : ℕ) → to ≤ length ls → to ≤ k →
+    next_line has_marks from (contents ls) ≡ Some k → AreBare from to ls
 bare-until ls from to k within past is =
-    let at = next-found has_marks from (contents ls) k is in bare-from ls from to (λ j more less. at.free j more (omega arith)) within
+    let at = next-found has_marks from (contents ls) k is in
+    bare-from ls from to (λ j more less. at.free j more (omega arith)) within
 
-pub bare-next : (ls : List Named) (from to k : ℕ) (p : NodePtr) → next_line has_marks from (contents ls) ≡ Some k → k < to → IsLineAt ls k p → IsMarkedBelow from to ls (k, p)
+pub bare-next : (ls : List Named) (from to k : ℕ) (p : NodePtr) → next_line has_marks from (contents ls) ≡ Some k →
+    k < to → IsLineAt ls k p → IsMarkedBelow from to ls (k, p)
 bare-next ls from to k p is below named =
     let at = next-found has_marks from (contents ls) k is in let l = long ls in let within = at.within in
     record { above = at.above; below = below; bare = bare-from ls from k at.free (omega arith); named = named }
@@ -100,22 +113,28 @@ split-take zero to ls ordered = let e : to ≡ to - 0 = omega arith in ap (λ n.
 split-take (suc from) zero ls ordered = absurd (omega arith)
 split-take (suc from) (suc to) [] ordered = sym (take_nil (suc to - suc from))
 split-take (suc from) (suc to) (l ∷ ls) ordered =
-    ap (λ xs. l ∷ xs) (split-take from to ls (omega arith) ∙ ap (λ m. take from ls ++ take m (drop from ls)) (sym (less_one from to)))
+    ap (λ xs. l ∷ xs) (split-take from to ls (omega arith)
+    ∙ ap (λ m. take from ls ++ take m (drop from ls)) (sym (less_one from to)))
 
 pub split-drop : (from to : ℕ) (ls : List Named) → from ≤ to → drop from ls ≡ slice_range ls from to ++ drop to ls
-split-drop zero to ls ordered = let e : to ≡ to - 0 = omega arith in sym (whole-list to ls) ∙ ap (λ n. take n ls ++ drop to ls) e
+split-drop zero to ls ordered = let e : to ≡ to - 0 = omega arith in
+    sym (whole-list to ls) ∙ ap (λ n. take n ls ++ drop to ls) e
 split-drop (suc from) zero ls ordered = absurd (omega arith)
 split-drop (suc from) (suc to) [] ordered = sym (ap (λ (xs : List Named). xs ++ []) (take_nil (suc to - suc from)))
-split-drop (suc from) (suc to) (l ∷ ls) ordered = split-drop from to ls (omega arith) ∙ ap (λ m. take m (drop from ls) ++ drop to ls) (sym (less_one from to))
+split-drop (suc from) (suc to) (l ∷ ls) ordered =
+    split-drop from to ls (omega arith) ∙ ap (λ m. take m (drop from ls) ++ drop to ls) (sym (less_one from to))
 
-pub bare-take : (n from to : ℕ) (ls : List Named) → from ≤ to → AreBare from to ls → holder n (take to ls) ≡ holder n (take from ls)
+pub bare-take : (n from to : ℕ) (ls : List Named) → from ≤ to → AreBare from to ls →
+    holder n (take to ls) ≡ holder n (take from ls)
 bare-take n from to ls ordered bare =
     ap (holder n) (split-take from to ls ordered) ∙ holder-append n (take from ls) (slice_range ls from to)
     ∙ ap (first (holder n (take from ls))) (bare n) ∙ first-none (holder n (take from ls))
 
-pub bare-drop : (n from to : ℕ) (ls : List Named) → from ≤ to → AreBare from to ls → holder n (drop from ls) ≡ holder n (drop to ls)
+pub bare-drop : (n from to : ℕ) (ls : List Named) → from ≤ to → AreBare from to ls →
+    holder n (drop from ls) ≡ holder n (drop to ls)
 bare-drop n from to ls ordered bare =
-    ap (holder n) (split-drop from to ls ordered) ∙ holder-append n (slice_range ls from to) (drop to ls) ∙ ap (λ o. first o (holder n (drop to ls))) (bare n)
+    ap (holder n) (split-drop from to ls ordered) ∙ holder-append n (slice_range ls from to) (drop to ls)
+    ∙ ap (λ o. first o (holder n (drop to ls))) (bare n)
 
 -- ---- no number stands twice
 none-whole : (n : ℕ) (ls : List Named) → finite.get (whole (contents ls)).marks n ≡ None → holder n ls ≡ None
@@ -124,66 +143,87 @@ none-whole n (l ∷ ls) free =
     let parts = free-parts l.1 (whole (contents ls)) n free in
     ap (λ b. cond b (Some l.0) (holder n ls)) (unmarked n l.1 parts.1) ∙ none-whole n ls parts.0
 
-pub not-first : (n : ℕ) (l : Named) (ls : List Named) → holder n (l ∷ ls) ≡ None → (has_mark n l.1 ≡ false) × (holder n ls ≡ None)
+pub not-first : (n : ℕ) (l : Named) (ls : List Named) → holder n (l ∷ ls) ≡ None →
+    (has_mark n l.1 ≡ false) × (holder n ls ≡ None)
 not-first n l ls none = which (has_mark n l.1) refl none where
-  which : (b : Bool) → has_mark n l.1 ≡ b → cond b (Some l.0) (holder n ls) ≡ None → (has_mark n l.1 ≡ false) × (holder n ls ≡ None)
+  which : (b : Bool) → has_mark n l.1 ≡ b → cond b (Some l.0) (holder n ls) ≡ None →
+      (has_mark n l.1 ≡ false) × (holder n ls ≡ None)
   which true is none = absurd (none-some l.0 (sym none))
   which false is none = (is, none)
 
-pub none-at : (n : ℕ) (ls : List Named) (k : ℕ) (l : Named) → holder n ls ≡ None → slice_get ls k ≡ Some l → has_mark n l.1 ≡ false
+pub none-at : (n : ℕ) (ls : List Named) (k : ℕ) (l : Named) → holder n ls ≡ None → slice_get ls k ≡ Some l →
+    has_mark n l.1 ≡ false
 none-at n [] k l none at = absurd (none-some l at)
-none-at n (x ∷ ls) zero l none at = ap (λ (y : Named). has_mark n y.1) (sym (same_Some x l at)) ∙ (not-first n x ls none).0
+none-at n (x ∷ ls) zero l none at =
+    ap (λ (y : Named). has_mark n y.1) (sym (same_Some x l at)) ∙ (not-first n x ls none).0
 none-at n (x ∷ ls) (suc k) l none at = none-at n ls k l (not-first n x ls none).1 at
 
 -- the others of a line's mark
-behind-none : (n : ℕ) (l : Named) (ls : List Named) → AreRows (contents (l ∷ ls)) → has_mark n l.1 ≡ true → holder n ls ≡ None
+behind-none : (n : ℕ) (l : Named) (ls : List Named) → AreRows (contents (l ∷ ls)) → has_mark n l.1 ≡ true →
+    holder n ls ≡ None
 behind-none n l [] rows is = refl
 behind-none n l (y ∷ ls) rows is = let at = marked-at n l.1 is in none-whole n (y ∷ ls) (rows.1.1 n at.0 at.1)
 
-pub alone : (n : ℕ) (ls : List Named) (k : ℕ) (l : Named) → AreRows (contents ls) → slice_get ls k ≡ Some l → has_mark n l.1 ≡ true → (holder n (take k ls) ≡ None) × (holder n (drop (suc k) ls) ≡ None)
+pub alone : (n : ℕ) (ls : List Named) (k : ℕ) (l : Named) → AreRows (contents ls) → slice_get ls k ≡ Some l →
+    has_mark n l.1 ≡ true → (holder n (take k ls) ≡ None) × (holder n (drop (suc k) ls) ≡ None)
 alone n [] k l rows at is = absurd (none-some l at)
-alone n (x ∷ ls) zero l rows at is = (refl, behind-none n x ls rows (ap (λ (y : Named). has_mark n y.1) (same_Some x l at) ∙ is))
+alone n (x ∷ ls) zero l rows at is =
+    (refl, behind-none n x ls rows (ap (λ (y : Named). has_mark n y.1) (same_Some x l at) ∙ is))
 alone n (x ∷ ls) (suc k) l rows at is =
     let rest = alone n ls k l rows.2 at is in
-    let not_here : has_mark n x.1 ≡ false = elim (has_mark n x.1) as (λ b. has_mark n x.1 ≡ b → has_mark n x.1 ≡ false) [
+    let not_here : has_mark n x.1 ≡ false = elim (has_mark n x.1) as (λ b. has_mark n x.1 ≡ b →
+    has_mark n x.1 ≡ false) [
       | true ↦ λ here. absurd (false≢true (sym (none-at n ls k l (behind-none n x ls rows here) at) ∙ is))
       | false ↦ λ here. here
     ] refl in
     (ap (λ b. cond b (Some x.0) (holder n (take k ls))) not_here ∙ rest.0, rest.1)
 
-pub none-before : (n from k : ℕ) (ls : List Named) → from ≤ k → holder n (take k ls) ≡ None → holder n (take from ls) ≡ None
-none-before n from k ls ordered none = left (holder n (take from ls)) (holder n (slice_range ls from k)) (sym (ap (holder n) (split-take from k ls ordered) ∙ holder-append n (take from ls) (slice_range ls from k)) ∙ none) where
-  left : (o r : Option NodePtr) → first o r ≡ None → o ≡ None
-  left None r is = refl
-  left (Some p) r is = absurd (none-some p (sym is))
+pub none-before : (n from k : ℕ) (ls : List Named) → from ≤ k → holder n (take k ls) ≡ None →
+    holder n (take from ls) ≡ None
+none-before n from k ls ordered none = left (holder n (take from ls)) (holder n (slice_range ls from k))
+    (sym (ap (holder n) (split-take from k ls ordered) ∙ holder-append n (take from ls) (slice_range ls from k))
+    ∙ none) where
+      left : (o r : Option NodePtr) → first o r ≡ None → o ≡ None
+      left None r is = refl
+      left (Some p) r is = absurd (none-some p (sym is))
 
 -- ---- one line of a walk
 -- what is noted when the line at k is written
 module _ (n : ℕ) (ls : List Named) (rows : AreRows (contents ls)) where
-  pub forget-line : (old new : Option NodePtr) (from at k : ℕ) (p : NodePtr) (line : LineContent) → from ≤ at → at ≤ k → AreBare at k ls → slice_get ls k ≡ Some (p, line)
-      → old ≡ holder n (lines_without from at ls) → new ≡ cond (has_mark n line) None old → new ≡ holder n (lines_without from (suc k) ls)
+  pub forget-line : (old new : Option NodePtr) (from at k : ℕ) (p : NodePtr) (line : LineContent) → from ≤ at → at ≤ k →
+      AreBare at k ls → slice_get ls k ≡ Some (p, line)
+      → old ≡ holder n (lines_without from at ls) → new ≡ cond (has_mark n line) None old →
+      new ≡ holder n (lines_without from (suc k) ls)
   forget-line old new from at k p line first_from above bare is was written = which (has_mark n line) refl written where
     was_here : old ≡ first (holder n (take from ls)) (cond (has_mark n line) (Some p) (holder n (drop (suc k) ls)))
     was_here =
         was ∙ holder-append n (take from ls) (drop at ls)
-        ∙ ap (first (holder n (take from ls))) (bare-drop n at k ls above bare ∙ ap (holder n) (drop_after ls k (p, line) is))
+        ∙ ap (first (holder n (take from ls))) (bare-drop n at k ls above bare
+        ∙ ap (holder n) (drop_after ls k (p, line) is))
 
     which : (b : Bool) → has_mark n line ≡ b → new ≡ cond b None old → new ≡ holder n (lines_without from (suc k) ls)
     which true has now =
         let others = alone n ls k (p, line) rows is has in
-        now ∙ sym (holder-append n (take from ls) (drop (suc k) ls) ∙ ap₂ first (none-before n from k ls (omega arith) others.0) others.1)
+        now ∙ sym (holder-append n (take from ls) (drop (suc k) ls)
+        ∙ ap₂ first (none-before n from k ls (omega arith) others.0) others.1)
     which false hasn't now =
-        now ∙ was_here ∙ ap (λ b. first (holder n (take from ls)) (cond b (Some p) (holder n (drop (suc k) ls)))) hasn't ∙ sym (holder-append n (take from ls) (drop (suc k) ls))
+        now ∙ was_here ∙ ap (λ b. first (holder n (take from ls)) (cond b (Some p) (holder n (drop (suc k) ls)))) hasn't
+        ∙ sym (holder-append n (take from ls) (drop (suc k) ls))
 
-  pub note-line : (old new : Option NodePtr) (to at k : ℕ) (p : NodePtr) (line : LineContent) → at ≤ k → AreBare at k ls → slice_get ls k ≡ Some (p, line)
-      → old ≡ holder n (lines_without at to ls) → new ≡ cond (has_mark n line) (Some p) old → new ≡ holder n (lines_without (suc k) to ls)
+  pub note-line : (old new : Option NodePtr) (to at k : ℕ) (p : NodePtr) (line : LineContent) → at ≤ k →
+      AreBare at k ls → slice_get ls k ≡ Some (p, line)
+      → old ≡ holder n (lines_without at to ls) → new ≡ cond (has_mark n line) (Some p) old →
+      new ≡ holder n (lines_without (suc k) to ls)
   note-line old new to at k p line above bare is was written = which (has_mark n line) refl written where
-    now_here : holder n (lines_without (suc k) to ls) ≡ first (first (holder n (take k ls)) (cond (has_mark n line) (Some p) None)) (holder n (drop to ls))
+    now_here : holder n (lines_without (suc k) to ls)
+        ≡ first (first (holder n (take k ls)) (cond (has_mark n line) (Some p) None)) (holder n (drop to ls))
     now_here =
         holder-append n (take (suc k) ls) (drop to ls)
-        ∙ ap (λ o. first o (holder n (drop to ls))) (ap (holder n) (take_after ls k (p, line) is) ∙ holder-append n (take k ls) ((p, line) ∷ []))
+        ∙ ap (λ o. first o (holder n (drop to ls))) (ap (holder n) (take_after ls k (p, line) is)
+        ∙ holder-append n (take k ls) ((p, line) ∷ []))
       where
-        take_after : (xs : List Named) (j : ℕ) (x : Named) → slice_get xs j ≡ Some x → take (suc j) xs ≡ take j xs ++ x ∷ []
+        take_after : (xs : List Named) (j : ℕ) (x : Named) → slice_get xs j ≡ Some x →
+            take (suc j) xs ≡ take j xs ++ x ∷ []
         take_after [] j x at = absurd (none-some x at)
         take_after (y ∷ ys) zero x at = ap (λ z. z ∷ []) (same_Some y x at)
         take_after (y ∷ ys) (suc j) x at = ap (λ zs. y ∷ zs) (take_after ys j x at)
@@ -193,17 +233,25 @@ module _ (n : ℕ) (ls : List Named) (rows : AreRows (contents ls)) where
         let others = alone n ls k (p, line) rows is has in
         now ∙ sym (now_here ∙ ap₂ (λ o b. first (first o (cond b (Some p) None)) (holder n (drop to ls))) others.0 has)
     which false hasn't now =
-        now ∙ was ∙ holder-append n (take at ls) (drop to ls) ∙ ap (λ o. first o (holder n (drop to ls))) (sym (bare-take n at k ls above bare) ∙ sym (first-none (holder n (take k ls))))
-        ∙ sym (now_here ∙ ap (λ b. first (first (holder n (take k ls)) (cond b (Some p) None)) (holder n (drop to ls))) hasn't)
+        now ∙ was ∙ holder-append n (take at ls) (drop to ls)
+        ∙ ap (λ o. first o (holder n (drop to ls))) (sym (bare-take n at k ls above bare)
+        ∙ sym (first-none (holder n (take k ls))))
+        ∙ sym (now_here ∙ ap (λ b. first (first (holder n (take k ls)) (cond b (Some p) None)) (holder n (drop to ls)))
+        hasn't)
 
 -- ---- the ends of the walks
-pub forgotten : (n from at to : ℕ) (ls : List Named) (o : Option NodePtr) → at ≤ to → AreBare at to ls → o ≡ holder n (lines_without from at ls) → o ≡ holder n (lines_without from to ls)
+pub forgotten : (n from at to : ℕ) (ls : List Named) (o : Option NodePtr) → at ≤ to → AreBare at to ls →
+    o ≡ holder n (lines_without from at ls) → o ≡ holder n (lines_without from to ls)
 forgotten n from at to ls o ordered bare is =
-    is ∙ holder-append n (take from ls) (drop at ls) ∙ ap (first (holder n (take from ls))) (bare-drop n at to ls ordered bare) ∙ sym (holder-append n (take from ls) (drop to ls))
+    is ∙ holder-append n (take from ls) (drop at ls)
+    ∙ ap (first (holder n (take from ls))) (bare-drop n at to ls ordered bare)
+    ∙ sym (holder-append n (take from ls) (drop to ls))
 
-pub all-noted : (n at to : ℕ) (ls : List Named) (o : Option NodePtr) → at ≤ to → AreBare at to ls → o ≡ holder n (lines_without at to ls) → o ≡ holder n ls
+pub all-noted : (n at to : ℕ) (ls : List Named) (o : Option NodePtr) → at ≤ to → AreBare at to ls →
+    o ≡ holder n (lines_without at to ls) → o ≡ holder n ls
 all-noted n at to ls o ordered bare is =
-    is ∙ holder-append n (take at ls) (drop to ls) ∙ ap (λ x. first x (holder n (drop to ls))) (sym (bare-take n at to ls ordered bare))
+    is ∙ holder-append n (take at ls) (drop to ls)
+    ∙ ap (λ x. first x (holder n (drop to ls))) (sym (bare-take n at to ls ordered bare))
     ∙ sym (holder-append n (take to ls) (drop to ls)) ∙ ap (holder n) (whole-list to ls)
 
 pub none-out : (n from : ℕ) (ls : List Named) → holder n (lines_without from from ls) ≡ holder n ls

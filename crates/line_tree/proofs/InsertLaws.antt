@@ -1,5 +1,6 @@
 -- An insertion at a node, from the insertion at its child.
-use Rattle.std.proofs.Common.{◌≡◌, ℕ, zero, suc, ◌+◌, ◌≤◌, inl, inr, List, [], ◌∷◌, ◌++◌, length, take, drop, map, refl, sym, ap, ◌∙◌, subst, arith}
+use Rattle.std.proofs.Common.{◌≡◌, ℕ, zero, suc, ◌+◌, ◌≤◌, inl, inr, List, [], ◌∷◌, ◌++◌, length, take, drop, map, refl}
+use Rattle.std.proofs.Common.{sym, ap, ◌∙◌, subst, arith}
 use Rattle.std.specs.Prelude.{◌≢◌, IsSome, option_to_list, slice_get}
 use Rattle.std.specs.FinMap as finite
 use Rattle.std.specs.List.{AllByRecursion, insert}
@@ -30,14 +31,19 @@ use Rattle.line_tree.proofs.FrameLaws.{inner-no-top, tops-among}
 use Rattle.line_tree.proofs.GrowLaws.{all-append, all-left, all-right, grows-line, grows-wide, names-append, of-one}
 use Rattle.line_tree.proofs.PutLaws.{split_at}
 use Rattle.line_tree.proofs.SplitLaws.{grows-put, grows-resum, parted-is}
-use Rattle.line_tree.proofs.StepLaws.{all-balanced, at-place, can-put, keeps-after, keeps-put, keeps-resum, keeps-same, links-kept, split-insert, split-same, total-with_line, wide-balanced, wide-put, wide-same, wide-some}
+use Rattle.line_tree.proofs.StepLaws.{all-balanced, at-place, can-put, keeps-after, keeps-put, keeps-resum, keeps-same}
+use Rattle.line_tree.proofs.StepLaws.{links-kept, split-insert, split-same, total-with_line, wide-balanced, wide-put}
+use Rattle.line_tree.proofs.StepLaws.{wide-same, wide-some}
 use Rattle.line_tree.proofs.SumLaws.{total-append}
-use Rattle.line_tree.proofs.TreeLaws.{child-tree, count-tree, counted, named-tree, row-tree, sum-held, top-tree_at, tops-tree_at}
+use Rattle.line_tree.proofs.TreeLaws.{child-tree, count-tree, counted, named-tree, row-tree, sum-held, top-tree_at}
+use Rattle.line_tree.proofs.TreeLaws.{tops-tree_at}
 
-pub length-lines : (m : Records) (ts : List (Tree 0)) → AllByRecursion (Holds m 0) ts → length (lines_of 0 ts) ≡ length ts
+pub length-lines : (m : Records) (ts : List (Tree 0)) → AllByRecursion (Holds m 0) ts →
+    length (lines_of 0 ts) ≡ length ts
 length-lines m [] all = refl
 length-lines m (t ∷ ts) all = one t.1 all.0.some (length-lines m ts all.1) where
-  one : (o : Option LineContent) → IsSome o → length (lines_of 0 ts) ≡ length ts → length (lines zero (t.0, o) ++ lines_of 0 ts) ≡ suc (length ts)
+  one : (o : Option LineContent) → IsSome o → length (lines_of 0 ts) ≡ length ts →
+      length (lines zero (t.0, o) ++ lines_of 0 ts) ≡ suc (length ts)
   one None s e = absurd (false≢true s)
   one (Some l) s e = ap suc e
 
@@ -45,12 +51,14 @@ pub lines-balanced : (ts : List (Tree 0)) → AllByRecursion (IsBalanced 0) ts
 lines-balanced [] = tt
 lines-balanced (t ∷ ts) = (tt, lines-balanced ts)
 
-pub all-get : {X Y : Type 0} (P : Y → Type 0) (f : X → Y) (xs : List X) (i : ℕ) (x : X) → AllByRecursion P (map f xs) → slice_get xs i ≡ Some x → P (f x)
+pub all-get : {X Y : Type 0} (P : Y → Type 0) (f : X → Y) (xs : List X) (i : ℕ) (x : X) → AllByRecursion P (map f xs) →
+    slice_get xs i ≡ Some x → P (f x)
 all-get P f [] i x all is = absurd (none-some x is)
 all-get P f (y ∷ xs) zero x all is = subst (λ z. P (f z)) (same_Some y x is) all.0
 all-get P f (y ∷ xs) (suc i) x all is = all-get P f xs i x all.1 is
 
-pub has-kept : (m l : Records) (p : NodePtr) → HasRow m p → finite.get l p ≡ finite.get m p → ((q : NodePtr) → IsSome (finite.get m q) → IsSome (finite.get l q)) → HasRow l p
+pub has-kept : (m l : Records) (p : NodePtr) → HasRow m p → finite.get l p ≡ finite.get m p →
+    ((q : NodePtr) → IsSome (finite.get m q) → IsSome (finite.get l q)) → HasRow l p
 has-kept m l p has same kept = let e : kids l p ≡ kids m p = ap kids_of same in record {
   found = has.found;
   is = same ∙ has.is;
@@ -93,7 +101,8 @@ module _ (m : Records) (p : NodePtr) (k : ℕ) (x : NodePtr) (can : CanInsert m 
 
   low-tops : insert (kids m p) k x ≡ tops 0 more
   low-tops = let e = tops-tree_at m 0 (kids m p) in
-      ap (λ cs. insert cs k x) (sym e) ∙ (λ i. take-map (λ (t : Tree 0). t.0) k leaves i ++ (x ∷ drop-map (λ (t : Tree 0). t.0) k leaves i))
+      ap (λ cs. insert cs k x) (sym e)
+      ∙ (λ i. take-map (λ (t : Tree 0). t.0) k leaves i ++ (x ∷ drop-map (λ (t : Tree 0). t.0) k leaves i))
       ∙ sym (map-append (λ (t : Tree 0). t.0) (take k leaves) (tree_at m 0 x ∷ drop k leaves))
 
   low-place : k ≤ length leaves
@@ -101,24 +110,31 @@ module _ (m : Records) (p : NodePtr) (k : ℕ) (x : NodePtr) (can : CanInsert m 
 
   pub low-can_put : CanPut m p k x
   low-can_put = let n = length-map (kids m p) (tree_at m 0) in let place = low-place in
-      can-put m m 0 p leaves k (tree_at m 0 x) more k x low-grows (named-node m 0 p k x can) can.distinct.0 (not-line m 0 p k x can) (has-node m 0 p k x can) (subst (Links m p 0) (tops-tree_at m 0 (kids m p)) can.tree.1) (omega arith) (named-tree m 0 x can.line) low-tops (line-fits m 0 p k x can)
+      can-put m m 0 p leaves k (tree_at m 0 x) more k x low-grows (named-node m 0 p k x can) can.distinct.0
+      (not-line m 0 p k x can) (has-node m 0 p k x can)
+      (subst (Links m p 0) (tops-tree_at m 0 (kids m p)) can.tree.1) (omega arith) (named-tree m 0 x can.line)
+      low-tops (line-fits m 0 p k x can)
 
   pub low-sum : plus (sum_at m p) (sum_at m x) ≡ sum_all m (insert (kids m p) k x)
   low-sum = ap (λ s. plus s (sum_at m x)) (sum-kids m 0 p can.tree) ∙ sum_all-insert m (kids m p) k x
 
   pub low-inserts : (n : Records) (o : Option NodePtr) → Puts m n p (insert (kids m p) k x) o → Inserts m n 1 p k x o
   low-inserts n o puts =
-      let g = grows-put m m n 0 p leaves k (tree_at m 0 x) more k x o low-grows (named-node m 0 p k x can) can.distinct.0 (not-line m 0 p k x can) low-can_put low-tops puts in
+      let g = grows-put m m n 0 p leaves k (tree_at m 0 x) more k x o low-grows (named-node m 0 p k x can)
+      can.distinct.0 (not-line m 0 p k x can) low-can_put low-tops puts in
       let same = parted-is n 0 p more (split_at m n p (insert (kids m p) k x) o puts) o g.holds in
       let long = length-insert leaves k (tree_at m 0 x) low-place in
       record {
         grows = subst (λ us. Grows m n 1 ((p, leaves) ∷ []) k (tree_at m 0 x) us) (sym same) g;
-        wide = subst (λ us. KeepsWide 1 (p, leaves) us o) (sym same) (wide-put m n 0 p leaves more (insert (kids m p) k x) o puts (ap length low-tops ∙ length-map more (λ (t : Tree 0). t.0)) long (lines-balanced more));
+        wide = subst (λ us. KeepsWide 1 (p, leaves) us o) (sym same)
+            (wide-put m n 0 p leaves more (insert (kids m p) k x) o puts (ap length low-tops
+            ∙ length-map more (λ (t : Tree 0). t.0)) long (lines-balanced more));
         link = keeps-put m n p k x o low-can_put puts;
       }
 
 -- ---- above it
-module _ (m : Records) (h : ℕ) (p : NodePtr) (k : ℕ) (x : NodePtr) (can : CanInsert m (suc h) p k x) (f : Found) (leads : Leads m p k f) where
+module _ (m : Records) (h : ℕ) (p : NodePtr) (k : ℕ) (x : NodePtr) (can : CanInsert m (suc h) p k x) (f : Found)
+    (leads : Leads m p k f) where
   abbrev before : List (Tree h)
   before = map (tree_at m h) (take f.slot (kids m p))
 
@@ -135,8 +151,10 @@ module _ (m : Records) (h : ℕ) (p : NodePtr) (k : ℕ) (x : NodePtr) (can : Ca
   apart = subst (λ zs. Distinct (names_of h zs)) split can.distinct.1
 
   in-child : (q : NodePtr) → Among q (names h (tree_at m h f.child)) → Among q (names_of h (ts m h p k x can))
-  in-child q a = subst (λ zs. Among q (names_of h zs)) (sym split) (subst (Among q) (sym (names-append h before (tree_at m h f.child ∷ after)))
-      (among-right q (names_of h before) (names_of h (tree_at m h f.child ∷ after)) (among-left q (names h (tree_at m h f.child)) (names_of h after) a)))
+  in-child q a = subst (λ zs. Among q (names_of h zs)) (sym split)
+      (subst (Among q) (sym (names-append h before (tree_at m h f.child ∷ after)))
+      (among-right q (names_of h before) (names_of h (tree_at m h f.child ∷ after))
+      (among-left q (names h (tree_at m h f.child)) (names_of h after) a)))
 
   tree-child : IsTree m h f.child
   tree-child = child-tree m h (kids m p) f.slot f.child can.tree.2 leads.child
@@ -149,16 +167,21 @@ module _ (m : Records) (h : ℕ) (p : NodePtr) (k : ℕ) (x : NodePtr) (can : Ca
 
   child-fits : FitsSum (plus (total (lines_in m h f.child)) (sum_at m x))
   child-fits =
-      let e : total (lines_of h (ts m h p k x can)) ≡ plus (total (lines_of h before)) (plus (total (lines_in m h f.child)) (total (lines_of h after))) =
+      let e : total (lines_of h (ts m h p k x can))
+      ≡ plus (total (lines_of h before)) (plus (total (lines_in m h f.child)) (total (lines_of h after))) =
       ap (λ zs. total (lines_of h zs)) split ∙ ap total (flat_map-append (lines h) before (tree_at m h f.child ∷ after))
-      ∙ total-append (lines_of h before) (lines_of h (tree_at m h f.child ∷ after)) ∙ ap (plus (total (lines_of h before))) (total-append (lines_in m h f.child) (lines_of h after)) in
-      part-fits (total (lines_of h before)) (total (lines_in m h f.child)) (total (lines_of h after)) (sum_at m x) (subst (λ s. FitsSum (plus s (sum_at m x))) e can.fits)
+      ∙ total-append (lines_of h before) (lines_of h (tree_at m h f.child ∷ after))
+      ∙ ap (plus (total (lines_of h before))) (total-append (lines_in m h f.child) (lines_of h after)) in
+      part-fits (total (lines_of h before)) (total (lines_in m h f.child)) (total (lines_of h after)) (sum_at m x)
+      (subst (λ s. FitsSum (plus s (sum_at m x))) e can.fits)
 
   pub can-child : CanInsert m h f.child f.rest x
   can-child = record {
     tree = tree-child;
     wide = wide-some h (tree_at m h f.child) balanced-child;
-    distinct = distinct-left (names h (tree_at m h f.child)) (names_of h after) (distinct-right (names_of h before) (names_of h (tree_at m h f.child ∷ after)) (subst Distinct (names-append h before (tree_at m h f.child ∷ after)) apart));
+    distinct = distinct-left (names h (tree_at m h f.child)) (names_of h after)
+        (distinct-right (names_of h before) (names_of h (tree_at m h f.child ∷ after))
+        (subst Distinct (names-append h before (tree_at m h f.child ∷ after)) apart));
     place = rest-within;
     line = can.line;
     new = λ a. can.new (inr (in-child x a));
@@ -171,14 +194,17 @@ module _ (m : Records) (h : ℕ) (p : NodePtr) (k : ℕ) (x : NodePtr) (can : Ca
 
     now-grows : Grows m l h (ts m h p k x can) k (tree_at m 0 x) now
     now-grows =
-        let e = counted m h (take f.slot (kids m p)) (all-left (Holds m h) before (tree_at m h f.child ∷ after) whole) in let place = leads.place in
+        let e = counted m h (take f.slot (kids m p)) (all-left (Holds m h) before (tree_at m h f.child ∷ after) whole)
+        in let place = leads.place in
         let at : k ≡ length (lines_of h before) + f.rest = omega arith in
         subst (λ zs. Grows m l h zs k (tree_at m 0 x) now) (sym split)
-        (grows-wide m l h before (tree_at m h f.child) after f.rest k (tree_at m 0 x) (trees l h f.child o) ins.grows whole apart
+        (grows-wide m l h before (tree_at m h f.child) after f.rest k (tree_at m 0 x) (trees l h f.child o) ins.grows
+        whole apart
         (λ a. can.new (inr (subst (λ zs. Among x (names_of h zs)) (sym split) a))) at rest-within)
 
     pub node-same : finite.get l p ≡ finite.get m p
-    node-same = ins.grows.other p (named-node m h p k x can) (λ a. can.distinct.0 (in-child p (of-one p (names h (tree_at m h f.child)) a))) (not-line m h p k x can)
+    node-same = ins.grows.other p (named-node m h p k x can) (λ a.
+        can.distinct.0 (in-child p (of-one p (names h (tree_at m h f.child)) a))) (not-line m h p k x can)
 
     kids-same : kids l p ≡ kids m p
     kids-same = ap kids_of node-same
@@ -188,59 +214,81 @@ module _ (m : Records) (h : ℕ) (p : NodePtr) (k : ℕ) (x : NodePtr) (can : Ca
 
     keeps-now : (q : NodePtr) → Among q (kids m p) → KeepsLink m l q
     keeps-now q a =
-        let top = subst (Among q) (sym (tops-tree_at m h (kids m p))) a in let among = tops-among h (ts m h p k x can) q top in
+        let top = subst (Among q) (sym (tops-tree_at m h (kids m p))) a in
+        let among = tops-among h (ts m h p k x can) q top in
         let i = among-get q (kids m p) a in let named = (has-node m h p k x can).each i.0 q i.1 in
         elim (same_or_other q f.child) [
           | inl e ↦ subst (λ z. KeepsLink m l z) (sym e) ins.link
-          | inr n ↦ keeps-same m l q named (ins.grows.other q named (λ b. elim (of-one q (names h (tree_at m h f.child)) b) [
-            | inl e ↦ n (e ∙ top-tree_at m h f.child)
-            | inr c ↦ all-get (λ t. (z : NodePtr) → Among z (inner h t) → Among z (tops h (ts m h p k x can)) → ⊥) (tree_at m h) (kids m p) f.slot f.child (inner-no-top h (ts m h p k x can) can.distinct.1) leads.child q c top
-          ]) (λ e. can.new (inr (subst (λ z. Among z (names_of h (ts m h p k x can))) e among))))
+          | inr n ↦ keeps-same m l q named (ins.grows.other q named (λ b.
+              elim (of-one q (names h (tree_at m h f.child)) b) [
+                | inl e ↦ n (e ∙ top-tree_at m h f.child)
+                | inr c ↦ all-get (λ t. (z : NodePtr) → Among z (inner h t) → Among z (tops h (ts m h p k x can)) →
+                    ⊥) (tree_at m h) (kids m p) f.slot f.child (inner-no-top h (ts m h p k x can) can.distinct.1)
+                    leads.child q c top
+              ]) (λ e. can.new (inr (subst (λ z. Among z (names_of h (ts m h p k x can))) e among))))
         ]
 
     links-now : Links l p 0 (kids l p)
-    links-now = subst (Links l p 0) (sym kids-same) (links-kept m l p 0 (kids m p) (subst (Links m p 0) (tops-tree_at m h (kids m p)) can.tree.1) keeps-now)
+    links-now = subst (Links l p 0) (sym kids-same)
+        (links-kept m l p 0 (kids m p) (subst (Links m p 0) (tops-tree_at m h (kids m p)) can.tree.1) keeps-now)
 
     tops-now : tops h now ≡ take f.slot (kids m p) ++ ((f.child ∷ option_to_list o) ++ drop (suc f.slot) (kids m p))
     tops-now =
-        map-append (λ (t : Tree h). t.0) before (trees l h f.child o ++ after) ∙ ap (λ zs. tops h before ++ zs) (map-append (λ (t : Tree h). t.0) (trees l h f.child o) after)
-        ∙ (λ i. tops-tree_at m h (take f.slot (kids m p)) i ++ ((top-tree_at l h f.child i ∷ tops-tree_at l h (option_to_list o) i) ++ tops-tree_at m h (drop (suc f.slot) (kids m p)) i))
+        map-append (λ (t : Tree h). t.0) before (trees l h f.child o ++ after)
+        ∙ ap (λ zs. tops h before ++ zs) (map-append (λ (t : Tree h). t.0) (trees l h f.child o) after)
+        ∙ (λ i. tops-tree_at m h (take f.slot (kids m p)) i
+        ++ ((top-tree_at l h f.child i ∷ tops-tree_at l h (option_to_list o) i)
+        ++ tops-tree_at m h (drop (suc f.slot) (kids m p)) i))
 
     balanced-now : AllByRecursion (IsBalanced h) (trees l h f.child o) → AllByRecursion (IsBalanced h) now
     balanced-now all =
         let old = subst (AllByRecursion (IsBalanced h)) split can.wide.2 in
-        all-append (IsBalanced h) before (trees l h f.child o ++ after) (all-left (IsBalanced h) before (tree_at m h f.child ∷ after) old)
-        (all-append (IsBalanced h) (trees l h f.child o) after all (all-right (IsBalanced h) before (tree_at m h f.child ∷ after) old).1)
+        all-append (IsBalanced h) before (trees l h f.child o ++ after)
+        (all-left (IsBalanced h) before (tree_at m h f.child ∷ after) old)
+        (all-append (IsBalanced h) (trees l h f.child o) after all
+        (all-right (IsBalanced h) before (tree_at m h f.child ∷ after) old).1)
 
   -- the child got a sibling
   module _ (l : Records) (s : NodePtr) (ins : Inserts m l h f.child f.rest x (Some s)) where
     two-tops : insert (kids l p) (f.slot + 1) s ≡ tops h (now l (Some s) ins)
     two-tops = let e : f.slot + 1 ≡ suc f.slot = omega arith in
-        ap (λ cs. insert cs (f.slot + 1) s) (kids-same l (Some s) ins) ∙ split-insert (kids m p) f.slot (f.slot + 1) f.child s leads.child e ∙ sym (tops-now l (Some s) ins)
+        ap (λ cs. insert cs (f.slot + 1) s) (kids-same l (Some s) ins)
+        ∙ split-insert (kids m p) f.slot (f.slot + 1) f.child s leads.child e ∙ sym (tops-now l (Some s) ins)
 
     pub two-can_put : CanPut l p (f.slot + 1) s
-    two-can_put = let n = ap length (kids-same l (Some s) ins) in let w = slice_get_within (kids m p) f.slot f.child leads.child in
-        can-put m l h p (ts m h p k x can) k (tree_at m 0 x) (now l (Some s) ins) (f.slot + 1) s (now-grows l (Some s) ins) (named-node m h p k x can) can.distinct.0 (not-line m h p k x can)
-        (has-now l (Some s) ins) (links-now l (Some s) ins) (omega arith) (named-tree l h s ins.grows.holds.1.0) two-tops (line-fits m h p k x can)
+    two-can_put = let n = ap length (kids-same l (Some s) ins) in
+        let w = slice_get_within (kids m p) f.slot f.child leads.child in
+        can-put m l h p (ts m h p k x can) k (tree_at m 0 x) (now l (Some s) ins) (f.slot + 1) s
+        (now-grows l (Some s) ins) (named-node m h p k x can) can.distinct.0 (not-line m h p k x can)
+        (has-now l (Some s) ins) (links-now l (Some s) ins) (omega arith) (named-tree l h s ins.grows.holds.1.0)
+        two-tops (line-fits m h p k x can)
 
     pub two-sum : plus (sum_at l p) (sum_at m x) ≡ sum_all l (insert (kids l p) (f.slot + 1) s)
     two-sum = let us = now l (Some s) ins in let g = now-grows l (Some s) ins in
-        let node = ap sum_of (node-same l (Some s) ins) ∙ sum-held m (suc h) (tree_at m (suc h) p) can.tree in let line = sum-held m 0 (tree_at m 0 x) can.line in
+        let node = ap sum_of (node-same l (Some s) ins) ∙ sum-held m (suc h) (tree_at m (suc h) p) can.tree in
+        let line = sum-held m 0 (tree_at m 0 x) can.line in
         (λ i. plus (node i) (line i))
-        ∙ sym (ap (sum_all l) two-tops ∙ sum-trees l h us g.holds ∙ ap total g.line ∙ total-with_line (lines_of h (ts m h p k x can)) k (tree_at m 0 x))
+        ∙ sym (ap (sum_all l) two-tops ∙ sum-trees l h us g.holds ∙ ap total g.line
+        ∙ total-with_line (lines_of h (ts m h p k x can)) k (tree_at m 0 x))
 
-    pub two-inserts : (n : Records) (o : Option NodePtr) → Puts l n p (insert (kids l p) (f.slot + 1) s) o → Inserts m n (suc h) p k x o
+    pub two-inserts : (n : Records) (o : Option NodePtr) → Puts l n p (insert (kids l p) (f.slot + 1) s) o →
+        Inserts m n (suc h) p k x o
     two-inserts n o puts =
         let us = now l (Some s) ins in
-        let g = grows-put m l n h p (ts m h p k x can) k (tree_at m 0 x) us (f.slot + 1) s o (now-grows l (Some s) ins) (named-node m h p k x can) can.distinct.0 (not-line m h p k x can) two-can_put two-tops puts in
+        let g = grows-put m l n h p (ts m h p k x can) k (tree_at m 0 x) us (f.slot + 1) s o (now-grows l (Some s) ins)
+        (named-node m h p k x can) can.distinct.0 (not-line m h p k x can) two-can_put two-tops puts in
         let same = parted-is n h p us (split_at l n p (insert (kids l p) (f.slot + 1) s) o puts) o g.holds in
         let all = ap length two-tops ∙ length-map us (λ (t : Tree h). t.0) in
-        let kids_long = ap length (kids-same l (Some s) ins) in let w = slice_get_within (kids m p) f.slot f.child leads.child in let ts_long = length-map (kids m p) (tree_at m h) in
+        let kids_long = ap length (kids-same l (Some s) ins) in
+        let w = slice_get_within (kids m p) f.slot f.child leads.child in
+        let ts_long = length-map (kids m p) (tree_at m h) in
         let inserted = length-insert (kids l p) (f.slot + 1) s (omega arith) in
         record {
           grows = subst (λ zs. Grows m n (suc h) ((p, ts m h p k x can) ∷ []) k (tree_at m 0 x) zs) (sym same) g;
           wide = subst (λ zs. KeepsWide (suc h) (p, ts m h p k x can) zs o) (sym same)
-              (wide-put l n h p (ts m h p k x can) us (insert (kids l p) (f.slot + 1) s) o puts all (omega arith) (balanced-now l (Some s) ins (ins.wide.split refl (wide-some h (tree_at m h f.child) balanced-child))));
+              (wide-put l n h p (ts m h p k x can) us (insert (kids l p) (f.slot + 1) s) o puts all (omega arith)
+              (balanced-now l (Some s) ins
+              (ins.wide.split refl (wide-some h (tree_at m h f.child) balanced-child))));
           link = keeps-after m l n p (node-same l (Some s) ins) (keeps-put l n p (f.slot + 1) s o two-can_put puts);
         }
 
@@ -251,13 +299,17 @@ module _ (m : Records) (h : ℕ) (p : NodePtr) (k : ℕ) (x : NodePtr) (can : Ca
 
     pub one-fits : FitsSum (sums l (row (kids l p)))
     one-fits = let us = now l None ins in let g = now-grows l None ins in
-        subst FitsSum (sym (ap (λ cs. sums l (row cs)) one-tops ∙ sums-row l (tops h us) ∙ sum-trees l h us g.holds ∙ ap total g.line ∙ total-with_line (lines_of h (ts m h p k x can)) k (tree_at m 0 x))) (line-fits m h p k x can)
+        subst FitsSum (sym (ap (λ cs. sums l (row cs)) one-tops ∙ sums-row l (tops h us) ∙ sum-trees l h us g.holds
+        ∙ ap total g.line ∙ total-with_line (lines_of h (ts m h p k x can)) k (tree_at m 0 x)))
+        (line-fits m h p k x can)
 
     pub one-sum : plus (sum_at l p) (sum_at m x) ≡ sums l (row (kids l p))
     one-sum = let us = now l None ins in let g = now-grows l None ins in
-        let node = ap sum_of (node-same l None ins) ∙ sum-held m (suc h) (tree_at m (suc h) p) can.tree in let line = sum-held m 0 (tree_at m 0 x) can.line in
+        let node = ap sum_of (node-same l None ins) ∙ sum-held m (suc h) (tree_at m (suc h) p) can.tree in
+        let line = sum-held m 0 (tree_at m 0 x) can.line in
         (λ i. plus (node i) (line i))
-        ∙ sym (ap (λ cs. sums l (row cs)) one-tops ∙ sums-row l (tops h us) ∙ sum-trees l h us g.holds ∙ ap total g.line ∙ total-with_line (lines_of h (ts m h p k x can)) k (tree_at m 0 x))
+        ∙ sym (ap (λ cs. sums l (row cs)) one-tops ∙ sums-row l (tops h us) ∙ sum-trees l h us g.holds ∙ ap total g.line
+        ∙ total-with_line (lines_of h (ts m h p k x can)) k (tree_at m 0 x))
 
     one-links : Links l p 0 (tops h (now l None ins))
     one-links = subst (Links l p 0) one-tops (links-now l None ins)
@@ -265,13 +317,19 @@ module _ (m : Records) (h : ℕ) (p : NodePtr) (k : ℕ) (x : NodePtr) (can : Ca
     pub one-inserts : (n : Records) → n ≡ resummed l p (row (kids l p)) → Inserts m n (suc h) p k x None
     one-inserts n is =
         let us = now l None ins in let has = has-now l None ins in
-        let g = grows-resum m l n h p (ts m h p k x can) k (tree_at m 0 x) us (now-grows l None ins) (named-node m h p k x can) can.distinct.0 (not-line m h p k x can) has one-tops one-links is in
+        let g = grows-resum m l n h p (ts m h p k x can) k (tree_at m 0 x) us (now-grows l None ins)
+        (named-node m h p k x can) can.distinct.0 (not-line m h p k x can) has one-tops one-links is in
         let same = parted-is n h p us 0 None g.holds in
-        let long = ap length (sym (kids-same l None ins) ∙ one-tops) ∙ length-map us (λ (t : Tree h). t.0) in let ts_long = length-map (kids m p) (tree_at m h) in
+        let long = ap length (sym (kids-same l None ins) ∙ one-tops) ∙ length-map us (λ (t : Tree h). t.0) in
+        let ts_long = length-map (kids m p) (tree_at m h) in
         let s = sums l (row (kids l p)) in
         record {
           grows = subst (λ zs. Grows m n (suc h) ((p, ts m h p k x can) ∷ []) k (tree_at m 0 x) zs) (sym same) g;
           wide = subst (λ zs. KeepsWide (suc h) (p, ts m h p k x can) zs None) (sym same)
-              (wide-same h p (ts m h p k x can) us (omega arith) (balanced-now l None ins (all-balanced h (trees l h f.child None) (ins.wide.wide 6 (omega arith) (wide-balanced h (tree_at m h f.child) balanced-child)))));
-          link = keeps-after m l n p (node-same l None ins) (keeps-resum l p s has.found has.is n (ap (λ z. finite.get z p) is ∙ at-update l p (λ r. with_sum r s) has.found has.is));
+              (wide-same h p (ts m h p k x can) us (omega arith)
+              (balanced-now l None ins (all-balanced h (trees l h f.child None)
+              (ins.wide.wide 6 (omega arith) (wide-balanced h (tree_at m h f.child) balanced-child)))));
+          link = keeps-after m l n p (node-same l None ins)
+              (keeps-resum l p s has.found has.is n (ap (λ z. finite.get z p) is
+              ∙ at-update l p (λ r. with_sum r s) has.found has.is));
         }

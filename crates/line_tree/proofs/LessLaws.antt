@@ -27,20 +27,34 @@ less-plus rest part bare =
     let marks : (rest.marks + part.marks) - part.marks ≡ rest.marks = omega arith in
     let parity = ap (differing rest.parity) bare.parity ∙ differing-empty rest.parity in
     let presence = ap (set.union rest.presence) bare.presence ∙ union-empty rest.presence in
-    λ i. record { lines = lines i; characters = characters i; marks = marks i; parity = parity i; presence = presence i }
+    λ i. record {
+      lines = lines i;
+      characters = characters i;
+      marks = marks i;
+      parity = parity i;
+      presence = presence i;
+    }
 
-pub sum_all-remove : (m : Records) (cs : List NodePtr) (k : ℕ) (c : NodePtr) → slice_get cs k ≡ Some c → plus (sum_all m (remove cs k)) (sum_at m c) ≡ sum_all m cs
+pub sum_all-remove : (m : Records) (cs : List NodePtr) (k : ℕ) (c : NodePtr) → slice_get cs k ≡ Some c →
+    plus (sum_all m (remove cs k)) (sum_at m c) ≡ sum_all m cs
 sum_all-remove m [] k c at = absurd (none-some c at)
-sum_all-remove m (d ∷ cs) zero c at = ap (λ q. plus (sum_all m cs) (sum_at m q)) (sym (same_Some d c at)) ∙ plus-commutative (sum_all m cs) (sum_at m d)
-sum_all-remove m (d ∷ cs) (suc k) c at = plus-associative (sum_at m d) (sum_all m (remove cs k)) (sum_at m c) ∙ ap (plus (sum_at m d)) (sum_all-remove m cs k c at)
+sum_all-remove m (d ∷ cs) zero c at =
+    ap (λ q. plus (sum_all m cs) (sum_at m q)) (sym (same_Some d c at)) ∙ plus-commutative (sum_all m cs) (sum_at m d)
+sum_all-remove m (d ∷ cs) (suc k) c at = plus-associative (sum_at m d) (sum_all m (remove cs k)) (sum_at m c)
+    ∙ ap (plus (sum_at m d)) (sum_all-remove m cs k c at)
 
-total-remove : (ls : List Named) (k : ℕ) (l : Named) → slice_get ls k ≡ Some l → plus (total (remove ls k)) (line_count l.1) ≡ total ls
+total-remove : (ls : List Named) (k : ℕ) (l : Named) → slice_get ls k ≡ Some l →
+    plus (total (remove ls k)) (line_count l.1) ≡ total ls
 total-remove [] k l at = absurd (none-some l at)
-total-remove (n ∷ ls) zero l at = ap (λ (q : Named). plus (total ls) (line_count q.1)) (sym (same_Some n l at)) ∙ plus-commutative (total ls) (line_count n.1)
-total-remove (n ∷ ls) (suc k) l at = plus-associative (line_count n.1) (total (remove ls k)) (line_count l.1) ∙ ap (plus (line_count n.1)) (total-remove ls k l at)
+total-remove (n ∷ ls) zero l at = ap (λ (q : Named). plus (total ls) (line_count q.1)) (sym (same_Some n l at))
+    ∙ plus-commutative (total ls) (line_count n.1)
+total-remove (n ∷ ls) (suc k) l at = plus-associative (line_count n.1) (total (remove ls k)) (line_count l.1)
+    ∙ ap (plus (line_count n.1)) (total-remove ls k l at)
 
-pub line-gone : (m : Records) (h : ℕ) (p : NodePtr) (k : ℕ) (x : NodePtr) → IsTree m h p → IsLineAt (lines_in m h p) k x → plus (total (remove (lines_in m h p) k)) (sum_at m x) ≡ total (lines_in m h p)
+pub line-gone : (m : Records) (h : ℕ) (p : NodePtr) (k : ℕ) (x : NodePtr) → IsTree m h p →
+    IsLineAt (lines_in m h p) k x → plus (total (remove (lines_in m h p) k)) (sum_at m x) ≡ total (lines_in m h p)
 line-gone m h p k x tree at =
     let l = named_line (lines_in m h p) k x at in
     let has = line-held m h (tree_at m h p) tree k l.0 l.1 in
-    ap (plus (total (remove (lines_in m h p) k))) (ap (sum_at m) (sym l.2) ∙ ap sum_of has.is ∙ has.sum) ∙ total-remove (lines_in m h p) k l.0 l.1
+    ap (plus (total (remove (lines_in m h p) k))) (ap (sum_at m) (sym l.2) ∙ ap sum_of has.is ∙ has.sum)
+    ∙ total-remove (lines_in m h p) k l.0 l.1

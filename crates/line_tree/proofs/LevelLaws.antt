@@ -1,5 +1,6 @@
 -- How many levels a tree of so many lines has at most.
-use Rattle.std.proofs.Common.{◌≡◌, ℕ, zero, suc, ◌+◌, ◌-◌, ◌*◌, ◌/◌, ◌^◌, ◌<◌, ◌≤◌, max, inl, inr, ap, subst, arith, lit≤, lit<, length}
+use Rattle.std.proofs.Common.{◌≡◌, ℕ, zero, suc, ◌+◌, ◌-◌, ◌*◌, ◌/◌, ◌^◌, ◌<◌, ◌≤◌, max, inl, inr, ap, subst, arith}
+use Rattle.std.proofs.Common.{lit≤, lit<, length}
 use Rattle.std.specs.Prelude.{nat_le}
 use Rattle.std.specs.FinMap as finite
 use Rattle.std.proofs.Math.Nat.{pow-le-pow_right, pow-succ'}
@@ -17,10 +18,12 @@ use Rattle.line_tree.proofs.RootLaws.{stands-few, stands-least}
 
 -- ---- one step of the count
 more-levels : (h n : ℕ) → 2 * 6 ^ suc h ≤ n → levels_up_to (suc h) n ≡ suc (suc h)
-more-levels h n many = cond-true (nat_le (2 * 6 ^ suc h) n) (suc (suc h)) (levels_up_to h n) (le-leb (2 * 6 ^ suc h) n many)
+more-levels h n many =
+    cond-true (nat_le (2 * 6 ^ suc h) n) (suc (suc h)) (levels_up_to h n) (le-leb (2 * 6 ^ suc h) n many)
 
 same-levels : (h n : ℕ) → n < 2 * 6 ^ suc h → levels_up_to (suc h) n ≡ levels_up_to h n
-same-levels h n few = cond-false (nat_le (2 * 6 ^ suc h) n) (suc (suc h)) (levels_up_to h n) (lt-leb (2 * 6 ^ suc h) n few)
+same-levels h n few =
+    cond-false (nat_le (2 * 6 ^ suc h) n) (suc (suc h)) (levels_up_to h n) (lt-leb (2 * 6 ^ suc h) n few)
 
 levels-few : (h n : ℕ) → levels_up_to h n ≤ suc h
 levels-few zero n = omega arith
@@ -34,7 +37,8 @@ levels-hold : (f n h : ℕ) → h ≤ suc f → (2 ≤ h → 2 * 6 ^ (h - 1) ≤
 levels-hold zero n h low least = omega arith
 levels-hold (suc f) n h low least = elim (cases_lt n (2 * 6 ^ suc f)) [
   | inl few ↦ let e = same-levels f n few in elim (cases_lt (suc f) h) [
-    | inl high ↦ let top : h - 1 ≡ suc f = omega arith in let many = subst (λ k. 2 * 6 ^ k ≤ n) top (least (omega arith)) in absurd (omega arith)
+    | inl high ↦ let top : h - 1 ≡ suc f = omega arith in
+        let many = subst (λ k. 2 * 6 ^ k ≤ n) top (least (omega arith)) in absurd (omega arith)
     | inr lower ↦ let r = levels-hold f n h lower least in omega arith
   ]
   | inr many ↦ let e = more-levels f n many in omega arith
@@ -47,14 +51,16 @@ levels-below (suc f) n k few = elim (cases_lt n (2 * 6 ^ suc f)) [
   | inl fewer ↦ let e = same-levels f n fewer in let r = levels-below f n k few in omega arith
   | inr many ↦ let e = more-levels f n many in elim (cases_lt f k) [
     | inl low ↦ omega arith
-    | inr high ↦ let up = pow-le-pow_right {n = 6} (lit< tt) {i = suc k} {j = suc f} (omega arith) in absurd (omega arith)
+    | inr high ↦ let up =
+        pow-le-pow_right {n = 6} (lit< tt) {i = suc k} {j = suc f} (omega arith) in absurd (omega arith)
   ]
 ]
 
 levels-grow : (f a b : ℕ) → a ≤ b → levels_up_to f a ≤ levels_up_to f b
 levels-grow zero a b h = omega arith
 levels-grow (suc f) a b h = elim (cases_lt b (2 * 6 ^ suc f)) [
-  | inl few ↦ let p = same-levels f a (omega arith) in let q = same-levels f b few in let r = levels-grow f a b h in omega arith
+  | inl few ↦ let p =
+      same-levels f a (omega arith) in let q = same-levels f b few in let r = levels-grow f a b h in omega arith
   | inr many ↦ let p = levels-few (suc f) a in let q = more-levels f b many in omega arith
 ]
 
@@ -70,7 +76,8 @@ more-lines a b h = levels-grow 24 a b h
 pub low-height : (h n : ℕ) → (2 ≤ h → 2 * 6 ^ (h - 1) ≤ n) → n < 2 ^ 64 → h ≤ 25
 low-height h n least few = elim (cases_lt 25 h) [
   | inl high ↦
-      let many = least (omega arith) in let up = pow-le-pow_right {n = 6} (lit< tt) {i = 25} {j = h - 1} (omega arith) in
+      let many = least (omega arith) in
+      let up = pow-le-pow_right {n = 6} (lit< tt) {i = 25} {j = h - 1} (omega arith) in
       let big : 2 ^ 64 ≤ 2 * 6 ^ 25 = lit≤ tt in absurd (omega arith)
   | inr low ↦ omega arith
 ]
@@ -82,15 +89,18 @@ levels-log n k small low high =
     let p = pow-succ' 6 k in
     let a = levels-below 24 n k (omega arith) in
     let least : 2 ≤ suc k → 2 * 6 ^ (suc k - 1) ≤ n = λ two.
-    let some = pow-le-pow_right {n = 6} (lit< tt) {i = 1} {j = k} (omega arith) in let e : suc k - 1 ≡ k = omega arith in let q = ap (λ j. 6 ^ j) e in omega arith in
+    let some = pow-le-pow_right {n = 6} (lit< tt) {i = 1} {j = k} (omega arith) in
+    let e : suc k - 1 ≡ k = omega arith in let q = ap (λ j. 6 ^ j) e in omega arith in
     let b = levels-hold 24 n (suc k) (low-height (suc k) n least small) least in omega arith
 
 -- ---- a tree among so many nodes
 pub many-records : (m : Records) (h : ℕ) (r : NodePtr) → Stands m h r → length (lines_in m h r) + 1 ≤ finite.len m
 many-records m h r stands = let t = tree_at m h r in
-    let n = len-many (names h t) m stands.distinct (names-held m h t stands.tree) in let many = names-many-root h t stands.balanced in omega arith
+    let n = len-many (names h t) m stands.distinct (names-held m h t stands.tree) in
+    let many = names-many-root h t stands.balanced in omega arith
 
-pub levels-held : (m : Records) (h : ℕ) (r : NodePtr) (spares : ℕ) → Stands m h r → h ≤ levels_at_most (spares + finite.len m)
+pub levels-held : (m : Records) (h : ℕ) (r : NodePtr) (spares : ℕ) → Stands m h r →
+    h ≤ levels_at_most (spares + finite.len m)
 unfolding levels_at_most
 levels-held m h r spares stands =
     let least = stands-least m h r stands in let many = many-records m h r stands in

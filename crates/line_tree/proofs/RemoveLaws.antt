@@ -1,5 +1,6 @@
 -- A removal at a node, from the removal at its child.
-use Rattle.std.proofs.Common.{◌≡◌, ℕ, zero, suc, ◌+◌, ◌<◌, ◌≤◌, List, [], ◌∷◌, ◌++◌, length, take, drop, map, refl, sym, ap, ◌∙◌, subst, arith}
+use Rattle.std.proofs.Common.{◌≡◌, ℕ, zero, suc, ◌+◌, ◌<◌, ◌≤◌, List, [], ◌∷◌, ◌++◌, length, take, drop, map, refl, sym}
+use Rattle.std.proofs.Common.{ap, ◌∙◌, subst, arith}
 use Rattle.std.specs.Prelude.{◌≢◌}
 use Rattle.std.specs.FinMap as finite
 use Rattle.std.specs.List.{AllByRecursion, remove}
@@ -38,7 +39,8 @@ total-parts xs cs ys = total-append xs (cs ++ ys) ∙ ap (plus (total xs)) (tota
 pub fits-part : (xs cs ys : List Named) → FitsSum (total (xs ++ (cs ++ ys))) → FitsSum (total cs)
 fits-part xs cs ys fits = part-fits (total xs) (total cs) (total ys) (subst FitsSum (total-parts xs cs ys) fits)
 
-drop-one : {X : Type 0} (xs : List X) (k : ℕ) → k < length xs → (x : X) × (xs ≡ take k xs ++ ((x ∷ []) ++ drop (suc k) xs))
+drop-one : {X : Type 0} (xs : List X) (k : ℕ) → k < length xs →
+    (x : X) × (xs ≡ take k xs ++ ((x ∷ []) ++ drop (suc k) xs))
 drop-one [] k h = absurd (omega arith)
 drop-one (x ∷ xs) zero h = (x, refl)
 drop-one (x ∷ xs) (suc k) h = let r = drop-one xs k (omega arith) in (r.0, ap (λ zs. x ∷ zs) r.1)
@@ -46,10 +48,13 @@ drop-one (x ∷ xs) (suc k) h = let r = drop-one xs k (omega arith) in (r.0, ap 
 pub fits-remove : (ls : List Named) (k : ℕ) → k < length ls → FitsSum (total ls) → FitsSum (total (remove ls k))
 fits-remove ls k h fits = let r = drop-one ls k h in
     subst FitsSum (sym (total-append (take k ls) (drop (suc k) ls)))
-    (less-fits (total (take k ls)) (total (r.0 ∷ [])) (total (drop (suc k) ls)) (subst FitsSum (ap total r.1 ∙ total-parts (take k ls) (r.0 ∷ []) (drop (suc k) ls)) fits))
+    (less-fits (total (take k ls)) (total (r.0 ∷ [])) (total (drop (suc k) ls))
+    (subst FitsSum (ap total r.1 ∙ total-parts (take k ls) (r.0 ∷ []) (drop (suc k) ls)) fits))
 
 -- ---- the new children can be given
-pub can-fill : (m l : Records) (h : ℕ) (p : NodePtr) (ts : List (Tree h)) (k : ℕ) (x : NodePtr) (us : List (Tree h)) → Shrinks m l h ts k x us → (Among p (names_of h ts) → ⊥) → HasRow l p → length us ≤ 12 → k < length (lines_of h ts) → FitsSum (total (lines_of h ts))
+pub can-fill : (m l : Records) (h : ℕ) (p : NodePtr) (ts : List (Tree h)) (k : ℕ) (x : NodePtr) (us : List (Tree h)) →
+    Shrinks m l h ts k x us → (Among p (names_of h ts) → ⊥) → HasRow l p → length us ≤ 12 → k < length (lines_of h ts) →
+    FitsSum (total (lines_of h ts))
     → CanFill l p (tops h us)
 can-fill m l h p ts k x us g off_tree has few place fits = let n = length-map us (λ (t : Tree h). t.0) in record {
   found = has.found;
@@ -63,8 +68,11 @@ can-fill m l h p ts k x us g off_tree has few place fits = let n = length-map us
 }
 
 -- ---- what is left of the node
-pub finish : (m l n : Records) (h : ℕ) (p : NodePtr) (k : ℕ) (x : NodePtr) (us : List (Tree h)) → (can : CanRemove m (suc h) p k) → Shrinks m l h (map (tree_at m h) (kids m p)) k x us → finite.get l p ≡ finite.get m p
-    → CanFill l p (tops h us) → AllByRecursion (IsBalanced h) us → length (kids m p) ≤ length us + 1 → n ≡ refilled l p (row (tops h us)) → Removes m n (suc h) p k x
+pub finish : (m l n : Records) (h : ℕ) (p : NodePtr) (k : ℕ) (x : NodePtr) (us : List (Tree h)) →
+    (can : CanRemove m (suc h) p k) → Shrinks m l h (map (tree_at m h) (kids m p)) k x us →
+    finite.get l p ≡ finite.get m p
+    → CanFill l p (tops h us) → AllByRecursion (IsBalanced h) us → length (kids m p) ≤ length us + 1 →
+    n ≡ refilled l p (row (tops h us)) → Removes m n (suc h) p k x
 finish m l n h p k x us can g same fill balanced long is =
     let ts = map (tree_at m h) (kids m p) in
     let up = shrinks-up m l n h p ts k x us g can.distinct.0 fill is in
@@ -73,14 +81,18 @@ finish m l n h p k x us can g same fill balanced long is =
     record {
       shrinks = subst (λ t. Shrinks m n (suc h) ((p, ts) ∷ []) k x (t ∷ [])) (sym tree) up;
       wide = λ least w. subst (IsWide least (suc h)) (sym tree) (let low = w.0 in (omega arith, omega arith, balanced));
-      link = subst (λ z. KeepsLink m z p) (sym is) (keeps-after m l (refilled l p (row (tops h us))) p same (keeps-refilled l p (tops h us) fill));
+      link = subst (λ z. KeepsLink m z p) (sym is)
+          (keeps-after m l (refilled l p (row (tops h us))) p same (keeps-refilled l p (tops h us) fill));
     }
 
 -- a record that is in the tree no more is given back
-pub removes-drop : (m n : Records) (h : ℕ) (p : NodePtr) (k : ℕ) (x b : NodePtr) → Removes m n h p k x → (Among b (names h (tree_at n h p)) → ⊥) → Among b (names h (tree_at m h p)) → b ≢ x → p ≢ b → Removes m (finite.remove n b) h p k x
+pub removes-drop : (m n : Records) (h : ℕ) (p : NodePtr) (k : ℕ) (x b : NodePtr) → Removes m n h p k x →
+    (Among b (names h (tree_at n h p)) → ⊥) → Among b (names h (tree_at m h p)) → b ≢ x → p ≢ b →
+    Removes m (finite.remove n b) h p k x
 removes-drop m n h p k x b r gone was other p_b =
     let g = r.shrinks in let last = finite.remove n b in let t = tree_at n h p in
-    let off : (q : NodePtr) → Among q (names h t) → finite.get last q ≡ finite.get n q = λ q a. get_unmoved n b q (λ e. gone (subst (λ z. Among z (names h t)) e a)) in
+    let off : (q : NodePtr) → Among q (names h t) → finite.get last q
+    ≡ finite.get n q = λ q a. get_unmoved n b q (λ e. gone (subst (λ z. Among z (names h t)) e a)) in
     let holds = holds-same n last h t g.holds.0 off in
     let same : tree_at last h p ≡ t = ap (tree_at last h) (sym (top-tree_at n h p)) ∙ tree-is last h t holds in
     record {
@@ -92,13 +104,18 @@ removes-drop m n h p k x b r gone was other p_b =
         within = g.within;
         inside = g.inside;
         out = g.out;
-        other = λ q outside. get_unmoved n b q (λ e. outside (to-one q (names h (tree_at m h p)) (subst (λ z. Among z (names h (tree_at m h p))) (sym e) was))) ∙ g.other q outside;
+        other = λ q outside. get_unmoved n b q (λ e.
+            outside (to-one q (names h (tree_at m h p)) (subst (λ z. Among z (names h (tree_at m h p))) (sym e) was)))
+            ∙ g.other q outside;
         left = get_unmoved n b x (λ e. other (sym e)) ∙ g.left;
       });
       wide = λ least w. subst (IsWide least h) (sym same) (r.wide least w);
       link = keeps-then m n last p r.link (get_unmoved n b p p_b);
     }
 
-pub drop-tree : (m n : Records) (h : ℕ) (p : NodePtr) (k : ℕ) (x b : NodePtr) → Removes m n h p k x → (Among b (names h (tree_at n h p)) → ⊥) → tree_at (finite.remove n b) h p ≡ tree_at n h p
+pub drop-tree : (m n : Records) (h : ℕ) (p : NodePtr) (k : ℕ) (x b : NodePtr) → Removes m n h p k x →
+    (Among b (names h (tree_at n h p)) → ⊥) → tree_at (finite.remove n b) h p ≡ tree_at n h p
 drop-tree m n h p k x b r gone = let last = finite.remove n b in let t = tree_at n h p in
-    ap (tree_at last h) (sym (top-tree_at n h p)) ∙ tree-is last h t (holds-same n last h t r.shrinks.holds.0 (λ q a. get_unmoved n b q (λ e. gone (subst (λ z. Among z (names h t)) e a))))
+    ap (tree_at last h) (sym (top-tree_at n h p))
+    ∙ tree-is last h t (holds-same n last h t r.shrinks.holds.0 (λ q a.
+    get_unmoved n b q (λ e. gone (subst (λ z. Among z (names h t)) e a))))

@@ -1,5 +1,6 @@
 -- A removal at a node whose child shares with a neighbour.
-use Rattle.std.proofs.Common.{◌≡◌, ℕ, suc, ◌+◌, ◌<◌, ◌≤◌, ◌⊎◌, inl, inr, List, [], ◌∷◌, ◌++◌, length, take, drop, map, refl, sym, ap, ◌∙◌, subst, arith, length-append, length-take, length-drop}
+use Rattle.std.proofs.Common.{◌≡◌, ℕ, suc, ◌+◌, ◌<◌, ◌≤◌, ◌⊎◌, inl, inr, List, [], ◌∷◌, ◌++◌, length, take, drop, map}
+use Rattle.std.proofs.Common.{refl, sym, ap, ◌∙◌, subst, arith, length-append, length-take, length-drop}
 use Rattle.std.specs.Prelude.{◌≢◌, IsSome, slice_get}
 use Rattle.std.specs.FinMap as finite
 use Rattle.std.specs.List.{AllByRecursion, remove}
@@ -15,7 +16,8 @@ use Rattle.raw_nodes.specs.Rows.{kids, kids_of, row}
 use Rattle.raw_nodes.specs.declared.names.NodePtr.{NodePtr}
 use Rattle.raw_nodes.proofs.MapLaws.{get_removed, get_unmoved}
 use Rattle.raw_nodes.proofs.PlaceLaws.{same_or_other}
-use Rattle.line_tree.specs.Changes.{Among, CanEven, CanFill, Distinct, FitsSum, Mends, Merges, Shares, refilled, sum_all}
+use Rattle.line_tree.specs.Changes.{Among, CanEven, CanFill, Distinct, FitsSum, Mends, Merges, Shares, refilled}
+use Rattle.line_tree.specs.Changes.{sum_all}
 use Rattle.line_tree.specs.Finds.{Finds, HasRow}
 use Rattle.line_tree.specs.Growth.{IsWide, KeepsLink, lines_of, names_of}
 use Rattle.toggle_sums.specs.Counts.{plus}
@@ -31,11 +33,15 @@ use Rattle.line_tree.proofs.EvenLaws.{fill-back, fill-front, fill-whole}
 use Rattle.line_tree.proofs.FrameLaws.{inner-no-top, tops-among}
 use Rattle.line_tree.proofs.GrowLaws.{all-append, in-cases, in-left, in-right, names-append, of-one}
 use Rattle.line_tree.proofs.InsertLaws.{all-get, has-kept}
-use Rattle.line_tree.proofs.PairLaws.{Pair, kids-both, merge-inside, pair-of, share-inside, turns-merge, turns-share, two-lines, two-right}
+use Rattle.line_tree.proofs.PairLaws.{Pair, kids-both, merge-inside, pair-of, share-inside, turns-merge, turns-share}
+use Rattle.line_tree.proofs.PairLaws.{two-lines, two-right}
 use Rattle.line_tree.proofs.RemoveLaws.{can-fill, drop-tree, finish, fits-part, removes-drop}
-use Rattle.line_tree.proofs.RemoveSteps.{all-from, balanced-but, balanced-child, fits-now, has-now, in-drop, in-take, kids-same, links-now, node-same, now-lost, pair-place, pair-remove, pair-same, shrinks-now}
+use Rattle.line_tree.proofs.RemoveSteps.{all-from, balanced-but, balanced-child, fits-now, has-now, in-drop, in-take}
+use Rattle.line_tree.proofs.RemoveSteps.{kids-same, links-now, node-same, now-lost, pair-place, pair-remove, pair-same}
+use Rattle.line_tree.proofs.RemoveSteps.{shrinks-now}
 use Rattle.line_tree.proofs.ShrinkLaws.{shrinks-turns, turns-wide}
-use Rattle.line_tree.proofs.StepLaws.{all-drop, all-take, keeps-after, keeps-refilled, keeps-same, keeps-then, links-kept}
+use Rattle.line_tree.proofs.StepLaws.{all-drop, all-take, keeps-after, keeps-refilled, keeps-same, keeps-then}
+use Rattle.line_tree.proofs.StepLaws.{links-kept}
 use Rattle.line_tree.proofs.LessLaws.{line-gone}
 use Rattle.line_tree.proofs.TreeLaws.{child-tree, named-tree, row-tree, sum-tree, tops-tree_at}
 use Rattle.line_tree.proofs.UpdateLaws.{InnerIn, inner-refilled, inner-row, named-refilled}
@@ -45,7 +51,8 @@ abbrev pub without : List NodePtr → Option ℕ → List NodePtr
 without cs None = cs
 without cs (Some s) = remove cs s
 
-module _ (m : Records) (g : ℕ) (p : NodePtr) (k : ℕ) (can : CanRemove m (suc (suc g)) p k) (f : Found) (finds : Finds m p k f) (l : Records) (x : NodePtr) (rem : Removes m l (suc g) f.child f.rest x) where
+module _ (m : Records) (g : ℕ) (p : NodePtr) (k : ℕ) (can : CanRemove m (suc (suc g)) p k) (f : Found)
+    (finds : Finds m p k f) (l : Records) (x : NodePtr) (rem : Removes m l (suc g) f.child f.rest x) where
   abbrev cs : List NodePtr
   cs = kids m p
 
@@ -76,10 +83,12 @@ module _ (m : Records) (g : ℕ) (p : NodePtr) (k : ℕ) (can : CanRemove m (suc
     pub links : Links n p 0 cs
     pub slot : (s : ℕ) → o ≡ Some s → s < length cs
     pub gone : (s : ℕ) (q : NodePtr) → o ≡ Some s → slice_get cs s ≡ Some q → Among q (names_of (suc g) trees) → ⊥
-    pub lost : Cleans m l (suc g) f.child x → (q : NodePtr) → Among q (names_of (suc g) ts) → (Among q (names_of (suc g) trees) → ⊥) → q ≢ x → (finite.get n q ≡ None) ⊎ IsGone o q
+    pub lost : Cleans m l (suc g) f.child x → (q : NodePtr) → Among q (names_of (suc g) ts) →
+        (Among q (names_of (suc g) trees) → ⊥) → q ≢ x → (finite.get n q ≡ None) ⊎ IsGone o q
 
   -- ---- two neighbours
-  module _ (j : ℕ) (a b : NodePtr) (at_a : slice_get (kids m p) j ≡ Some a) (at_b : slice_get (kids m p) (suc j) ≡ Some b) where
+  module _ (j : ℕ) (a b : NodePtr) (at_a : slice_get (kids m p) j ≡ Some a) (at_b : slice_get (kids m p) (suc j)
+      ≡ Some b) where
     abbrev left : List (Tree (suc g))
     left = map (tree_at l (suc g)) (take j cs)
 
@@ -108,7 +117,9 @@ module _ (m : Records) (g : ℕ) (p : NodePtr) (k : ℕ) (can : CanRemove m (suc
     held = subst (AllByRecursion (Holds l (suc g))) placed shrinks.holds
 
     two-right-apart : Distinct (names_of (suc g) two ++ names_of (suc g) right)
-    two-right-apart = subst Distinct (names-append (suc g) two right) (distinct-right (names_of (suc g) left) (names_of (suc g) (two ++ right)) (subst Distinct (names-append (suc g) left (two ++ right)) apart))
+    two-right-apart = subst Distinct (names-append (suc g) two right)
+        (distinct-right (names_of (suc g) left) (names_of (suc g) (two ++ right))
+        (subst Distinct (names-append (suc g) left (two ++ right)) apart))
 
     two-apart : Distinct (names_of (suc g) two)
     two-apart = distinct-left (names_of (suc g) two) (names_of (suc g) right) two-right-apart
@@ -128,7 +139,10 @@ module _ (m : Records) (g : ℕ) (p : NodePtr) (k : ℕ) (can : CanRemove m (suc
     two-fits : FitsSum (total (lines_of g below))
     two-fits = subst (λ ls. FitsSum (total ls)) (two-lines g a b xs ys)
         (fits-part (lines_of (suc g) left) (lines_of (suc g) two) (lines_of (suc g) right)
-        (subst (λ ls. FitsSum (total ls)) (ap (lines_of (suc g)) placed ∙ flat_map-append (lines (suc g)) left (two ++ right) ∙ ap (λ zs. lines_of (suc g) left ++ zs) (flat_map-append (lines (suc g)) two right)) (fits-now m (suc g) p k can f finds l x rem)))
+        (subst (λ ls. FitsSum (total ls)) (ap (lines_of (suc g)) placed
+        ∙ flat_map-append (lines (suc g)) left (two ++ right)
+        ∙ ap (λ zs. lines_of (suc g) left ++ zs) (flat_map-append (lines (suc g)) two right))
+        (fits-now m (suc g) p k can f finds l x rem)))
 
     pub can-even : CanEven l a b
     can-even = record {
@@ -140,29 +154,41 @@ module _ (m : Records) (g : ℕ) (p : NodePtr) (k : ℕ) (can : CanRemove m (suc
       off_right = λ s. facts.off_right (tops-among g below b (subst (Among b) both s));
       sum_left = sum-kids l g a hold_a;
       sum_right = sum-kids l g b hold_b;
-      fits = subst FitsSum (sym (ap (sum_all l) both ∙ sum-trees l g below (all-append (Holds l g) xs ys hold_a.2 hold_b.2))) two-fits;
+      fits = subst FitsSum (sym (ap (sum_all l) both
+          ∙ sum-trees l g below (all-append (Holds l g) xs ys hold_a.2 hold_b.2))) two-fits;
     }
 
     -- what stands in their place
-    turned : (n : Records) (new : List (Tree (suc g))) → Turns l n (suc g) two new → Shrinks m n (suc g) ts k x (left ++ (new ++ right))
+    turned : (n : Records) (new : List (Tree (suc g))) → Turns l n (suc g) two new →
+        Shrinks m n (suc g) ts k x (left ++ (new ++ right))
     turned n new turn = shrinks-turns m l n (suc g) ts k x now (left ++ (new ++ right)) shrinks
-        (subst (λ zs. Turns l n (suc g) zs (left ++ (new ++ right))) (sym placed) (turns-wide l n (suc g) left two right new turn held apart))
+        (subst (λ zs. Turns l n (suc g) zs (left ++ (new ++ right))) (sym placed)
+        (turns-wide l n (suc g) left two right new turn held apart))
 
     turn-same : (n : Records) (new : List (Tree (suc g))) → Turns l n (suc g) two new → finite.get n p ≡ finite.get l p
-    turn-same n new turn = turn.other p (λ s. can.distinct.0 (shrinks.within p (subst (λ zs. Among p (names_of (suc g) zs)) (sym placed) (in-right (suc g) left (two ++ right) p (in-left (suc g) two right p s)))))
+    turn-same n new turn = turn.other p (λ s.
+        can.distinct.0 (shrinks.within p (subst (λ zs. Among p (names_of (suc g) zs)) (sym placed)
+        (in-right (suc g) left (two ++ right) p (in-left (suc g) two right p s)))))
 
-    off-two : (n : Records) (new : List (Tree (suc g))) → Turns l n (suc g) two new → Cleans m l (suc g) f.child x → (q : NodePtr) → Among q (names_of (suc g) ts) → (Among q (names_of (suc g) (left ++ (new ++ right))) → ⊥)
+    off-two : (n : Records) (new : List (Tree (suc g))) → Turns l n (suc g) two new → Cleans m l (suc g) f.child x →
+        (q : NodePtr) → Among q (names_of (suc g) ts) → (Among q (names_of (suc g) (left ++ (new ++ right))) → ⊥)
         → (Among q (names_of (suc g) two) → ⊥) → q ≢ x → finite.get n q ≡ None
     off-two n new turn clean q s out off n2 =
-        let not_now : Among q (names_of (suc g) now) → ⊥ = λ i. elim (in-cases (suc g) left (two ++ right) q (subst (λ zs. Among q (names_of (suc g) zs)) placed i)) [
+        let not_now : Among q (names_of (suc g) now) →
+        ⊥ = λ i. elim (in-cases (suc g) left (two ++ right) q
+        (subst (λ zs. Among q (names_of (suc g) zs)) placed i)) [
           | inl c ↦ out (in-left (suc g) left (new ++ right) q c)
-          | inr c ↦ elim (in-cases (suc g) two right q c) [ inl e ↦ off e | inr e ↦ out (in-right (suc g) left (new ++ right) q (in-right (suc g) new right q e)) ]
+          | inr c ↦ elim (in-cases (suc g) two right q c)
+              [ inl e ↦ off e | inr e ↦ out (in-right (suc g) left (new ++ right) q (in-right (suc g) new right q e)) ]
         ] in
         turn.other q off ∙ now-lost m (suc g) p k can f finds l x rem clean q s not_now n2
 
-    tops-turned : (new : List (Tree (suc g))) → tops (suc g) (left ++ (new ++ right)) ≡ take j cs ++ (tops (suc g) new ++ drop (suc (suc j)) cs)
-    tops-turned new = map-append (λ (t : Tree (suc g)). t.0) left (new ++ right) ∙ ap (λ zs. tops (suc g) left ++ zs) (map-append (λ (t : Tree (suc g)). t.0) new right)
-        ∙ (λ i. tops-tree_at l (suc g) (take j cs) i ++ (tops (suc g) new ++ tops-tree_at l (suc g) (drop (suc (suc j)) cs) i))
+    tops-turned : (new : List (Tree (suc g))) → tops (suc g) (left ++ (new ++ right))
+        ≡ take j cs ++ (tops (suc g) new ++ drop (suc (suc j)) cs)
+    tops-turned new = map-append (λ (t : Tree (suc g)). t.0) left (new ++ right)
+        ∙ ap (λ zs. tops (suc g) left ++ zs) (map-append (λ (t : Tree (suc g)). t.0) new right)
+        ∙ (λ i. tops-tree_at l (suc g) (take j cs) i
+        ++ (tops (suc g) new ++ tops-tree_at l (suc g) (drop (suc (suc j)) cs) i))
 
     module _ (near : (j ≡ f.slot) ⊎ (suc j ≡ f.slot)) where
       before-slot : (i : ℕ) → i < j → i ≢ f.slot
@@ -175,25 +201,33 @@ module _ (m : Records) (g : ℕ) (p : NodePtr) (k : ℕ) (can : CanRemove m (suc
         clash : 0 < 0 → ⊥
         clash h = omega arith
 
-      sides : (new : List (Tree (suc g))) → AllByRecursion (IsBalanced (suc g)) new → AllByRecursion (IsBalanced (suc g)) (left ++ (new ++ right))
+      sides : (new : List (Tree (suc g))) → AllByRecursion (IsBalanced (suc g)) new →
+          AllByRecursion (IsBalanced (suc g)) (left ++ (new ++ right))
       sides new balanced =
           all-append (IsBalanced (suc g)) left (new ++ right)
-          (all-from (IsBalanced (suc g)) (tree_at l (suc g)) (take j cs) (λ i d at. let r = in-take j cs i d at in balanced-but m (suc g) p k can f finds l x rem i d r.1 (before-slot i r.0)))
+          (all-from (IsBalanced (suc g)) (tree_at l (suc g)) (take j cs) (λ i d at. let r = in-take j cs i d at in
+          balanced-but m (suc g) p k can f finds l x rem i d r.1 (before-slot i r.0)))
           (all-append (IsBalanced (suc g)) new right balanced
-          (all-from (IsBalanced (suc g)) (tree_at l (suc g)) (drop (suc (suc j)) cs) (λ i d at. balanced-but m (suc g) p k can f finds l x rem (suc (suc j) + i) d (in-drop (suc (suc j)) cs i d at) (after-slot i))))
+          (all-from (IsBalanced (suc g)) (tree_at l (suc g)) (drop (suc (suc j)) cs) (λ i d at.
+          balanced-but m (suc g) p k can f finds l x rem (suc (suc j) + i) d (in-drop (suc (suc j)) cs i d at)
+          (after-slot i))))
 
       wide-child : (d : NodePtr) (i : ℕ) → slice_get cs i ≡ Some d → i ≡ f.slot → IsWide 5 (suc g) (tree_at l (suc g) d)
-      wide-child d i at e = subst (λ z. IsWide 5 (suc g) (tree_at l (suc g) z)) (same_Some f.child d (sym finds.child ∙ ap (slice_get cs) (sym e) ∙ at)) (rem.wide 5 (balanced-child m (suc g) p k can f finds))
+      wide-child d i at e = subst (λ z. IsWide 5 (suc g) (tree_at l (suc g) z))
+          (same_Some f.child d (sym finds.child ∙ ap (slice_get cs) (sym e) ∙ at))
+          (rem.wide 5 (balanced-child m (suc g) p k can f finds))
 
       -- together they have eleven at least, and below them all is balanced
       many : (11 ≤ length below) × AllByRecursion (IsBalanced g) below
       many = elim near [
         | inl e ↦
-            let wa = wide-child a j at_a e in let wb = balanced-but m (suc g) p k can f finds l x rem (suc j) b at_b (λ o. next-not j (e ∙ sym o)) in
+            let wa = wide-child a j at_a e in
+            let wb = balanced-but m (suc g) p k can f finds l x rem (suc j) b at_b (λ o. next-not j (e ∙ sym o)) in
             let n = length-append xs ys in let la = wa.0 in let lb = wb.0 in
             (omega arith, all-append (IsBalanced g) xs ys wa.2 wb.2)
         | inr e ↦
-            let wb = wide-child b (suc j) at_b e in let wa = balanced-but m (suc g) p k can f finds l x rem j a at_a (λ o. next-not j (o ∙ sym e)) in
+            let wb = wide-child b (suc j) at_b e in
+            let wa = balanced-but m (suc g) p k can f finds l x rem j a at_a (λ o. next-not j (o ∙ sym e)) in
             let n = length-append xs ys in let la = wa.0 in let lb = wb.0 in
             (omega arith, all-append (IsBalanced g) xs ys wa.2 wb.2)
       ] where
@@ -203,42 +237,59 @@ module _ (m : Records) (g : ℕ) (p : NodePtr) (k : ℕ) (can : CanRemove m (suc
       -- the other children stand in neither
       off-pair : (q : NodePtr) → Among q cs → q ≢ a → q ≢ b → Among q (names_of (suc g) two) → ⊥
       off-pair q among q_a q_b s =
-          let top = subst (Among q) (sym (tops-tree_at l (suc g) cs)) among in let none = inner-no-top (suc g) now shrinks.distinct in
+          let top = subst (Among q) (sym (tops-tree_at l (suc g) cs)) among in
+          let none = inner-no-top (suc g) now shrinks.distinct in
           elim (in-cases (suc g) (tree_at l (suc g) a ∷ []) (tree_at l (suc g) b ∷ []) q s) [
             | inl c ↦ elim (of-one q (names (suc g) (tree_at l (suc g) a)) c) [
               | inl e ↦ q_a e
-              | inr d ↦ all-get (λ t. (z : NodePtr) → Among z (inner (suc g) t) → Among z (tops (suc g) now) → ⊥) (tree_at l (suc g)) cs j a none at_a q d top
+              | inr d ↦ all-get (λ t. (z : NodePtr) → Among z (inner (suc g) t) → Among z (tops (suc g) now) →
+                  ⊥) (tree_at l (suc g)) cs j a none at_a q d top
             ]
             | inr c ↦ elim (of-one q (names (suc g) (tree_at l (suc g) b)) c) [
               | inl e ↦ q_b e
-              | inr d ↦ all-get (λ t. (z : NodePtr) → Among z (inner (suc g) t) → Among z (tops (suc g) now) → ⊥) (tree_at l (suc g)) cs (suc j) b none at_b q d top
+              | inr d ↦ all-get (λ t. (z : NodePtr) → Among z (inner (suc g) t) → Among z (tops (suc g) now) →
+                  ⊥) (tree_at l (suc g)) cs (suc j) b none at_b q d top
             ]
           ]
 
       -- where both keep their places, all children do
-      links-pair : (n : Records) → KeepsLink l n a → KeepsLink l n b → ((q : NodePtr) → (Among q (names_of (suc g) two) → ⊥) → finite.get n q ≡ finite.get l q) → Links n p 0 cs
-      links-pair n keep_a keep_b other = links-kept l n p 0 cs (links-now m (suc g) p k can f finds l x rem) (λ q among. elim (same_or_other q a) [
-        | inl e ↦ subst (λ z. KeepsLink l n z) (sym e) keep_a
-        | inr q_a ↦ elim (same_or_other q b) [
-          | inl e ↦ subst (λ z. KeepsLink l n z) (sym e) keep_b
-          | inr q_b ↦ let i = among-get q cs among in keeps-same l n q (named-tree l (suc g) q (child-tree l (suc g) cs i.0 q shrinks.holds i.1)) (other q (off-pair q among q_a q_b))
-        ]
-      ])
+      links-pair : (n : Records) → KeepsLink l n a → KeepsLink l n b →
+          ((q : NodePtr) → (Among q (names_of (suc g) two) → ⊥) → finite.get n q ≡ finite.get l q) → Links n p 0 cs
+      links-pair n keep_a keep_b other =
+          links-kept l n p 0 cs (links-now m (suc g) p k can f finds l x rem) (λ q among. elim (same_or_other q a) [
+            | inl e ↦ subst (λ z. KeepsLink l n z) (sym e) keep_a
+            | inr q_a ↦ elim (same_or_other q b) [
+              | inl e ↦ subst (λ z. KeepsLink l n z) (sym e) keep_b
+              | inr q_b ↦ let i = among-get q cs among in
+                  keeps-same l n q (named-tree l (suc g) q (child-tree l (suc g) cs i.0 q shrinks.holds i.1))
+                  (other q (off-pair q among q_a q_b))
+            ]
+          ])
 
       share-links : (n : Records) → Shares l n a b → Links n p 0 cs
       share-links n shares =
-          let all = kids l a ++ kids l b in let half = shares.half in let front = take half all in let back = drop half all in let first = refilled l a (row front) in
+          let all = kids l a ++ kids l b in let half = shares.half in let front = take half all in
+          let back = drop half all in let first = refilled l a (row front) in
           let fill_b = fill-back l a b can-even half shares.rest_high in
-          let keep_a = keeps-then l first (refilled first b (row back)) a (keeps-refilled l a front (fill-front l a b can-even half shares.high)) (refilled-other first b back a can-even.two (λ s. can-even.off_left (among-drop a half all s))) in
-          let keep_b = keeps-after l first (refilled first b (row back)) b (refilled-other l a front b (λ e. can-even.two (sym e)) (λ s. can-even.off_right (among-take b half all s))) (keeps-refilled first b back fill_b) in
-          links-pair n (subst (λ z. KeepsLink l z a) (sym shares.same) keep_a) (subst (λ z. KeepsLink l z b) (sym shares.same) keep_b) (turns-share l g a b xs ys hold_a hold_b two-apart can-even n shares).other
+          let keep_a = keeps-then l first (refilled first b (row back)) a
+          (keeps-refilled l a front (fill-front l a b can-even half shares.high))
+          (refilled-other first b back a can-even.two (λ s. can-even.off_left (among-drop a half all s))) in
+          let keep_b = keeps-after l first (refilled first b (row back)) b
+          (refilled-other l a front b (λ e. can-even.two (sym e)) (λ s.
+          can-even.off_right (among-take b half all s))) (keeps-refilled first b back fill_b) in
+          links-pair n (subst (λ z. KeepsLink l z a) (sym shares.same) keep_a)
+          (subst (λ z. KeepsLink l z b) (sym shares.same) keep_b)
+          (turns-share l g a b xs ys hold_a hold_b two-apart can-even n shares).other
 
       merge-links : (n : Records) → Merges l n a b → Links n p 0 cs
       merge-links n merges =
           let all = kids l a ++ kids l b in
           let keep_a = keeps-refilled l a all (fill-whole l a b can-even merges.few) in
-          let keep_b = keeps-same l (refilled l a (row all)) b (named-tree l (suc g) b hold_b) (refilled-other l a all b (λ e. can-even.two (sym e)) can-even.off_right) in
-          links-pair n (subst (λ z. KeepsLink l z a) (sym merges.same) keep_a) (subst (λ z. KeepsLink l z b) (sym merges.same) keep_b) (turns-merge l g a b xs ys hold_a hold_b two-apart can-even n merges).other
+          let keep_b = keeps-same l (refilled l a (row all)) b (named-tree l (suc g) b hold_b)
+          (refilled-other l a all b (λ e. can-even.two (sym e)) can-even.off_right) in
+          links-pair n (subst (λ z. KeepsLink l z a) (sym merges.same) keep_a)
+          (subst (λ z. KeepsLink l z b) (sym merges.same) keep_b)
+          (turns-merge l g a b xs ys hold_a hold_b two-apart can-even n merges).other
 
       -- ---- after the sharing
       pub share : (n : Records) → Shares l n a b → Ready n None
@@ -247,8 +298,13 @@ module _ (m : Records) (g : ℕ) (p : NodePtr) (k : ℕ) (can : CanRemove m (suc
           let turn = turns-share l g a b xs ys hold_a hold_b two-apart can-even n shares in
           let new = (a, front) ∷ (b, back) ∷ [] in
           let all = ap length both ∙ length-map zs (λ (t : Tree g). t.0) in
-          let nf = length-take half zs in let nb = length-drop half zs in let low = shares.low in let high = shares.high in let rest_low = shares.rest_low in let rest_high = shares.rest_high in
-          let balanced : AllByRecursion (IsBalanced (suc g)) new = ((omega arith, omega arith, all-take (IsBalanced g) half zs many.1), ((omega arith, omega arith, all-drop (IsBalanced g) half zs many.1), tt)) in
+          let nf = length-take half zs in let nb = length-drop half zs in let low = shares.low in
+          let high = shares.high in let rest_low = shares.rest_low in let rest_high = shares.rest_high in
+          let balanced : AllByRecursion (IsBalanced (suc g)) new
+          = (
+            (omega arith, omega arith, all-take (IsBalanced g) half zs many.1),
+            ((omega arith, omega arith, all-drop (IsBalanced g) half zs many.1), tt),
+          ) in
           let same_tops = tops-turned new ∙ sym (pair-same cs j a b at_a at_b) in
           record {
             trees = left ++ (new ++ right);
@@ -256,24 +312,35 @@ module _ (m : Records) (g : ℕ) (p : NodePtr) (k : ℕ) (can : CanRemove m (suc
             tops = same_tops;
             balanced = sides new balanced;
             same = turn-same n new turn ∙ node-same m (suc g) p k can f finds l x rem;
-            named = λ q s. subst (λ z. IsSome (finite.get z q)) (sym shares.same) (named-refilled (refilled l a (row (take half (kids l a ++ kids l b)))) b (row (drop half (kids l a ++ kids l b))) q (named-refilled l a (row (take half (kids l a ++ kids l b))) q s));
-            still_inner = λ q s. subst (λ z. InnerIn z q) (sym shares.same) (inner-refilled (refilled l a (row (take half (kids l a ++ kids l b)))) b (row (drop half (kids l a ++ kids l b))) q (inner-refilled l a (row (take half (kids l a ++ kids l b))) q s));
+            named = λ q s. subst (λ z. IsSome (finite.get z q)) (sym shares.same)
+                (named-refilled (refilled l a (row (take half (kids l a ++ kids l b)))) b
+                (row (drop half (kids l a ++ kids l b))) q
+                (named-refilled l a (row (take half (kids l a ++ kids l b))) q s));
+            still_inner = λ q s. subst (λ z. InnerIn z q) (sym shares.same)
+                (inner-refilled (refilled l a (row (take half (kids l a ++ kids l b)))) b
+                (row (drop half (kids l a ++ kids l b))) q
+                (inner-refilled l a (row (take half (kids l a ++ kids l b))) q s));
             links = share-links n shares;
             slot = λ s e. absurd (none-some s e);
             gone = λ s q e at. absurd (none-some s e);
-            lost = λ clean q s out n2. inl (off-two n new turn clean q s out (λ i. out (in-right (suc g) left (new ++ right) q (in-left (suc g) new right q (share-inside l g a b xs ys hold_a hold_b two-apart half q i)))) n2);
+            lost = λ clean q s out n2.
+                inl (off-two n new turn clean q s out (λ i.
+                out (in-right (suc g) left (new ++ right) q
+                (in-left (suc g) new right q (share-inside l g a b xs ys hold_a hold_b two-apart half q i)))) n2);
           }
 
       -- the node without children is in the tree no more
       pub merged-out : Among b (names_of (suc g) (left ++ (((a, below) ∷ []) ++ right))) → ⊥
       merged-out s =
-          let left-apart = distinct-apart (names_of (suc g) left) (names_of (suc g) (two ++ right)) (subst Distinct (names-append (suc g) left (two ++ right)) apart) in
+          let left-apart = distinct-apart (names_of (suc g) left) (names_of (suc g) (two ++ right))
+          (subst Distinct (names-append (suc g) left (two ++ right)) apart) in
           let right-apart = distinct-apart (names_of (suc g) two) (names_of (suc g) right) two-right-apart in
           let b_two = two-right g a b xs ys in
           elim (in-cases (suc g) left (((a, below) ∷ []) ++ right) b s) [
             | inl c ↦ left-apart b c (in-left (suc g) two right b b_two)
             | inr c ↦ elim (in-cases (suc g) ((a, below) ∷ []) right b c) [
-              | inl e ↦ elim (of-one b (a ∷ names_of g below) e) [ inl i ↦ facts.two (sym i) | inr i ↦ facts.off_right i ]
+              | inl e ↦ elim (of-one b (a ∷ names_of g below) e)
+                  [ inl i ↦ facts.two (sym i) | inr i ↦ facts.off_right i ]
               | inr e ↦ right-apart b b_two e
             ]
           ]
@@ -291,11 +358,15 @@ module _ (m : Records) (g : ℕ) (p : NodePtr) (k : ℕ) (can : CanRemove m (suc
             tops = tops-turned new ∙ sym (pair-remove cs j a b at_a at_b);
             balanced = sides new balanced;
             same = turn-same n new turn ∙ node-same m (suc g) p k can f finds l x rem;
-            named = λ q s. subst (λ z. IsSome (finite.get z q)) (sym merges.same) (named-refilled l a (row (kids l a ++ kids l b)) q s);
-            still_inner = λ q s. subst (λ z. InnerIn z q) (sym merges.same) (inner-refilled l a (row (kids l a ++ kids l b)) q s);
+            named = λ q s. subst (λ z. IsSome (finite.get z q)) (sym merges.same)
+                (named-refilled l a (row (kids l a ++ kids l b)) q s);
+            still_inner =
+                λ q s. subst (λ z. InnerIn z q) (sym merges.same) (inner-refilled l a (row (kids l a ++ kids l b)) q s);
             links = merge-links n merges;
             slot = λ s e. let w = slice_get_within cs (suc j) b at_b in let i = same_Some (suc j) s e in omega arith;
-            gone = λ s q e at r. merged-out (subst (λ z. Among z (names_of (suc g) (left ++ (new ++ right)))) (same_Some q b (sym at ∙ ap (slice_get cs) (sym (same_Some (suc j) s e)) ∙ at_b)) r);
+            gone = λ s q e at r.
+                merged-out (subst (λ z. Among z (names_of (suc g) (left ++ (new ++ right))))
+                (same_Some q b (sym at ∙ ap (slice_get cs) (sym (same_Some (suc j) s e)) ∙ at_b)) r);
             lost = λ clean q s out n2. elim (among-or q (names_of (suc g) two)) [
               | inl i ↦ elim (merge-inside l g a b xs ys hold_a hold_b two-apart q i) [
                 | inl c ↦ absurd (out (in-right (suc g) left (new ++ right) q (in-left (suc g) new right q c)))
@@ -314,7 +385,8 @@ module _ (m : Records) (g : ℕ) (p : NodePtr) (k : ℕ) (can : CanRemove m (suc
     balanced = all-from (IsBalanced (suc g)) (tree_at l (suc g)) cs (λ j d at. elim (cases_eq j f.slot) [
       | inl e ↦
           let c = same_Some f.child d (sym finds.child ∙ ap (slice_get cs) (sym e) ∙ at) in
-          let w = rem.wide 5 (balanced-child m (suc g) p k can f finds) in let n = length-map (kids l f.child) (tree_at l g) in
+          let w = rem.wide 5 (balanced-child m (suc g) p k can f finds) in
+          let n = length-map (kids l f.child) (tree_at l g) in
           subst (λ z. IsBalanced (suc g) (tree_at l (suc g) z)) c (omega arith, w.1, w.2)
       | inr e ↦ balanced-but m (suc g) p k can f finds l x rem j d at e
     ]);
@@ -329,11 +401,16 @@ module _ (m : Records) (g : ℕ) (p : NodePtr) (k : ℕ) (can : CanRemove m (suc
 
   shared : (n : Records) (o : Option ℕ) → Mends l n p f.slot o → Ready n o
   shared n None mends =
-      let ks = kids-same m (suc g) p k can f finds l x rem in let at_a = ap (λ zs. slice_get zs mends.at) (sym ks) ∙ mends.is_left in let at_b = ap (λ zs. slice_get zs (suc mends.at)) (sym ks) ∙ mends.is_right in
+      let ks = kids-same m (suc g) p k can f finds l x rem in
+      let at_a = ap (λ zs. slice_get zs mends.at) (sym ks) ∙ mends.is_left in
+      let at_b = ap (λ zs. slice_get zs (suc mends.at)) (sym ks) ∙ mends.is_right in
       share mends.at mends.left mends.right at_a at_b mends.near n mends.evens
   shared n (Some s) mends =
-      let ks = kids-same m (suc g) p k can f finds l x rem in let at_a = ap (λ zs. slice_get zs mends.at) (sym ks) ∙ mends.is_left in let at_b = ap (λ zs. slice_get zs (suc mends.at)) (sym ks) ∙ mends.is_right in
-      subst (λ z. Ready n (Some z)) (sym mends.gap) (merge mends.at mends.left mends.right at_a at_b mends.near n mends.evens)
+      let ks = kids-same m (suc g) p k can f finds l x rem in
+      let at_a = ap (λ zs. slice_get zs mends.at) (sym ks) ∙ mends.is_left in
+      let at_b = ap (λ zs. slice_get zs (suc mends.at)) (sym ks) ∙ mends.is_right in
+      subst (λ z. Ready n (Some z)) (sym mends.gap)
+      (merge mends.at mends.left mends.right at_a at_b mends.near n mends.evens)
 
   pub ready : (n : Records) (o : Option ℕ) → Settles l n p f.slot f.child o → Ready n o
   ready n o settles = elim settles.ways [ inl kept ↦ stays n o kept.0 kept.1 kept.2 | inr mends ↦ shared n o mends ]
@@ -354,89 +431,133 @@ module _ (m : Records) (g : ℕ) (p : NodePtr) (k : ℕ) (can : CanRemove m (suc
     kids-ready = ap kids_of is-ready.same
 
     pub has-ready : HasRow n p
-    has-ready = has-kept l n p (has-now m (suc g) p k can f finds l x rem) (is-ready.same ∙ sym (node-same m (suc g) p k can f finds l x rem)) is-ready.named
+    has-ready = has-kept l n p (has-now m (suc g) p k can f finds l x rem) (is-ready.same
+        ∙ sym (node-same m (suc g) p k can f finds l x rem)) is-ready.named
 
     pub links-ready : Links n p 0 (kids n p)
     links-ready = subst (Links n p 0) (sym kids-ready) is-ready.links
 
-    few-without : (o : Option ℕ) → ((s : ℕ) → o ≡ Some s → s < length cs) → (length (without cs o) ≤ 12) × (length cs ≤ length (without cs o) + 1)
+    few-without : (o : Option ℕ) → ((s : ℕ) → o ≡ Some s → s < length cs) →
+        (length (without cs o) ≤ 12) × (length cs ≤ length (without cs o) + 1)
     few-without None within = let few = (row-tree m (suc g) p can.tree).few in (omega arith, omega arith)
-    few-without (Some s) within = let few = (row-tree m (suc g) p can.tree).few in let e = length-remove cs s (within s refl) in (omega arith, omega arith)
+    few-without (Some s) within = let few = (row-tree m (suc g) p can.tree).few in
+        let e = length-remove cs s (within s refl) in (omega arith, omega arith)
 
     long-ready : (length is-ready.trees ≤ 12) × (length cs ≤ length is-ready.trees + 1)
-    long-ready = let w = few-without o is-ready.slot in let a = w.0 in let b = w.1 in let e = ap length is-ready.tops in let d = length-map is-ready.trees (λ (t : Tree (suc g)). t.0) in (omega arith, omega arith)
+    long-ready = let w = few-without o is-ready.slot in let a = w.0 in let b = w.1 in let e = ap length is-ready.tops in
+        let d = length-map is-ready.trees (λ (t : Tree (suc g)). t.0) in (omega arith, omega arith)
 
     fill-trees : CanFill n p (tops (suc g) is-ready.trees)
-    fill-trees = can-fill m n (suc g) p ts k x is-ready.trees is-ready.shrinks can.distinct.0 has-ready long-ready.0 can.place can.fits
+    fill-trees = can-fill m n (suc g) p ts k x is-ready.trees is-ready.shrinks can.distinct.0 has-ready long-ready.0
+        can.place can.fits
 
     pub fill-ready : CanFill n p (without (kids n p) o)
-    fill-ready = subst (λ zs. CanFill n p (without zs o)) (sym kids-ready) (subst (CanFill n p) is-ready.tops fill-trees)
+    fill-ready =
+        subst (λ zs. CanFill n p (without zs o)) (sym kids-ready) (subst (CanFill n p) is-ready.tops fill-trees)
 
     pub slot-ready : (s : ℕ) → o ≡ Some s → s < length (kids n p)
     slot-ready s e = let w = is-ready.slot s e in let q = ap length kids-ready in omega arith
 
     pub removes-ready : (u : Records) → u ≡ refilled n p (row (without (kids n p) o)) → Removes m u (suc (suc g)) p k x
-    removes-ready u is = finish m n u (suc g) p k x is-ready.trees can is-ready.shrinks is-ready.same fill-trees is-ready.balanced long-ready.1
-        (is ∙ ap (λ zs. refilled n p (row (without zs o))) kids-ready ∙ ap (λ zs. refilled n p (row zs)) (sym is-ready.tops))
+    removes-ready u is = finish m n u (suc g) p k x is-ready.trees can is-ready.shrinks is-ready.same fill-trees
+        is-ready.balanced long-ready.1
+        (is ∙ ap (λ zs. refilled n p (row (without zs o))) kids-ready
+        ∙ ap (λ zs. refilled n p (row zs)) (sym is-ready.tops))
 
     -- so much less stands below the node
     pub sum-ready : plus (sum_all n (without (kids n p) o)) (sum_at l x) ≡ sum_at n p
     sum-ready =
-        let left = ap (λ zs. sum_all n (without zs o)) kids-ready ∙ ap (sum_all n) (sym is-ready.tops) ∙ sum-trees n (suc g) is-ready.trees is-ready.shrinks.holds ∙ ap total is-ready.shrinks.line in
+        let left = ap (λ zs. sum_all n (without zs o)) kids-ready ∙ ap (sum_all n) (sym is-ready.tops)
+        ∙ sum-trees n (suc g) is-ready.trees is-ready.shrinks.holds ∙ ap total is-ready.shrinks.line in
         let line = ap sum_of shrinks.left in
         (λ i. plus (left i) (line i)) ∙ line-gone m (suc (suc g)) p k x can.tree shrinks.gone
         ∙ sym (ap sum_of is-ready.same ∙ sum-tree m (suc (suc g)) p can.tree)
 
     -- a child is no line
     pub inner-ready : (s : ℕ) (b : NodePtr) → slice_get (kids n p) s ≡ Some b → InnerIn n b
-    inner-ready s b at = is-ready.still_inner b (inner-row l b (row-tree l g b (child-tree l (suc g) cs s b shrinks.holds (ap (λ zs. slice_get zs s) (sym kids-ready) ∙ at))))
+    inner-ready s b at = is-ready.still_inner b
+        (inner-row l b (row-tree l g b (child-tree l (suc g) cs s b shrinks.holds
+        (ap (λ zs. slice_get zs s) (sym kids-ready) ∙ at))))
 
     -- the child without children is given back
-    pub removes-gone : (u : Records) (s : ℕ) (b : NodePtr) → o ≡ Some s → slice_get (kids n p) s ≡ Some b → u ≡ refilled n p (row (without (kids n p) o)) → Removes m (finite.remove u b) (suc (suc g)) p k x
+    pub removes-gone : (u : Records) (s : ℕ) (b : NodePtr) → o ≡ Some s → slice_get (kids n p) s ≡ Some b →
+        u ≡ refilled n p (row (without (kids n p) o)) → Removes m (finite.remove u b) (suc (suc g)) p k x
     removes-gone u s b e at is =
         let r = removes-ready u is in
         let at_cs = ap (λ zs. slice_get zs s) (sym kids-ready) ∙ at in
-        let top : Among b (tops (suc g) ts) = subst (Among b) (sym (tops-tree_at m (suc g) cs)) (get-among cs s b at_cs) in
+        let top : Among b (tops (suc g) ts) = subst (Among b) (sym (tops-tree_at m (suc g) cs)) (get-among cs s b at_cs)
+        in
         let inside = tops-among (suc g) ts b top in
         let p_b : p ≢ b = λ i. can.distinct.0 (subst (λ z. Among z (names_of (suc g) ts)) (sym i) inside) in
-        let b_x : b ≢ x = λ i. shrinks.out (subst (λ z. Among z (names_of (suc g) now)) i (tops-among (suc g) now b (subst (Among b) (sym (tops-tree_at l (suc g) cs)) (get-among cs s b at_cs)))) in
-        let tree : tree_at u (suc (suc g)) p ≡ (p, is-ready.trees) = tree-is u (suc (suc g)) (p, is-ready.trees) (subst (λ z. Holds z (suc (suc g)) (p, is-ready.trees)) (sym (is ∙ ap (λ zs. refilled n p (row (without zs o))) kids-ready ∙ ap (λ zs. refilled n p (row zs)) (sym is-ready.tops)))
-        (built n (suc g) p is-ready.trees fill-trees is-ready.shrinks.holds ((λ i. can.distinct.0 (is-ready.shrinks.within p i)), is-ready.shrinks.distinct))) in
+        let b_x : b ≢ x = λ i.
+        shrinks.out (subst (λ z. Among z (names_of (suc g) now)) i
+        (tops-among (suc g) now b (subst (Among b) (sym (tops-tree_at l (suc g) cs)) (get-among cs s b at_cs)))) in
+        let tree : tree_at u (suc (suc g)) p ≡ (p, is-ready.trees) = tree-is u (suc (suc g)) (
+          p,
+          is-ready.trees,
+        ) (subst (λ z. Holds z (suc (suc g)) (p, is-ready.trees))
+        (sym (is ∙ ap (λ zs. refilled n p (row (without zs o))) kids-ready
+        ∙ ap (λ zs. refilled n p (row zs)) (sym is-ready.tops)))
+        (built n (suc g) p is-ready.trees fill-trees is-ready.shrinks.holds
+        ((λ i. can.distinct.0 (is-ready.shrinks.within p i)), is-ready.shrinks.distinct))) in
         removes-drop m u (suc (suc g)) p k x b r
-        (λ i. elim (subst (λ t. Among b (names (suc (suc g)) t)) tree i) [ inl q ↦ p_b (sym q) | inr q ↦ is-ready.gone s b e at_cs q ])
+        (λ i. elim (subst (λ t. Among b (names (suc (suc g)) t)) tree i)
+        [ inl q ↦ p_b (sym q) | inr q ↦ is-ready.gone s b e at_cs q ])
         (inr inside) b_x p_b
 
-    tree-ready : (u : Records) → u ≡ refilled n p (row (without (kids n p) o)) → tree_at u (suc (suc g)) p ≡ (p, is-ready.trees)
-    tree-ready u is = tree-is u (suc (suc g)) (p, is-ready.trees) (subst (λ z. Holds z (suc (suc g)) (p, is-ready.trees)) (sym (is ∙ ap (λ zs. refilled n p (row (without zs o))) kids-ready ∙ ap (λ zs. refilled n p (row zs)) (sym is-ready.tops)))
-        (built n (suc g) p is-ready.trees fill-trees is-ready.shrinks.holds ((λ i. can.distinct.0 (is-ready.shrinks.within p i)), is-ready.shrinks.distinct)))
+    tree-ready : (u : Records) → u ≡ refilled n p (row (without (kids n p) o)) →
+        tree_at u (suc (suc g)) p ≡ (p, is-ready.trees)
+    tree-ready u is = tree-is u (suc (suc g)) (p, is-ready.trees)
+        (subst (λ z. Holds z (suc (suc g)) (p, is-ready.trees))
+        (sym (is ∙ ap (λ zs. refilled n p (row (without zs o))) kids-ready
+        ∙ ap (λ zs. refilled n p (row zs)) (sym is-ready.tops)))
+        (built n (suc g) p is-ready.trees fill-trees is-ready.shrinks.holds
+        ((λ i. can.distinct.0 (is-ready.shrinks.within p i)), is-ready.shrinks.distinct)))
 
-    lost-ready : Cleans m l (suc g) f.child x → (u : Records) → u ≡ refilled n p (row (without (kids n p) o)) → (q : NodePtr) → Among q (names (suc (suc g)) (tree_at m (suc (suc g)) p)) → (Among q (names (suc (suc g)) (tree_at u (suc (suc g)) p)) → ⊥) → q ≢ x
+    lost-ready : Cleans m l (suc g) f.child x → (u : Records) → u ≡ refilled n p (row (without (kids n p) o)) →
+        (q : NodePtr) → Among q (names (suc (suc g)) (tree_at m (suc (suc g)) p)) →
+        (Among q (names (suc (suc g)) (tree_at u (suc (suc g)) p)) → ⊥) → q ≢ x
         → (finite.get u q ≡ None) ⊎ IsGone o q
     lost-ready clean u is q a out n2 =
-        let off : Among q (p ∷ names_of (suc g) is-ready.trees) → ⊥ = λ b. out (subst (λ t. Among q (names (suc (suc g)) t)) (sym (tree-ready u is)) b) in
-        let same = is ∙ ap (λ zs. refilled n p (row (without zs o))) kids-ready ∙ ap (λ zs. refilled n p (row zs)) (sym is-ready.tops) in
+        let off : Among q (p ∷ names_of (suc g) is-ready.trees) →
+        ⊥ = λ b. out (subst (λ t. Among q (names (suc (suc g)) t)) (sym (tree-ready u is)) b) in
+        let same = is ∙ ap (λ zs. refilled n p (row (without zs o))) kids-ready
+        ∙ ap (λ zs. refilled n p (row zs)) (sym is-ready.tops) in
         elim a [
           | inl e ↦ absurd (off (inl e))
           | inr b ↦ elim (is-ready.lost clean q b (λ i. off (inr i)) n2) [
-            | inl none ↦ inl (ap (λ z. finite.get z q) same ∙ refilled-other n p (tops (suc g) is-ready.trees) q (λ e. off (inl e)) (λ i. off (inr (tops-among (suc g) is-ready.trees q i))) ∙ none)
+            | inl none ↦ inl (ap (λ z. finite.get z q) same
+                ∙ refilled-other n p (tops (suc g) is-ready.trees) q (λ e. off (inl e)) (λ i.
+                off (inr (tops-among (suc g) is-ready.trees q i))) ∙ none)
             | inr gone ↦ inr gone
           ]
         ]
 
-    pub cleans-ready : Cleans m l (suc g) f.child x → (u : Records) → u ≡ refilled n p (row (without (kids n p) o)) → o ≡ None → Cleans m u (suc (suc g)) p x
-    cleans-ready clean u is none q a out n2 = elim (lost-ready clean u is q a out n2) [ inl e ↦ e | inr gone ↦ absurd (none-some gone.slot (sym none ∙ gone.is)) ]
+    pub cleans-ready : Cleans m l (suc g) f.child x → (u : Records) → u ≡ refilled n p (row (without (kids n p) o)) →
+        o ≡ None → Cleans m u (suc (suc g)) p x
+    cleans-ready clean u is none q a out n2 = elim (lost-ready clean u is q a out n2)
+        [ inl e ↦ e | inr gone ↦ absurd (none-some gone.slot (sym none ∙ gone.is)) ]
 
-    pub cleans-gone : Cleans m l (suc g) f.child x → (u : Records) (s : ℕ) (b : NodePtr) → o ≡ Some s → slice_get (kids n p) s ≡ Some b → u ≡ refilled n p (row (without (kids n p) o)) → Cleans m (finite.remove u b) (suc (suc g)) p x
+    pub cleans-gone : Cleans m l (suc g) f.child x → (u : Records) (s : ℕ) (b : NodePtr) → o ≡ Some s →
+        slice_get (kids n p) s ≡ Some b → u ≡ refilled n p (row (without (kids n p) o)) →
+        Cleans m (finite.remove u b) (suc (suc g)) p x
     cleans-gone clean u s b e at is q a out n2 =
         let at_cs = ap (λ zs. slice_get zs s) (sym kids-ready) ∙ at in
-        let top : Among b (tops (suc g) ts) = subst (Among b) (sym (tops-tree_at m (suc g) cs)) (get-among cs s b at_cs) in
-        let p_b : p ≢ b = λ i. can.distinct.0 (subst (λ z. Among z (names_of (suc g) ts)) (sym i) (tops-among (suc g) ts b top)) in
-        let off : Among b (names (suc (suc g)) (tree_at u (suc (suc g)) p)) → ⊥ = λ i. elim (subst (λ t. Among b (names (suc (suc g)) t)) (tree-ready u is) i) [ inl r ↦ p_b (sym r) | inr r ↦ is-ready.gone s b e at_cs r ] in
+        let top : Among b (tops (suc g) ts) = subst (Among b) (sym (tops-tree_at m (suc g) cs)) (get-among cs s b at_cs)
+        in
+        let p_b : p ≢ b = λ i.
+        can.distinct.0 (subst (λ z. Among z (names_of (suc g) ts)) (sym i) (tops-among (suc g) ts b top)) in
+        let off : Among b (names (suc (suc g)) (tree_at u (suc (suc g)) p)) →
+        ⊥ = λ i. elim (subst (λ t. Among b (names (suc (suc g)) t)) (tree-ready u is) i)
+        [ inl r ↦ p_b (sym r) | inr r ↦ is-ready.gone s b e at_cs r ] in
         let tree = drop-tree m u (suc (suc g)) p k x b (removes-ready u is) off in
         elim (same_or_other q b) [
           | inl same ↦ ap (finite.get (finite.remove u b)) same ∙ get_removed u b
-          | inr other ↦ get_unmoved u b q other ∙ elim (lost-ready clean u is q a (λ i. out (subst (λ t. Among q (names (suc (suc g)) t)) (sym tree) i)) n2) [
-            | inl none ↦ none
-            | inr gone ↦ absurd (other (same_Some q b (sym gone.at ∙ ap (slice_get cs) (same_Some gone.slot s (sym gone.is ∙ e)) ∙ at_cs)))
-          ]
+          | inr other ↦ get_unmoved u b q other
+              ∙ elim (lost-ready clean u is q a (λ i. out (subst (λ t. Among q (names (suc (suc g)) t)) (sym tree) i))
+              n2) [
+                | inl none ↦ none
+                | inr gone ↦ absurd (other (same_Some q b (sym gone.at
+                    ∙ ap (slice_get cs) (same_Some gone.slot s (sym gone.is ∙ e)) ∙ at_cs)))
+              ]
         ]

@@ -1,5 +1,6 @@
 -- A new line, and a new root.
-use Rattle.std.proofs.Common.{◌≡◌, ℕ, zero, suc, ◌-◌, ◌*◌, ◌^◌, ◌<◌, ◌≤◌, ◌⊎◌, inl, inr, List, [], ◌∷◌, ◌++◌, length, take, drop, refl, sym, ap, ◌∙◌, subst, arith}
+use Rattle.std.proofs.Common.{◌≡◌, ℕ, zero, suc, ◌-◌, ◌*◌, ◌^◌, ◌<◌, ◌≤◌, ◌⊎◌, inl, inr, List, [], ◌∷◌, ◌++◌, length}
+use Rattle.std.proofs.Common.{take, drop, refl, sym, ap, ◌∙◌, subst, arith}
 use Rattle.std.specs.Prelude.{◌≢◌, IsSome, chars, slice_index}
 use Rattle.std.specs.FinMap as finite
 use Rattle.std.specs.FinMap.{len-empty}
@@ -19,7 +20,8 @@ use Rattle.raw_nodes.specs.declared.names.NodePtr.{NodePtr}
 use Rattle.raw_nodes.proofs.MapLaws.{get_inserted, get_other, kept_insert}
 use Rattle.raw_nodes.proofs.UpdateLaws.{insert-named}
 use Rattle.line_tree.specs.Changes.{Among, CanFill, Distinct, FitsSum, refilled, relinked, sum_all, sums}
-use Rattle.line_tree.specs.Growth.{CanInsert, HasNoParent, Inserts, IsWide, NewLine, NewRoot, Stands, StandsAlone, lines_of, names_of, trees, with_line}
+use Rattle.line_tree.specs.Growth.{CanInsert, HasNoParent, Inserts, IsWide, NewLine, NewRoot, Stands, StandsAlone}
+use Rattle.line_tree.specs.Growth.{lines_of, names_of, trees, with_line}
 use Rattle.line_tree.specs.Shape.{Holds, IsTree, line_of, lines_in, sum_at, sum_of, tree_at}
 use Rattle.line_tree.specs.Trees.{IsBalanced, IsBalancedRoot, Tree, inner, least_below_root, lines, names, tops, total}
 use Rattle.line_tree.proofs.AmongLaws.{among-or}
@@ -33,8 +35,11 @@ use Rattle.line_tree.proofs.TreeLaws.{named-tree, top-tree_at, total-lines}
 use Rattle.line_tree.proofs.UpdateLaws.{refilled-named}
 
 -- ---- records that are the same for a tree
-pub tree-same : (m n : Records) (h : ℕ) (p : NodePtr) → IsTree m h p → ((q : NodePtr) → Among q (names h (tree_at m h p)) → finite.get n q ≡ finite.get m q) → tree_at n h p ≡ tree_at m h p
-tree-same m n h p tree same = ap (tree_at n h) (sym (top m h p)) ∙ tree-is n h (tree_at m h p) (holds-same m n h (tree_at m h p) tree same)
+pub tree-same : (m n : Records) (h : ℕ) (p : NodePtr) → IsTree m h p →
+    ((q : NodePtr) → Among q (names h (tree_at m h p)) → finite.get n q ≡ finite.get m q) →
+    tree_at n h p ≡ tree_at m h p
+tree-same m n h p tree same =
+    ap (tree_at n h) (sym (top m h p)) ∙ tree-is n h (tree_at m h p) (holds-same m n h (tree_at m h p) tree same)
   where
     top : (m : Records) (h : ℕ) (p : NodePtr) → (tree_at m h p).0 ≡ p
     top m zero p = refl
@@ -51,7 +56,13 @@ module _ (m n : Records) (x : NodePtr) (l : LineContent) (new : NewLine m n x l)
   new-line =
       let is = ap (λ z. finite.get z x) new.same ∙ get_inserted m x (blank (Some l)) in
       let now = ap line_of is in
-      record { found = blank (Some l); is = is; line = sym now; some = subst (λ o. IsSome o) (sym now) refl; sum = sym (ap (λ o. total (lines zero (x, o))) now ∙ plus-no_text (line_count l)) }
+      record {
+        found = blank (Some l);
+        is = is;
+        line = sym now;
+        some = subst (λ o. IsSome o) (sym now) refl;
+        sum = sym (ap (λ o. total (lines zero (x, o))) now ∙ plus-no_text (line_count l));
+      }
 
   pub new-other : (q : NodePtr) → IsSome (finite.get m q) → finite.get n q ≡ finite.get m q
   new-other q s = let not_x : q ≢ x = λ e. unnamed m q s (ap (finite.get m) e ∙ new.fresh) in
@@ -64,16 +75,19 @@ module _ (m n : Records) (x : NodePtr) (l : LineContent) (new : NewLine m n x l)
   new-sum = ap (λ z. sum_of (finite.get z x)) new.same ∙ ap sum_of (get_inserted m x (blank (Some l)))
 
   pub new-lines : lines zero (tree_at n 0 x) ≡ (x, l) ∷ []
-  new-lines = ap (λ z. lines zero (x, line_of (finite.get z x))) new.same ∙ ap (λ o. lines zero (x, line_of o)) (get_inserted m x (blank (Some l)))
+  new-lines = ap (λ z. lines zero (x, line_of (finite.get z x))) new.same
+      ∙ ap (λ o. lines zero (x, line_of o)) (get_inserted m x (blank (Some l)))
 
   -- it can become a line of the tree
-  pub can-insert : (h : ℕ) (r : NodePtr) (k : ℕ) → Stands m h r → k ≤ length (lines_in m h r) → FitsSum (plus (total (lines_in m h r)) (line_count l)) → CanInsert n h r k x
+  pub can-insert : (h : ℕ) (r : NodePtr) (k : ℕ) → Stands m h r → k ≤ length (lines_in m h r) →
+      FitsSum (plus (total (lines_in m h r)) (line_count l)) → CanInsert n h r k x
   can-insert h r k stands place fits =
       let all = names-held m h (tree_at m h r) stands.tree in
       let same = tree-same m n h r stands.tree (λ q a. new-other q (all q a)) in
       let out : Among x (names h (tree_at m h r)) → ⊥ = λ a. unnamed m x (all x a) new.fresh in
       record {
-        tree = subst (λ t. Holds n h t) (sym same) (holds-same m n h (tree_at m h r) stands.tree (λ q a. new-other q (all q a)));
+        tree = subst (λ t. Holds n h t) (sym same)
+            (holds-same m n h (tree_at m h r) stands.tree (λ q a. new-other q (all q a)));
         wide = subst (λ t. IsWide 1 h t) (sym same) (wide-root h (tree_at m h r) stands.balanced);
         distinct = subst (λ t. Distinct (names h t)) (sym same) stands.distinct;
         place = subst (λ t. k ≤ length (lines h t)) (sym same) place;
@@ -87,11 +101,13 @@ least-small : (h : ℕ) → least_below_root h ≤ 6
 least-small zero = omega arith
 least-small (suc h) = omega arith
 
-root-wide : (h : ℕ) (t u : Tree h) → ((least : ℕ) → least ≤ 6 → IsWide least h t → IsWide least h u) → IsBalancedRoot h t → IsBalancedRoot h u
+root-wide : (h : ℕ) (t u : Tree h) → ((least : ℕ) → least ≤ 6 → IsWide least h t → IsWide least h u) →
+    IsBalancedRoot h t → IsBalancedRoot h u
 root-wide zero t u keeps b = b
 root-wide (suc h) t u keeps b = keeps (least_below_root h) (least-small h) b
 
-two-wide : (h : ℕ) (r : NodePtr) (us : List (Tree h)) → 0 < h → length us ≡ 2 → AllByRecursion (IsBalanced h) us → IsBalancedRoot (suc h) (r, us)
+two-wide : (h : ℕ) (r : NodePtr) (us : List (Tree h)) → 0 < h → length us ≡ 2 → AllByRecursion (IsBalanced h) us →
+    IsBalancedRoot (suc h) (r, us)
 two-wide zero r us some e b = absurd (omega arith)
 two-wide (suc h) r us some e b = (omega arith, omega arith, b)
 
@@ -102,25 +118,34 @@ positive (suc h) t b = omega arith
 pub positive-root : (m : Records) (h : ℕ) (r : NodePtr) → Stands m h r → 0 < h
 positive-root m h r s = positive h (tree_at m h r) s.balanced
 
-module _ (m n l : Records) (x : NodePtr) (line : LineContent) (new : NewLine m n x line) (h : ℕ) (r : NodePtr) (k : ℕ) (stands : Stands m h r) (o : Option NodePtr) (ins : Inserts n l h r k x o)
+module _ (m n l : Records) (x : NodePtr) (line : LineContent) (new : NewLine m n x line) (h : ℕ) (r : NodePtr) (k : ℕ)
+    (stands : Stands m h r) (o : Option NodePtr) (ins : Inserts n l h r k x o)
     (fits : FitsSum (plus (total (lines_in m h r)) (line_count line))) where
   old-tree : tree_at n h r ≡ tree_at m h r
-  old-tree = let all = names-held m h (tree_at m h r) stands.tree in tree-same m n h r stands.tree (λ q a. new-other m n x line new q (all q a))
+  old-tree = let all = names-held m h (tree_at m h r) stands.tree in
+      tree-same m n h r stands.tree (λ q a. new-other m n x line new q (all q a))
 
   lines-now : lines_of h (trees l h r o) ≡ insert (lines_in m h r) k (x, line)
-  lines-now = ins.grows.line ∙ (λ i. with_line (lines h (old-tree i) ++ []) k (tree_at n 0 x)) ∙ ap (λ ls. with_line ls k (tree_at n 0 x)) (append-nil (lines_in m h r))
+  lines-now = ins.grows.line ∙ (λ i. with_line (lines h (old-tree i) ++ []) k (tree_at n 0 x))
+      ∙ ap (λ ls. with_line ls k (tree_at n 0 x)) (append-nil (lines_in m h r))
       ∙ ap (λ ls. take k (lines_in m h r) ++ (ls ++ drop k (lines_in m h r))) (new-lines m n x line new)
 
   pub fits-now : FitsSum (total (lines_of h (trees l h r o)))
-  fits-now = subst FitsSum (sym (ap total (ins.grows.line ∙ (λ i. with_line (lines h (old-tree i) ++ []) k (tree_at n 0 x)) ∙ ap (λ ls. with_line ls k (tree_at n 0 x)) (append-nil (lines_in m h r)))
-      ∙ total-with_line (lines_in m h r) k (tree_at n 0 x) ∙ ap (plus (total (lines_in m h r))) (ap total (new-lines m n x line new) ∙ plus-no_text (line_count line)))) fits
+  fits-now = subst FitsSum (sym (ap total (ins.grows.line
+      ∙ (λ i. with_line (lines h (old-tree i) ++ []) k (tree_at n 0 x))
+      ∙ ap (λ ls. with_line ls k (tree_at n 0 x)) (append-nil (lines_in m h r)))
+      ∙ total-with_line (lines_in m h r) k (tree_at n 0 x)
+      ∙ ap (plus (total (lines_in m h r))) (ap total (new-lines m n x line new) ∙ plus-no_text (line_count line))))
+      fits
 
-  whole-now : ((q : NodePtr) → IsSome (finite.get m q) → Among q (names h (tree_at m h r))) → (q : NodePtr) → IsSome (finite.get l q) → Among q (names_of h (trees l h r o))
+  whole-now : ((q : NodePtr) → IsSome (finite.get m q) → Among q (names h (tree_at m h r))) → (q : NodePtr) →
+      IsSome (finite.get l q) → Among q (names_of h (trees l h r o))
   whole-now whole q s = elim (among-or q (names_of h (trees l h r o))) [
     | inl a ↦ a
     | inr out ↦ elim (new-named m n x line new q (ins.grows.old q s out)) [
       | inl e ↦ subst (λ z. Among z (names_of h (trees l h r o))) (sym e) ins.grows.added
-      | inr b ↦ ins.grows.inside q (to-one q (names h (tree_at n h r)) (subst (λ t. Among q (names h t)) (sym old-tree) (whole q b)))
+      | inr b ↦ ins.grows.inside q (to-one q (names h (tree_at n h r))
+          (subst (λ t. Among q (names h t)) (sym old-tree) (whole q b)))
     ]
   ]
 
@@ -128,15 +153,23 @@ module _ (m n l : Records) (x : NodePtr) (line : LineContent) (new : NewLine m n
   no-parent =
       let root = stands.root in let named = subst (λ z. IsSome z) (sym root.is) refl in
       let same = same_Some ins.link.before root.found (sym ins.link.was ∙ new-other m n x line new r named ∙ root.is) in
-      record { found = ins.link.after; is = ins.link.is; parent = ins.link.parent ∙ ap (λ y. y.parent) same ∙ root.parent }
+      record {
+        found = ins.link.after;
+        is = ins.link.is;
+        parent = ins.link.parent ∙ ap (λ y. y.parent) same
+            ∙ root.parent;
+      }
 
-pub same-root : (m n l : Records) (x : NodePtr) (line : LineContent) (new : NewLine m n x line) (h : ℕ) (r : NodePtr) (k : ℕ) → Stands m h r → Inserts n l h r k x None → FitsSum (plus (total (lines_in m h r)) (line_count line))
+pub same-root : (m n l : Records) (x : NodePtr) (line : LineContent) (new : NewLine m n x line) (h : ℕ) (r : NodePtr)
+    (k : ℕ) → Stands m h r → Inserts n l h r k x None → FitsSum (plus (total (lines_in m h r)) (line_count line))
     → Stands l h r × (lines_in l h r ≡ insert (lines_in m h r) k (x, line))
 same-root m n l x line new h r k stands ins fits =
     let one = append-nil (lines_in l h r) in (
       record {
         tree = ins.grows.holds.0;
-        balanced = root-wide h (tree_at m h r) (tree_at l h r) (λ least small w. (ins.wide.wide least small (subst (λ t. IsWide least h t) (sym (old-tree m n l x line new h r k stands None ins fits)) w)).0) stands.balanced;
+        balanced = root-wide h (tree_at m h r) (tree_at l h r) (λ least small w.
+            (ins.wide.wide least small (subst (λ t. IsWide least h t)
+            (sym (old-tree m n l x line new h r k stands None ins fits)) w)).0) stands.balanced;
         distinct = subst Distinct (append-nil (names h (tree_at l h r))) ins.grows.distinct;
         root = no-parent m n l x line new h r k stands None ins fits;
         fits = subst (λ ls. FitsSum (total ls)) one (fits-now m n l x line new h r k stands None ins fits);
@@ -145,23 +178,30 @@ same-root m n l x line new h r k stands ins fits =
     )
 
 -- ---- and with a new one above it
-pub can-root : (l : Records) (h : ℕ) (r s : NodePtr) → AllByRecursion (Holds l h) (trees l h r (Some s)) → FitsSum (total (lines_of h (trees l h r (Some s)))) → FitsSum (sum_all l (r ∷ s ∷ []))
-can-root l h r s all fits = subst FitsSum (sym (ap (sum_all l) (sym (two-tops l h r s)) ∙ sum-trees l h (trees l h r (Some s)) all)) fits
+pub can-root : (l : Records) (h : ℕ) (r s : NodePtr) → AllByRecursion (Holds l h) (trees l h r (Some s)) →
+    FitsSum (total (lines_of h (trees l h r (Some s)))) → FitsSum (sum_all l (r ∷ s ∷ []))
+can-root l h r s all fits =
+    subst FitsSum (sym (ap (sum_all l) (sym (two-tops l h r s)) ∙ sum-trees l h (trees l h r (Some s)) all)) fits
   where
     two-tops : (l : Records) (h : ℕ) (r s : NodePtr) → tops h (trees l h r (Some s)) ≡ r ∷ s ∷ []
     two-tops l h r s = λ i. top-tree_at l h r i ∷ top-tree_at l h s i ∷ []
 
-pub root-tree : (m n l u : Records) (x : NodePtr) (line : LineContent) (new : NewLine m n x line) (h : ℕ) (r : NodePtr) (k : ℕ) → Stands m h r → (s : NodePtr) → Inserts n l h r k x (Some s) → FitsSum (plus (total (lines_in m h r)) (line_count line))
+pub root-tree : (m n l u : Records) (x : NodePtr) (line : LineContent) (new : NewLine m n x line) (h : ℕ) (r : NodePtr)
+    (k : ℕ) → Stands m h r → (s : NodePtr) → Inserts n l h r k x (Some s) →
+    FitsSum (plus (total (lines_in m h r)) (line_count line))
     → (a : NodePtr) → NewRoot l u a (r ∷ s ∷ []) → tree_at u (suc h) a ≡ (a, trees l h r (Some s))
 root-tree m n l u x line new h r k stands s ins fits a root =
-    let us = trees l h r (Some s) in let made = finite.insert l a (blank None) in let last = refilled made a (row (r ∷ s ∷ [])) in
+    let us = trees l h r (Some s) in let made = finite.insert l a (blank None) in
+    let last = refilled made a (row (r ∷ s ∷ [])) in
     let named = names-all-held l h us ins.grows.holds in
-    let not_a : (q : NodePtr) → IsSome (finite.get l q) → q ≢ a = λ q c e. unnamed l q c (ap (finite.get l) e ∙ root.fresh) in
+    let not_a : (q : NodePtr) → IsSome (finite.get l q) →
+    q ≢ a = λ q c e. unnamed l q c (ap (finite.get l) e ∙ root.fresh) in
     let a_out : Among a (names_of h us) → ⊥ = λ b. not_a a (named a b) refl in
     let tops_are : tops h us ≡ r ∷ s ∷ [] = λ i. top-tree_at l h r i ∷ top-tree_at l h s i ∷ [] in
     let all_made = all-same l made h us ins.grows.holds (λ q b. get_other l a (blank None) q (not_a q (named q b))) in
     let whole = fits-now m n l x line new h r k stands (Some s) ins fits in
-    let sums_same = sum_all-same l made (tops h us) (λ c b. ap sum_of (get_other l a (blank None) c (not_a c (named c (tops-among h us c b))))) in
+    let sums_same = sum_all-same l made (tops h us) (λ c b.
+    ap sum_of (get_other l a (blank None) c (not_a c (named c (tops-among h us c b))))) in
     let can : CanFill made a (tops h us) = record {
       found = blank None;
       is = get_inserted l a (blank None);
@@ -173,20 +213,27 @@ root-tree m n l u x line new h r k stands s ins fits a root =
       fits = subst FitsSum (sym (sums_same ∙ sum-trees l h us ins.grows.holds)) whole;
     } in
     let same : u ≡ refilled made a (row (tops h us)) = root.same ∙ ap (λ cs. refilled made a (row cs)) (sym tops_are) in
-    let holds : Holds u (suc h) (a, us) = subst (λ z. Holds z (suc h) (a, us)) (sym same) (built made h a us can all_made (a_out, ins.grows.distinct)) in
+    let holds : Holds u (suc h) (a, us) = subst (λ z. Holds z (suc h) (a, us)) (sym same)
+    (built made h a us can all_made (a_out, ins.grows.distinct)) in
     tree-is u (suc h) (a, us) holds
 
-pub new-root : (m n l u : Records) (x : NodePtr) (line : LineContent) (new : NewLine m n x line) (h : ℕ) (r : NodePtr) (k : ℕ) → Stands m h r → (s : NodePtr) → Inserts n l h r k x (Some s) → FitsSum (plus (total (lines_in m h r)) (line_count line))
-    → (a : NodePtr) → NewRoot l u a (r ∷ s ∷ []) → Stands u (suc h) a × (lines_in u (suc h) a ≡ insert (lines_in m h r) k (x, line))
+pub new-root : (m n l u : Records) (x : NodePtr) (line : LineContent) (new : NewLine m n x line) (h : ℕ) (r : NodePtr)
+    (k : ℕ) → Stands m h r → (s : NodePtr) → Inserts n l h r k x (Some s) →
+    FitsSum (plus (total (lines_in m h r)) (line_count line))
+    → (a : NodePtr) → NewRoot l u a (r ∷ s ∷ []) → Stands u (suc h) a
+    × (lines_in u (suc h) a ≡ insert (lines_in m h r) k (x, line))
 new-root m n l u x line new h r k stands s ins fits a root =
-    let us = trees l h r (Some s) in let made = finite.insert l a (blank None) in let last = refilled made a (row (r ∷ s ∷ [])) in
+    let us = trees l h r (Some s) in let made = finite.insert l a (blank None) in
+    let last = refilled made a (row (r ∷ s ∷ [])) in
     let named = names-all-held l h us ins.grows.holds in
-    let not_a : (q : NodePtr) → IsSome (finite.get l q) → q ≢ a = λ q c e. unnamed l q c (ap (finite.get l) e ∙ root.fresh) in
+    let not_a : (q : NodePtr) → IsSome (finite.get l q) →
+    q ≢ a = λ q c e. unnamed l q c (ap (finite.get l) e ∙ root.fresh) in
     let a_out : Among a (names_of h us) → ⊥ = λ b. not_a a (named a b) refl in
     let tops_are : tops h us ≡ r ∷ s ∷ [] = λ i. top-tree_at l h r i ∷ top-tree_at l h s i ∷ [] in
     let all_made = all-same l made h us ins.grows.holds (λ q b. get_other l a (blank None) q (not_a q (named q b))) in
     let whole = fits-now m n l x line new h r k stands (Some s) ins fits in
-    let sums_same = sum_all-same l made (tops h us) (λ c b. ap sum_of (get_other l a (blank None) c (not_a c (named c (tops-among h us c b))))) in
+    let sums_same = sum_all-same l made (tops h us) (λ c b.
+    ap sum_of (get_other l a (blank None) c (not_a c (named c (tops-among h us c b))))) in
     let can : CanFill made a (tops h us) = record {
       found = blank None;
       is = get_inserted l a (blank None);
@@ -198,25 +245,36 @@ new-root m n l u x line new h r k stands s ins fits a root =
       fits = subst FitsSum (sym (sums_same ∙ sum-trees l h us ins.grows.holds)) whole;
     } in
     let same : u ≡ refilled made a (row (tops h us)) = root.same ∙ ap (λ cs. refilled made a (row cs)) (sym tops_are) in
-    let holds : Holds u (suc h) (a, us) = subst (λ z. Holds z (suc h) (a, us)) (sym same) (built made h a us can all_made (a_out, ins.grows.distinct)) in
+    let holds : Holds u (suc h) (a, us) = subst (λ z. Holds z (suc h) (a, us)) (sym same)
+    (built made h a us can all_made (a_out, ins.grows.distinct)) in
     let tree = tree-is u (suc h) (a, us) holds in
     let cs = tops h us in let links = relinked made a 0 (row cs) in let sum = sums links (row cs) in
-    let at = at-update links a (λ y. with_sum y sum) (record (blank None) { children = row cs }) (relinked-row made a cs can.found can.is can.long can.few can.apart) in (
+    let at = at-update links a (λ y. with_sum y sum) (record (blank None) { children = row cs })
+    (relinked-row made a cs can.found can.is can.long can.few can.apart) in (
       record {
         tree = subst (Holds u (suc h)) (sym tree) holds;
         balanced = subst (IsBalancedRoot (suc h)) (sym tree) (two-wide h a us (positive-root m h r stands) refl
-            (ins.wide.split refl (subst (λ t. IsWide 1 h t) (sym (old-tree m n l x line new h r k stands (Some s) ins fits)) (wide-root h (tree_at m h r) stands.balanced))));
+            (ins.wide.split refl (subst (λ t. IsWide 1 h t)
+            (sym (old-tree m n l x line new h r k stands (Some s) ins fits))
+            (wide-root h (tree_at m h r) stands.balanced))));
         distinct = subst (λ t. Distinct (names (suc h) t)) (sym tree) (a_out, ins.grows.distinct);
-        root = record { found = with_sum (record (blank None) { children = row cs }) sum; is = ap (λ z. finite.get z a) same ∙ at; parent = refl };
+        root = record {
+          found = with_sum (record (blank None) { children = row cs }) sum;
+          is = ap (λ z. finite.get z a) same ∙ at;
+          parent = refl;
+        };
         fits = subst (λ t. FitsSum (total (lines (suc h) t))) (sym tree) whole;
       },
       ap (lines (suc h)) tree ∙ lines-now m n l x line new h r k stands (Some s) ins fits,
     )
 
-pub can-top : (m : Records) (a : NodePtr) (cs : List NodePtr) → finite.get m a ≡ None → length cs ≤ 12 → ((c : NodePtr) → Among c cs → IsSome (finite.get m c)) → FitsSum (sum_all m cs) → CanFill (finite.insert m a (blank None)) a cs
+pub can-top : (m : Records) (a : NodePtr) (cs : List NodePtr) → finite.get m a ≡ None → length cs ≤ 12 →
+    ((c : NodePtr) → Among c cs → IsSome (finite.get m c)) → FitsSum (sum_all m cs) →
+    CanFill (finite.insert m a (blank None)) a cs
 can-top m a cs fresh few named fits =
     let made = finite.insert m a (blank None) in
-    let not_a : (q : NodePtr) → IsSome (finite.get m q) → q ≢ a = λ q c e. unnamed m q c (ap (finite.get m) e ∙ fresh) in
+    let not_a : (q : NodePtr) → IsSome (finite.get m q) →
+    q ≢ a = λ q c e. unnamed m q c (ap (finite.get m) e ∙ fresh) in
     record {
       found = blank None;
       is = get_inserted m a (blank None);
@@ -225,23 +283,27 @@ can-top m a cs fresh few named fits =
       few = few;
       each = λ c b. kept_insert m a (blank None) c (named c b);
       apart = λ b. not_a a (named a b) refl;
-      fits = subst FitsSum (sym (sum_all-same m made cs (λ c b. ap sum_of (get_other m a (blank None) c (not_a c (named c b)))))) fits;
+      fits = subst FitsSum (sym (sum_all-same m made cs (λ c b.
+          ap sum_of (get_other m a (blank None) c (not_a c (named c b)))))) fits;
     }
 
-pub named-two : (m : Records) (left right : NodePtr) → IsSome (finite.get m left) → IsSome (finite.get m right) → (c : NodePtr) → Among c (left ∷ right ∷ []) → IsSome (finite.get m c)
+pub named-two : (m : Records) (left right : NodePtr) → IsSome (finite.get m left) → IsSome (finite.get m right) →
+    (c : NodePtr) → Among c (left ∷ right ∷ []) → IsSome (finite.get m c)
 named-two m left right has_left has_right c b = elim b [
   | inl e ↦ subst (λ z. IsSome (finite.get m z)) (sym e) has_left
   | inr d ↦ elim d [ inl e ↦ subst (λ z. IsSome (finite.get m z)) (sym e) has_right | inr e ↦ absurd e ]
 ]
 
-pub named-one : (m : Records) (child : NodePtr) → IsSome (finite.get m child) → (c : NodePtr) → Among c (child ∷ []) → IsSome (finite.get m c)
+pub named-one : (m : Records) (child : NodePtr) → IsSome (finite.get m child) → (c : NodePtr) → Among c (child ∷ []) →
+    IsSome (finite.get m c)
 named-one m child has c b = elim b [ inl e ↦ subst (λ z. IsSome (finite.get m z)) (sym e) has | inr e ↦ absurd e ]
 
 -- ---- the first line
 pub top-sum : (m : Records) (a x : NodePtr) → finite.get m a ≡ None → IsSome (finite.get m x)
     → sums (relinked (finite.insert m a (blank None)) a 0 (row (x ∷ []))) (row (x ∷ [])) ≡ sum_at m x
 top-sum m a x fresh named = let made = finite.insert m a (blank None) in
-    relinked-sums made a (x ∷ []) ∙ plus-no_text (sum_at made x) ∙ ap sum_of (get_other m a (blank None) x (λ e. unnamed m x named (ap (finite.get m) e ∙ fresh)))
+    relinked-sums made a (x ∷ []) ∙ plus-no_text (sum_at made x)
+    ∙ ap sum_of (get_other m a (blank None) x (λ e. unnamed m x named (ap (finite.get m) e ∙ fresh)))
 
 lone-ascii : (i : ℕ) → slice_index (10 ∷ []) i < 128
 lone-ascii zero = omega arith
@@ -254,7 +316,8 @@ pub lone-fits : FitsSum (line_count (plain_line (10 ∷ [])))
 lone-fits = let none : finite.len (plain_line (10 ∷ [])).marks ≡ 0 = len-empty _ _ in
     record { lines = omega arith; characters = omega arith; marks = omega arith }
 
-pub first-root : (m n u : Records) (x : NodePtr) (line : LineContent) → NewLine m n x line → FitsSum (line_count line) → (a : NodePtr) → NewRoot n u a (x ∷ []) → Stands u 1 a × (lines_in u 1 a ≡ (x, line) ∷ [])
+pub first-root : (m n u : Records) (x : NodePtr) (line : LineContent) → NewLine m n x line → FitsSum (line_count line) →
+    (a : NodePtr) → NewRoot n u a (x ∷ []) → Stands u 1 a × (lines_in u 1 a ≡ (x, line) ∷ [])
 first-root m n u x line new fits a root =
     let t = tree_at n 0 x in let made = finite.insert n a (blank None) in
     let holds = new-line m n x line new in let named = named-tree n 0 x holds in
@@ -262,79 +325,104 @@ first-root m n u x line new fits a root =
     let whole : sum_all n (x ∷ []) ≡ line_count line = plus-no_text (sum_at n x) ∙ new-sum m n x line new in
     let few : length (x ∷ []) ≤ 12 = omega arith in
     let can = can-top n a (x ∷ []) root.fresh few (named-one n x named) (subst FitsSum (sym whole) fits) in
-    let all = all-same n made 0 (t ∷ []) (holds, tt) (λ q b. get_other n a (blank None) q (λ e. not_a (elim b [ inl f ↦ sym f ∙ e | inr f ↦ absurd f ]))) in
+    let all = all-same n made 0 (t ∷ []) (holds, tt) (λ q b.
+    get_other n a (blank None) q (λ e. not_a (elim b [ inl f ↦ sym f ∙ e | inr f ↦ absurd f ]))) in
     let d : Distinct (a ∷ x ∷ []) = ((λ b. elim b [ inl e ↦ not_a (sym e) | inr e ↦ e ]), ((λ e. e), tt)) in
-    let holds_now : Holds u 1 (a, t ∷ []) = subst (λ z. Holds z 1 (a, t ∷ [])) (sym root.same) (built made 0 a (t ∷ []) can all d) in
+    let holds_now : Holds u 1 (a, t ∷ []) = subst (λ z. Holds z 1 (a, t ∷ [])) (sym root.same)
+    (built made 0 a (t ∷ []) can all d) in
     let tree = tree-is u 1 (a, t ∷ []) holds_now in
     let cs = x ∷ [] in let links = relinked made a 0 (row cs) in let sum = sums links (row cs) in
-    let at = at-update links a (λ y. with_sum y sum) (record (blank None) { children = row cs }) (relinked-row made a cs (blank None) (get_inserted n a (blank None)) refl few (λ b. elim b [ inl e ↦ not_a (sym e) | inr e ↦ e ])) in
-    let lines_are : lines_in u 1 a ≡ (x, line) ∷ [] = ap (lines 1) tree ∙ append-nil (lines zero t) ∙ new-lines m n x line new in (
+    let at = at-update links a (λ y. with_sum y sum) (record (blank None) { children = row cs })
+    (relinked-row made a cs (blank None) (get_inserted n a (blank None)) refl few (λ b.
+    elim b [ inl e ↦ not_a (sym e) | inr e ↦ e ])) in
+    let lines_are : lines_in u 1 a ≡ (x, line) ∷ [] = ap (lines 1) tree ∙ append-nil (lines zero t)
+    ∙ new-lines m n x line new in (
       record {
         tree = subst (Holds u 1) (sym tree) holds_now;
         balanced = subst (IsBalancedRoot 1) (sym tree) (omega arith, omega arith, (tt, tt));
         distinct = subst (λ z. Distinct (names 1 z)) (sym tree) d;
-        root = record { found = with_sum (record (blank None) { children = row cs }) sum; is = ap (λ z. finite.get z a) root.same ∙ at; parent = refl };
+        root = record {
+          found = with_sum (record (blank None) { children = row cs }) sum;
+          is = ap (λ z. finite.get z a) root.same ∙ at;
+          parent = refl;
+        };
         fits = subst FitsSum (sym (ap total lines_are ∙ plus-no_text (line_count line))) fits;
       },
       lines_are,
     )
 
-one-line : (x : NodePtr) (line : LineContent) (ts : List (Tree 0)) → lines_of 0 ts ≡ (x, line) ∷ [] → Among x (names_of 0 ts)
+one-line : (x : NodePtr) (line : LineContent) (ts : List (Tree 0)) → lines_of 0 ts ≡ (x, line) ∷ [] →
+    Among x (names_of 0 ts)
 one-line x line [] e = absurd (false≢true (ap (λ zs. elim zs as (λ _. Bool) [ [] ↦ false | z ∷ zs ↦ true ]) e))
 one-line x line (t ∷ ts) e = leaf t.1 e (one-line x line ts) where
-  leaf : (o : Option LineContent) → lines zero (t.0, o) ++ lines_of 0 ts ≡ (x, line) ∷ [] → (lines_of 0 ts ≡ (x, line) ∷ [] → Among x (names_of 0 ts)) → Among x (t.0 ∷ names_of 0 ts)
+  leaf : (o : Option LineContent) → lines zero (t.0, o) ++ lines_of 0 ts ≡ (x, line) ∷ [] →
+      (lines_of 0 ts ≡ (x, line) ∷ [] → Among x (names_of 0 ts)) → Among x (t.0 ∷ names_of 0 ts)
   leaf None e rest = inr (rest e)
   leaf (Some l) e rest = inl (sym (ap (λ zs. elim zs as (λ _. NodePtr) [ [] ↦ x | z ∷ zs ↦ z.0 ]) e))
 
-pub first-root-alone : (m n u : Records) (x : NodePtr) (line : LineContent) → ((q : NodePtr) → IsSome (finite.get m q) → ⊥) → NewLine m n x line → FitsSum (line_count line) → (a : NodePtr) → NewRoot n u a (x ∷ []) → StandsAlone u 1 a
+pub first-root-alone : (m n u : Records) (x : NodePtr) (line : LineContent) →
+    ((q : NodePtr) → IsSome (finite.get m q) → ⊥) → NewLine m n x line → FitsSum (line_count line) → (a : NodePtr) →
+    NewRoot n u a (x ∷ []) → StandsAlone u 1 a
 first-root-alone m n u x line none new fits a root =
     let made = finite.insert n a (blank None) in let st = (first-root m n u x line new fits a root).0 in
     record {
       stands = st;
-      whole = λ q c. elim (insert-named n a (blank None) q (refilled-named made a (row (x ∷ [])) q (subst (λ z. IsSome (finite.get z q)) root.same c))) [
-        | inl e ↦ inl e
-        | inr b ↦ elim (new-named m n x line new q b) [
-          | inl e ↦ inr (subst (λ z. Among z (inner 1 (tree_at u 1 a))) (sym e) below)
-          | inr d ↦ absurd (none q d)
-        ]
-      ];
+      whole = λ q c. elim (insert-named n a (blank None) q
+          (refilled-named made a (row (x ∷ [])) q (subst (λ z. IsSome (finite.get z q)) root.same c))) [
+            | inl e ↦ inl e
+            | inr b ↦ elim (new-named m n x line new q b) [
+              | inl e ↦ inr (subst (λ z. Among z (inner 1 (tree_at u 1 a))) (sym e) below)
+              | inr d ↦ absurd (none q d)
+            ]
+          ];
     }
   where
     below : Among x (inner 1 (tree_at u 1 a))
     below = one-line x line (tree_at u 1 a).1 (first-root m n u x line new fits a root).1
 
 -- ---- what a tree that stands has
-pub stands-least : (m : Records) (h : ℕ) (r : NodePtr) → Stands m h r → 2 ≤ h → 2 * 6 ^ (h - 1) ≤ length (lines_in m h r)
+pub stands-least : (m : Records) (h : ℕ) (r : NodePtr) → Stands m h r → 2 ≤ h →
+    2 * 6 ^ (h - 1) ≤ length (lines_in m h r)
 stands-least m h r s two =
     let e : h ≡ suc (suc (h - 2)) = omega arith in let f : suc (h - 2) ≡ h - 1 = omega arith in
-    let low = least-lines-root m (h - 2) (tree_at m (suc (suc (h - 2))) r) (subst (λ j. IsTree m j r) e s.tree) (subst (λ j. IsBalancedRoot j (tree_at m j r)) e s.balanced) in
-    subst (λ j. 2 * 6 ^ (h - 1) ≤ length (lines_in m j r)) (sym e) (subst (λ j. 2 * 6 ^ j ≤ length (lines_in m (suc (suc (h - 2))) r)) f low)
+    let low = least-lines-root m (h - 2) (tree_at m (suc (suc (h - 2))) r) (subst (λ j. IsTree m j r) e s.tree)
+    (subst (λ j. IsBalancedRoot j (tree_at m j r)) e s.balanced) in
+    subst (λ j. 2 * 6 ^ (h - 1) ≤ length (lines_in m j r)) (sym e)
+    (subst (λ j. 2 * 6 ^ j ≤ length (lines_in m (suc (suc (h - 2))) r)) f low)
 
 pub stands-few : (m : Records) (h : ℕ) (r : NodePtr) → Stands m h r → length (lines_in m h r) < 2 ^ 64
 stands-few m h r s = let e = total-lines (lines_in m h r) in let f = s.fits.lines in omega arith
 
 pub stands-low : (m : Records) (h : ℕ) (r : NodePtr) → Stands m h r → h < 2 ^ 64
-stands-low m h r s = let a = height-below m h (tree_at m h r) s.tree s.balanced in let b = stands-few m h r s in omega arith
+stands-low m h r s = let a = height-below m h (tree_at m h r) s.tree s.balanced in let b = stands-few m h r s in
+    omega arith
 
 -- ---- no other record
-pub same-root-alone : (m n l : Records) (x : NodePtr) (line : LineContent) (new : NewLine m n x line) (h : ℕ) (r : NodePtr) (k : ℕ) → StandsAlone m h r → Inserts n l h r k x None → FitsSum (plus (total (lines_in m h r)) (line_count line)) → StandsAlone l h r
+pub same-root-alone : (m n l : Records) (x : NodePtr) (line : LineContent) (new : NewLine m n x line) (h : ℕ)
+    (r : NodePtr) (k : ℕ) → StandsAlone m h r → Inserts n l h r k x None →
+    FitsSum (plus (total (lines_in m h r)) (line_count line)) → StandsAlone l h r
 same-root-alone m n l x line new h r k alone ins fits = record {
   stands = (same-root m n l x line new h r k alone.stands ins fits).0;
-  whole = λ q s. of-one q (names h (tree_at l h r)) (whole-now m n l x line new h r k alone.stands None ins fits alone.whole q s);
+  whole = λ q s. of-one q (names h (tree_at l h r))
+      (whole-now m n l x line new h r k alone.stands None ins fits alone.whole q s);
 }
 
-pub new-root-alone : (m n l u : Records) (x : NodePtr) (line : LineContent) (new : NewLine m n x line) (h : ℕ) (r : NodePtr) (k : ℕ) → StandsAlone m h r → (s : NodePtr) → Inserts n l h r k x (Some s) → FitsSum (plus (total (lines_in m h r)) (line_count line))
+pub new-root-alone : (m n l u : Records) (x : NodePtr) (line : LineContent) (new : NewLine m n x line) (h : ℕ)
+    (r : NodePtr) (k : ℕ) → StandsAlone m h r → (s : NodePtr) → Inserts n l h r k x (Some s) →
+    FitsSum (plus (total (lines_in m h r)) (line_count line))
     → (a : NodePtr) → NewRoot l u a (r ∷ s ∷ []) → StandsAlone u (suc h) a
 new-root-alone m n l u x line new h r k alone s ins fits a root =
     let us = trees l h r (Some s) in let made = finite.insert l a (blank None) in
     let st = (new-root m n l u x line new h r k alone.stands s ins fits a root).0 in
     record {
       stands = st;
-      whole = λ q c. elim (insert-named l a (blank None) q (refilled-named made a (row (r ∷ s ∷ [])) q (subst (λ z. IsSome (finite.get z q)) root.same c))) [
-        | inl e ↦ inl e
-        | inr b ↦ inr (below q (whole-now m n l x line new h r k alone.stands (Some s) ins fits alone.whole q b))
-      ];
+      whole = λ q c. elim (insert-named l a (blank None) q
+          (refilled-named made a (row (r ∷ s ∷ [])) q (subst (λ z. IsSome (finite.get z q)) root.same c))) [
+            | inl e ↦ inl e
+            | inr b ↦ inr (below q (whole-now m n l x line new h r k alone.stands (Some s) ins fits alone.whole q b))
+          ];
     }
   where
     below : (q : NodePtr) → Among q (names_of h (trees l h r (Some s))) → Among q (inner (suc h) (tree_at u (suc h) a))
-    below q b = subst (λ t. Among q (inner (suc h) t)) (sym (root-tree m n l u x line new h r k alone.stands s ins fits a root)) b
+    below q b = subst (λ t. Among q (inner (suc h) t))
+        (sym (root-tree m n l u x line new h r k alone.stands s ins fits a root)) b

@@ -1,5 +1,6 @@
 -- The children of a record as a list.
-use Rattle.std.proofs.Common.{◌≡◌, ℕ, zero, suc, ◌+◌, ◌<◌, ◌≤◌, List, [], ◌∷◌, length, get_or, take, drop, refl, sym, ap, ◌∙◌, arith}
+use Rattle.std.proofs.Common.{◌≡◌, ℕ, zero, suc, ◌+◌, ◌<◌, ◌≤◌, List, [], ◌∷◌, length, get_or, take, drop, refl, sym}
+use Rattle.std.proofs.Common.{ap, ◌∙◌, arith}
 use Rattle.std.specs.Prelude.{IfSome, IsSome, slice_get}
 use Rattle.std.specs.FinMap as finite
 use Rattle.std.specs.List.{sum_by}
@@ -19,33 +20,43 @@ use Rattle.line_tree.specs.Finds.{HasRow}
 use Rattle.line_tree.specs.Shape.{lines_at, sum_at, sum_of}
 
 -- ---- what a call answers of a row
-pub child_is : (m : Records) (p : NodePtr) → HasRow m p → (o : Option NodePtr) (i : ℕ) → IfSome (finite.get m p) (λ r. o ≡ get_or r.children i None) → o ≡ slice_get (kids m p) i
+pub child_is : (m : Records) (p : NodePtr) → HasRow m p → (o : Option NodePtr) (i : ℕ) →
+    IfSome (finite.get m p) (λ r. o ≡ get_or r.children i None) → o ≡ slice_get (kids m p) i
 child_is m p has o i says =
-    at_some (finite.get m p) (λ r. o ≡ get_or r.children i None) has.found says has.is ∙ ap (λ xs. get_or xs i None) has.children ∙ get_or-row (kids m p) i
+    at_some (finite.get m p) (λ r. o ≡ get_or r.children i None) has.found says has.is
+    ∙ ap (λ xs. get_or xs i None) has.children ∙ get_or-row (kids m p) i
 
-pub sum_is : (m : Records) (q : NodePtr) (s : Count) → IsSome (finite.get m q) → IfSome (finite.get m q) (λ r. s ≡ r.sum) → s ≡ sum_at m q
+pub sum_is : (m : Records) (q : NodePtr) (s : Count) → IsSome (finite.get m q) →
+    IfSome (finite.get m q) (λ r. s ≡ r.sum) → s ≡ sum_at m q
 sum_is m q s named says = let r = some_of (finite.get m q) named in
     at_some (finite.get m q) (λ x. s ≡ x.sum) r.0 says r.1 ∙ ap sum_of (sym r.1)
 
-pub lines_is : (m : Records) (q : NodePtr) (n : ℕ) → IsSome (finite.get m q) → IfSome (finite.get m q) (λ r. n ≡ r.sum.lines) → n ≡ lines_at m q
+pub lines_is : (m : Records) (q : NodePtr) (n : ℕ) → IsSome (finite.get m q) →
+    IfSome (finite.get m q) (λ r. n ≡ r.sum.lines) → n ≡ lines_at m q
 lines_is m q n named says = let r = some_of (finite.get m q) named in
     at_some (finite.get m q) (λ x. n ≡ x.sum.lines) r.0 says r.1 ∙ ap (λ o. (sum_of o).lines) (sym r.1)
 
-pub size_is : (m : Records) (q : NodePtr) (size : ℕ × ℕ) → IsSome (finite.get m q) → IfSome (finite.get m q) (λ r. size ≡ (r.sum.lines, r.sum.characters)) → size ≡ (lines_at m q, (sum_at m q).characters)
+pub size_is : (m : Records) (q : NodePtr) (size : ℕ × ℕ) → IsSome (finite.get m q) →
+    IfSome (finite.get m q) (λ r. size ≡ (r.sum.lines, r.sum.characters)) →
+    size ≡ (lines_at m q, (sum_at m q).characters)
 size_is m q size named says = let r = some_of (finite.get m q) named in
-    at_some (finite.get m q) (λ x. size ≡ (x.sum.lines, x.sum.characters)) r.0 says r.1 ∙ ap (λ o. ((sum_of o).lines, (sum_of o).characters)) (sym r.1)
+    at_some (finite.get m q) (λ x. size ≡ (x.sum.lines, x.sum.characters)) r.0 says r.1
+    ∙ ap (λ o. ((sum_of o).lines, (sum_of o).characters)) (sym r.1)
 
 -- ---- a step over the children
-pub step_yes : (f : NodePtr → ℕ) (cs : List NodePtr) (i : ℕ) (c : NodePtr) → slice_get cs i ≡ Some c → sum_by f (take (i + 1) cs) ≡ sum_by f (take i cs) + f c
+pub step_yes : (f : NodePtr → ℕ) (cs : List NodePtr) (i : ℕ) (c : NodePtr) → slice_get cs i ≡ Some c →
+    sum_by f (take (i + 1) cs) ≡ sum_by f (take i cs) + f c
 step_yes f cs i c is =
-    ap (sum_by f) (take_more cs i c (slice_get_within cs i c is)) ∙ sum_by_push f (take i cs) (get_or cs i c) ∙ ap (λ x. sum_by f (take i cs) + f x) (get_or_from_slice_get cs i c c is)
+    ap (sum_by f) (take_more cs i c (slice_get_within cs i c is)) ∙ sum_by_push f (take i cs) (get_or cs i c)
+    ∙ ap (λ x. sum_by f (take i cs) + f x) (get_or_from_slice_get cs i c c is)
 
 pub past : (cs : List NodePtr) (i : ℕ) → slice_get cs i ≡ None → length cs ≤ i
 past [] i is = omega arith
 past (c ∷ cs) zero is = absurd (none-some c (sym is))
 past (c ∷ cs) (suc i) is = let r = past cs i is in omega arith
 
-pub step_no : (f : NodePtr → ℕ) (cs : List NodePtr) (i : ℕ) → slice_get cs i ≡ None → sum_by f (take (i + 1) cs) ≡ sum_by f (take i cs)
+pub step_no : (f : NodePtr → ℕ) (cs : List NodePtr) (i : ℕ) → slice_get cs i ≡ None →
+    sum_by f (take (i + 1) cs) ≡ sum_by f (take i cs)
 step_no f cs i is = let p = past cs i is in let q : length cs ≤ i + 1 = omega arith in
     ap (sum_by f) (take_all (i + 1) cs q ∙ sym (take_all i cs p))
 
@@ -54,6 +65,8 @@ none_of None not = refl
 none_of (Some x) not = absurd (not x refl)
 
 -- ---- sums of a row
-pub sums-step : (m : Records) (cs : List NodePtr) (i : ℕ) → length cs ≤ 12 → i < 12 → sums m (drop i (row cs)) ≡ plus (sum_or_none m (slice_get cs i)) (sums m (drop (i + 1) (row cs)))
+pub sums-step : (m : Records) (cs : List NodePtr) (i : ℕ) → length cs ≤ 12 → i < 12 →
+    sums m (drop i (row cs)) ≡ plus (sum_or_none m (slice_get cs i)) (sums m (drop (i + 1) (row cs)))
 sums-step m cs i few less = let l = length-row cs few in let within : i < length (row cs) = omega arith in
-    at_drop_more (sums m) (row cs) i None within ∙ ap (λ o. plus (sum_or_none m o) (sums m (drop (i + 1) (row cs)))) (get_or-row cs i)
+    at_drop_more (sums m) (row cs) i None within
+    ∙ ap (λ o. plus (sum_or_none m o) (sums m (drop (i + 1) (row cs)))) (get_or-row cs i)

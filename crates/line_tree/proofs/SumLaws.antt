@@ -11,7 +11,8 @@ use Rattle.line_tree.specs.Trees.{Named, total}
 
 pub total-append : (xs ys : List Named) → total (xs ++ ys) ≡ plus (total xs) (total ys)
 total-append [] ys = sym (no_text-plus (total ys))
-total-append (x ∷ xs) ys = ap (plus (line_count x.1)) (total-append xs ys) ∙ sym (plus-associative (line_count x.1) (total xs) (total ys))
+total-append (x ∷ xs) ys =
+    ap (plus (line_count x.1)) (total-append xs ys) ∙ sym (plus-associative (line_count x.1) (total xs) (total ys))
 
 pub fits-left : (a b : Count) → FitsSum (plus a b) → FitsSum a
 fits-left a b fits = let l = fits.lines in let c = fits.characters in let m = fits.marks in

@@ -1,5 +1,6 @@
 -- The mark of a number is taken off its line.
-use Rattle.std.proofs.Common.{◌≡◌, ℕ, zero, suc, ◌<◌, Bool, true, false, cond, List, [], ◌∷◌, ◌++◌, length, map, take, drop, set, refl, sym, ap, ap₂, ◌∙◌, subst, arith}
+use Rattle.std.proofs.Common.{◌≡◌, ℕ, zero, suc, ◌<◌, Bool, true, false, cond, List, [], ◌∷◌, ◌++◌, length, map, take}
+use Rattle.std.proofs.Common.{drop, set, refl, sym, ap, ap₂, ◌∙◌, subst, arith}
 use Rattle.std.specs.Prelude.{is_some, slice_get}
 use Rattle.std.specs.Cmp.{nat_cmp_total}
 use Rattle.std.specs.FinMap as finite
@@ -33,12 +34,14 @@ pub record IsOnlyIn (n : ℕ) (ls : List Named) (k : ℕ) : Type 0 where
   pub before : holder n (take k ls) ≡ None
   pub behind : holder n (drop (suc k) ls) ≡ None
 
-some-at : (ls : List Named) (k : ℕ) → k < length ls → (l : Named) × (slice_get ls k ≡ Some l) × (line_at (contents ls) k ≡ l.1)
+some-at : (ls : List Named) (k : ℕ) → k < length ls → (l : Named) × (slice_get ls k ≡ Some l)
+    × (line_at (contents ls) k ≡ l.1)
 some-at [] k within = absurd (omega (arith, within))
 some-at (l ∷ ls) zero within = (l, refl, refl)
 some-at (l ∷ ls) (suc k) within = some-at ls k (omega (arith, within))
 
-pub only-in : (n : ℕ) (ls : List Named) (k : ℕ) → AreLines (contents ls) → next_line (has_mark n) 0 (contents ls) ≡ Some k → IsOnlyIn n ls k
+pub only-in : (n : ℕ) (ls : List Named) (k : ℕ) → AreLines (contents ls) →
+    next_line (has_mark n) 0 (contents ls) ≡ Some k → IsOnlyIn n ls k
 only-in n ls k are is =
     let found = next-found (has_mark n) 0 (contents ls) k is in let within = found.within in let l = long ls in
     let at = some-at ls k (omega (arith, within, l)) in
@@ -50,60 +53,81 @@ only-in n ls k are is =
 put-in : (ls : List Named) (k : ℕ) (l : Named) → slice_get ls k ≡ Some l → take k ls ++ l ∷ drop (suc k) ls ≡ ls
 put-in ls k l at = ap (λ xs. take k ls ++ xs) (sym (drop_after ls k l at)) ∙ whole-list k ls
 
-changed-is : (ls : List Named) (k : ℕ) (l : Named) (f : LineContent → LineContent) → slice_get ls k ≡ Some l → changed k f ls ≡ take k ls ++ (l.0, f l.1) ∷ drop (suc k) ls
+changed-is : (ls : List Named) (k : ℕ) (l : Named) (f : LineContent → LineContent) → slice_get ls k ≡ Some l →
+    changed k f ls ≡ take k ls ++ (l.0, f l.1) ∷ drop (suc k) ls
 changed-is ls k l f at =
     ap (λ xs. (take k ls ++ map (λ (x : Named). (x.0, f x.1)) (take 1 xs)) ++ drop (suc k) ls) (drop_after ls k l at)
     ∙ append_assoc (take k ls) ((l.0, f l.1) ∷ []) (drop (suc k) ls)
 
 -- ---- the lines
 no-mark : (n : ℕ) (line : LineContent) → has_mark n line ≡ false → without_mark n line ≡ line
-no-mark n line hasn't = elim (finite.get line.marks n) as (λ o. finite.get line.marks n ≡ o → without_mark n line ≡ line) [
-  | None ↦ λ free. same-line n line free
-  | Some place ↦ λ is. absurd (false≢true (sym hasn't ∙ ap is_some is))
-] refl
+no-mark n line hasn't =
+    elim (finite.get line.marks n) as (λ o. finite.get line.marks n ≡ o → without_mark n line ≡ line) [
+      | None ↦ λ free. same-line n line free
+      | Some place ↦ λ is. absurd (false≢true (sym hasn't ∙ ap is_some is))
+    ] refl
 
 same-contents : (n : ℕ) (ls : List Named) → holder n ls ≡ None → map (without_mark n) (contents ls) ≡ contents ls
 same-contents n [] none = refl
-same-contents n (l ∷ ls) none = let parts = not-first n l ls none in ap₂ (λ x xs. x ∷ xs) (no-mark n l.1 parts.0) (same-contents n ls parts.1)
+same-contents n (l ∷ ls) none = let parts = not-first n l ls none in
+    ap₂ (λ x xs. x ∷ xs) (no-mark n l.1 parts.0) (same-contents n ls parts.1)
 
 pub none-taken : (n : ℕ) (xs : List LineContent) → next_line (has_mark n) 0 xs ≡ None → xs ≡ map (without_mark n) xs
 none-taken n xs none = same xs (next-none (has_mark n) 0 xs none) where
   same : (xs : List LineContent) → FailFrom (has_mark n) xs 0 (length xs) → xs ≡ map (without_mark n) xs
   same [] free = refl
-  same (x ∷ xs) free = ap₂ (λ y ys. y ∷ ys) (sym (no-mark n x (free 0 (omega arith) (omega arith)))) (same xs (λ j more less. free (suc j) (omega arith) (omega (arith, less))))
+  same (x ∷ xs) free = ap₂ (λ y ys. y ∷ ys) (sym (no-mark n x (free 0 (omega arith) (omega arith))))
+      (same xs (λ j more less. free (suc j) (omega arith) (omega (arith, less))))
 
-pub taken-lines : (n : ℕ) (ls now : List Named) (k : ℕ) → IsOnlyIn n ls k → now ≡ changed k (without_mark n) ls → contents now ≡ map (without_mark n) (contents ls)
+pub taken-lines : (n : ℕ) (ls now : List Named) (k : ℕ) → IsOnlyIn n ls k → now ≡ changed k (without_mark n) ls →
+    contents now ≡ map (without_mark n) (contents ls)
 taken-lines n ls now k only is =
     let front = take k ls in let back = drop (suc k) ls in let w = without_mark n in let l = only.line in
     ap contents (is ∙ changed-is ls k l w only.at)
     ∙ map-append (λ (x : Named). x.1) front ((l.0, w l.1) ∷ back)
-    ∙ sym (ap (λ xs. map w (contents xs)) (sym (put-in ls k l only.at)) ∙ ap (map w) (map-append (λ (x : Named). x.1) front (l ∷ back)) ∙ map-append w (contents front) (contents (l ∷ back))
+    ∙ sym (ap (λ xs. map w (contents xs)) (sym (put-in ls k l only.at))
+    ∙ ap (map w) (map-append (λ (x : Named). x.1) front (l ∷ back))
+    ∙ map-append w (contents front) (contents (l ∷ back))
     ∙ ap₂ (λ xs ys. xs ++ (w l.1 ∷ ys)) (same-contents n front only.before) (same-contents n back only.behind))
 
-pub taken-are : (n : ℕ) (ls now : List Named) (k : ℕ) → AreLines (contents ls) → IsOnlyIn n ls k → now ≡ changed k (without_mark n) ls → AreLines (contents now)
-taken-are n ls now k are only is = subst AreLines (sym (taken-lines n ls now k only is)) (lines-are-without n (contents ls) are)
+pub taken-are : (n : ℕ) (ls now : List Named) (k : ℕ) → AreLines (contents ls) → IsOnlyIn n ls k →
+    now ≡ changed k (without_mark n) ls → AreLines (contents now)
+taken-are n ls now k are only is =
+    subst AreLines (sym (taken-lines n ls now k only is)) (lines-are-without n (contents ls) are)
 
 -- ---- the table
-holder-here : (n : ℕ) (ls : List Named) (k : ℕ) (l : Named) → slice_get ls k ≡ Some l → holder n ls ≡ first (holder n (take k ls)) (cond (has_mark n l.1) (Some l.0) (holder n (drop (suc k) ls)))
+holder-here : (n : ℕ) (ls : List Named) (k : ℕ) (l : Named) → slice_get ls k ≡ Some l →
+    holder n ls ≡ first (holder n (take k ls)) (cond (has_mark n l.1) (Some l.0) (holder n (drop (suc k) ls)))
 holder-here n ls k l at = ap (holder n) (sym (put-in ls k l at)) ∙ holder-append n (take k ls) (l ∷ drop (suc k) ls)
 
-pub noted-there : (n : ℕ) (names : List (Option NodePtr)) (ls : List Named) (k : ℕ) → IsOnlyIn n ls k → IsTable names ls → n < length names
+pub noted-there : (n : ℕ) (names : List (Option NodePtr)) (ls : List Named) (k : ℕ) → IsOnlyIn n ls k →
+    IsTable names ls → n < length names
 noted-there n names ls k only table =
     noted-within names n only.line.0
-    (table.each n ∙ holder-here n ls k only.line only.at ∙ ap₂ (λ o b. first o (cond b (Some only.line.0) (holder n (drop (suc k) ls)))) only.before only.has)
+    (table.each n ∙ holder-here n ls k only.line only.at
+    ∙ ap₂ (λ o b. first o (cond b (Some only.line.0) (holder n (drop (suc k) ls)))) only.before only.has)
 
-pub taken-table : (n : ℕ) (names : List (Option NodePtr)) (ls now : List Named) (k : ℕ) → IsOnlyIn n ls k → IsTable names ls → now ≡ changed k (without_mark n) ls → IsTable (set names n None) now
+pub taken-table : (n : ℕ) (names : List (Option NodePtr)) (ls now : List Named) (k : ℕ) → IsOnlyIn n ls k →
+    IsTable names ls → now ≡ changed k (without_mark n) ls → IsTable (set names n None) now
 taken-table n names ls now k only table is = record {
-  each = λ q. noted-set names n q None (noted-there n names ls k only table) ∙ which q (eq_by_cmp nat_cmp q n) refl ∙ sym (after q);
+  each = λ q. noted-set names n q None (noted-there n names ls k only table) ∙ which q (eq_by_cmp nat_cmp q n) refl
+      ∙ sym (after q);
 } where
-  after : (q : ℕ) → holder q now ≡ first (holder q (take k ls)) (cond (is_some (cond (eq_by_cmp nat_cmp q n) None (finite.get only.line.1.marks q))) (Some only.line.0) (holder q (drop (suc k) ls)))
+  after : (q : ℕ) → holder q now ≡ first (holder q (take k ls))
+      (cond (is_some (cond (eq_by_cmp nat_cmp q n) None (finite.get only.line.1.marks q))) (Some only.line.0)
+      (holder q (drop (suc k) ls)))
   after q =
-      ap (holder q) (is ∙ changed-is ls k only.line (without_mark n) only.at) ∙ holder-append q (take k ls) ((only.line.0, without_mark n only.line.1) ∷ drop (suc k) ls)
-      ∙ ap (λ o. first (holder q (take k ls)) (cond (is_some o) (Some only.line.0) (holder q (drop (suc k) ls)))) (finite.get-remove nat_cmp_total only.line.1.marks n q)
+      ap (holder q) (is ∙ changed-is ls k only.line (without_mark n) only.at)
+      ∙ holder-append q (take k ls) ((only.line.0, without_mark n only.line.1) ∷ drop (suc k) ls)
+      ∙ ap (λ o. first (holder q (take k ls)) (cond (is_some o) (Some only.line.0) (holder q (drop (suc k) ls))))
+      (finite.get-remove nat_cmp_total only.line.1.marks n q)
 
   which : (q : ℕ) (b : Bool) → eq_by_cmp nat_cmp q n ≡ b
-      → cond b None (noted q names) ≡ first (holder q (take k ls)) (cond (is_some (cond b None (finite.get only.line.1.marks q))) (Some only.line.0) (holder q (drop (suc k) ls)))
+      → cond b None (noted q names) ≡ first (holder q (take k ls))
+      (cond (is_some (cond b None (finite.get only.line.1.marks q))) (Some only.line.0)
+      (holder q (drop (suc k) ls)))
   which q true tie =
       let same : n ≡ q = sym (tied_same q n tie) in
-      sym (ap₂ first (ap (λ m. holder m (take k ls)) (sym same) ∙ only.before) (ap (λ m. holder m (drop (suc k) ls)) (sym same) ∙ only.behind))
+      sym (ap₂ first (ap (λ m. holder m (take k ls)) (sym same)
+      ∙ only.before) (ap (λ m. holder m (drop (suc k) ls)) (sym same) ∙ only.behind))
   which q false other = table.each q ∙ holder-here q ls k only.line only.at

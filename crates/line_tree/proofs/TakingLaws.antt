@@ -1,5 +1,6 @@
 -- What a mark that is taken off a line leaves of trees.
-use Rattle.std.proofs.Common.{◌≡◌, ℕ, zero, suc, ◌+◌, ◌-◌, ◌<◌, ◌≤◌, Bool, cond, inl, inr, List, [], ◌∷◌, ◌++◌, length, take, drop, map, refl, sym, ap, ◌∙◌, subst, arith}
+use Rattle.std.proofs.Common.{◌≡◌, ℕ, zero, suc, ◌+◌, ◌-◌, ◌<◌, ◌≤◌, Bool, cond, inl, inr, List, [], ◌∷◌, ◌++◌, length}
+use Rattle.std.proofs.Common.{take, drop, map, refl, sym, ap, ◌∙◌, subst, arith}
 use Rattle.std.specs.Prelude.{IfSome, IsSome, is_some, option_map, option_to_list}
 use Rattle.std.specs.Cmp.{nat_cmp_total}
 use Rattle.std.specs.FinMap as finite
@@ -41,17 +42,21 @@ use Rattle.line_tree.proofs.SumLaws.{fits-left, total-append}
 use Rattle.line_tree.proofs.TreeLaws.{counted, descends, named-tree, top-tree_at, tops-tree_at}
 
 -- ---- lists
-changed-left : (cs ys : List Named) (r : ℕ) (f : LineContent → LineContent) → r < length cs → changed r f (cs ++ ys) ≡ changed r f cs ++ ys
+changed-left : (cs ys : List Named) (r : ℕ) (f : LineContent → LineContent) → r < length cs →
+    changed r f (cs ++ ys) ≡ changed r f cs ++ ys
 changed-left [] ys r f h = absurd (omega arith)
 changed-left (c ∷ cs) ys zero f h = refl
 changed-left (c ∷ cs) ys (suc r) f h = ap (λ zs. c ∷ zs) (changed-left cs ys r f (omega arith))
 
-pub changed-middle : (xs cs ys : List Named) (r k : ℕ) (f : LineContent → LineContent) → k ≡ length xs + r → r < length cs → changed k f (xs ++ (cs ++ ys)) ≡ xs ++ (changed r f cs ++ ys)
-changed-middle [] cs ys r k f e h = let q : k ≡ r = omega arith in ap (λ j. changed j f (cs ++ ys)) q ∙ changed-left cs ys r f h
+pub changed-middle : (xs cs ys : List Named) (r k : ℕ) (f : LineContent → LineContent) → k ≡ length xs + r →
+    r < length cs → changed k f (xs ++ (cs ++ ys)) ≡ xs ++ (changed r f cs ++ ys)
+changed-middle [] cs ys r k f e h = let q : k ≡ r = omega arith in
+    ap (λ j. changed j f (cs ++ ys)) q ∙ changed-left cs ys r f h
 changed-middle (x ∷ xs) cs ys r zero f e h = absurd (omega arith)
 changed-middle (x ∷ xs) cs ys r (suc k) f e h = ap (λ zs. x ∷ zs) (changed-middle xs cs ys r k f (omega arith) h)
 
-pub length-changed : (ls : List Named) (k : ℕ) (f : LineContent → LineContent) → k < length ls → length (changed k f ls) ≡ length ls
+pub length-changed : (ls : List Named) (k : ℕ) (f : LineContent → LineContent) → k < length ls →
+    length (changed k f ls) ≡ length ls
 length-changed [] k f h = absurd (omega arith)
 length-changed (l ∷ ls) zero f h = refl
 length-changed (l ∷ ls) (suc k) f h = ap suc (length-changed ls k f (omega arith))
@@ -78,10 +83,12 @@ marks-within a b gone is = let e = ap (λ s. s.marks) is in omega arith
 pub sum-middle : (a b c d g : Count) → plus b g ≡ c → plus (plus a (plus b d)) g ≡ plus a (plus c d)
 sum-middle a b c d g is =
     plus-associative a (plus b d) g
-    ∙ ap (plus a) (plus-associative b d g ∙ ap (plus b) (plus-commutative d g) ∙ sym (plus-associative b g d) ∙ ap (λ s. plus s d) is)
+    ∙ ap (plus a) (plus-associative b d g ∙ ap (plus b) (plus-commutative d g) ∙ sym (plus-associative b g d)
+    ∙ ap (λ s. plus s d) is)
 
 -- ---- how many go
-pub how-many : (o : Option Place) (some : Bool) (count : ℕ) → some ≡ is_some o → count ≡ bool_byte some → count ≡ length (option_to_list o)
+pub how-many : (o : Option Place) (some : Bool) (count : ℕ) → some ≡ is_some o → count ≡ bool_byte some →
+    count ≡ length (option_to_list o)
 how-many o some count is few = few ∙ ap bool_byte is ∙ one o where
   one : (o : Option Place) → bool_byte (is_some o) ≡ length (option_to_list o)
   one None = refl
@@ -89,19 +96,25 @@ how-many o some count is few = few ∙ ap bool_byte is ∙ one o where
 
 some-marks : (ms : Marks) (number : ℕ) (place : Place) → finite.get ms number ≡ Some place → 0 < finite.len ms
 some-marks ms number place is = elim (finite.len ms) as (λ k. finite.len ms ≡ k → 0 < k) [
-  | zero ↦ λ e. absurd (none-some place (sym (ap (λ (x : Marks). finite.get x number) (finite.empty_of_len ms e) ∙ finite.get-empty nat_cmp number) ∙ is))
+  | zero ↦ λ e. absurd (none-some place (sym (ap (λ (x : Marks). finite.get x number) (finite.empty_of_len ms e)
+      ∙ finite.get-empty nat_cmp number) ∙ is))
   | suc k ↦ λ e. omega arith
 ] refl
 
-marks-less : (ms : Marks) (number : ℕ) → finite.len (finite.remove ms number) + length (option_to_list (finite.get ms number)) ≡ finite.len ms
+marks-less : (ms : Marks) (number : ℕ) → finite.len (finite.remove ms number)
+    + length (option_to_list (finite.get ms number)) ≡ finite.len ms
 marks-less ms number = one (finite.get ms number) refl where
-  one : (o : Option Place) → finite.get ms number ≡ o → finite.len (finite.remove ms number) + length (option_to_list o) ≡ finite.len ms
-  one None is = let n : finite.len (finite.remove ms number) ≡ finite.len ms = finite.len-remove nat_cmp_total ms number ∙ ap (λ (o : Option Place). cond (is_some o) (finite.len ms - 1) (finite.len ms)) is in omega (arith, n)
+  one : (o : Option Place) → finite.get ms number ≡ o → finite.len (finite.remove ms number) + length (option_to_list o)
+      ≡ finite.len ms
+  one None is = let n : finite.len (finite.remove ms number) ≡ finite.len ms = finite.len-remove nat_cmp_total ms number
+      ∙ ap (λ (o : Option Place). cond (is_some o) (finite.len ms - 1) (finite.len ms)) is in omega (arith, n)
   one (Some place) is =
-      let n : finite.len (finite.remove ms number) ≡ finite.len ms - 1 = finite.len-remove nat_cmp_total ms number ∙ ap (λ (o : Option Place). cond (is_some o) (finite.len ms - 1) (finite.len ms)) is in
+      let n : finite.len (finite.remove ms number) ≡ finite.len ms - 1 = finite.len-remove nat_cmp_total ms number
+      ∙ ap (λ (o : Option Place). cond (is_some o) (finite.len ms - 1) (finite.len ms)) is in
       omega (arith, n, some-marks ms number place is)
 
-line-less : (line : LineContent) (number : ℕ) → plus (line_count (without_mark number line)) (counting 0 0 (marked number line)) ≡ line_count line
+line-less : (line : LineContent) (number : ℕ) →
+    plus (line_count (without_mark number line)) (counting 0 0 (marked number line)) ≡ line_count line
 line-less line number = λ i. record {
   lines = 1;
   characters = add-none (length line.columns) i;
@@ -118,7 +131,8 @@ is_some-linked None = refl
 is_some-linked (Some r) = refl
 
 pub named-linked : (m n : Records) → SameLinks m n → (q : NodePtr) → IsSome (finite.get n q) → IsSome (finite.get m q)
-named-linked m n same q s = sym (is_some-linked (finite.get m q)) ∙ ap is_some (sym (same q)) ∙ is_some-linked (finite.get n q) ∙ s
+named-linked m n same q s =
+    sym (is_some-linked (finite.get m q)) ∙ ap is_some (sym (same q)) ∙ is_some-linked (finite.get n q) ∙ s
 
 abbrev kids_linked : Option Linked → List NodePtr
 kids_linked None = []
@@ -129,26 +143,33 @@ kids_of-linked None = refl
 kids_of-linked (Some r) = refl
 
 kids-linked : (m n : Records) → SameLinks m n → (p : NodePtr) → kids n p ≡ kids m p
-kids-linked m n same p = kids_of-linked (finite.get n p) ∙ ap kids_linked (same p) ∙ sym (kids_of-linked (finite.get m p))
+kids-linked m n same p =
+    kids_of-linked (finite.get n p) ∙ ap kids_linked (same p) ∙ sym (kids_of-linked (finite.get m p))
 
-record-linked : (o u : Option Record) (r : Record) → option_map linked u ≡ option_map linked o → o ≡ Some r → (v : Record) × (u ≡ Some v) × (linked v ≡ linked r)
+record-linked : (o u : Option Record) (r : Record) → option_map linked u ≡ option_map linked o → o ≡ Some r →
+    (v : Record) × (u ≡ Some v) × (linked v ≡ linked r)
 record-linked o None r e is = absurd (none-some (linked r) (e ∙ ap (option_map linked) is))
 record-linked o (Some v) r e is = (v, refl, same_Some (linked v) (linked r) (e ∙ ap (option_map linked) is))
 
-links-linked : (m n : Records) → SameLinks m n → (p : NodePtr) (i : ℕ) (cs : List NodePtr) → Links m p i cs → Links n p i cs
+links-linked : (m n : Records) → SameLinks m n → (p : NodePtr) (i : ℕ) (cs : List NodePtr) → Links m p i cs →
+    Links n p i cs
 links-linked m n same p i [] links = tt
-links-linked m n same p i (c ∷ cs) links = let l = links.0 in let v = record-linked (finite.get m c) (finite.get n c) l.found (same c) l.is in (
-  record { found = v.0; is = v.1; parent = ap (λ x. x.0) v.2 ∙ l.parent; slot = ap (λ x. x.1.0) v.2 ∙ l.slot },
-  links-linked m n same p (suc i) cs links.1,
-)
+links-linked m n same p i (c ∷ cs) links = let l = links.0 in
+    let v = record-linked (finite.get m c) (finite.get n c) l.found (same c) l.is in (
+      record { found = v.0; is = v.1; parent = ap (λ x. x.0) v.2 ∙ l.parent; slot = ap (λ x. x.1.0) v.2 ∙ l.slot },
+      links-linked m n same p (suc i) cs links.1,
+    )
 
 no-parent-linked : (m n : Records) → SameLinks m n → (r : NodePtr) → HasNoParent m r → HasNoParent n r
-no-parent-linked m n same r root = let v = record-linked (finite.get m r) (finite.get n r) root.found (same r) root.is in
+no-parent-linked m n same r root = let v = record-linked (finite.get m r) (finite.get n r) root.found (same r) root.is
+    in
     record { found = v.0; is = v.1; parent = ap (λ x. x.0) v.2 ∙ root.parent }
 
-linked-update : (m : Records) (p : NodePtr) (f : Record → Record) → ((r : Record) → linked (f r) ≡ linked r) → SameLinks m (update m p f)
+linked-update : (m : Records) (p : NodePtr) (f : Record → Record) → ((r : Record) → linked (f r) ≡ linked r) →
+    SameLinks m (update m p f)
 linked-update m p f keeps q = elim (same_or_other q p) [
-  | inl e ↦ subst (λ z. option_map linked (finite.get (update m p f) z) ≡ option_map linked (finite.get m z)) (sym e) (ap (option_map linked) (get-update m p f) ∙ one (finite.get m p))
+  | inl e ↦ subst (λ z. option_map linked (finite.get (update m p f) z)
+      ≡ option_map linked (finite.get m z)) (sym e) (ap (option_map linked) (get-update m p f) ∙ one (finite.get m p))
   | inr other ↦ ap (option_map linked) (get-update-other m p f q other)
 ] where
   one : (o : Option Record) → option_map linked (option_map f o) ≡ option_map linked o
@@ -156,42 +177,54 @@ linked-update m p f keeps q = elim (same_or_other q p) [
   one (Some r) = ap (λ x. Some x) (keeps r)
 
 -- ---- names and widths
-all-names-linked : (m n : Records) (h : ℕ) → ((p : NodePtr) → names h (tree_at n h p) ≡ names h (tree_at m h p)) → (cs : List NodePtr) → names_of h (map (tree_at n h) cs) ≡ names_of h (map (tree_at m h) cs)
+all-names-linked : (m n : Records) (h : ℕ) → ((p : NodePtr) → names h (tree_at n h p) ≡ names h (tree_at m h p)) →
+    (cs : List NodePtr) → names_of h (map (tree_at n h) cs) ≡ names_of h (map (tree_at m h) cs)
 all-names-linked m n h one [] = refl
 all-names-linked m n h one (c ∷ cs) = λ i. one c i ++ all-names-linked m n h one cs i
 
-pub names-linked : (m n : Records) → SameLinks m n → (h : ℕ) (p : NodePtr) → names h (tree_at n h p) ≡ names h (tree_at m h p)
+pub names-linked : (m n : Records) → SameLinks m n → (h : ℕ) (p : NodePtr) →
+    names h (tree_at n h p) ≡ names h (tree_at m h p)
 names-linked m n same zero p = refl
 names-linked m n same (suc h) p =
     ap (λ cs. p ∷ names_of h (map (tree_at n h) cs)) (kids-linked m n same p)
     ∙ ap (λ zs. p ∷ zs) (all-names-linked m n h (names-linked m n same h) (kids m p))
 
-all-linked : (m n : Records) (h : ℕ) (P : Tree h → Type 0) → ((p : NodePtr) → P (tree_at m h p) → P (tree_at n h p)) → (cs : List NodePtr) → AllByRecursion P (map (tree_at m h) cs) → AllByRecursion P (map (tree_at n h) cs)
+all-linked : (m n : Records) (h : ℕ) (P : Tree h → Type 0) → ((p : NodePtr) → P (tree_at m h p) → P (tree_at n h p)) →
+    (cs : List NodePtr) → AllByRecursion P (map (tree_at m h) cs) → AllByRecursion P (map (tree_at n h) cs)
 all-linked m n h P one [] all = tt
 all-linked m n h P one (c ∷ cs) all = (one c all.0, all-linked m n h P one cs all.1)
 
 abbrev HasWidth : ℕ → (h : ℕ) → List (Tree h) → Type 0
 HasWidth least h ts = (least ≤ length ts) × (length ts ≤ 12) × AllByRecursion (IsBalanced h) ts
 
-width-linked : (m n : Records) → SameLinks m n → (h : ℕ) → ((p : NodePtr) → IsBalanced h (tree_at m h p) → IsBalanced h (tree_at n h p)) → (least : ℕ) (p : NodePtr) → HasWidth least h (map (tree_at m h) (kids m p)) → HasWidth least h (map (tree_at n h) (kids n p))
+width-linked : (m n : Records) → SameLinks m n → (h : ℕ) →
+    ((p : NodePtr) → IsBalanced h (tree_at m h p) → IsBalanced h (tree_at n h p)) → (least : ℕ) (p : NodePtr) →
+    HasWidth least h (map (tree_at m h) (kids m p)) → HasWidth least h (map (tree_at n h) (kids n p))
 width-linked m n same h one least p wide =
-    let a = length-map (kids m p) (tree_at m h) in let b = length-map (kids m p) (tree_at n h) in let low = wide.0 in let high = wide.1 in
+    let a = length-map (kids m p) (tree_at m h) in let b = length-map (kids m p) (tree_at n h) in let low = wide.0 in
+    let high = wide.1 in
     subst (λ cs. HasWidth least h (map (tree_at n h) cs)) (sym (kids-linked m n same p))
     (omega (arith, a, b, low), omega (arith, a, b, high), all-linked m n h (IsBalanced h) one (kids m p) wide.2)
 
-balanced-linked : (m n : Records) → SameLinks m n → (h : ℕ) (p : NodePtr) → IsBalanced h (tree_at m h p) → IsBalanced h (tree_at n h p)
+balanced-linked : (m n : Records) → SameLinks m n → (h : ℕ) (p : NodePtr) → IsBalanced h (tree_at m h p) →
+    IsBalanced h (tree_at n h p)
 balanced-linked m n same zero p balanced = tt
 balanced-linked m n same (suc h) p balanced = width-linked m n same h (balanced-linked m n same h) 6 p balanced
 
-root-linked : (m n : Records) → SameLinks m n → (h : ℕ) (p : NodePtr) → IsBalancedRoot h (tree_at m h p) → IsBalancedRoot h (tree_at n h p)
+root-linked : (m n : Records) → SameLinks m n → (h : ℕ) (p : NodePtr) → IsBalancedRoot h (tree_at m h p) →
+    IsBalancedRoot h (tree_at n h p)
 root-linked m n same zero p balanced = balanced
-root-linked m n same (suc h) p balanced = width-linked m n same h (balanced-linked m n same h) (least_below_root h) p balanced
+root-linked m n same (suc h) p balanced =
+    width-linked m n same h (balanced-linked m n same h) (least_below_root h) p balanced
 
 -- ---- at a line
-pub takes-line : (m n : Records) (p : NodePtr) (k number gone : ℕ) → CanTake m 0 p k → TakesOff m n p number gone → Takes m n 0 p k number gone
+pub takes-line : (m n : Records) (p : NodePtr) (k number gone : ℕ) → CanTake m 0 p k → TakesOff m n p number gone →
+    Takes m n 0 p k number gone
 takes-line m n p k number gone can off =
-    let f : Record → Record = λ r. with_line r (without_mark number off.line) in let new = without_mark number off.line in let old = can.tree in
-    let at : finite.get n p ≡ Some (f old.found) = ap (λ z. finite.get z p) off.same ∙ at-update m p f old.found old.is in
+    let f : Record → Record = λ r. with_line r (without_mark number off.line) in
+    let new = without_mark number off.line in let old = can.tree in
+    let at : finite.get n p ≡ Some (f old.found) = ap (λ z. finite.get z p) off.same
+    ∙ at-update m p f old.found old.is in
     let is : line_of (finite.get n p) ≡ Some new = ap line_of at in
     let now : lines_in n 0 p ≡ (p, new) ∷ [] = ap (λ o. lines zero (p, o)) is in
     let was : lines_in m 0 p ≡ (p, off.line) ∷ [] = ap (λ o. lines zero (p, o)) off.was in
@@ -207,142 +240,170 @@ takes-line m n p k number gone can off =
         sum = sym (ap total now ∙ plus-no_text (line_count new));
       };
       lines = now ∙ sym (λ i. changed (first i) (without_mark number) (was i));
-      sum = (λ i. plus ((ap total now ∙ plus-no_text (line_count new)) i) (counting 0 0 (off.few i))) ∙ line-less off.line number ∙ sym (ap total was ∙ plus-no_text (line_count off.line));
+      sum = (λ i. plus ((ap total now ∙ plus-no_text (line_count new)) i) (counting 0 0 (off.few i)))
+          ∙ line-less off.line number ∙ sym (ap total was ∙ plus-no_text (line_count off.line));
       count = ap finite.len off.same ∙ len-update m p f;
     }
 
 -- ---- above it
-module _ (m : Records) (h : ℕ) (p : NodePtr) (k : ℕ) (can : CanTake m (suc h) p k) (f : Found) (finds : Finds m p k f) where
-  abbrev before : List (Tree h)
-  before = map (tree_at m h) (take f.slot (kids m p))
+module _ (m : Records) (h : ℕ) (p : NodePtr) (k : ℕ) (can : CanTake m (suc h) p k) (f : Found) (finds : Finds m p k f)
+  where
+    abbrev before : List (Tree h)
+    before = map (tree_at m h) (take f.slot (kids m p))
 
-  abbrev after : List (Tree h)
-  after = map (tree_at m h) (drop (suc f.slot) (kids m p))
+    abbrev after : List (Tree h)
+    after = map (tree_at m h) (drop (suc f.slot) (kids m p))
 
-  abbrev child : Tree h
-  child = tree_at m h f.child
+    abbrev child : Tree h
+    child = tree_at m h f.child
 
-  split : map (tree_at m h) (kids m p) ≡ before ++ (child ∷ after)
-  split = at-place (tree_at m h) (kids m p) f.slot f.child finds.child
+    split : map (tree_at m h) (kids m p) ≡ before ++ (child ∷ after)
+    split = at-place (tree_at m h) (kids m p) f.slot f.child finds.child
 
-  whole : AllByRecursion (Holds m h) (before ++ (child ∷ after))
-  whole = subst (AllByRecursion (Holds m h)) split can.tree.2
+    whole : AllByRecursion (Holds m h) (before ++ (child ∷ after))
+    whole = subst (AllByRecursion (Holds m h)) split can.tree.2
 
-  apart : Distinct (names_of h before ++ names_of h (child ∷ after))
-  apart = subst Distinct (ap (names_of h) split ∙ names-append h before (child ∷ after)) can.distinct.1
+    apart : Distinct (names_of h before ++ names_of h (child ∷ after))
+    apart = subst Distinct (ap (names_of h) split ∙ names-append h before (child ∷ after)) can.distinct.1
 
-  pub can-child : CanTake m h f.child f.rest
-  can-child = let d = descends m h p k f can.tree finds in record {
-    tree = d.tree;
-    distinct = distinct-left (names h child) (names_of h after) (distinct-right (names_of h before) (names_of h (child ∷ after)) apart);
-    place = d.within;
-  }
+    pub can-child : CanTake m h f.child f.rest
+    can-child = let d = descends m h p k f can.tree finds in record {
+      tree = d.tree;
+      distinct = distinct-left (names h child) (names_of h after)
+          (distinct-right (names_of h before) (names_of h (child ∷ after)) apart);
+      place = d.within;
+    }
 
-  module _ (l : Records) (number gone : ℕ) (taken : Takes m l h f.child f.rest number gone) where
-    abbrev now : List (Tree h)
-    now = before ++ (tree_at l h f.child ∷ after)
+    module _ (l : Records) (number gone : ℕ) (taken : Takes m l h f.child f.rest number gone) where
+      abbrev now : List (Tree h)
+      now = before ++ (tree_at l h f.child ∷ after)
 
-    names-now : names_of h now ≡ names_of h (map (tree_at m h) (kids m p))
-    names-now =
-        names-append h before (tree_at l h f.child ∷ after)
-        ∙ ap (λ zs. names_of h before ++ (zs ++ names_of h after)) (names-linked m l taken.links h f.child)
-        ∙ sym (ap (names_of h) split ∙ names-append h before (child ∷ after))
+      names-now : names_of h now ≡ names_of h (map (tree_at m h) (kids m p))
+      names-now =
+          names-append h before (tree_at l h f.child ∷ after)
+          ∙ ap (λ zs. names_of h before ++ (zs ++ names_of h after)) (names-linked m l taken.links h f.child)
+          ∙ sym (ap (names_of h) split ∙ names-append h before (child ∷ after))
 
-    pub node-same : finite.get l p ≡ finite.get m p
-    node-same = taken.other p (λ a. can.distinct.0 (subst (Among p) (sym (ap (names_of h) split)) (in-right h before (child ∷ after) p (among-left p (names h child) (names_of h after) a))))
+      pub node-same : finite.get l p ≡ finite.get m p
+      node-same = taken.other p (λ a.
+          can.distinct.0 (subst (Among p) (sym (ap (names_of h) split))
+          (in-right h before (child ∷ after) p (among-left p (names h child) (names_of h after) a))))
 
-    holds-now : AllByRecursion (Holds l h) now
-    holds-now =
-        all-append (Holds l h) before (tree_at l h f.child ∷ after)
-        (all-same m l h before (all-left (Holds m h) before (child ∷ after) whole)
-        (λ q a. taken.other q (λ b. distinct-apart (names_of h before) (names_of h (child ∷ after)) apart q a (among-left q (names h child) (names_of h after) b)))) (
-          taken.tree,
-          all-same m l h after (all-right (Holds m h) before (child ∷ after) whole).1
-              (λ q a. taken.other q (λ b. distinct-apart (names h child) (names_of h after) (distinct-right (names_of h before) (names_of h (child ∷ after)) apart) q b a)),
-        )
+      holds-now : AllByRecursion (Holds l h) now
+      holds-now =
+          all-append (Holds l h) before (tree_at l h f.child ∷ after)
+          (all-same m l h before (all-left (Holds m h) before (child ∷ after) whole)
+          (λ q a. taken.other q (λ b. distinct-apart (names_of h before) (names_of h (child ∷ after)) apart q a
+          (among-left q (names h child) (names_of h after) b)))) (
+            taken.tree,
+            all-same m l h after (all-right (Holds m h) before (child ∷ after) whole).1
+                (λ q a. taken.other q (λ b. distinct-apart (names h child) (names_of h after)
+                (distinct-right (names_of h before) (names_of h (child ∷ after)) apart) q b a)),
+          )
 
-    tops-now : tops h now ≡ kids m p
-    tops-now =
-        map-append (λ (t : Tree h). t.0) before (tree_at l h f.child ∷ after)
-        ∙ (λ i. tops-tree_at m h (take f.slot (kids m p)) i ++ (top-tree_at l h f.child i ∷ tops-tree_at m h (drop (suc f.slot) (kids m p)) i))
-        ∙ sym (split-same (kids m p) f.slot f.child finds.child)
+      tops-now : tops h now ≡ kids m p
+      tops-now =
+          map-append (λ (t : Tree h). t.0) before (tree_at l h f.child ∷ after)
+          ∙ (λ i. tops-tree_at m h (take f.slot (kids m p)) i
+          ++ (top-tree_at l h f.child i ∷ tops-tree_at m h (drop (suc f.slot) (kids m p)) i))
+          ∙ sym (split-same (kids m p) f.slot f.child finds.child)
 
-    -- the lines, in three parts
-    was-lines : lines_in m (suc h) p ≡ lines_of h before ++ (lines_in m h f.child ++ lines_of h after)
-    was-lines = ap (lines_of h) split ∙ flat_map-append (lines h) before (child ∷ after)
+      -- the lines, in three parts
+      was-lines : lines_in m (suc h) p ≡ lines_of h before ++ (lines_in m h f.child ++ lines_of h after)
+      was-lines = ap (lines_of h) split ∙ flat_map-append (lines h) before (child ∷ after)
 
-    now-lines : lines_of h now ≡ lines_of h before ++ (lines_in l h f.child ++ lines_of h after)
-    now-lines = flat_map-append (lines h) before (tree_at l h f.child ∷ after)
+      now-lines : lines_of h now ≡ lines_of h before ++ (lines_in l h f.child ++ lines_of h after)
+      now-lines = flat_map-append (lines h) before (tree_at l h f.child ∷ after)
 
-    lines-changed : lines_of h now ≡ changed k (without_mark number) (lines_in m (suc h) p)
-    lines-changed =
-        let e = counted m h (take f.slot (kids m p)) (all-left (Holds m h) before (child ∷ after) whole) in let place = finds.place in
-        now-lines ∙ ap (λ zs. lines_of h before ++ (zs ++ lines_of h after)) taken.lines
-        ∙ sym (ap (changed k (without_mark number)) was-lines
-        ∙ changed-middle (lines_of h before) (lines_in m h f.child) (lines_of h after) f.rest k (without_mark number) (omega (arith, e, place)) can-child.place)
+      lines-changed : lines_of h now ≡ changed k (without_mark number) (lines_in m (suc h) p)
+      lines-changed =
+          let e = counted m h (take f.slot (kids m p)) (all-left (Holds m h) before (child ∷ after) whole) in
+          let place = finds.place in
+          now-lines ∙ ap (λ zs. lines_of h before ++ (zs ++ lines_of h after)) taken.lines
+          ∙ sym (ap (changed k (without_mark number)) was-lines
+          ∙ changed-middle (lines_of h before) (lines_in m h f.child) (lines_of h after) f.rest k (without_mark number)
+          (omega (arith, e, place)) can-child.place)
 
-    pub sum-changed : plus (total (lines_of h now)) (counting 0 0 gone) ≡ total (lines_in m (suc h) p)
-    sum-changed =
-        let a = lines_of h before in let d = lines_of h after in
-        ap (λ s. plus s (counting 0 0 gone)) (ap total now-lines ∙ total-append a (lines_in l h f.child ++ d) ∙ ap (plus (total a)) (total-append (lines_in l h f.child) d))
-        ∙ sum-middle (total a) (total (lines_in l h f.child)) (total (lines_in m h f.child)) (total d) (counting 0 0 gone) taken.sum
-        ∙ sym (ap total was-lines ∙ total-append a (lines_in m h f.child ++ d) ∙ ap (plus (total a)) (total-append (lines_in m h f.child) d))
+      pub sum-changed : plus (total (lines_of h now)) (counting 0 0 gone) ≡ total (lines_in m (suc h) p)
+      sum-changed =
+          let a = lines_of h before in let d = lines_of h after in
+          ap (λ s. plus s (counting 0 0 gone)) (ap total now-lines ∙ total-append a (lines_in l h f.child ++ d)
+          ∙ ap (plus (total a)) (total-append (lines_in l h f.child) d))
+          ∙ sum-middle (total a) (total (lines_in l h f.child)) (total (lines_in m h f.child)) (total d)
+          (counting 0 0 gone) taken.sum
+          ∙ sym (ap total was-lines ∙ total-append a (lines_in m h f.child ++ d)
+          ∙ ap (plus (total a)) (total-append (lines_in m h f.child) d))
 
-    pub node-named : IsSome (finite.get l p)
-    node-named = subst (λ o. IsSome o) (sym node-same) (named-tree m (suc h) p can.tree)
+      pub node-named : IsSome (finite.get l p)
+      node-named = subst (λ o. IsSome o) (sym node-same) (named-tree m (suc h) p can.tree)
 
-    pub node-inner : IfSome (finite.get l p) (λ r. r.line ≡ None)
-    node-inner = subst (λ o. IfSome o (λ r. r.line ≡ None)) (sym (node-same ∙ can.tree.0.is)) can.tree.0.inner
+      pub node-inner : IfSome (finite.get l p) (λ r. r.line ≡ None)
+      node-inner = subst (λ o. IfSome o (λ r. r.line ≡ None)) (sym (node-same ∙ can.tree.0.is)) can.tree.0.inner
 
-    -- what the node's sum says
-    module _ (sum : Count) (says : IfSome (finite.get l p) (λ r. sum ≡ r.sum)) where
-      sum-was : sum ≡ total (lines_in m (suc h) p)
-      sum-was = at_some (finite.get l p) (λ r. sum ≡ r.sum) can.tree.0.found says (node-same ∙ can.tree.0.is) ∙ can.tree.0.sum
+      -- what the node's sum says
+      module _ (sum : Count) (says : IfSome (finite.get l p) (λ r. sum ≡ r.sum)) where
+        sum-was : sum ≡ total (lines_in m (suc h) p)
+        sum-was =
+            at_some (finite.get l p) (λ r. sum ≡ r.sum) can.tree.0.found says (node-same ∙ can.tree.0.is)
+            ∙ can.tree.0.sum
 
-      pub marks-enough : gone ≤ sum.marks
-      marks-enough = subst (λ (s : Count). gone ≤ s.marks) (sym sum-was) (marks-within (total (lines_of h now)) (total (lines_in m (suc h) p)) gone sum-changed)
+        pub marks-enough : gone ≤ sum.marks
+        marks-enough = subst (λ (s : Count). gone ≤ s.marks) (sym sum-was)
+            (marks-within (total (lines_of h now)) (total (lines_in m (suc h) p)) gone sum-changed)
 
-      sum-now : less 0 0 gone sum ≡ total (lines_of h now)
-      sum-now = ap (less 0 0 gone) sum-was ∙ less-is (total (lines_of h now)) (total (lines_in m (suc h) p)) gone sum-changed
+        sum-now : less 0 0 gone sum ≡ total (lines_of h now)
+        sum-now =
+            ap (less 0 0 gone) sum-was ∙ less-is (total (lines_of h now)) (total (lines_in m (suc h) p)) gone
+            sum-changed
 
-      pub takes-node : (n : Records) (less_sum : Count) → less_sum ≡ less 0 0 gone sum → n ≡ update l p (λ r. with_sum r less_sum) → Takes m n (suc h) p k number gone
-      takes-node n less_sum less_is is =
-          let g : Record → Record = λ r. with_sum r less_sum in let node = can.tree.0 in
-          let links : SameLinks m n = λ q. ap (λ z. option_map linked (finite.get z q)) is ∙ linked-update l p g (λ r. refl) q ∙ taken.links q in
-          let off : (q : NodePtr) → (q ≡ p → ⊥) → finite.get n q ≡ finite.get l q = λ q other. ap (λ z. finite.get z q) is ∙ get-update-other l p g q other in
-          let not_node : (q : NodePtr) → Among q (names_of h now) → q ≡ p → ⊥ = λ q a e. can.distinct.0 (subst (λ zs. Among p zs) names-now (subst (λ z. Among z (names_of h now)) e a)) in
-          let holds : Holds n (suc h) (p, now) = (
+        pub takes-node : (n : Records) (less_sum : Count) → less_sum ≡ less 0 0 gone sum →
+            n ≡ update l p (λ r. with_sum r less_sum) → Takes m n (suc h) p k number gone
+        takes-node n less_sum less_is is =
+            let g : Record → Record = λ r. with_sum r less_sum in let node = can.tree.0 in
+            let links : SameLinks m n = λ q. ap (λ z. option_map linked (finite.get z q)) is
+            ∙ linked-update l p g (λ r. refl) q ∙ taken.links q in
+            let off : (q : NodePtr) → (q ≡ p → ⊥) → finite.get n q
+            ≡ finite.get l q = λ q other. ap (λ z. finite.get z q) is ∙ get-update-other l p g q other in
+            let not_node : (q : NodePtr) → Among q (names_of h now) → q ≡ p →
+            ⊥ = λ q a e. can.distinct.0 (subst (λ zs. Among p zs) names-now
+            (subst (λ z. Among z (names_of h now)) e a)) in
+            let holds : Holds n (suc h) (p, now) = (
+              record {
+                found = g node.found;
+                is = ap (λ z. finite.get z p) is ∙ at-update l p g node.found (node-same ∙ node.is);
+                children = node.children ∙ ap row (tops-tree_at m h (kids m p) ∙ sym tops-now);
+                few = subst (λ cs. length cs ≤ 12) (tops-tree_at m h (kids m p) ∙ sym tops-now) node.few;
+                sum = less_is ∙ sum-now;
+                inner = node.inner;
+              },
+              links-linked m n links p 0 (tops h now)
+                  (subst (Links m p 0) (tops-tree_at m h (kids m p) ∙ sym tops-now) can.tree.1),
+              all-same l n h now holds-now (λ q a. off q (not_node q a)),
+            ) in
+            let tree = tree-is n (suc h) (p, now) holds in
             record {
-              found = g node.found;
-              is = ap (λ z. finite.get z p) is ∙ at-update l p g node.found (node-same ∙ node.is);
-              children = node.children ∙ ap row (tops-tree_at m h (kids m p) ∙ sym tops-now);
-              few = subst (λ cs. length cs ≤ 12) (tops-tree_at m h (kids m p) ∙ sym tops-now) node.few;
-              sum = less_is ∙ sum-now;
-              inner = node.inner;
-            },
-            links-linked m n links p 0 (tops h now) (subst (Links m p 0) (tops-tree_at m h (kids m p) ∙ sym tops-now) can.tree.1),
-            all-same l n h now holds-now (λ q a. off q (not_node q a)),
-          ) in
-          let tree = tree-is n (suc h) (p, now) holds in
-          record {
-            links = links;
-            other = λ q out. off q (λ e. out (inl e))
-                ∙ taken.other q (λ a. out (inr (subst (Among q) (sym (ap (names_of h) split)) (in-right h before (child ∷ after) q (among-left q (names h child) (names_of h after) a)))));
-            tree = subst (Holds n (suc h)) (sym tree) holds;
-            lines = ap (lines (suc h)) tree ∙ lines-changed;
-            sum = ap (λ t. plus (total (lines (suc h) t)) (counting 0 0 gone)) tree ∙ sum-changed;
-            count = ap finite.len is ∙ len-update l p g ∙ taken.count;
-          }
+              links = links;
+              other = λ q out. off q (λ e. out (inl e))
+                  ∙ taken.other q (λ a.
+                  out (inr (subst (Among q) (sym (ap (names_of h) split))
+                  (in-right h before (child ∷ after) q (among-left q (names h child) (names_of h after) a)))));
+              tree = subst (Holds n (suc h)) (sym tree) holds;
+              lines = ap (lines (suc h)) tree ∙ lines-changed;
+              sum = ap (λ t. plus (total (lines (suc h) t)) (counting 0 0 gone)) tree ∙ sum-changed;
+              count = ap finite.len is ∙ len-update l p g ∙ taken.count;
+            }
 
 -- ---- the whole tree
-pub stands-taken : (m n : Records) (h : ℕ) (r : NodePtr) (k number gone : ℕ) → StandsAlone m h r → Takes m n h r k number gone → StandsAlone n h r
-stands-taken m n h r k number gone alone taken = let old = alone.stands in let same = names-linked m n taken.links h r in record {
-  stands = record {
-    tree = taken.tree;
-    balanced = root-linked m n taken.links h r old.balanced;
-    distinct = subst Distinct (sym same) old.distinct;
-    root = no-parent-linked m n taken.links r old.root;
-    fits = fits-left (total (lines_in n h r)) (counting 0 0 gone) (subst FitsSum (sym taken.sum) old.fits);
-  };
-  whole = λ q s. subst (Among q) (sym same) (alone.whole q (named-linked m n taken.links q s));
-}
+pub stands-taken : (m n : Records) (h : ℕ) (r : NodePtr) (k number gone : ℕ) → StandsAlone m h r →
+    Takes m n h r k number gone → StandsAlone n h r
+stands-taken m n h r k number gone alone taken = let old = alone.stands in
+    let same = names-linked m n taken.links h r in record {
+      stands = record {
+        tree = taken.tree;
+        balanced = root-linked m n taken.links h r old.balanced;
+        distinct = subst Distinct (sym same) old.distinct;
+        root = no-parent-linked m n taken.links r old.root;
+        fits = fits-left (total (lines_in n h r)) (counting 0 0 gone) (subst FitsSum (sym taken.sum) old.fits);
+      };
+      whole = λ q s. subst (Among q) (sym same) (alone.whole q (named-linked m n taken.links q s));
+    }

@@ -1,5 +1,6 @@
 -- What holds of a tree that stands in records.
-use Rattle.std.proofs.Common.{◌≡◌, ℕ, zero, suc, ◌+◌, ◌-◌, ◌<◌, ◌≤◌, List, [], ◌∷◌, ◌++◌, length, take, map, refl, sym, ap, ◌∙◌, subst, arith, length-append}
+use Rattle.std.proofs.Common.{◌≡◌, ℕ, zero, suc, ◌+◌, ◌-◌, ◌<◌, ◌≤◌, List, [], ◌∷◌, ◌++◌, length, take, map, refl, sym}
+use Rattle.std.proofs.Common.{ap, ◌∙◌, subst, arith, length-append}
 use Rattle.std.specs.Prelude.{IsSome, slice_get}
 use Rattle.std.specs.FinMap as finite
 use Rattle.std.specs.List.{AllByRecursion, flat_map, sum_by}
@@ -62,16 +63,19 @@ sum-tree m h p is = ap (sum_at m) (sym (top-tree_at m h p)) ∙ sum-held m h (tr
 pub named-tree : (m : Records) (h : ℕ) (p : NodePtr) → IsTree m h p → IsSome (finite.get m p)
 named-tree m h p is = subst (λ q. IsSome (finite.get m q)) (top-tree_at m h p) (named-held m h (tree_at m h p) is)
 
-pub child-tree : (m : Records) (h : ℕ) (cs : List NodePtr) (i : ℕ) (c : NodePtr) → AllByRecursion (Holds m h) (map (tree_at m h) cs) → slice_get cs i ≡ Some c → IsTree m h c
+pub child-tree : (m : Records) (h : ℕ) (cs : List NodePtr) (i : ℕ) (c : NodePtr) →
+    AllByRecursion (Holds m h) (map (tree_at m h) cs) → slice_get cs i ≡ Some c → IsTree m h c
 child-tree m h [] i c all is = absurd (none-some c is)
 child-tree m h (d ∷ cs) zero c all is = subst (λ q. IsTree m h q) (same_Some d c is) all.0
 child-tree m h (d ∷ cs) (suc i) c all is = child-tree m h cs i c all.1 is
 
-pub counted : (m : Records) (h : ℕ) (cs : List NodePtr) → AllByRecursion (Holds m h) (map (tree_at m h) cs) → sum_by (lines_at m) cs ≡ length (flat_map (lines h) (map (tree_at m h) cs))
+pub counted : (m : Records) (h : ℕ) (cs : List NodePtr) → AllByRecursion (Holds m h) (map (tree_at m h) cs) →
+    sum_by (lines_at m) cs ≡ length (flat_map (lines h) (map (tree_at m h) cs))
 counted m h [] all = refl
 counted m h (c ∷ cs) all =
     let here = count-tree m h c all.0 in let rest = counted m h cs all.1 in
-    let s = sum_by-cons (lines_at m) c cs in let l = length-append (lines h (tree_at m h c)) (flat_map (lines h) (map (tree_at m h) cs)) in omega arith
+    let s = sum_by-cons (lines_at m) c cs in
+    let l = length-append (lines h (tree_at m h c)) (flat_map (lines h) (map (tree_at m h) cs)) in omega arith
 
 -- ---- one level down
 pub row-tree : (m : Records) (h : ℕ) (p : NodePtr) → IsTree m (suc h) p → HasRow m p
@@ -87,18 +91,24 @@ row-tree m h p is = let node = is.0 in record {
 pub row-above : (m : Records) (h n : ℕ) (p : NodePtr) → h ≡ suc n → IsTree m h p → HasRow m p
 row-above m h n p e is = row-tree m n p (subst (λ k. IsTree m k p) e is)
 
-pub below-tree : (m : Records) (h : ℕ) (p : NodePtr) → IsTree m (suc h) p → lines_below m p ≡ length (lines_in m (suc h) p)
+pub below-tree : (m : Records) (h : ℕ) (p : NodePtr) → IsTree m (suc h) p →
+    lines_below m p ≡ length (lines_in m (suc h) p)
 below-tree m h p is = counted m h (kids m p) is.2
 
 pub whole-below : (m : Records) (h : ℕ) (p : NodePtr) → IsTree m (suc h) p → lines_at m p ≡ lines_below m p
 whole-below m h p is = count-tree m (suc h) p is ∙ sym (below-tree m h p is)
 
-pub line-found : (m : Records) (h : ℕ) (cs : List NodePtr) (i r k : ℕ) (c : NodePtr) → AllByRecursion (Holds m h) (map (tree_at m h) cs) → slice_get cs i ≡ Some c
-    → sum_by (lines_at m) (take i cs) + r ≡ k → r < lines_at m c → slice_get (flat_map (lines h) (map (tree_at m h) cs)) k ≡ slice_get (lines_in m h c) r
+pub line-found : (m : Records) (h : ℕ) (cs : List NodePtr) (i r k : ℕ) (c : NodePtr) →
+    AllByRecursion (Holds m h) (map (tree_at m h) cs) → slice_get cs i ≡ Some c
+    → sum_by (lines_at m) (take i cs) + r ≡ k → r < lines_at m c →
+    slice_get (flat_map (lines h) (map (tree_at m h) cs)) k ≡ slice_get (lines_in m h c) r
 line-found m h [] i r k c all at place rest = absurd (none-some c at)
 line-found m h (d ∷ cs) zero r k c all at place rest =
-    let e : k ≡ r = omega arith in let same = same_Some d c at in let n = count-tree m h d all.0 in let less = subst (λ q. r < lines_at m q) (sym same) rest in
-    ap (slice_get (flat_map (lines h) (map (tree_at m h) (d ∷ cs)))) e ∙ get-left (lines_in m h d) (flat_map (lines h) (map (tree_at m h) cs)) r (omega arith) ∙ ap (λ q. slice_get (lines_in m h q) r) same
+    let e : k ≡ r = omega arith in let same = same_Some d c at in let n = count-tree m h d all.0 in
+    let less = subst (λ q. r < lines_at m q) (sym same) rest in
+    ap (slice_get (flat_map (lines h) (map (tree_at m h) (d ∷ cs)))) e
+    ∙ get-left (lines_in m h d) (flat_map (lines h) (map (tree_at m h) cs)) r (omega arith)
+    ∙ ap (λ q. slice_get (lines_in m h q) r) same
 line-found m h (d ∷ cs) (suc i) r k c all at place rest =
     let n = count-tree m h d all.0 in let s = sum_by-cons (lines_at m) d (take i cs) in
     get-right (lines_in m h d) (flat_map (lines h) (map (tree_at m h) cs)) (k - lines_at m d) k (omega arith)
@@ -109,15 +119,24 @@ pub record Descends (m : Records) (h : ℕ) (p : NodePtr) (k : ℕ) (f : Found) 
   pub line : slice_get (lines_in m (suc h) p) k ≡ slice_get (lines_in m h f.child) f.rest
   pub within : f.rest < length (lines_in m h f.child)
 
-pub descends : (m : Records) (h : ℕ) (p : NodePtr) (k : ℕ) (f : Found) → IsTree m (suc h) p → Finds m p k f → Descends m h p k f
+pub descends : (m : Records) (h : ℕ) (p : NodePtr) (k : ℕ) (f : Found) → IsTree m (suc h) p → Finds m p k f →
+    Descends m h p k f
 descends m h p k f is found =
-    let tree = child-tree m h (kids m p) f.slot f.child is.2 found.child in let n = count-tree m h f.child tree in let less = found.rest in
-    record { tree = tree; line = line-found m h (kids m p) f.slot f.rest k f.child is.2 found.child found.place found.rest; within = omega arith }
+    let tree = child-tree m h (kids m p) f.slot f.child is.2 found.child in let n = count-tree m h f.child tree in
+    let less = found.rest in
+    record {
+      tree = tree;
+      line = line-found m h (kids m p) f.slot f.rest k f.child is.2 found.child found.place
+          found.rest;
+      within = omega arith;
+    }
 
 -- at the bottom
-pub at_line : (m : Records) (p : NodePtr) (k : ℕ) → k < length (lines_in m zero p) → option_map (λ l. l.0) (slice_get (lines_in m zero p) k) ≡ Some p
+pub at_line : (m : Records) (p : NodePtr) (k : ℕ) → k < length (lines_in m zero p) →
+    option_map (λ l. l.0) (slice_get (lines_in m zero p) k) ≡ Some p
 at_line m p k = one (line_of (finite.get m p)) k where
-  one : (o : Option LineContent) (k : ℕ) → k < length (lines zero (p, o)) → option_map (λ l. l.0) (slice_get (lines zero (p, o)) k) ≡ Some p
+  one : (o : Option LineContent) (k : ℕ) → k < length (lines zero (p, o)) →
+      option_map (λ l. l.0) (slice_get (lines zero (p, o)) k) ≡ Some p
   one None k h = absurd (omega arith)
   one (Some l) zero h = refl
   one (Some l) (suc k) h = absurd (omega arith)

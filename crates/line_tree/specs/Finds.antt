@@ -22,11 +22,12 @@ pub record HasRow (m : Records) (p : NodePtr) : Type 0 where
 abbrev pub lines_below : Records → NodePtr → ℕ
 lines_below m p = sum_by (lines_at m) (kids m p)
 
--- the child with line k, and the number of that line in it
+-- the child with line k, the number of that line in it, and how many it has
 pub record Finds (m : Records) (p : NodePtr) (k : ℕ) (f : Found) : Type 0 where
   pub child : slice_get (kids m p) f.slot ≡ Some f.child
   pub place : sum_by (lines_at m) (take f.slot (kids m p)) + f.rest ≡ k
   pub rest : f.rest < lines_at m f.child
+  pub lines : f.lines ≡ lines_at m f.child
 
 -- the child below which line k is put in, and the number that it gets there
 pub record Leads (m : Records) (p : NodePtr) (k : ℕ) (f : Found) : Type 0 where

@@ -16,13 +16,14 @@ characters_at m p = (sum_at m p).characters
 abbrev pub characters_below : Records → NodePtr → ℕ
 characters_below m p = sum_by (characters_at m) (kids m p)
 
--- the child with character k, the number of that character in it, and how many lines stand before it
+-- the child with character k, the number of that character in it, how many lines stand before it, and what it has
 pub record Spots (m : Records) (p : NodePtr) (k : ℕ) (s : Spot) : Type 0 where
   pub slot : ℕ
   pub child : slice_get (kids m p) slot ≡ Some s.child
   pub place : sum_by (characters_at m) (take slot (kids m p)) + s.rest ≡ k
   pub rest : s.rest < characters_at m s.child
   pub lines : s.lines ≡ sum_by (lines_at m) (take slot (kids m p))
+  pub size : s.size ≡ (lines_at m s.child, characters_at m s.child)
 
 -- character p stands in line k, at this column
 pub record IsPlaceAt (ls : List Named) (p k column : ℕ) : Type 0 where

@@ -32,7 +32,7 @@ lines_without from to lines = take from lines ++ drop to lines
 abbrev pub AreBare : ℕ → ℕ → List Named → Type 0
 AreBare from to lines = (number : ℕ) → holder number (slice_range lines from to) ≡ None
 
--- a line below another, and the first from one on that has a mark
+-- a line below another, where those from one on before it have no mark
 pub record IsMarkedBelow (from to : ℕ) (lines : List Named) (found : ℕ × NodePtr) : Type 0 where
   pub above : from ≤ found.0
   pub below : found.0 < to

@@ -9,6 +9,7 @@ use Rattle.raw_nodes.specs.Records.{Records}
 use Rattle.raw_nodes.specs.Rows.{kids}
 use Rattle.raw_nodes.specs.declared.names.NodePtr.{NodePtr}
 use Rattle.line_tree.specs.Changes.{sum_all}
+use Rattle.line_tree.specs.Locating.{characters_at}
 use Rattle.line_tree.specs.Shape.{lines_at}
 use Rattle.line_tree.specs.declared.prefix.Front.{Front}
 use Rattle.line_tree.specs.declared.starts.Behind.{Behind}
@@ -23,12 +24,13 @@ pub record IsFront (m : Records) (p : NodePtr) (k : ℕ) (s : Count) (f : Front)
   pub rest : f.rest < lines_at m f.child
   pub sum : f.sum ≡ plus s (sum_all m (take slot (kids m p)))
 
--- the same with the characters before it alone, of which so many stand before p
+-- the same with the characters before it alone, of which so many stand before p; and what the child has
 pub record IsBehind (m : Records) (p : NodePtr) (k before : ℕ) (b : Behind) : Type 0 where
   pub slot : ℕ
   pub child : slice_get (kids m p) slot ≡ Some b.child
   pub place : sum_by (lines_at m) (take slot (kids m p)) + b.rest ≡ k
   pub rest : b.rest < lines_at m b.child
+  pub size : b.size ≡ (lines_at m b.child, characters_at m b.child)
   pub characters : b.characters ≡ before + (sum_all m (take slot (kids m p))).characters
 
 -- and with the slots that are toggled before it
@@ -37,4 +39,5 @@ pub record IsOpened (m : Records) (p : NodePtr) (k : ℕ) (before : Slots) (o : 
   pub child : slice_get (kids m p) slot ≡ Some o.child
   pub place : sum_by (lines_at m) (take slot (kids m p)) + o.rest ≡ k
   pub rest : o.rest < lines_at m o.child
+  pub lines : o.lines ≡ lines_at m o.child
   pub slots : o.slots ≡ differing before (sum_all m (take slot (kids m p))).parity

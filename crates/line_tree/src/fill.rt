@@ -1,4 +1,5 @@
-ghost use Rattle.std.specs.Prelude.{◌≡◌, ℕ, ◌+◌, ◌*◌, ◌^◌, ◌≤◌, ◌<◌, length, slice_get, take, drop, option_to_list, [], ◌∷◌};
+ghost use Rattle.std.specs.Prelude.{◌≡◌, ℕ, ◌+◌, ◌*◌, ◌^◌, ◌≤◌, ◌<◌, length, slice_get, take, drop, option_to_list, []};
+ghost use Rattle.std.specs.Prelude.{◌∷◌};
 ghost use Rattle.std.specs.List.{insert};
 ghost use Rattle.raw_nodes.specs.Names.{IsInner, IsName, records, rooms, spares};
 ghost use Rattle.raw_nodes.specs.Rows.{kids, row};
@@ -6,7 +7,8 @@ ghost use Rattle.toggle_sums.specs.Counts.{plus};
 ghost use Rattle.line_tree.specs.Finds.{HasRow};
 ghost use Rattle.line_tree.specs.Shape.{sum_at};
 ghost use Rattle.line_tree.specs.Growth.{NewRoot};
-ghost use Rattle.line_tree.specs.Changes.{CanFill, CanPut, FitsSum, Puts, Stay, link_one, refilled, relinked, resummed, sum_all, sums};
+ghost use Rattle.line_tree.specs.Changes.{CanFill, CanPut, FitsSum, Puts, Stay, link_one, refilled, relinked, resummed};
+ghost use Rattle.line_tree.specs.Changes.{sum_all, sums};
 
 use raw_nodes::{NodePtr, NodeStore, Ticks};
 use text_model::WORDS;

@@ -25,6 +25,7 @@ fn lead<C: Ticks>(store: &NodeStore<C>, node: NodePtr, k: usize, ticks: &mut C) 
         return Found {
             child,
             slot: 0,
+            lines: store.lines(child, ticks),
             rest: 0,
         };
     }
@@ -32,6 +33,7 @@ fn lead<C: Ticks>(store: &NodeStore<C>, node: NodePtr, k: usize, ticks: &mut C) 
     Found {
         child: found.child,
         slot: found.slot,
+        lines: found.lines,
         rest: found.rest + 1,
     }
 }

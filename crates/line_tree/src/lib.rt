@@ -15,6 +15,7 @@ mod near;
 mod nearest;
 mod prefix;
 mod remove;
+mod select;
 mod shrink;
 mod splice;
 mod starts;
@@ -24,6 +25,7 @@ mod tree_lines;
 mod tree_store;
 mod walk;
 
+pub use locate::Located;
 pub use tree::LineTree;
 pub use tree_lines::TreeLines;
 pub use tree_store::TreeStore;

@@ -1,4 +1,5 @@
-ghost use Rattle.std.specs.Prelude.{◌≡◌, ℕ, ◌<◌, ◌≤◌, IfSome, MatchOption, OnOk, if◌then◌else◌, length, slice_range, vec_len};
+ghost use Rattle.std.specs.Prelude.{◌≡◌, ℕ, ◌<◌, ◌≤◌, IfSome, MatchOption, OnOk, if◌then◌else◌, length, slice_range};
+ghost use Rattle.std.specs.Prelude.{vec_len};
 ghost use Rattle.std.specs.List.{All};
 ghost use Rattle.segments.specs.Columns.{LineContent};
 ghost use Rattle.line_lists.specs.Lists.{AreLines, NumbersBelow, has_mark};
@@ -48,12 +49,22 @@ fn write(names: &mut Vec<Option<NodePtr>>, line: &Line, name: Option<NodePtr>)
     }
 }
 
-/// The first line from one on, below another, in which a mark stands, and its name.
+/// So few lines are looked at one after the other.
+const FEW_LINES: usize = 4;
+
+/// A line from one on, below another, and its name, where no mark stands in those before it; `None` where none stands
+/// in any of them.
 fn marked_below(tree: &LineTree<Steps>, from: usize, to: usize) -> Option<(usize, NodePtr)>
     requires ordered { from ≤ to }
     requires within { to ≤ length tree.now.lines }
     ensures { MatchOption result (AreBare from to tree.now.lines) (IsMarkedBelow from to tree.now.lines) }
 {
+    if from == to {
+        return None;
+    }
+    if to - from <= FEW_LINES {
+        return Some((from, tree.select(from, &mut Steps::new())));
+    }
     let index = tree.next_marked(from, &mut Steps::new())?;
     if index < to {
         Some((index, tree.select(index, &mut Steps::new())))

@@ -1,28 +1,33 @@
-ghost use Rattle.std.specs.Prelude.{◌≡◌, ◌+◌, ◌<◌, ◌≤◌, ◌^◌, length, take};
+ghost use Rattle.std.specs.Prelude.{◌≡◌, ◌+◌, ◌-◌, ◌<◌, ◌≤◌, ◌^◌, length, take};
 ghost use Rattle.raw_nodes.specs.Names.{records};
-ghost use Rattle.line_tree.specs.Changes.{FitsSum};
+ghost use Rattle.raw_nodes.specs.Rows.{kids};
+ghost use Rattle.text_model.specs.SlotSets.{differing};
+ghost use Rattle.line_tree.specs.Changes.{FitsSum, sum_all};
 ghost use Rattle.line_tree.specs.Finds.{HasRow, lines_below};
 ghost use Rattle.line_tree.specs.Locating.{characters_below};
 ghost use Rattle.line_tree.specs.Prefixes.{IsBehind, IsOpened};
-ghost use Rattle.line_tree.specs.Shape.{IsTree, lines_in};
+ghost use Rattle.line_tree.specs.Shape.{IsTree, lines_in, sum_at};
 ghost use Rattle.line_tree.specs.Trees.{total};
 
 use raw_nodes::{NodePtr, NodeStore, Ticks};
 use text_model::TagSet;
 
-/// A child, how many of the lines asked for are left in it, and how many characters stand before it.
+/// A child, how many lines and characters it has, how many of the lines asked for are left in it, and how many
+/// characters stand before it.
 #[derive(Clone, Copy)]
 pub struct Behind {
     pub child: NodePtr,
+    pub size: (usize, usize),
     pub rest: usize,
     pub characters: usize,
 }
 
-/// A child, how many of the lines asked for are left in it, and which slots are toggled an odd number of times before
-/// it.
+/// A child, how many lines it has, how many of the lines asked for are left in it, and which slots are toggled an odd
+/// number of times before it.
 #[derive(Clone, Copy)]
 pub struct Opened {
     pub child: NodePtr,
+    pub lines: usize,
     pub rest: usize,
     pub slots: TagSet,
 }
@@ -49,6 +54,7 @@ fn find_behind<C: Ticks>(
             if rest < lines {
                 return Behind {
                     child,
+                    size: (lines, length),
                     rest,
                     characters,
                 };
@@ -59,9 +65,69 @@ fn find_behind<C: Ticks>(
     }
     Behind {
         child: node,
+        size: (0, 0),
         rest,
         characters,
     }
+}
+
+/// The child that has the line from which on so many stand below a node, where so many characters stand before the
+/// node's end: from the last child back.
+fn find_behind_back<C: Ticks>(
+    store: &NodeStore<C>,
+    node: NodePtr,
+    behind: usize,
+    end: usize,
+    ticks: &mut C,
+) -> Behind
+    requires row { HasRow (records store.now) node }
+    requires some { 0 < behind }
+    requires within { behind ≤ lines_below (records store.now) node }
+    requires end { characters_below (records store.now) node ≤ end }
+    ensures { IsBehind (records store.now) node (lines_below (records store.now) node - behind)
+        (end - characters_below (records store.now) node) result }
+{
+    let mut rest = behind;
+    let mut characters = end;
+    for back in 0..12 {
+        let slot = 11 - back;
+        if let Some(child) = store.child(node, slot, ticks) {
+            let (lines, length) = store.size(child, ticks);
+            characters -= length;
+            if rest <= lines {
+                return Behind {
+                    child,
+                    size: (lines, length),
+                    rest: lines - rest,
+                    characters,
+                };
+            }
+            rest -= lines;
+        }
+    }
+    Behind {
+        child: node,
+        size: (0, 0),
+        rest,
+        characters,
+    }
+}
+
+/// One level down to a line, from the end of the node that is nearer.
+fn find_behind_near<C: Ticks>(store: &NodeStore<C>, from: Behind, ticks: &mut C) -> Behind
+    requires row { HasRow (records store.now) from.child }
+    requires within { from.rest < lines_below (records store.now) from.child }
+    requires size { from.size
+        ≡ (lines_below (records store.now) from.child, characters_below (records store.now) from.child) }
+    requires fits { from.characters + characters_below (records store.now) from.child < 2 ^ 64 }
+    ensures { IsBehind (records store.now) from.child from.rest from.characters result }
+{
+    let (lines, length) = from.size;
+    if from.rest < lines / 2 {
+        return find_behind(store, from.child, from.rest, from.characters, ticks);
+    }
+    let behind = lines - from.rest;
+    find_behind_back(store, from.child, behind, from.characters + length, ticks)
 }
 
 /// How many characters the first `k` lines have.
@@ -77,22 +143,25 @@ pub fn start<C: Ticks>(
     requires fits { FitsSum (total (lines_in (records store.now) height root)) }
     ensures { result ≡ (total (take k (lines_in (records store.now) height root))).characters }
 {
+    if k == 0 {
+        return 0;
+    }
     let (lines, all) = store.size(root, ticks);
     if k == lines {
         return all;
     }
-    let mut at = root;
-    let mut rest = k;
-    let mut characters = 0;
+    let mut at = Behind {
+        child: root,
+        size: (lines, all),
+        rest: k,
+        characters: 0,
+    };
     let mut level = height;
     while level > 0 {
-        let behind = find_behind(store, at, rest, characters, ticks);
-        at = behind.child;
-        rest = behind.rest;
-        characters = behind.characters;
+        at = find_behind_near(store, at, ticks);
         level -= 1;
     }
-    characters
+    at.characters
 }
 
 /// The child that has line `k` of those below a node, where some slots are toggled before the node.
@@ -113,7 +182,12 @@ fn find_opened<C: Ticks>(
         if let Some(child) = store.child(node, slot, ticks) {
             let lines = store.lines(child, ticks);
             if rest < lines {
-                return Opened { child, rest, slots };
+                return Opened {
+                    child,
+                    lines,
+                    rest,
+                    slots,
+                };
             }
             rest -= lines;
             slots = slots.differing(&store.odd_slots(child, ticks));
@@ -121,9 +195,68 @@ fn find_opened<C: Ticks>(
     }
     Opened {
         child: node,
+        lines: 0,
         rest,
         slots,
     }
+}
+
+/// The child that has the line from which on so many stand below a node, where some slots are toggled before the node's
+/// end: from the last child back.
+fn find_opened_back<C: Ticks>(
+    store: &NodeStore<C>,
+    node: NodePtr,
+    behind: usize,
+    end: TagSet,
+    ticks: &mut C,
+) -> Opened
+    requires row { HasRow (records store.now) node }
+    requires some { 0 < behind }
+    requires within { behind ≤ lines_below (records store.now) node }
+    ensures { IsOpened (records store.now) node (lines_below (records store.now) node - behind)
+        (differing end (sum_all (records store.now) (kids (records store.now) node)).parity) result }
+{
+    let mut rest = behind;
+    let mut slots = end;
+    for back in 0..12 {
+        let slot = 11 - back;
+        if let Some(child) = store.child(node, slot, ticks) {
+            let lines = store.lines(child, ticks);
+            slots = slots.differing(&store.odd_slots(child, ticks));
+            if rest <= lines {
+                return Opened {
+                    child,
+                    lines,
+                    rest: lines - rest,
+                    slots,
+                };
+            }
+            rest -= lines;
+        }
+    }
+    Opened {
+        child: node,
+        lines: 0,
+        rest,
+        slots,
+    }
+}
+
+/// One level down to a line, from the end of the node that is nearer.
+fn find_opened_near<C: Ticks>(store: &NodeStore<C>, from: Opened, ticks: &mut C) -> Opened
+    requires row { HasRow (records store.now) from.child }
+    requires within { from.rest < lines_below (records store.now) from.child }
+    requires lines { from.lines ≡ lines_below (records store.now) from.child }
+    requires whole { sum_at (records store.now) from.child
+        ≡ sum_all (records store.now) (kids (records store.now) from.child) }
+    ensures { IsOpened (records store.now) from.child from.rest from.slots result }
+{
+    if from.rest < from.lines / 2 {
+        return find_opened(store, from.child, from.rest, from.slots, ticks);
+    }
+    let behind = from.lines - from.rest;
+    let end = from.slots.differing(&store.odd_slots(from.child, ticks));
+    find_opened_back(store, from.child, behind, end, ticks)
 }
 
 /// The slots that are toggled an odd number of times in the first `k` lines.
@@ -138,19 +271,23 @@ pub fn odd_slots<C: Ticks>(
     requires within { k ≤ length (lines_in (records store.now) height root) }
     ensures { result ≡ (total (take k (lines_in (records store.now) height root))).parity }
 {
-    if k == store.lines(root, ticks) {
+    if k == 0 {
+        return TagSet::empty();
+    }
+    let lines = store.lines(root, ticks);
+    if k == lines {
         return store.odd_slots(root, ticks);
     }
-    let mut at = root;
-    let mut rest = k;
-    let mut slots = TagSet::empty();
+    let mut at = Opened {
+        child: root,
+        lines,
+        rest: k,
+        slots: TagSet::empty(),
+    };
     let mut level = height;
     while level > 0 {
-        let opened = find_opened(store, at, rest, slots, ticks);
-        at = opened.child;
-        rest = opened.rest;
-        slots = opened.slots;
+        at = find_opened_near(store, at, ticks);
         level -= 1;
     }
-    slots
+    at.slots
 }

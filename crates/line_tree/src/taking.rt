@@ -3,7 +3,7 @@ ghost use Rattle.raw_nodes.specs.Names.{records, rooms, spares};
 ghost use Rattle.line_tree.specs.Shape.{IsTree};
 ghost use Rattle.line_tree.specs.Taking.{CanTake, Takes, TakesOff};
 
-use crate::find::find_at;
+use crate::select::find_at;
 use raw_nodes::{NodePtr, NodeStore, Ticks};
 use text_model::MarkNo;
 
@@ -37,7 +37,8 @@ pub fn take_in<C: Ticks>(
     if height == 0 {
         return take_off(store, node, number);
     }
-    let found = find_at(store, node, height - 1, k, ticks);
+    let lines = store.lines(node, ticks);
+    let found = find_at(store, node, height - 1, lines, k, ticks);
     let gone = take_in(store, found.child, height - 1, found.rest, number, ticks);
     let sum = store.sum(node, ticks);
     store.set_sum(node, sum.less(0, 0, gone));

@@ -1,12 +1,12 @@
 use crate::climb::rank;
 use crate::fill::{join, top};
-use crate::find::select;
 use crate::insert::{insert_in, new_line};
 use crate::levels::levels;
-use crate::locate::locate;
+use crate::locate::{Located, locate};
 use crate::nearest::{Wanted, next, previous};
 use crate::prefix::prefix;
 use crate::remove::{lower, remove_in};
+use crate::select::select;
 use crate::starts::{odd_slots, start};
 use crate::taking::take_in;
 use crate::walk::behind;
@@ -163,13 +163,24 @@ impl<C: Ticks> LineTree<C> {
         ensures name { IsLineAt self.now.lines k result }
         ensures ticks { C.count ticks.new ≤ C.count ticks.old + 24 * self.now.height }
     {
-        select(&self.store, self.root, self.height, k, ticks)
+        select(&self.store, self.root, self.height, self.count, k, ticks)
     }
 
     /// The line and the column of a character.
     pub fn locate(&self, offset: usize, ticks: &mut C) -> (usize, usize)
         requires { offset < (total self.now.lines).characters }
         ensures place { IsPlaceAt self.now.lines offset result.0 result.1 }
+        ensures ticks { C.count ticks.new ≤ C.count ticks.old + 24 * self.now.height }
+    {
+        let found = self.locate_line(offset, ticks);
+        (found.line, found.column)
+    }
+
+    /// The line of a character, by its name too, and its column there.
+    pub fn locate_line(&self, offset: usize, ticks: &mut C) -> Located
+        requires { offset < (total self.now.lines).characters }
+        ensures place { IsPlaceAt self.now.lines offset result.line result.column }
+        ensures name { IsLineAt self.now.lines result.line result.name }
         ensures ticks { C.count ticks.new ≤ C.count ticks.old + 24 * self.now.height }
     {
         locate(&self.store, self.root, self.height, offset, ticks)

@@ -62,6 +62,11 @@ impl LineList for TreeLines {
         self.tree.locate(offset, &mut Steps::new())
     }
 
+    fn line_at(&self, offset: usize) -> (usize, usize, &Line) {
+        let found = self.tree.locate_line(offset, &mut Steps::new());
+        (found.line, found.column, self.tree.line(found.name))
+    }
+
     fn start(&self, line: usize) -> usize {
         self.tree.start(line, &mut Steps::new())
     }

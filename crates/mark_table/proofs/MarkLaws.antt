@@ -1,5 +1,7 @@
 -- Marks as a list of names with numbers, and a gravity for each number.
-use Rattle.std.proofs.Common.{◌≡◌, ◌≢◌, ℕ, ◌+◌, ◌-◌, ◌<◌, ◌≤◌, Bool, true, false, if◌then◌else◌, Option, None, Some, List, [], ◌∷◌, ◌++◌, length, map, slice_get, slice_set, Contains, refl, sym, ap, ap₂, ◌∙◌, subst, inl, inr, arith}
+use Rattle.std.proofs.Common.{◌≡◌, ◌≢◌, ℕ, ◌+◌, ◌-◌, ◌<◌, ◌≤◌, Bool, true, false, if◌then◌else◌, Option, None, Some}
+use Rattle.std.proofs.Common.{List, [], ◌∷◌, ◌++◌, length, map, slice_get, slice_set, Contains, refl, sym, ap, ap₂, ◌∙◌}
+use Rattle.std.proofs.Common.{subst, inl, inr, arith}
 use Rattle.std.specs.Prelude.{position, find, remove, bytes_eq, unwrap_or}
 use Rattle.std.specs.Option.{MatchOption, SomeIff, option_map}
 use Rattle.std.proofs.lemmas.Bool.{cases_eq}
@@ -9,26 +11,34 @@ use Rattle.std.proofs.lemmas.Slice.Eq.{bytes_eq-Decides}
 use Rattle.name_list.specs.Moves.{without}
 use Rattle.name_list.specs.Names as list
 use Rattle.name_list.specs.Names.{Named, Names, AreNames, AreApart, place_of}
-use Rattle.name_list.proofs.ListLaws.{Stands, stands_from_Contains, Contains-from_stands, stands_map, stood_at, map-same, map-map, get_set, get_set_other}
-use Rattle.name_list.proofs.MoveLaws.{position-map, position-passes, first_is, found_at, not_found, none_found, without-push, without-remove, without_none}
+use Rattle.name_list.proofs.ListLaws.{Stands, stands_from_Contains, Contains-from_stands, stands_map, stood_at}
+use Rattle.name_list.proofs.ListLaws.{map-same, map-map, get_set, get_set_other}
+use Rattle.name_list.proofs.MoveLaws.{position-map, position-passes, first_is, found_at, not_found, none_found}
+use Rattle.name_list.proofs.MoveLaws.{without-push, without-remove, without_none}
 use Rattle.name_list.proofs.ViewLaws.{map-remove}
 use Rattle.text_model.specs.declared.places.Gravity.{Gravity}
 use Rattle.text_model.specs.declared.places.Gravity.TheVariants.{Right}
 use Rattle.mark_table.specs.Kept.{AreKept, gravity_at, mark, marks_kept}
-use Rattle.mark_table.specs.SharedMarks.{Mark, SharedMarks, AreMarks, IsLeastFree, first_number, gravity_of, is_named, names_of, number_of, numbers_of, turned}
+use Rattle.mark_table.specs.SharedMarks.{Mark, SharedMarks, AreMarks, IsLeastFree, first_number, gravity_of, is_named}
+use Rattle.mark_table.specs.SharedMarks.{names_of, number_of, numbers_of, turned}
 
 -- what is seen of the list
-pub place_seen : (gravities : List Gravity) (name : List ℕ) (es : List Named) → position (is_named name) (map (mark gravities) es) ≡ place_of name es
+pub place_seen : (gravities : List Gravity) (name : List ℕ) (es : List Named) →
+    position (is_named name) (map (mark gravities) es) ≡ place_of name es
 place_seen gravities name es = position-map (mark gravities) (is_named name) es
 
 pub names_seen : (gravities : List Gravity) (es : List Named) → names_of (map (mark gravities) es) ≡ list.names_of es
 names_seen gravities es = map-map (λ (m : Mark). m.name) (mark gravities) es
 
-pub numbers_seen : (gravities : List Gravity) (es : List Named) → numbers_of (map (mark gravities) es) ≡ map (λ n. first_number + n) (list.numbers_of es)
-numbers_seen gravities es = map-map (λ (m : Mark). m.number) (mark gravities) es ∙ sym (map-map (λ n. first_number + n) (λ (e : Named). e.number) es)
+pub numbers_seen : (gravities : List Gravity) (es : List Named) →
+    numbers_of (map (mark gravities) es) ≡ map (λ n. first_number + n) (list.numbers_of es)
+numbers_seen gravities es = map-map (λ (m : Mark). m.number) (mark gravities) es
+    ∙ sym (map-map (λ n. first_number + n) (λ (e : Named). e.number) es)
 
 -- a new number
-pub IsLeastFree-number : (gravities : List Gravity) (es : List Named) (number : ℕ) → list.IsLeastFree (list.numbers_of es) number → IsLeastFree (numbers_of (map (mark gravities) es)) (first_number + number)
+pub IsLeastFree-number : (gravities : List Gravity) (es : List Named) (number : ℕ) →
+    list.IsLeastFree (list.numbers_of es) number →
+    IsLeastFree (numbers_of (map (mark gravities) es)) (first_number + number)
 IsLeastFree-number gravities es number least =
     let numbers = list.numbers_of es in
     rw (numbers_seen gravities es) (record {
@@ -41,23 +51,28 @@ IsLeastFree-number gravities es number least =
       below = λ k shared less.
           let old = stands_from_Contains numbers (k - 128) (least.below (k - 128) (omega arith)) in
           let back : first_number + (k - 128) ≡ k = omega arith in
-          Contains-from_stands _ k (subst (Stands (map (λ n. first_number + n) numbers)) back (stands_map (λ n. first_number + n) numbers (k - 128) old));
+          Contains-from_stands _ k (subst (Stands (map (λ n. first_number + n) numbers)) back
+          (stands_map (λ n. first_number + n) numbers (k - 128) old));
     })
 
 -- the laws of a table
-pub AreMarks-kept : (names : Names) (gravities : List Gravity) → AreNames names → AreKept names gravities → AreMarks (marks_kept names gravities)
+pub AreMarks-kept : (names : Names) (gravities : List Gravity) → AreNames names → AreKept names gravities →
+    AreMarks (marks_kept names gravities)
 AreMarks-kept names gravities are kept =
     let es = names.entries in
     let numbers = list.numbers_of es in
     record {
       names_apart = rw (names_seen gravities es) are.names_apart;
       numbers_apart = λ i j number is also.
-          let one = stood_at (λ n. first_number + n) numbers i number (ap (λ ns. slice_get ns i) (sym (numbers_seen gravities es)) ∙ is) in
-          let two = stood_at (λ n. first_number + n) numbers j number (ap (λ ns. slice_get ns j) (sym (numbers_seen gravities es)) ∙ also) in
+          let one = stood_at (λ n. first_number + n) numbers i number
+          (ap (λ ns. slice_get ns i) (sym (numbers_seen gravities es)) ∙ is) in
+          let two = stood_at (λ n. first_number + n) numbers j number
+          (ap (λ ns. slice_get ns j) (sym (numbers_seen gravities es)) ∙ also) in
           let same : two.0 ≡ one.0 = let a = one.2 in let b = two.2 in omega arith in
           are.numbers_apart i j one.0 one.1 (two.1 ∙ ap (λ n. Some n) same);
       numbers = λ at number is.
-          let old = stood_at (λ n. first_number + n) numbers at number (ap (λ ns. slice_get ns at) (sym (numbers_seen gravities es)) ∙ is) in
+          let old = stood_at (λ n. first_number + n) numbers at number
+          (ap (λ ns. slice_get ns at) (sym (numbers_seen gravities es)) ∙ is) in
           let below = are.below at old.0 old.1 in
           let same = old.2 in
           (omega arith, omega arith);
@@ -66,52 +81,81 @@ AreMarks-kept names gravities are kept =
     }
 
 -- a mark is what stands at its place
-pub place_of_mark : (name : List ℕ) (names : Names) (gravities : List Gravity) (marks : SharedMarks) (place : Option ℕ) → marks_kept names gravities ≡ marks → place ≡ place_of name names.entries → position (is_named name) marks.marks ≡ place
-place_of_mark name names gravities marks place seen is = ap (λ (ms : SharedMarks). position (is_named name) ms.marks) (sym seen) ∙ place_seen gravities name names.entries ∙ sym is
+pub place_of_mark : (name : List ℕ) (names : Names) (gravities : List Gravity) (marks : SharedMarks) (place : Option ℕ)
+    → marks_kept names gravities ≡ marks → place ≡ place_of name names.entries →
+    position (is_named name) marks.marks ≡ place
+place_of_mark name names gravities marks place seen is = ap (λ (ms : SharedMarks). position (is_named name) ms.marks)
+    (sym seen) ∙ place_seen gravities name names.entries ∙ sym is
 
-pub number_there : (name : List ℕ) (marks : List Mark) (at : ℕ) → position (is_named name) marks ≡ Some at → number_of name marks ≡ slice_get (numbers_of marks) at
-number_there name marks at is = ap (option_map (λ (m : Mark). m.number)) (found_at (is_named name) marks at is) ∙ sym (slice_get-map (λ (m : Mark). m.number) marks at)
+pub number_there : (name : List ℕ) (marks : List Mark) (at : ℕ) → position (is_named name) marks ≡ Some at →
+    number_of name marks ≡ slice_get (numbers_of marks) at
+number_there name marks at is = ap (option_map (λ (m : Mark). m.number)) (found_at (is_named name) marks at is)
+    ∙ sym (slice_get-map (λ (m : Mark). m.number) marks at)
 
-pub no_number : (name : List ℕ) (marks : List Mark) → position (is_named name) marks ≡ None → number_of name marks ≡ None
+pub no_number : (name : List ℕ) (marks : List Mark) → position (is_named name) marks ≡ None →
+    number_of name marks ≡ None
 no_number name marks none = ap (option_map (λ (m : Mark). m.number)) (not_found (is_named name) marks none)
 
-pub no_gravity : (name : List ℕ) (marks : List Mark) → position (is_named name) marks ≡ None → gravity_of name marks ≡ None
+pub no_gravity : (name : List ℕ) (marks : List Mark) → position (is_named name) marks ≡ None →
+    gravity_of name marks ≡ None
 no_gravity name marks none = ap (option_map (λ (m : Mark). m.gravity)) (not_found (is_named name) marks none)
 
-pub no_place : (gravities : List Gravity) (name : List ℕ) (es : List Named) → number_of name (map (mark gravities) es) ≡ None → place_of name es ≡ None
-no_place gravities name es none = sym (place_seen gravities name es) ∙ none_found (is_named name) (map (mark gravities) es) (no_mark (find (is_named name) (map (mark gravities) es)) none)
+pub no_place : (gravities : List Gravity) (name : List ℕ) (es : List Named) →
+    number_of name (map (mark gravities) es) ≡ None → place_of name es ≡ None
+no_place gravities name es none = sym (place_seen gravities name es)
+    ∙ none_found (is_named name) (map (mark gravities) es)
+    (no_mark (find (is_named name) (map (mark gravities) es)) none)
   where
     no_mark : (o : Option Mark) → option_map (λ (m : Mark). m.number) o ≡ None → o ≡ None
     no_mark None e = refl
     no_mark (Some m) e = absurd (none-some m.number (sym e))
 
 -- the entry whose number stands at a place
-pub entry_at : (es : List Named) (at number : ℕ) → slice_get (list.numbers_of es) at ≡ Some number → (e : Named) × (slice_get es at ≡ Some e) × (e.number ≡ number)
+pub entry_at : (es : List Named) (at number : ℕ) → slice_get (list.numbers_of es) at ≡ Some number →
+    (e : Named) × (slice_get es at ≡ Some e) × (e.number ≡ number)
 entry_at es at number is = stood_at (λ (e : Named). e.number) es at number is
 
-pub gravity_there : (gravities : List Gravity) (name : List ℕ) (es : List Named) (at number : ℕ) (gravity : Gravity) → place_of name es ≡ Some at → slice_get (list.numbers_of es) at ≡ Some number → slice_get gravities number ≡ Some gravity
+pub gravity_there : (gravities : List Gravity) (name : List ℕ) (es : List Named) (at number : ℕ) (gravity : Gravity) →
+    place_of name es ≡ Some at → slice_get (list.numbers_of es) at ≡ Some number →
+    slice_get gravities number ≡ Some gravity
     → gravity_of name (map (mark gravities) es) ≡ Some gravity
 gravity_there gravities name es at number gravity is numbered turns =
     let entry = entry_at es at number numbered in
-    ap (option_map (λ (m : Mark). m.gravity)) (found_at (is_named name) (map (mark gravities) es) at (place_seen gravities name es ∙ is) ∙ slice_get-map (mark gravities) es at ∙ ap (option_map (mark gravities)) entry.1)
+    ap (option_map (λ (m : Mark). m.gravity))
+    (found_at (is_named name) (map (mark gravities) es) at (place_seen gravities name es ∙ is)
+    ∙ slice_get-map (mark gravities) es at ∙ ap (option_map (mark gravities)) entry.1)
     ∙ ap (λ n. Some (gravity_at gravities n)) entry.2
     ∙ ap (λ o. Some (unwrap_or o Right)) turns
 
 -- the gravity of another number stays
-gravity_stays : (gravities : List Gravity) (number : ℕ) (gravity : Gravity) (e : Named) → e.number ≢ number → mark (slice_set gravities number gravity) e ≡ mark gravities e
-gravity_stays gravities number gravity e other = ap (λ o. record { name = e.name; number = first_number + e.number; gravity = unwrap_or o Right }) (get_set_other gravities number gravity e.number other)
+gravity_stays : (gravities : List Gravity) (number : ℕ) (gravity : Gravity) (e : Named) → e.number ≢ number →
+    mark (slice_set gravities number gravity) e ≡ mark gravities e
+gravity_stays gravities number gravity e other = ap (λ o.
+    record { name = e.name; number = first_number + e.number; gravity = unwrap_or o Right })
+    (get_set_other gravities number gravity e.number other)
 
-gravity_turns : (gravities : List Gravity) (number : ℕ) (gravity : Gravity) (e : Named) → number < length gravities → e.number ≡ number → mark (slice_set gravities number gravity) e ≡ record { name = e.name; number = first_number + e.number; gravity = gravity }
-gravity_turns gravities number gravity e within same = ap (λ o. record { name = e.name; number = first_number + e.number; gravity = unwrap_or o Right }) (ap (slice_get (slice_set gravities number gravity)) same ∙ get_set gravities number gravity within)
+gravity_turns : (gravities : List Gravity) (number : ℕ) (gravity : Gravity) (e : Named) → number < length gravities →
+    e.number ≡ number → mark (slice_set gravities number gravity) e
+    ≡ record { name = e.name; number = first_number + e.number; gravity = gravity }
+gravity_turns gravities number gravity e within same = ap (λ o.
+    record { name = e.name; number = first_number + e.number; gravity = unwrap_or o Right })
+    (ap (slice_get (slice_set gravities number gravity)) same ∙ get_set gravities number gravity within)
 
 -- a mark more, with right gravity
-pub marks-push : (gravities : List Gravity) (es : List Named) (name : List ℕ) (number : ℕ) → number < length gravities → list.IsLeastFree (list.numbers_of es) number
-    → map (mark (slice_set gravities number Right)) (es ++ record { name = name; number = number } ∷ []) ≡ map (mark gravities) es ++ record { name = name; number = first_number + number; gravity = Right } ∷ []
+pub marks-push : (gravities : List Gravity) (es : List Named) (name : List ℕ) (number : ℕ) → number < length gravities →
+    list.IsLeastFree (list.numbers_of es) number
+    → map (mark (slice_set gravities number Right)) (es ++ record { name = name; number = number } ∷ [])
+    ≡ map (mark gravities) es ++ record { name = name; number = first_number + number; gravity = Right } ∷ []
 marks-push gravities es name number within least =
     map_push (mark (slice_set gravities number Right)) es (record { name = name; number = number })
     ∙ ap₂ (λ ms m. ms ++ m ∷ [])
-    (map-same (mark (slice_set gravities number Right)) (mark gravities) es (λ at e is. gravity_stays gravities number Right e (λ same.
-    least.free (Contains-from_stands (list.numbers_of es) number (at, slice_get-map (λ (x : Named). x.number) es at ∙ ap (option_map (λ (x : Named). x.number)) is ∙ ap (λ n. Some n) same)))))
+    (map-same (mark (slice_set gravities number Right)) (mark gravities) es (λ at e is.
+    gravity_stays gravities number Right e (λ same.
+    least.free (Contains-from_stands (list.numbers_of es) number (
+      at,
+      slice_get-map (λ (x : Named). x.number) es at
+          ∙ ap (option_map (λ (x : Named). x.number)) is ∙ ap (λ n. Some n) same,
+    )))))
     (gravity_turns gravities number Right (record { name = name; number = number }) within refl)
 
 differs : (a b : List ℕ) → ¬ (a ≡ b) → bytes_eq a b ≡ false
@@ -122,65 +166,93 @@ differs a b apart = by (bytes_eq a b) refl
     by true e = absurd (apart ((bytes_eq-Decides a b).0 e))
 
 -- a mark of another gravity
-pub marks-turned : (names : Names) (gravities : List Gravity) (name : List ℕ) (at number : ℕ) (gravity : Gravity) → AreNames names → place_of name names.entries ≡ Some at → slice_get (list.numbers_of names.entries) at ≡ Some number → number < length gravities
-    → map (mark (slice_set gravities number gravity)) names.entries ≡ turned name gravity (map (mark gravities) names.entries)
+pub marks-turned : (names : Names) (gravities : List Gravity) (name : List ℕ) (at number : ℕ) (gravity : Gravity) →
+    AreNames names → place_of name names.entries ≡ Some at →
+    slice_get (list.numbers_of names.entries) at ≡ Some number → number < length gravities
+    → map (mark (slice_set gravities number gravity)) names.entries
+    ≡ turned name gravity (map (mark gravities) names.entries)
 marks-turned names gravities name at number gravity are is numbered within =
     let es = names.entries in
     let turn = λ (m : Mark). if is_named name m then record m { gravity = gravity } else m in
     let first = first_is (λ (e : Named). bytes_eq name e.name) es at is in
-    let own = (bytes_eq-Decides name first.0.name).0 (position-passes (λ (e : Named). bytes_eq name e.name) es at first.0 is first.1) in
-    let named_here = slice_get-map (λ (x : Named). x.name) es at ∙ ap (option_map (λ (x : Named). x.name)) first.1 ∙ ap (λ n. Some n) (sym own) in
+    let own = (bytes_eq-Decides name first.0.name).0
+    (position-passes (λ (e : Named). bytes_eq name e.name) es at first.0 is first.1) in
+    let named_here = slice_get-map (λ (x : Named). x.name) es at ∙ ap (option_map (λ (x : Named). x.name)) first.1
+    ∙ ap (λ n. Some n) (sym own) in
     map-same (mark (slice_set gravities number gravity)) (λ e. turn (mark gravities e)) es (λ i e here.
     let numbered_e = slice_get-map (λ (x : Named). x.number) es i ∙ ap (option_map (λ (x : Named). x.number)) here in
     let named_e = slice_get-map (λ (x : Named). x.name) es i ∙ ap (option_map (λ (x : Named). x.name)) here in
     elim (cases_eq i at) [
       | inl same ↦
-          let number_is = same_Some e.number number (sym numbered_e ∙ ap (slice_get (list.numbers_of es)) same ∙ numbered) in
-          let name_is = same_Some name e.name (sym named_here ∙ ap (slice_get (list.names_of es)) (sym same) ∙ named_e) in
-          gravity_turns gravities number gravity e within number_is ∙ ap (λ b. if b then record (mark gravities e) { gravity = gravity } else mark gravities e) (sym ((bytes_eq-Decides name e.name).1 name_is))
+          let number_is = same_Some e.number number (sym numbered_e ∙ ap (slice_get (list.numbers_of es)) same
+          ∙ numbered) in
+          let name_is = same_Some name e.name (sym named_here ∙ ap (slice_get (list.names_of es)) (sym same)
+          ∙ named_e) in
+          gravity_turns gravities number gravity e within number_is
+          ∙ ap (λ b. if b then record (mark gravities e) { gravity = gravity }
+          else mark gravities e) (sym ((bytes_eq-Decides name e.name).1 name_is))
       | inr other ↦
-          let not_number : e.number ≢ number = λ same. other (are.numbers_apart i at number (numbered_e ∙ ap (λ n. Some n) same) numbered) in
-          let not_name : ¬ (name ≡ e.name) = λ same. other (are.names_apart i at name (named_e ∙ ap (λ n. Some n) (sym same)) named_here) in
-          gravity_stays gravities number gravity e not_number ∙ ap (λ b. if b then record (mark gravities e) { gravity = gravity } else mark gravities e) (sym (differs name e.name not_name))
+          let not_number : e.number ≢ number = λ same.
+          other (are.numbers_apart i at number (numbered_e ∙ ap (λ n. Some n) same) numbered) in
+          let not_name : ¬ (name ≡ e.name) = λ same.
+          other (are.names_apart i at name (named_e ∙ ap (λ n. Some n) (sym same)) named_here) in
+          gravity_stays gravities number gravity e not_number
+          ∙ ap (λ b. if b then record (mark gravities e) { gravity = gravity }
+          else mark gravities e) (sym (differs name e.name not_name))
     ])
     ∙ sym (map-map turn (mark gravities) es)
 
 -- a mark fewer
-pub marks-remove : (gravities : List Gravity) (es : List Named) (name : List ℕ) (at : ℕ) → place_of name es ≡ Some at → map (mark gravities) (remove es at) ≡ without (is_named name) (map (mark gravities) es)
-marks-remove gravities es name at is = map-remove (mark gravities) es at ∙ sym (without-remove (is_named name) (map (mark gravities) es) at (place_seen gravities name es ∙ is))
+pub marks-remove : (gravities : List Gravity) (es : List Named) (name : List ℕ) (at : ℕ) → place_of name es ≡ Some at →
+    map (mark gravities) (remove es at) ≡ without (is_named name) (map (mark gravities) es)
+marks-remove gravities es name at is = map-remove (mark gravities) es at
+    ∙ sym (without-remove (is_named name) (map (mark gravities) es) at (place_seen gravities name es ∙ is))
 
-pub marks-keep : (marks : List Mark) (name : List ℕ) → position (is_named name) marks ≡ None → marks ≡ without (is_named name) marks
+pub marks-keep : (marks : List Mark) (name : List ℕ) → position (is_named name) marks ≡ None →
+    marks ≡ without (is_named name) marks
 marks-keep marks name none = sym (without_none (is_named name) marks none)
 
-pub gravity_known : (name : List ℕ) (marks : List Mark) (at : ℕ) → position (is_named name) marks ≡ Some at → (gravity : Gravity) × (gravity_of name marks ≡ Some gravity)
-gravity_known name marks at is = let first = first_is (is_named name) marks at is in (first.0.gravity, ap (option_map (λ (m : Mark). m.gravity)) (found_at (is_named name) marks at is ∙ first.1))
+pub gravity_known : (name : List ℕ) (marks : List Mark) (at : ℕ) → position (is_named name) marks ≡ Some at →
+    (gravity : Gravity) × (gravity_of name marks ≡ Some gravity)
+gravity_known name marks at is = let first = first_is (is_named name) marks at is in
+    (first.0.gravity, ap (option_map (λ (m : Mark). m.gravity)) (found_at (is_named name) marks at is ∙ first.1))
 
 -- the mark of a number
-pub mark_with : (gravities : List Gravity) (es : List Named) (number own : ℕ) (found : Option ℕ) → first_number + own ≡ number
+pub mark_with : (gravities : List Gravity) (es : List Named) (number own : ℕ) (found : Option ℕ) →
+    first_number + own ≡ number
     → MatchOption found (¬ Contains (list.numbers_of es) own) (λ place. slice_get (list.numbers_of es) place ≡ Some own)
-    → MatchOption found (¬ Contains (numbers_of (map (mark gravities) es)) number) (λ place. slice_get (numbers_of (map (mark gravities) es)) place ≡ Some number)
+    → MatchOption found (¬ Contains (numbers_of (map (mark gravities) es)) number) (λ place.
+    slice_get (numbers_of (map (mark gravities) es)) place ≡ Some number)
 mark_with gravities es number own None same gone = rw (numbers_seen gravities es) (λ has.
     let at = stands_from_Contains (map (λ n. first_number + n) (list.numbers_of es)) number has in
     let old = stood_at (λ n. first_number + n) (list.numbers_of es) at.0 number at.1 in
     let own_is : old.0 ≡ own = let e = old.2 in omega arith in
     gone (Contains-from_stands (list.numbers_of es) own (at.0, old.1 ∙ ap (λ n. Some n) own_is)))
-mark_with gravities es number own (Some place) same is = rw (numbers_seen gravities es) (slice_get-map (λ n. first_number + n) (list.numbers_of es) place ∙ ap (option_map (λ n. first_number + n)) is ∙ ap (λ n. Some n) same)
+mark_with gravities es number own (Some place) same is = rw (numbers_seen gravities es)
+    (slice_get-map (λ n. first_number + n) (list.numbers_of es) place ∙ ap (option_map (λ n. first_number + n)) is
+    ∙ ap (λ n. Some n) same)
 
 -- no shared mark has one of the numbers before
-pub no_mark_with : (gravities : List Gravity) (es : List Named) (number : ℕ) → number < first_number → ¬ Contains (numbers_of (map (mark gravities) es)) number
+pub no_mark_with : (gravities : List Gravity) (es : List Named) (number : ℕ) → number < first_number →
+    ¬ Contains (numbers_of (map (mark gravities) es)) number
 no_mark_with gravities es number below = rw (numbers_seen gravities es) (λ has.
     let at = stands_from_Contains (map (λ n. first_number + n) (list.numbers_of es)) number has in
     let old = stood_at (λ n. first_number + n) (list.numbers_of es) at.0 number at.1 in
     let e = old.2 in absurd (omega arith))
 
-pub taken_off : (number : ℕ) (rest : Option ℕ) → SomeIff rest (first_number ≤ number) (number - first_number) → (own : ℕ) → rest ≡ Some own → first_number + own ≡ number
+pub taken_off : (number : ℕ) (rest : Option ℕ) → SomeIff rest (first_number ≤ number) (number - first_number) →
+    (own : ℕ) → rest ≡ Some own → first_number + own ≡ number
 taken_off number None h own is = absurd (none-some own is)
 taken_off number (Some own) h other is = let same = same_Some own other is in let e = h.1 in let f = h.0 in omega arith
 
-pub not_taken_off : (number : ℕ) (rest : Option ℕ) → SomeIff rest (first_number ≤ number) (number - first_number) → rest ≡ None → number < first_number
+pub not_taken_off : (number : ℕ) (rest : Option ℕ) → SomeIff rest (first_number ≤ number) (number - first_number) →
+    rest ≡ None → number < first_number
 not_taken_off number None h is = omega arith
 not_taken_off number (Some own) h is = absurd (none-some own (sym is))
 
 -- the mark that was created last is what is taken out
-pub marks-back : (marks : List Mark) (name : List ℕ) (number : ℕ) (gravity : Gravity) → position (is_named name) marks ≡ None → without (is_named name) (marks ++ record { name = name; number = number; gravity = gravity } ∷ []) ≡ marks
-marks-back marks name number gravity none = without-push (is_named name) marks (record { name = name; number = number; gravity = gravity }) none ((bytes_eq-Decides name name).1 refl)
+pub marks-back : (marks : List Mark) (name : List ℕ) (number : ℕ) (gravity : Gravity) →
+    position (is_named name) marks ≡ None →
+    without (is_named name) (marks ++ record { name = name; number = number; gravity = gravity } ∷ []) ≡ marks
+marks-back marks name number gravity none = without-push (is_named name) marks
+    (record { name = name; number = number; gravity = gravity }) none ((bytes_eq-Decides name name).1 refl)

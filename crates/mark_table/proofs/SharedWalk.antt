@@ -1,5 +1,7 @@
 -- The shared marks in their order, from offset to offset.
-use Rattle.std.proofs.Common.{◌≡◌, ◌≢◌, ℕ, zero, suc, ◌+◌, ◌-◌, ◌<◌, ◌≤◌, ◌⊎◌, min, max, Bool, true, false, ◌&&◌, nat_lt, nat_le, if◌then◌else◌, Option, None, Some, List, [], ◌∷◌, ◌++◌, length, slice_get, refl, sym, ap, ◌∙◌, subst, inl, inr, arith}
+use Rattle.std.proofs.Common.{◌≡◌, ◌≢◌, ℕ, zero, suc, ◌+◌, ◌-◌, ◌<◌, ◌≤◌, ◌⊎◌, min, max, Bool, true, false, ◌&&◌}
+use Rattle.std.proofs.Common.{nat_lt, nat_le, if◌then◌else◌, Option, None, Some, List, [], ◌∷◌, ◌++◌, length, slice_get}
+use Rattle.std.proofs.Common.{refl, sym, ap, ◌∙◌, subst, inl, inr, arith}
 use Rattle.std.specs.FinMap as finite
 use Rattle.std.proofs.lemmas.Bool.{cases_eq}
 use Rattle.std.proofs.lemmas.Bool.Decides.{nat_tests}
@@ -28,18 +30,20 @@ stands_right (y ∷ xs) ys x has = let rest = stands_right xs ys x has in (suc r
 pub stands_either : {A : Type 0} (xs ys : List A) (x : A) → Stands (xs ++ ys) x → Stands xs x ⊎ Stands ys x
 stands_either [] ys x has = inr has
 stands_either (y ∷ xs) ys x (zero, is) = inl (0, is)
-stands_either (y ∷ xs) ys x (suc at, is) = elim (stands_either xs ys x (at, is)) [ inl left ↦ inl (suc left.0, left.1) | inr right ↦ inr right ]
+stands_either (y ∷ xs) ys x (suc at, is) =
+    elim (stands_either xs ys x (at, is)) [ inl left ↦ inl (suc left.0, left.1) | inr right ↦ inr right ]
 
 -- a mark that the store has at a place of the view
-pub record IsShared (view : MarkView) (marks : Marks) (numbers : List ℕ) (place : ℕ) (shown : Shown) (rank : ℕ) : Type 0 where
-  pub number : ℕ
-  pub stands : Place
-  pub numbered : slice_get numbers place ≡ Some number
-  pub has : finite.get marks number ≡ Some stands
-  pub here : stands.offset ≡ shown.place
-  pub above : view.start ≤ shown.place
-  pub below : shown.place ≤ view.end
-  pub ranked : shown.rank ≡ rank + place
+pub record IsShared (view : MarkView) (marks : Marks) (numbers : List ℕ) (place : ℕ) (shown : Shown) (rank : ℕ) : Type 0
+  where
+    pub number : ℕ
+    pub stands : Place
+    pub numbered : slice_get numbers place ≡ Some number
+    pub has : finite.get marks number ≡ Some stands
+    pub here : stands.offset ≡ shown.place
+    pub above : view.start ≤ shown.place
+    pub below : shown.place ≤ view.end
+    pub ranked : shown.rank ≡ rank + place
 
 in_view : (start end offset : ℕ) → start ≤ offset → offset ≤ end → (nat_le start offset && nat_le offset end) ≡ true
 in_view start end offset above below = grind (arith, nat_tests)
@@ -47,26 +51,41 @@ in_view start end offset above below = grind (arith, nat_tests)
 view_of : (start end offset : ℕ) → (nat_le start offset && nat_le offset end) ≡ true → (start ≤ offset) × (offset ≤ end)
 view_of start end offset is = (grind (arith, nat_tests), grind (arith, nat_tests))
 
-pub one_shared : (view : MarkView) (rank : ℕ) (place : Place) → view.start ≤ place.offset → place.offset ≤ view.end → shared_mark view rank (Some place) ≡ record { place = place.offset; rank = rank } ∷ []
-one_shared view rank place above below = ap (λ b. if b then record { place = place.offset; rank = rank } ∷ [] else []) (in_view view.start view.end place.offset above below)
+pub one_shared : (view : MarkView) (rank : ℕ) (place : Place) → view.start ≤ place.offset → place.offset ≤ view.end →
+    shared_mark view rank (Some place) ≡ record { place = place.offset; rank = rank } ∷ []
+one_shared view rank place above below = ap (λ b. if b then record { place = place.offset; rank = rank } ∷ []
+    else []) (in_view view.start view.end place.offset above below)
 
-pub shared-in : (view : MarkView) (marks : Marks) (rank : ℕ) (numbers : List ℕ) (at number : ℕ) (place : Place) → slice_get numbers at ≡ Some number → finite.get marks number ≡ Some place → view.start ≤ place.offset → place.offset ≤ view.end
+pub shared-in : (view : MarkView) (marks : Marks) (rank : ℕ) (numbers : List ℕ) (at number : ℕ) (place : Place) →
+    slice_get numbers at ≡ Some number → finite.get marks number ≡ Some place → view.start ≤ place.offset →
+    place.offset ≤ view.end
     → Stands (shared_marks view marks rank numbers) (record { place = place.offset; rank = rank + at })
 shared-in view marks rank [] at number place is has above below = absurd (none-some number is)
 shared-in view marks rank (n ∷ numbers) zero number place is has above below =
-    let own : shared_mark view rank (finite.get marks n) ≡ record { place = place.offset; rank = rank } ∷ [] = ap (λ m. shared_mark view rank (finite.get marks m)) (same_Some n number is) ∙ ap (shared_mark view rank) has ∙ one_shared view rank place above below in
+    let own : shared_mark view rank (finite.get marks n) ≡ record { place = place.offset; rank = rank }
+    ∷ [] = ap (λ m. shared_mark view rank (finite.get marks m)) (same_Some n number is)
+    ∙ ap (shared_mark view rank) has ∙ one_shared view rank place above below in
     stands_left (shared_mark view rank (finite.get marks n)) (shared_marks view marks (rank + 1) numbers) _
-    (subst (λ xs. Stands xs (record { place = place.offset; rank = rank + 0 })) (sym own) (0, ap (λ r. Some (record { place = place.offset; rank = r })) (let e : rank ≡ rank + 0 = omega arith in e)))
+    (subst (λ xs. Stands xs (record { place = place.offset; rank = rank + 0 })) (sym own) (
+      0,
+      ap (λ r. Some (record { place = place.offset; rank = r })) (let e : rank ≡ rank + 0 = omega arith in e),
+    ))
 shared-in view marks rank (n ∷ numbers) (suc at) number place is has above below =
     stands_right (shared_mark view rank (finite.get marks n)) (shared_marks view marks (rank + 1) numbers) _
-    (subst (λ r. Stands (shared_marks view marks (rank + 1) numbers) (record { place = place.offset; rank = r })) (let e : rank + 1 + at ≡ rank + suc at = omega arith in e) (shared-in view marks (rank + 1) numbers at number place is has above below))
+    (subst (λ r. Stands (shared_marks view marks (rank + 1) numbers) (record { place = place.offset; rank = r }))
+    (let e : rank + 1 + at ≡ rank + suc at = omega arith in
+    e) (shared-in view marks (rank + 1) numbers at number place is has above below))
 
-pub one-out : (view : MarkView) (rank : ℕ) (found : Option Place) (shown : Shown) → Stands (shared_mark view rank found) shown → (place : Place) × (found ≡ Some place) × (place.offset ≡ shown.place) × (view.start ≤ shown.place) × (shown.place ≤ view.end) × (shown.rank ≡ rank)
+pub one-out : (view : MarkView) (rank : ℕ) (found : Option Place) (shown : Shown) →
+    Stands (shared_mark view rank found) shown → (place : Place) × (found ≡ Some place) × (place.offset ≡ shown.place)
+    × (view.start ≤ shown.place) × (shown.place ≤ view.end) × (shown.rank ≡ rank)
 one-out view rank None shown has = absurd (none-some shown has.1)
 one-out view rank (Some place) shown has = by (nat_le view.start place.offset && nat_le place.offset view.end) refl has
   where
-    by : (b : Bool) → (nat_le view.start place.offset && nat_le place.offset view.end) ≡ b → Stands (if b then record { place = place.offset; rank = rank } ∷ [] else []) shown
-        → (place' : Place) × (Some place ≡ Some place') × (place'.offset ≡ shown.place) × (view.start ≤ shown.place) × (shown.place ≤ view.end) × (shown.rank ≡ rank)
+    by : (b : Bool) → (nat_le view.start place.offset && nat_le place.offset view.end) ≡ b →
+        Stands (if b then record { place = place.offset; rank = rank } ∷ [] else []) shown
+        → (place' : Place) × (Some place ≡ Some place') × (place'.offset ≡ shown.place) × (view.start ≤ shown.place)
+        × (shown.place ≤ view.end) × (shown.rank ≡ rank)
     by true inside (zero, is) =
         let same = same_Some (record { place = place.offset; rank = rank }) shown is in
         let bounds = view_of view.start view.end place.offset inside in
@@ -77,17 +96,41 @@ one-out view rank (Some place) shown has = by (nat_le view.start place.offset &&
     by true inside (suc at, is) = absurd (none-some shown is)
     by false outside (at, is) = absurd (none-some shown is)
 
-pub shared-out : (view : MarkView) (marks : Marks) (rank : ℕ) (numbers : List ℕ) (shown : Shown) → Stands (shared_marks view marks rank numbers) shown → (at : ℕ) × IsShared view marks numbers at shown rank
+pub shared-out : (view : MarkView) (marks : Marks) (rank : ℕ) (numbers : List ℕ) (shown : Shown) →
+    Stands (shared_marks view marks rank numbers) shown → (at : ℕ) × IsShared view marks numbers at shown rank
 shared-out view marks rank [] shown has = absurd (none-some shown has.1)
-shared-out view marks rank (n ∷ numbers) shown has = elim (stands_either (shared_mark view rank (finite.get marks n)) (shared_marks view marks (rank + 1) numbers) shown has) [
-  | inl own ↦
-      let one = one-out view rank (finite.get marks n) shown own in
-      (0, record { number = n; stands = one.0; numbered = refl; has = one.1; here = one.2; above = one.3; below = one.4; ranked = let e = one.5 in omega arith })
-  | inr other ↦
-      let rest = shared-out view marks (rank + 1) numbers shown other in
-      let s = rest.1 in
-      (suc rest.0, record { number = s.number; stands = s.stands; numbered = s.numbered; has = s.has; here = s.here; above = s.above; below = s.below; ranked = let e = s.ranked in omega arith })
-]
+shared-out view marks rank (n ∷ numbers) shown has = elim
+    (stands_either (shared_mark view rank (finite.get marks n)) (shared_marks view marks (rank + 1) numbers) shown has) [
+      | inl own ↦
+          let one = one-out view rank (finite.get marks n) shown own in (
+            0,
+            record {
+              number = n;
+              stands = one.0;
+              numbered = refl;
+              has = one.1;
+              here = one.2;
+              above = one.3;
+              below = one.4;
+              ranked = let e = one.5 in omega arith;
+            },
+          )
+      | inr other ↦
+          let rest = shared-out view marks (rank + 1) numbers shown other in
+          let s = rest.1 in (
+            suc rest.0,
+            record {
+              number = s.number;
+              stands = s.stands;
+              numbered = s.numbered;
+              has = s.has;
+              here = s.here;
+              above = s.above;
+              below = s.below;
+              ranked = let e = s.ranked in omega arith;
+            },
+          )
+    ]
 
 -- tests of the order
 pub not_before_bound : (shown bound : Shown) → earlier shown bound ≡ false → bound.place ≤ shown.place
@@ -102,13 +145,16 @@ behind_place shown other behind = grind (arith, nat_tests)
 one_place : (shown other : Shown) → shown.place ≡ other.place → other.rank ≤ shown.rank → earlier shown other ≡ false
 one_place shown other same low = grind (arith, nat_tests)
 
-at_bound : (offset rank : ℕ) (bound : Shown) → offset ≡ bound.place → earlier (record { place = offset; rank = 2 + rank }) bound ≡ nat_lt rank (bound.rank - 2)
+at_bound : (offset rank : ℕ) (bound : Shown) → offset ≡ bound.place →
+    earlier (record { place = offset; rank = 2 + rank }) bound ≡ nat_lt rank (bound.rank - 2)
 at_bound offset rank bound same = grind (arith, nat_tests)
 
-behind_bound : (offset rank : ℕ) (bound : Shown) → bound.place < offset → earlier (record { place = offset; rank = 2 + rank }) bound ≡ nat_lt rank 0
+behind_bound : (offset rank : ℕ) (bound : Shown) → bound.place < offset →
+    earlier (record { place = offset; rank = 2 + rank }) bound ≡ nat_lt rank 0
 behind_bound offset rank bound behind = grind (arith, nat_tests)
 
-ahead_of_bound : (offset rank len : ℕ) (bound : Shown) → offset < bound.place → rank < len → earlier (record { place = offset; rank = 2 + rank }) bound ≡ nat_lt rank len
+ahead_of_bound : (offset rank len : ℕ) (bound : Shown) → offset < bound.place → rank < len →
+    earlier (record { place = offset; rank = 2 + rank }) bound ≡ nat_lt rank len
 ahead_of_bound offset rank len bound ahead within = grind (arith, nat_tests)
 
 not_lt : (a b : ℕ) → nat_lt a b ≡ false → b ≤ a
@@ -134,14 +180,16 @@ neither true h = absurd (h refl)
 module _ (view : MarkView) (marks : Marks) (numbers : List ℕ) (bound : Shown) where
   -- no shared mark that isn't before the bound stands before an offset
   pub Passed : ℕ → Type 0
-  Passed offset = (at : ℕ) (shown : Shown) → slice_get (shared_marks view marks 2 numbers) at ≡ Some shown → earlier shown bound ≡ false → offset ≤ shown.place
+  Passed offset = (at : ℕ) (shown : Shown) → slice_get (shared_marks view marks 2 numbers) at ≡ Some shown →
+      earlier shown bound ≡ false → offset ≤ shown.place
 
   -- at an offset, the marks from a place of the table on aren't before the bound
   pub Turns : ℕ → ℕ → Type 0
   Turns offset from = (rank : ℕ) → earlier (record { place = offset; rank = 2 + rank }) bound ≡ nat_lt rank from
 
   -- a shared mark at an offset is one that the store tells of there
-  told : (offset : ℕ) (shown : Shown) → Stands (shared_marks view marks 2 numbers) shown → shown.place ≡ offset → (place : ℕ) × IsAt (marks_at offset marks) numbers place × (shown.rank ≡ 2 + place)
+  told : (offset : ℕ) (shown : Shown) → Stands (shared_marks view marks 2 numbers) shown → shown.place ≡ offset →
+      (place : ℕ) × IsAt (marks_at offset marks) numbers place × (shown.rank ≡ 2 + place)
   told offset shown has here =
       let one = shared-out view marks 2 numbers shown has in
       let s = one.1 in
@@ -149,11 +197,13 @@ module _ (view : MarkView) (marks : Marks) (numbers : List ℕ) (bound : Shown) 
       (one.0, (at.0, record { 0 = s.number }, at.1, s.numbered), s.ranked)
 
   -- and the other way round
-  there : (offset place : ℕ) → IsAt (marks_at offset marks) numbers place → view.start ≤ offset → offset ≤ view.end → Stands (shared_marks view marks 2 numbers) (record { place = offset; rank = 2 + place })
+  there : (offset place : ℕ) → IsAt (marks_at offset marks) numbers place → view.start ≤ offset → offset ≤ view.end →
+      Stands (shared_marks view marks 2 numbers) (record { place = offset; rank = 2 + place })
   there offset place (index, number, is, numbered) above below =
       let one = place_of_mark_at offset marks number (index, is) in
       let here = one.2 in
-      subst (λ o. Stands (shared_marks view marks 2 numbers) (record { place = o; rank = 2 + place })) here (shared-in view marks 2 numbers place number.0 one.0 numbered one.1 (omega arith) (omega arith))
+      subst (λ o. Stands (shared_marks view marks 2 numbers) (record { place = o; rank = 2 + place })) here
+      (shared-in view marks 2 numbers place number.0 one.0 numbered one.1 (omega arith) (omega arith))
 
   pub Passed-start : Passed (max bound.place view.start)
   unfolding Passed
@@ -171,7 +221,8 @@ module _ (view : MarkView) (marks : Marks) (numbers : List ℕ) (bound : Shown) 
   unfolding Turns
   Turns-next offset behind = λ rank. behind_bound offset rank bound behind
 
-  pub IsFirst-found : (offset from place : ℕ) → Passed offset → Turns offset from → view.start ≤ offset → offset ≤ view.end → IsFirstAt (marks_at offset marks) numbers from (Some place)
+  pub IsFirst-found : (offset from place : ℕ) → Passed offset → Turns offset from → view.start ≤ offset →
+      offset ≤ view.end → IsFirstAt (marks_at offset marks) numbers from (Some place)
       → IsFirst (shared_marks view marks 2 numbers) bound (Some (record { place = offset; rank = 2 + place }))
   unfolding Passed Turns
   IsFirst-found offset from place passed turns above below found = (
@@ -183,25 +234,30 @@ module _ (view : MarkView) (marks : Marks) (numbers : List ℕ) (bound : Shown) 
           | inl here ↦
               let one = told offset shown (at, is) here in
               let ranked = one.2 in
-              let turn = sym (turns one.0) ∙ ap (λ (s : Shown). earlier s bound) (λ i. record { place = sym here i; rank = sym ranked i }) ∙ behind in
+              let turn = sym (turns one.0)
+              ∙ ap (λ (s : Shown). earlier s bound) (λ i. record { place = sym here i; rank = sym ranked i })
+              ∙ behind in
               let least = found.2 one.0 (not_lt one.0 from turn) one.1 in
               one_place shown (record { place = offset; rank = 2 + place }) here (omega arith)
           | inr other ↦ behind_place shown (record { place = offset; rank = 2 + place }) (omega arith)
         ],
   )
 
-  pub Passed-more : (offset from : ℕ) → Passed offset → Turns offset from → IsFirstAt (marks_at offset marks) numbers from None → Passed (offset + 1)
+  pub Passed-more : (offset from : ℕ) → Passed offset → Turns offset from →
+      IsFirstAt (marks_at offset marks) numbers from None → Passed (offset + 1)
   unfolding Passed Turns
   Passed-more offset from passed turns none = λ at shown is behind.
       let low = passed at shown is behind in
       let other : shown.place ≢ offset = λ here.
       let one = told offset shown (at, is) here in
       let ranked = one.2 in
-      let turn = sym (turns one.0) ∙ ap (λ (s : Shown). earlier s bound) (λ i. record { place = sym here i; rank = sym ranked i }) ∙ behind in
+      let turn = sym (turns one.0) ∙ ap (λ (s : Shown). earlier s bound) (λ i.
+      record { place = sym here i; rank = sym ranked i }) ∙ behind in
       none one.0 (not_lt one.0 from turn) one.1 in
       omega arith
 
-  pub IsFirst-none : (offset : ℕ) → Passed offset → view.end < offset → IsFirst (shared_marks view marks 2 numbers) bound None
+  pub IsFirst-none : (offset : ℕ) → Passed offset → view.end < offset →
+      IsFirst (shared_marks view marks 2 numbers) bound None
   unfolding Passed
   IsFirst-none offset passed past = λ at shown is. either (earlier shown bound) (λ behind.
       let low = passed at shown is behind in
@@ -229,7 +285,8 @@ module _ (view : MarkView) (marks : Marks) (numbers : List ℕ) (bound : Shown) 
       let near = least.2 in
       omega arith
 
-  pub IsFirst-no_next : (offset : ℕ) → Passed offset → next_mark offset marks ≡ None → IsFirst (shared_marks view marks 2 numbers) bound None
+  pub IsFirst-no_next : (offset : ℕ) → Passed offset → next_mark offset marks ≡ None →
+      IsFirst (shared_marks view marks 2 numbers) bound None
   unfolding Passed
   IsFirst-no_next offset passed is = λ at shown stands. either (earlier shown bound) (λ behind.
       let least = reaches_next offset passed at shown stands behind in
@@ -237,11 +294,13 @@ module _ (view : MarkView) (marks : Marks) (numbers : List ℕ) (bound : Shown) 
 
   -- no shared mark that is before the bound stands behind an offset
   pub Ahead : ℕ → Type 0
-  Ahead offset = (at : ℕ) (shown : Shown) → slice_get (shared_marks view marks 2 numbers) at ≡ Some shown → earlier shown bound ≡ true → shown.place ≤ offset
+  Ahead offset = (at : ℕ) (shown : Shown) → slice_get (shared_marks view marks 2 numbers) at ≡ Some shown →
+      earlier shown bound ≡ true → shown.place ≤ offset
 
   -- at an offset, the marks before a place of the table are before the bound
   pub TurnsBack : ℕ → ℕ → Type 0
-  TurnsBack offset upto = (rank : ℕ) → rank < length numbers → earlier (record { place = offset; rank = 2 + rank }) bound ≡ nat_lt rank upto
+  TurnsBack offset upto =
+      (rank : ℕ) → rank < length numbers → earlier (record { place = offset; rank = 2 + rank }) bound ≡ nat_lt rank upto
 
   pub Ahead-start : Ahead (min bound.place view.end)
   unfolding Ahead
@@ -259,7 +318,8 @@ module _ (view : MarkView) (marks : Marks) (numbers : List ℕ) (bound : Shown) 
   unfolding TurnsBack
   TurnsBack-previous offset len count ahead = λ rank within. ahead_of_bound offset rank len bound ahead (omega arith)
 
-  pub IsLast-found : (offset upto place : ℕ) → Ahead offset → TurnsBack offset upto → view.start ≤ offset → offset ≤ view.end → IsLastAt (marks_at offset marks) numbers upto (Some place)
+  pub IsLast-found : (offset upto place : ℕ) → Ahead offset → TurnsBack offset upto → view.start ≤ offset →
+      offset ≤ view.end → IsLastAt (marks_at offset marks) numbers upto (Some place)
       → IsLast (shared_marks view marks 2 numbers) bound (Some (record { place = offset; rank = 2 + place }))
   unfolding Ahead TurnsBack
   IsLast-found offset upto place ahead turns above below found = (
@@ -271,22 +331,28 @@ module _ (view : MarkView) (marks : Marks) (numbers : List ℕ) (bound : Shown) 
           | inl here ↦
               let one = told offset shown (at, is) here in
               let ranked = one.2 in
-              let turn = sym (turns one.0 (slice_get_within numbers one.0 _ one.1.3)) ∙ ap (λ (s : Shown). earlier s bound) (λ i. record { place = sym here i; rank = sym ranked i }) ∙ before in
+              let turn = sym (turns one.0 (slice_get_within numbers one.0 _ one.1.3))
+              ∙ ap (λ (s : Shown). earlier s bound) (λ i. record { place = sym here i; rank = sym ranked i })
+              ∙ before in
               let greatest = found.2 one.0 (is_lt one.0 upto turn) one.1 in
               one_place (record { place = offset; rank = 2 + place }) shown (sym here) (omega arith)
           | inr other ↦ behind_place (record { place = offset; rank = 2 + place }) shown (omega arith)
         ],
   )
 
-  not_at : (offset upto : ℕ) → TurnsBack offset upto → IsLastAt (marks_at offset marks) numbers upto None → (at : ℕ) (shown : Shown) → slice_get (shared_marks view marks 2 numbers) at ≡ Some shown → earlier shown bound ≡ true → shown.place ≢ offset
+  not_at : (offset upto : ℕ) → TurnsBack offset upto → IsLastAt (marks_at offset marks) numbers upto None →
+      (at : ℕ) (shown : Shown) → slice_get (shared_marks view marks 2 numbers) at ≡ Some shown →
+      earlier shown bound ≡ true → shown.place ≢ offset
   unfolding TurnsBack
   not_at offset upto turns none at shown is before here =
       let one = told offset shown (at, is) here in
       let ranked = one.2 in
-      let turn = sym (turns one.0 (slice_get_within numbers one.0 _ one.1.3)) ∙ ap (λ (s : Shown). earlier s bound) (λ i. record { place = sym here i; rank = sym ranked i }) ∙ before in
+      let turn = sym (turns one.0 (slice_get_within numbers one.0 _ one.1.3))
+      ∙ ap (λ (s : Shown). earlier s bound) (λ i. record { place = sym here i; rank = sym ranked i }) ∙ before in
       none one.0 (is_lt one.0 upto turn) one.1
 
-  reaches_previous : (offset upto : ℕ) → Ahead offset → TurnsBack offset upto → IsLastAt (marks_at offset marks) numbers upto None → (at : ℕ) (shown : Shown)
+  reaches_previous : (offset upto : ℕ) → Ahead offset → TurnsBack offset upto →
+      IsLastAt (marks_at offset marks) numbers upto None → (at : ℕ) (shown : Shown)
       → slice_get (shared_marks view marks 2 numbers) at ≡ Some shown → earlier shown bound ≡ true
       → (previous : ℕ) × (previous_mark offset marks ≡ Some previous) × (shown.place ≤ previous)
   unfolding Ahead
@@ -299,7 +365,8 @@ module _ (view : MarkView) (marks : Marks) (numbers : List ℕ) (bound : Shown) 
       let near = previous.2 in
       (previous.0, previous.1, omega arith)
 
-  pub Ahead-previous : (offset upto previous : ℕ) → Ahead offset → TurnsBack offset upto → IsLastAt (marks_at offset marks) numbers upto None → previous_mark offset marks ≡ Some previous → Ahead previous
+  pub Ahead-previous : (offset upto previous : ℕ) → Ahead offset → TurnsBack offset upto →
+      IsLastAt (marks_at offset marks) numbers upto None → previous_mark offset marks ≡ Some previous → Ahead previous
   unfolding Ahead
   Ahead-previous offset upto previous ahead turns none is = λ at shown stands before.
       let greatest = reaches_previous offset upto ahead turns none at shown stands before in
@@ -307,13 +374,16 @@ module _ (view : MarkView) (marks : Marks) (numbers : List ℕ) (bound : Shown) 
       let near = greatest.2 in
       omega arith
 
-  pub IsLast-no_previous : (offset upto : ℕ) → Ahead offset → TurnsBack offset upto → IsLastAt (marks_at offset marks) numbers upto None → previous_mark offset marks ≡ None → IsLast (shared_marks view marks 2 numbers) bound None
+  pub IsLast-no_previous : (offset upto : ℕ) → Ahead offset → TurnsBack offset upto →
+      IsLastAt (marks_at offset marks) numbers upto None → previous_mark offset marks ≡ None →
+      IsLast (shared_marks view marks 2 numbers) bound None
   unfolding Ahead
   IsLast-no_previous offset upto ahead turns none is = λ at shown stands. neither (earlier shown bound) (λ before.
       let greatest = reaches_previous offset upto ahead turns none at shown stands before in
       none-some greatest.0 (sym is ∙ greatest.1))
 
-  pub IsLast-none : (offset : ℕ) → Ahead offset → offset < view.start → IsLast (shared_marks view marks 2 numbers) bound None
+  pub IsLast-none : (offset : ℕ) → Ahead offset → offset < view.start →
+      IsLast (shared_marks view marks 2 numbers) bound None
   unfolding Ahead
   IsLast-none offset ahead past = λ at shown is. neither (earlier shown bound) (λ before.
       let low = ahead at shown is before in

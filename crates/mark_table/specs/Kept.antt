@@ -10,7 +10,8 @@ abbrev pub gravity_at : List Gravity → ℕ → Gravity
 gravity_at gravities number = unwrap_or (slice_get gravities number) Right
 
 abbrev pub mark : List Gravity → Named → Mark
-mark gravities entry = record { name = entry.name; number = first_number + entry.number; gravity = gravity_at gravities entry.number }
+mark gravities entry =
+    record { name = entry.name; number = first_number + entry.number; gravity = gravity_at gravities entry.number }
 
 abbrev pub marks_kept : Names → List Gravity → SharedMarks
 marks_kept names gravities = record { marks = map (mark gravities) names.entries; limit = names.limit }

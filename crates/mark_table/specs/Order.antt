@@ -1,5 +1,6 @@
 -- The marks that a widget can use, in their order.
-use Rattle.std.specs.Prelude.{ℕ, zero, suc, ◌+◌, ◌-◌, ◌*◌, ◌==◌, nat_lt, nat_le, min, max, Bool, ◌||◌, ◌&&◌, Option, None, Some, List, [], ◌∷◌, ◌++◌, find, if◌then◌else◌}
+use Rattle.std.specs.Prelude.{ℕ, zero, suc, ◌+◌, ◌-◌, ◌*◌, ◌==◌, nat_lt, nat_le, min, max, Bool, ◌||◌, ◌&&◌, Option}
+use Rattle.std.specs.Prelude.{None, Some, List, [], ◌∷◌, ◌++◌, find, if◌then◌else◌}
 use Rattle.std.specs.List.{filter, reduce}
 use Rattle.std.specs.Option.{option_map, option_and_then}
 use Rattle.std.specs.FinMap as finite
@@ -39,12 +40,14 @@ own_mark view rank (Some place) = record { place = own_place view place.offset; 
 abbrev pub shared_mark : MarkView → ℕ → Option Place → List Shown
 shared_mark view rank None = []
 shared_mark view rank (Some place) =
-    if nat_le view.start place.offset && nat_le place.offset view.end then record { place = place.offset; rank = rank } ∷ [] else []
+    if nat_le view.start place.offset && nat_le place.offset view.end
+    then record { place = place.offset; rank = rank } ∷ [] else []
 
 -- the shared marks of these numbers, from a rank on
 abbrev pub shared_marks : MarkView → Marks → ℕ → List ℕ → List Shown
 shared_marks view places rank [] = []
-shared_marks view places rank (number ∷ numbers) = shared_mark view rank (finite.get places number) ++ shared_marks view places (rank + 1) numbers
+shared_marks view places rank (number ∷ numbers) =
+    shared_mark view rank (finite.get places number) ++ shared_marks view places (rank + 1) numbers
 
 -- the marks that a widget can use, given the numbers of the shared ones
 abbrev pub usable : MarkView → Marks → List ℕ → List Shown
@@ -64,12 +67,14 @@ shown_mark mark marks = find (λ (shown : Shown). shown.rank == rank_of mark) ma
 
 -- the first mark behind a mark, or at or behind a place
 abbrev pub next_shown : Origin → List Shown → Option Shown
-next_shown (Mark mark) marks = option_and_then (λ from. first (filter (λ shown. earlier from shown) marks)) (shown_mark mark marks)
+next_shown (Mark mark) marks =
+    option_and_then (λ from. first (filter (λ shown. earlier from shown) marks)) (shown_mark mark marks)
 next_shown (Offset place) marks = first (filter (λ (shown : Shown). nat_le place shown.place) marks)
 
 -- the last mark before a mark, or before a place
 abbrev pub previous_shown : Origin → List Shown → Option Shown
-previous_shown (Mark mark) marks = option_and_then (λ from. last (filter (λ shown. earlier shown from) marks)) (shown_mark mark marks)
+previous_shown (Mark mark) marks =
+    option_and_then (λ from. last (filter (λ shown. earlier shown from) marks)) (shown_mark mark marks)
 previous_shown (Offset place) marks = last (filter (λ (shown : Shown). nat_lt shown.place place) marks)
 
 abbrev pub next_mark : Origin → List Shown → Option WidgetMark

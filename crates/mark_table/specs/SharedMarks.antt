@@ -1,5 +1,6 @@
 -- The marks that widgets share, in the order of their creation, each with the number by which a store knows it.
-use Rattle.std.specs.Prelude.{◌≡◌, ℕ, ◌+◌, ◌*◌, ◌<◌, ◌≤◌, Bool, Option, Some, List, map, length, find, bytes_eq, slice_get, Contains, if◌then◌else◌}
+use Rattle.std.specs.Prelude.{◌≡◌, ℕ, ◌+◌, ◌*◌, ◌<◌, ◌≤◌, Bool, Option, Some, List, map, length, find, bytes_eq}
+use Rattle.std.specs.Prelude.{slice_get, Contains, if◌then◌else◌}
 use Rattle.std.specs.Option.{option_map}
 use Rattle.name_list.specs.Names.{AreApart}
 use Rattle.text_model.specs.LimitTable.{most_marks, most_widgets}
@@ -30,7 +31,8 @@ gravity_of name marks = option_map (λ (mark : Mark). mark.gravity) (find (is_na
 
 -- the marks with another gravity for the one of a name
 abbrev pub turned : List ℕ → Gravity → List Mark → List Mark
-turned name gravity marks = map (λ (mark : Mark). if is_named name mark then record mark { gravity = gravity } else mark) marks
+turned name gravity marks =
+    map (λ (mark : Mark). if is_named name mark then record mark { gravity = gravity } else mark) marks
 
 abbrev pub names_of : List Mark → List (List ℕ)
 names_of marks = map (λ (mark : Mark). mark.name) marks
@@ -51,6 +53,7 @@ pub record IsLeastFree (numbers : List ℕ) (number : ℕ) : Type 0 where
 pub record AreMarks (marks : SharedMarks) : Type 0 where
   pub names_apart : AreApart (names_of marks.marks)
   pub numbers_apart : AreApart (numbers_of marks.marks)
-  pub numbers : (at number : ℕ) → slice_get (numbers_of marks.marks) at ≡ Some number → (first_number ≤ number) × (number < first_number + marks.limit)
+  pub numbers : (at number : ℕ) → slice_get (numbers_of marks.marks) at ≡ Some number →
+      (first_number ≤ number) × (number < first_number + marks.limit)
   pub room : length marks.marks ≤ marks.limit
   pub limit : marks.limit ≤ most_marks

@@ -1,8 +1,11 @@
-ghost use Rattle.std.specs.Prelude.{◌≡◌, ◌<◌, ◌≤◌, ◌+◌, ◌↔◌, ◌∷◌, [], ◌++◌, length, slice_get, chars, string_bytes, None, Some, Contains, IsNone, IsSome, IfOk, IfSome, OnOk, OnErr, MatchOption, MatchResult};
+ghost use Rattle.std.specs.Prelude.{◌≡◌, ◌<◌, ◌≤◌, ◌+◌, ◌↔◌, ◌∷◌, [], ◌++◌, length, slice_get, chars, string_bytes};
+ghost use Rattle.std.specs.Prelude.{None, Some, Contains, IsNone, IsSome, IfOk, IfSome, OnOk, OnErr, MatchOption};
+ghost use Rattle.std.specs.Prelude.{MatchResult};
 ghost use Rattle.std.specs.Option.{option_map};
 ghost use Rattle.name_list.specs.Moves.{without};
 ghost use Rattle.text_model.specs.declared.limits.TheConstants.Limits.{MOST_MARKS};
-ghost use Rattle.mark_table.specs.SharedMarks.{SharedMarks, first_number, is_named, names_of, numbers_of, number_of, gravity_of, turned, IsFull, IsLeastFree, AreMarks};
+ghost use Rattle.mark_table.specs.SharedMarks.{SharedMarks, first_number, is_named, names_of, numbers_of, number_of};
+ghost use Rattle.mark_table.specs.SharedMarks.{gravity_of, turned, IsFull, IsLeastFree, AreMarks};
 
 use crate::faults::NoSuchMark;
 use name_list::NameList;
@@ -103,10 +106,15 @@ impl MarkTable {
         ensures refused { IfOk result (λ made. IsNone made → self.new ≡ self.old) }
         ensures least { IfOk result (λ made. IfSome made (λ number. IsLeastFree (numbers_of self.old.marks) number.0)) }
         ensures last { IfOk result (λ made. IfSome made (λ number. self.new ≡ record self.old {
-          marks = self.old.marks ++ record { name = chars (string_bytes name); number = number.0; gravity = Gravity.Right } ∷ [];
+          marks = self.old.marks ++ record {
+            name = chars (string_bytes name);
+            number = number.0;
+            gravity = Gravity.Right;
+          } ∷ [];
         })) }
         // To take it out again gives back the marks before it.
-        ensures back { IfOk result (λ made. IfSome made (λ _. without (is_named (chars (string_bytes name))) self.new.marks ≡ self.old.marks)) }
+        ensures back { IfOk result (λ made. IfSome made (λ _.
+            without (is_named (chars (string_bytes name))) self.new.marks ≡ self.old.marks)) }
         ensures err { OnErr result (self.new ≡ self.old) }
     {
         let Some(number) = self.names.create(name)? else {
@@ -142,7 +150,8 @@ impl MarkTable {
         ensures known { MatchResult result
             (λ _. IsSome (gravity_of (chars name.now) self.old.marks))
             (λ _. gravity_of (chars name.now) self.old.marks ≡ None) }
-        ensures ok { OnOk result (self.new ≡ record self.old { marks = turned (chars name.now) gravity self.old.marks }) }
+        ensures ok { OnOk result (self.new
+            ≡ record self.old { marks = turned (chars name.now) gravity self.old.marks }) }
         ensures err { OnErr result (self.new ≡ self.old) }
     {
         let Some(place) = self.names.place(name) else {

@@ -36,8 +36,8 @@ pub struct MarkView {
     pub end: usize,
 }
 
-/// A mark as it is shown: its place, in characters from the start of the text or of a view, and its rank among the marks at one
-/// place, which is 0 for `insert`, 1 for `current` and 2 or more for the shared ones by their creation.
+/// A mark as it is shown: its place, in characters from the start of the text or of a view, and its rank among the
+/// marks at one place, which is 0 for `insert`, 1 for `current` and 2 or more for the shared ones by their creation.
 #[derive(Clone, Copy)]
 pub struct Shown {
     pub place: usize,
@@ -84,7 +84,8 @@ impl MarkView {
         requires ordered { self.start ≤ self.end }
         requires widget { self.widget.0 < MOST_WIDGETS }
         requires own { rank ≤ 1 }
-        ensures { option_to_list result ≡ own_mark self rank (finite.get (S.content store.now).marks (2 * self.widget.0 + rank)) }
+        ensures { option_to_list result ≡ own_mark self rank
+            (finite.get (S.content store.now).marks (2 * self.widget.0 + rank)) }
     {
         let place = store.mark_place(MarkNo(2 * self.widget.0 + rank))?;
         Some(Shown {

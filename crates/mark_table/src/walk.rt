@@ -1,8 +1,9 @@
-ghost use Rattle.std.specs.Prelude.{◌≡◌, ℕ, ◌+◌, ◌-◌, ◌^◌, ◌<◌, ◌≤◌, Some, IfSome, length, slice_get};
+ghost use Rattle.std.specs.Prelude.{◌≡◌, ℕ, ◌+◌, ◌-◌, ◌^◌, ◌<◌, ◌≤◌, ◌⊎◌, max, None, Some, IfSome, length, slice_get};
 ghost use Rattle.std.specs.Option.{option_to_list};
 ghost use Rattle.text_model.specs.declared.limits.TheConstants.Limits.{MOST_MARKS, MOST_WIDGETS};
-ghost use Rattle.text_model.specs.MarkOrder.{marks_at};
-ghost use Rattle.mark_table.specs.Order.{shared_marks, shown_mark, usable, next_mark, next_shown, previous_mark, previous_shown};
+ghost use Rattle.text_model.specs.MarkOrder.{marks_at, next_mark as next_in_store};
+ghost use Rattle.mark_table.specs.Order.{shared_marks, shown_mark, usable, next_mark, next_shown, previous_mark};
+ghost use Rattle.mark_table.specs.Order.{previous_shown};
 ghost use Rattle.mark_table.specs.SharedMarks.{numbers_of};
 ghost use Rattle.mark_table.specs.Walk.{IsFirstAt, IsLastAt, IsFirst, IsLast, first_of, last_of, shared_at};
 
@@ -50,13 +51,31 @@ fn last_of(one: Option<Shown>, other: Option<Shown>) -> Option<Shown>
     Some(if a.is_earlier(b) { b } else { a })
 }
 
+// The first offset to look at for a mark in the order that isn't before a bound. Where the bound is a place, it is the
+// next one at which a mark stands; where it is a mark, that mark's own.
+fn first_offset<S: TextStore>(store: &S, view: MarkView, bound: Shown) -> Option<usize>
+    ensures none { result ≡ None →
+        next_in_store (max bound.place view.start) (S.content store.now).marks ≡ None }
+    ensures some { IfSome result (λ offset. (offset ≡ max bound.place view.start)
+        ⊎ (next_in_store (max bound.place view.start) (S.content store.now).marks ≡ Some offset)) }
+    ensures above { IfSome result (λ offset. max bound.place view.start ≤ offset) }
+{
+    let start = bound.place.max(view.start);
+    if bound.rank > 0 {
+        return Some(start);
+    }
+    store.next_mark(start)
+}
+
 impl MarkTable {
     // The place of the mark of a number, if it is at `from` or behind; else the length.
     fn place_from(&self, number: MarkNo, from: usize) -> usize
         ensures fits { number.0 < 2 ^ 16 }
         ensures within { result ≤ length self.now.marks }
-        ensures found { result < length self.now.marks → (from ≤ result) × (slice_get (numbers_of self.now.marks) result ≡ Some number.0) }
-        ensures least { (place : ℕ) → slice_get (numbers_of self.now.marks) place ≡ Some number.0 → from ≤ place → result ≤ place }
+        ensures found { result < length self.now.marks → (from ≤ result)
+            × (slice_get (numbers_of self.now.marks) result ≡ Some number.0) }
+        ensures least { (place : ℕ) → slice_get (numbers_of self.now.marks) place ≡ Some number.0 → from ≤ place →
+            result ≤ place }
     {
         let len = self.len();
         match self.place(number) {
@@ -68,8 +87,10 @@ impl MarkTable {
     // One more than the place of the mark of a number, if it is before `upto`; else 0.
     fn places_before(&self, number: MarkNo, upto: usize) -> usize
         ensures fits { number.0 < 2 ^ 16 }
-        ensures found { 0 < result → (result ≤ upto) × (slice_get (numbers_of self.now.marks) (result - 1) ≡ Some number.0) }
-        ensures greatest { (place : ℕ) → slice_get (numbers_of self.now.marks) place ≡ Some number.0 → place < upto → place < result }
+        ensures found { 0 < result → (result ≤ upto)
+            × (slice_get (numbers_of self.now.marks) (result - 1) ≡ Some number.0) }
+        ensures greatest { (place : ℕ) → slice_get (numbers_of self.now.marks) place ≡ Some number.0 → place < upto →
+            place < result }
     {
         let _len = self.len();
         match self.place(number) {
@@ -80,7 +101,8 @@ impl MarkTable {
 
     // Of the shared marks at an offset the first by creation, from a place of the table on.
     fn first_at<S: TextStore>(&self, store: &S, offset: usize, from: usize) -> Option<usize>
-        ensures first { IsFirstAt (marks_at offset (S.content store.now).marks) (numbers_of self.now.marks) from result }
+        ensures first { IsFirstAt (marks_at offset (S.content store.now).marks) (numbers_of self.now.marks) from
+            result }
         ensures small { IfSome result (λ place. place < MOST_MARKS) }
     {
         let len = self.len();
@@ -111,7 +133,7 @@ impl MarkTable {
     fn next_shared<S: TextStore>(&self, store: &S, view: MarkView, bound: Shown) -> Option<Shown>
         ensures { IsFirst (shared_marks view (S.content store.now).marks 2 (numbers_of self.now.marks)) bound result }
     {
-        let mut offset = bound.place.max(view.start);
+        let mut offset = first_offset(store, view, bound)?;
         let mut from = if offset == bound.place {
             bound.rank.saturating_sub(2)
         } else {
@@ -187,7 +209,8 @@ impl MarkTable {
 
     // The shared mark at a place of the table, if the widget can use it.
     fn shared_mark<S: TextStore>(&self, store: &S, view: MarkView, place: usize) -> Option<Shown>
-        ensures mark { option_to_list result ≡ shared_at view (S.content store.now).marks (numbers_of self.now.marks) place }
+        ensures mark { option_to_list result
+            ≡ shared_at view (S.content store.now).marks (numbers_of self.now.marks) place }
         ensures small { IfSome result (λ shown. shown.rank < MOST_MARKS + 2) }
     {
         if place >= self.len() {

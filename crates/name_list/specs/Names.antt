@@ -1,5 +1,6 @@
 -- Names in an order, each with a number of its own.
-use Rattle.std.specs.Prelude.{◌≡◌, ℕ, ◌<◌, ◌≤◌, Option, Some, List, map, length, position, bytes_eq, slice_get, Contains}
+use Rattle.std.specs.Prelude.{◌≡◌, ℕ, ◌<◌, ◌≤◌, Option, Some, List, map, length, position, bytes_eq, slice_get}
+use Rattle.std.specs.Prelude.{Contains}
 
 pub record Named : Type 0 where
   pub name : List ℕ

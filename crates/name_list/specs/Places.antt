@@ -1,5 +1,6 @@
 -- A list of names as it is kept: a map in order, and for each number the place of the name that has it.
-use Rattle.std.specs.Prelude.{◌≡◌, ℕ, ◌<◌, ◌≤◌, ◌^◌, Bool, Option, Some, List, map, length, is_some, option_and_then, slice_get, chars, string_bytes, String}
+use Rattle.std.specs.Prelude.{◌≡◌, ℕ, ◌<◌, ◌≤◌, ◌^◌, Bool, Option, Some, List, map, length, is_some, option_and_then}
+use Rattle.std.specs.Prelude.{slice_get, chars, string_bytes, String}
 use Rattle.name_list.specs.Names.{Named, Names, IsLeastFree}
 
 abbrev pub named : {Z : Type 0} → String Z × ℕ → Named
@@ -19,8 +20,10 @@ pub record IsIndex (numbers : List ℕ) (places : List (Option ℕ)) : Type 0 wh
 
 -- the places of the first so many numbers are right, and no other number has a place but those that are listed
 pub record IsIndexTo (numbers : List ℕ) (upto : ℕ) (places : List (Option ℕ)) : Type 0 where
-  pub placed : (at number : ℕ) → at < upto → slice_get numbers at ≡ Some number → slice_get places number ≡ Some (Some at)
-  pub listed : (at number : ℕ) → slice_get places number ≡ Some (Some at) → (i : ℕ) × (slice_get numbers i ≡ Some number)
+  pub placed : (at number : ℕ) → at < upto → slice_get numbers at ≡ Some number →
+      slice_get places number ≡ Some (Some at)
+  pub listed : (at number : ℕ) → slice_get places number ≡ Some (Some at) →
+      (i : ℕ) × (slice_get numbers i ≡ Some number)
 
 -- how the fields belong together: `free` is the least number that no name has
 pub record AreKept (numbers : List ℕ) (places : List (Option ℕ)) (free : ℕ) : Type 0 where

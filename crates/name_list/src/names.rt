@@ -1,4 +1,5 @@
-ghost use Rattle.std.specs.Prelude.{◌≡◌, ◌<◌, ◌≤◌, ◌↔◌, ◌∷◌, [], ◌++◌, length, remove, take, slice_get, chars, string_bytes, None, Some, Contains, IsNone, IfOk, IfSome, OnErr, MatchOption};
+ghost use Rattle.std.specs.Prelude.{◌≡◌, ◌<◌, ◌≤◌, ◌↔◌, ◌∷◌, [], ◌++◌, length, remove, take, slice_get, chars};
+ghost use Rattle.std.specs.Prelude.{string_bytes, None, Some, Contains, IsNone, IfOk, IfSome, OnErr, MatchOption};
 ghost use Rattle.name_list.specs.Moves.{move_index};
 ghost use Rattle.name_list.specs.Names.{Names, place_of, names_of, numbers_of, IsFull, IsLeastFree, AreNames};
 
@@ -94,7 +95,10 @@ impl NameList {
         ensures least { IfOk result (λ made. IfSome made (IsLeastFree (numbers_of self.old.entries))) }
         ensures below { IfOk result (λ made. IfSome made (λ number. number < self.old.limit)) }
         ensures last { IfOk result (λ made. IfSome made (λ number. self.new ≡
-            record self.old { entries = self.old.entries ++ record { name = chars (string_bytes name); number = number } ∷ [] })) }
+            record self.old {
+              entries = self.old.entries ++ record { name = chars (string_bytes name); number = number }
+                  ∷ [];
+            })) }
         ensures err { OnErr result (self.new ≡ self.old) }
     {
         let place = self.numbers.len();

@@ -8,12 +8,16 @@ use Rattle.tcl_words.specs.Unread.{texts_of}
 use Rattle.peers.specs.Command.{arguments_of, switches_of}
 
 pub arguments-part : {Z : Type 0} (words : List (String Z)) (shape : Shape)
-    → texts_of (take (length words - shape.arguments) (drop shape.arguments words)) ≡ arguments_of shape (texts_of words)
+    → texts_of (take (length words - shape.arguments) (drop shape.arguments words))
+    ≡ arguments_of shape (texts_of words)
 arguments-part {Z} words shape =
-    ap texts_of (take_rest words shape.arguments) ∙ sym (drop-map (λ word. chars (string_bytes word)) shape.arguments words)
+    ap texts_of (take_rest words shape.arguments)
+    ∙ sym (drop-map (λ word. chars (string_bytes word)) shape.arguments words)
 
 pub switches-part : {Z : Type 0} (words : List (String Z)) (shape : Shape)
-    → texts_of (take (shape.arguments - shape.switches) (drop shape.switches words)) ≡ switches_of shape (texts_of words)
+    → texts_of (take (shape.arguments - shape.switches) (drop shape.switches words))
+    ≡ switches_of shape (texts_of words)
 switches-part {Z} words shape =
     sym (take-map (λ word. chars (string_bytes word)) (shape.arguments - shape.switches) (drop shape.switches words))
-    ∙ ap (take (shape.arguments - shape.switches)) (sym (drop-map (λ word. chars (string_bytes word)) shape.switches words))
+    ∙ ap (take (shape.arguments - shape.switches))
+    (sym (drop-map (λ word. chars (string_bytes word)) shape.switches words))

@@ -1,5 +1,6 @@
 -- What holds of a document before a command of a widget, and after each edit of it, holds after the command.
-use Rattle.std.proofs.Common.{◌≡◌, ℕ, suc, ◌+◌, ◌≤◌, true, false, List, [], ◌∷◌, Option, Some, None, Ok, Err, length, refl, ap, ◌∙◌}
+use Rattle.std.proofs.Common.{◌≡◌, ℕ, suc, ◌+◌, ◌≤◌, true, false, List, [], ◌∷◌, Option, Some, None, Ok, Err, length}
+use Rattle.std.proofs.Common.{refl, ap, ◌∙◌}
 use Rattle.std.specs.Prelude.{Result, nat_lt, ok_or, ⊤, if◌then◌else◌}
 use Rattle.std.specs.List.{All}
 use Rattle.std.proofs.lemmas.Bool.{ltb-false}
@@ -9,7 +10,14 @@ use Rattle.text_model.specs.declared.places.Gravity.{Gravity}
 use Rattle.text_model.specs.declared.places.Place.{Place}
 use Rattle.command_table.specs.Numbers.{boolean_of}
 use Rattle.command_table.specs.declared.commands.Command.{Command}
-use Rattle.command_table.specs.declared.commands.Command.TheVariants.{Insert, Delete, Replace, Get, Index, Compare, MarkGravity, MarkNames, MarkNext, MarkPrevious, MarkSet, MarkUnset, TagAdd, TagRemove, TagDelete, TagNames, TagRanges, TagNextRange, TagPreviousRange, TagRaise, TagLower, Configure, Cget, EditUndo, EditRedo, EditModified, EditReset, EditSeparator, Search, Count, Dump, PeerCreate, PeerNames, Text, Destroy}
+use Rattle.command_table.specs.declared.commands.Command.TheVariants.{Insert, Delete, Replace, Get, Index, Compare}
+use Rattle.command_table.specs.declared.commands.Command.TheVariants.{MarkGravity, MarkNames, MarkNext, MarkPrevious}
+use Rattle.command_table.specs.declared.commands.Command.TheVariants.{MarkSet, MarkUnset, TagAdd, TagRemove, TagDelete}
+use Rattle.command_table.specs.declared.commands.Command.TheVariants.{TagNames, TagRanges, TagNextRange}
+use Rattle.command_table.specs.declared.commands.Command.TheVariants.{TagPreviousRange, TagRaise, TagLower, Configure}
+use Rattle.command_table.specs.declared.commands.Command.TheVariants.{Cget, EditUndo, EditRedo, EditModified, EditReset}
+use Rattle.command_table.specs.declared.commands.Command.TheVariants.{EditSeparator, Search, Count, Dump, PeerCreate}
+use Rattle.command_table.specs.declared.commands.Command.TheVariants.{PeerNames, Text, Destroy}
 use Rattle.command_parts.specs.Arguments.{first_of, first_two_of, none_or_one_of, one_or_two_of, two_of}
 use Rattle.command_parts.specs.Faults.{with_value}
 use Rattle.command_parts.specs.Lists.{Pair, pairs_at}
@@ -37,15 +45,18 @@ use Rattle.peers.specs.Texts.{insert, insert_pairs, insert_words}
 
 -- ---- places of indices
 
-value-there : {A B : Type 0} (found : Result A Fault) (next : A → Result B Fault) (made : B) → with_value found next ≡ Ok made
+value-there : {A B : Type 0} (found : Result A Fault) (next : A → Result B Fault) (made : B) →
+    with_value found next ≡ Ok made
     → (value : A) × (found ≡ Ok value) × (next value ≡ Ok made)
 value-there (Ok value) next made is = (value, refl, is)
 value-there (Err fault) next made is = absurd (let h : Err fault ≡ Ok made = is in cc)
 
-places-within : (document : Document) (widget : Widget) (at : ℕ) (words : List (List ℕ)) (places : List ℕ) → view_end document widget ≤ length document.cells
+places-within : (document : Document) (widget : Widget) (at : ℕ) (words : List (List ℕ)) (places : List ℕ) →
+    view_end document widget ≤ length document.cells
     → places_at document widget at words ≡ Ok places → All (λ place. place ≤ length (shown document widget)) places
 places-within document widget at [] [] within is = All-nil (λ place. place ≤ length (shown document widget))
-places-within document widget at [] (place ∷ places) within is = absurd (let h : Ok [] ≡ Ok (place ∷ places) = is in let e : [] ≡ place ∷ places = cc in cc)
+places-within document widget at [] (place ∷ places) within is =
+    absurd (let h : Ok [] ≡ Ok (place ∷ places) = is in let e : [] ≡ place ∷ places = cc in cc)
 places-within document widget at (word ∷ words) [] within is =
     let one = value-there (place_at document widget at word)
     (λ place. with_value (places_at document widget (suc at) words) (λ places. Ok (place ∷ places))) [] is in
@@ -54,10 +65,12 @@ places-within document widget at (word ∷ words) [] within is =
     let others = rest.0 in
     absurd (let h : Ok (place ∷ others) ≡ Ok [] = rest.2 in let e : place ∷ others ≡ [] = cc in cc)
 places-within document widget at (word ∷ words) (first ∷ places) within is =
-    let one = value-there (place_at document widget at word) (λ place. with_value (places_at document widget (suc at) words) (λ places. Ok (place ∷ places)))
+    let one = value-there (place_at document widget at word) (λ place.
+    with_value (places_at document widget (suc at) words) (λ places. Ok (place ∷ places)))
     (first ∷ places) is in
     let place = one.0 in
-    let rest = value-there (places_at document widget (suc at) words) (λ places. Ok (place ∷ places)) (first ∷ places) one.2 in
+    let rest = value-there (places_at document widget (suc at) words) (λ places. Ok (place ∷ places)) (first ∷ places)
+    one.2 in
     let others = rest.0 in
     let whole : Ok (place ∷ others) ≡ Ok (first ∷ places) = rest.2 in
     let same : place ∷ others ≡ first ∷ places = cc in
@@ -76,22 +89,30 @@ IsOther EditReset = ⊤
 IsOther PeerCreate = ⊤
 IsOther command = ⊥
 
-module _ (limits : LimitTable) (document : Document) (widget : Widget) (P : Document → Type 0) (carried : IsCarried limits document widget P) where
+module _ (limits : LimitTable) (document : Document) (widget : Widget) (P : Document →
+    Type 0) (carried : IsCarried limits document widget P) where
   inserts : (at : ℕ) (words : List (List ℕ)) → P (insert limits document widget at words).document
   inserts at words =
       carried-with P document (first_of words) (insert_words limits document widget at) carried.same (λ given _.
-      carried-with P document (place_at document widget at given.0) (insert_pairs limits document widget (pairs_at (at + 1) given.1)) carried.same (λ place _.
+      carried-with P document (place_at document widget at given.0)
+      (insert_pairs limits document widget (pairs_at (at + 1) given.1)) carried.same (λ place _.
       carried-with P document (pairs_at (at + 1) given.1)
-      (λ pairs. unless_idle widget document (insert_at limits document widget (insertion_offset document widget place) pairs)) carried.same (λ pairs _.
-      carried-active P document widget (insert_at limits document widget (insertion_offset document widget place) pairs) carried.same
+      (λ pairs. unless_idle widget document (insert_at limits document widget (insertion_offset document widget place)
+      pairs)) carried.same (λ pairs _.
+      carried-active P document widget (insert_at limits document widget (insertion_offset document widget place) pairs)
+      carried.same
       (carried.inserted place pairs))))
 
-  replaces-places : (second from to : ℕ) (pairs : List Pair) → P (replace_places limits document widget second from to pairs).document
+  replaces-places : (second from to : ℕ) (pairs : List Pair) →
+      P (replace_places limits document widget second from to pairs).document
   replaces-places second from to pairs =
-      let change = replace_span limits document widget (insertion_offset document widget from) (insertion_offset document widget to) pairs in
-      elim (nat_lt to from) as (λ b. nat_lt to from ≡ b → P (if b then refused document (IndexOrder second) else unless_idle widget document change).document) [
+      let change = replace_span limits document widget (insertion_offset document widget from)
+      (insertion_offset document widget to) pairs in
+      elim (nat_lt to from) as (λ b. nat_lt to from ≡ b →
+      P (if b then refused document (IndexOrder second) else unless_idle widget document change).document) [
         | true ↦ λ _. carried.same
-        | false ↦ λ ordered. carried-active P document widget change carried.same (λ busy. carried.replaced from to pairs busy (ltb-false to from ordered))
+        | false ↦ λ ordered. carried-active P document widget change carried.same (λ busy.
+            carried.replaced from to pairs busy (ltb-false to from ordered))
       ] refl
 
   replaces : (at : ℕ) (words : List (List ℕ)) → P (replace limits document widget at words).document
@@ -99,15 +120,19 @@ module _ (limits : LimitTable) (document : Document) (widget : Widget) (P : Docu
       carried-with P document (first_two_of words) (replace_words limits document widget at) carried.same (λ given _.
       carried-with P document (place_at document widget at given.0) (λ from.
       change_with document (place_at document widget (at + 1) given.1) (λ to.
-      change_with document (pairs_at (at + 2) given.2) (replace_places limits document widget (at + 1) from to))) carried.same (λ from _.
+      change_with document (pairs_at (at + 2) given.2) (replace_places limits document widget (at + 1) from to)))
+      carried.same (λ from _.
       carried-with P document (place_at document widget (at + 1) given.1) (λ to.
-      change_with document (pairs_at (at + 2) given.2) (replace_places limits document widget (at + 1) from to)) carried.same (λ to _.
-      carried-with P document (pairs_at (at + 2) given.2) (replace_places limits document widget (at + 1) from to) carried.same (λ pairs _.
+      change_with document (pairs_at (at + 2) given.2) (replace_places limits document widget (at + 1) from to))
+      carried.same (λ to _.
+      carried-with P document (pairs_at (at + 2) given.2) (replace_places limits document widget (at + 1) from to)
+      carried.same (λ pairs _.
       replaces-places (at + 1) from to pairs))))
 
   deletes : (at : ℕ) (words : List (List ℕ)) → P (delete document widget at words).document
   deletes at words =
-      carried-with P document (places_at document widget at words) (λ places. unless_idle widget document (delete_places document widget places)) carried.same
+      carried-with P document (places_at document widget at words) (λ places.
+      unless_idle widget document (delete_places document widget places)) carried.same
       (λ places is.
       carried-active P document widget (delete_places document widget places) carried.same (λ busy.
       carried.deleted places busy (λ within. places-within document widget at words places within is)))
@@ -115,14 +140,16 @@ module _ (limits : LimitTable) (document : Document) (widget : Widget) (P : Docu
   sets : (at : ℕ) (words : List (List ℕ)) → P (mark_set limits document widget at words).document
   sets at words =
       carried-with P document (two_of words) (set_words limits document widget at) carried.same (λ given _.
-      carried-with P document (place_at document widget (at + 1) given.1) (set_at limits document widget given.0) carried.same (λ place _.
+      carried-with P document (place_at document widget (at + 1) given.1) (set_at limits document widget given.0)
+      carried.same (λ place _.
       carried.set given.0 (mark_offset document widget given.0 place) (place_named document widget given.0)))
 
   asks-gravity : (at : ℕ) (found : Option Place) → P (gravity_asked document at found).document
   asks-gravity at None = carried.same
   asks-gravity at (Some place) = carried.same
 
-  gives-gravity : (at : ℕ) (name : List ℕ) (found : Option Place) (gravity : Option Gravity) → P (gravity_given document widget at name found gravity).document
+  gives-gravity : (at : ℕ) (name : List ℕ) (found : Option Place) (gravity : Option Gravity) →
+      P (gravity_given document widget at name found gravity).document
   gives-gravity at name None gravity = carried.same
   gives-gravity at name (Some place) None = carried.same
   gives-gravity at name (Some place) (Some gravity) = carried.turned name (record place { gravity = gravity })
@@ -132,33 +159,40 @@ module _ (limits : LimitTable) (document : Document) (widget : Widget) (P : Docu
   turns-words at (name, Some word) = gives-gravity at name (place_named document widget name) (gravity_of word)
 
   turns : (at : ℕ) (words : List (List ℕ)) → P (mark_gravity document widget at words).document
-  turns at words = carried-with P document (one_or_two_of words) (gravity_words document widget at) carried.same (λ given _. turns-words at given)
+  turns at words = carried-with P document (one_or_two_of words) (gravity_words document widget at) carried.same
+      (λ given _. turns-words at given)
 
   adds : (at : ℕ) (words : List (List ℕ)) → P (tag_add limits document widget at words).document
   adds at words =
       carried-with P document (first_of words) (add_words limits document widget at) carried.same (λ given _.
-      carried-with P document (places_at document widget (at + 1) given.1) (add_spans limits document widget given.0) carried.same (λ places _.
+      carried-with P document (places_at document widget (at + 1) given.1) (add_spans limits document widget given.0)
+      carried.same (λ places _.
       carried.added given.0 places))
 
   removes : (at : ℕ) (words : List (List ℕ)) → P (tag_remove document widget at words).document
   removes at words =
       carried-with P document (first_of words) (remove_words document widget at) carried.same (λ given _.
-      carried-with P document (places_at document widget (at + 1) given.1) (remove_spans document widget given.0) carried.same (λ places _.
+      carried-with P document (places_at document widget (at + 1) given.1) (remove_spans document widget given.0)
+      carried.same (λ places _.
       carried.removed given.0 places))
 
   raises : (at : ℕ) (words : List (List ℕ)) → P (tag_raise document at words).document
-  raises at words = carried-with P document (one_or_two_of words) (reordered document at raised) carried.same (λ given _. carried.ordered at raised given)
+  raises at words = carried-with P document (one_or_two_of words) (reordered document at raised) carried.same
+      (λ given _. carried.ordered at raised given)
 
   lowers : (at : ℕ) (words : List (List ℕ)) → P (tag_lower document at words).document
-  lowers at words = carried-with P document (one_or_two_of words) (reordered document at lowered) carried.same (λ given _. carried.ordered at lowered given)
+  lowers at words = carried-with P document (one_or_two_of words) (reordered document at lowered) carried.same
+      (λ given _. carried.ordered at lowered given)
 
   modifies-word : (at : ℕ) (word : Option (List ℕ)) → P (modified_word document at word).document
   modifies-word at None = carried.same
   modifies-word at (Some word) =
-      carried-with P document (ok_or (boolean_of word) (BadBoolean at)) (modified_set document) carried.same (λ flag _. carried.modified flag)
+      carried-with P document (ok_or (boolean_of word) (BadBoolean at)) (modified_set document) carried.same (λ flag _.
+      carried.modified flag)
 
   modifies : (at : ℕ) (words : List (List ℕ)) → P (edit_modified document at words).document
-  modifies at words = carried-with P document (none_or_one_of words) (modified_word document at) carried.same (λ word _. modifies-word at word)
+  modifies at words = carried-with P document (none_or_one_of words) (modified_word document at) carried.same (λ word _.
+      modifies-word at word)
 
   -- ---- any command but three
 

@@ -1,5 +1,7 @@
 -- A document among others, by those before it: as one of them changes, one is added, and some end.
-use Rattle.std.proofs.Common.{◌≡◌, ℕ, zero, suc, ◌<◌, ◌≤◌, ◌||◌, Bool, true, false, cond, not, List, [], ◌∷◌, Some, None, filter, length, map, take, option_map, refl, sym, ap, ◌∙◌, arith, subst, true≢false, ◌⊎◌, inl, inr}
+use Rattle.std.proofs.Common.{◌≡◌, ℕ, zero, suc, ◌<◌, ◌≤◌, ◌||◌, Bool, true, false, cond, not, List, [], ◌∷◌, Some}
+use Rattle.std.proofs.Common.{None, filter, length, map, take, option_map, refl, sym, ap, ◌∙◌, arith, subst, true≢false}
+use Rattle.std.proofs.Common.{◌⊎◌, inl, inr}
 use Rattle.std.specs.Prelude.{find, nat_lt, slice_set, if◌then◌else◌}
 use Rattle.std.specs.List.{AllByRecursion}
 use Rattle.std.proofs.lemmas.Bool.{lt-ltb, ltb-true}
@@ -15,12 +17,14 @@ use Rattle.peers.proofs.WorldLaws.{left-names}
 
 -- ---- a document is set
 
-pub set-length : (documents : List Document) (place : ℕ) (new : Document) → length (slice_set documents place new) ≡ length documents
+pub set-length : (documents : List Document) (place : ℕ) (new : Document) →
+    length (slice_set documents place new) ≡ length documents
 set-length [] place new = refl
 set-length (document ∷ documents) zero new = refl
 set-length (document ∷ documents) (suc place) new = ap suc (set-length documents place new)
 
-pub set-at : (documents : List Document) (place : ℕ) (new : Document) → place < length documents → document_at (slice_set documents place new) place ≡ new
+pub set-at : (documents : List Document) (place : ℕ) (new : Document) → place < length documents →
+    document_at (slice_set documents place new) place ≡ new
 set-at [] place new within = absurd (omega (arith, within))
 set-at (document ∷ documents) zero new within = refl
 set-at (document ∷ documents) (suc place) new within = set-at documents place new (omega (arith, within))
@@ -31,7 +35,8 @@ set-other [] at place new apart = refl
 set-other (document ∷ documents) zero zero new apart = absurd (apart refl)
 set-other (document ∷ documents) zero (suc place) new apart = refl
 set-other (document ∷ documents) (suc at) zero new apart = refl
-set-other (document ∷ documents) (suc at) (suc place) new apart = set-other documents at place new (λ same. apart (ap suc same))
+set-other (document ∷ documents) (suc at) (suc place) new apart =
+    set-other documents at place new (λ same. apart (ap suc same))
 
 pub set-twice : (documents : List Document) (place : ℕ) (one other : Document)
     → slice_set (slice_set documents place one) place other ≡ slice_set documents place other
@@ -40,8 +45,10 @@ set-twice (document ∷ documents) zero one other = refl
 set-twice (document ∷ documents) (suc place) one other = ap (λ ds. document ∷ ds) (set-twice documents place one other)
 
 -- what holds of those before a place holds yet, where it does of one that is set
-pub front-changed : (Good : Document → Type 0) (documents : List Document) (place at : ℕ) (new : Document) → AllByRecursion Good (take place documents)
-    → (at < place → Good (document_at documents at) → Good new) → AllByRecursion Good (take place (slice_set documents at new))
+pub front-changed : (Good : Document → Type 0) (documents : List Document) (place at : ℕ) (new : Document) →
+    AllByRecursion Good (take place documents)
+    → (at < place → Good (document_at documents at) → Good new) →
+    AllByRecursion Good (take place (slice_set documents at new))
 front-changed Good [] place at new all grow = all
 front-changed Good (document ∷ documents) zero at new all grow = tt
 front-changed Good (document ∷ documents) (suc place) zero new all grow = (grow (omega arith) all.0, all.1)
@@ -55,20 +62,25 @@ pub home-at : (name : List ℕ) (documents : List Document) (place : ℕ) → ho
 home-at name [] place is = absurd (let h : None ≡ Some place = is in cc)
 home-at name (document ∷ documents) place is =
     elim (is_among name (window_names document)) as
-    (λ b. is_among name (window_names document) ≡ b → (if b then Some 0 else option_map suc (home name documents)) ≡ Some place
-    → (place < length (document ∷ documents)) × (is_among name (window_names (document_at (document ∷ documents) place)) ≡ true)) [
+    (λ b. is_among name (window_names document) ≡ b → (if b then Some 0 else option_map suc (home name documents))
+    ≡ Some place
+    → (place < length (document ∷ documents))
+    × (is_among name (window_names (document_at (document ∷ documents) place)) ≡ true)) [
       | true ↦ λ there one.
           let same : 0 ≡ place = cc in
-          subst (λ n. (n < length (document ∷ documents)) × (is_among name (window_names (document_at (document ∷ documents) n)) ≡ true)) same
+          subst (λ n. (n < length (document ∷ documents))
+          × (is_among name (window_names (document_at (document ∷ documents) n)) ≡ true)) same
           (omega arith, there)
       | false ↦ λ _ later. elim (home name documents) as (λ o. home name documents ≡ o → option_map suc o ≡ Some place
-          → (place < length (document ∷ documents)) × (is_among name (window_names (document_at (document ∷ documents) place)) ≡ true)) [
+          → (place < length (document ∷ documents))
+          × (is_among name (window_names (document_at (document ∷ documents) place)) ≡ true)) [
             | None ↦ λ _ none. absurd (let h : None ≡ Some place = none in cc)
             | Some k ↦ λ found one.
                 let rest = home-at name documents k found in
                 let within : k < length documents = rest.0 in
                 let same : suc k ≡ place = cc in
-                subst (λ n. (n < length (document ∷ documents)) × (is_among name (window_names (document_at (document ∷ documents) n)) ≡ true)) same
+                subst (λ n. (n < length (document ∷ documents))
+                × (is_among name (window_names (document_at (document ∷ documents) n)) ≡ true)) same
                 (omega (arith, within), rest.1)
           ] refl later
     ] refl is
@@ -77,17 +89,21 @@ pub home-first : (name : List ℕ) (documents : List Document) (place : ℕ) →
     → AllByRecursion (λ (d : Document). is_among name (window_names d) ≡ false) (take place documents)
     → is_among name (window_names (document_at documents place)) ≡ true → home name documents ≡ Some place
 home-first name [] place within none there = absurd (omega (arith, within))
-home-first name (document ∷ documents) zero within none there = ap (λ b. if b then Some 0 else option_map suc (home name documents)) there
+home-first name (document ∷ documents) zero within none there =
+    ap (λ b. if b then Some 0 else option_map suc (home name documents)) there
 home-first name (document ∷ documents) (suc place) within none there =
     ap (λ b. if b then Some 0 else option_map suc (home name documents)) none.0
     ∙ ap (option_map suc) (home-first name documents place (omega (arith, within)) none.1 there)
 
-pub home-same : (name : List ℕ) (documents : List Document) (place : ℕ) (new : Document) → window_names new ≡ window_names (document_at documents place)
+pub home-same : (name : List ℕ) (documents : List Document) (place : ℕ) (new : Document) →
+    window_names new ≡ window_names (document_at documents place)
     → home name (slice_set documents place new) ≡ home name documents
 home-same name [] place new same = refl
-home-same name (document ∷ documents) zero new same = ap (λ names. if is_among name names then Some 0 else option_map suc (home name documents)) same
+home-same name (document ∷ documents) zero new same =
+    ap (λ names. if is_among name names then Some 0 else option_map suc (home name documents)) same
 home-same name (document ∷ documents) (suc place) new same =
-    ap (λ found. if is_among name (window_names document) then Some 0 else option_map suc found) (home-same name documents place new same)
+    ap (λ found. if is_among name (window_names document) then Some 0
+    else option_map suc found) (home-same name documents place new same)
 
 same-flipped : (one other : List ℕ) → is_same one other ≡ true → is_same other one ≡ true
 same-flipped one other same = (bytes_eq-Decides other one).1 (sym ((bytes_eq-Decides one other).0 same))
@@ -102,10 +118,13 @@ found-among name document widget is = by document.widgets is
     by [] none = absurd (let h : None ≡ Some widget = none in cc)
     by (first ∷ widgets) there =
         elim (is_same first.name name) as
-        (λ b. is_same first.name name ≡ b → cond b (Some first) (find (λ (w : Widget). is_same w.name name) widgets) ≡ Some widget
+        (λ b. is_same first.name name ≡ b → cond b (Some first) (find (λ (w : Widget). is_same w.name name) widgets)
+        ≡ Some widget
         → (is_same name first.name || is_among name (map (λ (w : Widget). w.name) widgets)) ≡ true) [
-          | true ↦ λ same _. ap (λ b. b || is_among name (map (λ (w : Widget). w.name) widgets)) (same-flipped first.name name same)
-          | false ↦ λ _ later. or-true (is_same name first.name) (is_among name (map (λ (w : Widget). w.name) widgets)) (by widgets later)
+          | true ↦ λ same _. ap (λ b. b || is_among name (map (λ (w : Widget). w.name) widgets))
+              (same-flipped first.name name same)
+          | false ↦ λ _ later. or-true (is_same name first.name) (is_among name (map (λ (w : Widget). w.name) widgets))
+              (by widgets later)
         ] refl there
       where
         or-true : (b c : Bool) → c ≡ true → (b || c) ≡ true
@@ -117,7 +136,8 @@ found-among name document widget is = by document.widgets is
 -- it has a widget, and none of a name that the other has too
 pub record IsBefore (document before : Document) : Type 0 where
   pub shown : 0 < length before.widgets
-  pub apart : (name : List ℕ) → is_among name (window_names document) ≡ true → is_among name (window_names before) ≡ false
+  pub apart : (name : List ℕ) → is_among name (window_names document) ≡ true →
+      is_among name (window_names before) ≡ false
 
 pub neither : (b c : Bool) → (b || c) ≡ false → (b ≡ false) × (c ≡ false)
 neither false c none = (refl, none)
@@ -125,7 +145,8 @@ neither true c none = absurd (true≢false none)
 
 -- names that none had are apart from all others
 pub before-grown : (documents : List Document) (place : ℕ) (old new : Document)
-    → ((name : List ℕ) → is_among name (window_names new) ≡ true → (is_among name (window_names old) ≡ true) ⊎ (is_among name (windows_of documents) ≡ false))
+    → ((name : List ℕ) → is_among name (window_names new) ≡ true →
+    (is_among name (window_names old) ≡ true) ⊎ (is_among name (windows_of documents) ≡ false))
     → AllByRecursion (IsBefore old) (take place documents) → AllByRecursion (IsBefore new) (take place documents)
 before-grown documents zero old new known all = tt
 before-grown [] (suc place) old new known all = tt
@@ -153,7 +174,8 @@ all-kept [] = refl
 all-kept (widget ∷ widgets) = ap (λ ws. widget ∷ ws) (all-kept widgets)
 
 keeps-shown : (document : Document) → 0 < length document.widgets → keeps_some [] document ≡ true
-keeps-shown document shown = ap (λ (ws : List Widget). nat_lt 0 (length ws)) (all-kept document.widgets) ∙ lt-ltb 0 (length document.widgets) shown
+keeps-shown document shown = ap (λ (ws : List Widget). nat_lt 0 (length ws)) (all-kept document.widgets)
+    ∙ lt-ltb 0 (length document.widgets) shown
 
 pub front-stays : (document : Document) (documents : List Document) (place : ℕ) → place ≤ length documents
     → AllByRecursion (IsBefore document) (take place documents)
@@ -161,7 +183,8 @@ pub front-stays : (document : Document) (documents : List Document) (place : ℕ
 front-stays document documents zero within all = refl
 front-stays document [] (suc place) within all = absurd (omega (arith, within))
 front-stays document (first ∷ documents) (suc place) within all =
-    ap (λ b. length (cond b (first ∷ filter (keeps_some []) (take place documents)) (filter (keeps_some []) (take place documents))))
+    ap (λ b. length (cond b (first ∷ filter (keeps_some []) (take place documents))
+    (filter (keeps_some []) (take place documents))))
     (keeps-shown first all.0.shown)
     ∙ ap suc (front-stays document documents place (omega (arith, within)) all.1)
 
@@ -175,9 +198,11 @@ module _ (names : List (List ℕ)) where
   abbrev pub left : List Document → List Document
   left documents = filter has_widgets (map (without_widgets names) documents)
 
-  pub left-at : (documents : List Document) (place : ℕ) → place < length documents → keeps_some names (document_at documents place) ≡ true
+  pub left-at : (documents : List Document) (place : ℕ) → place < length documents →
+      keeps_some names (document_at documents place) ≡ true
       → (length (filter (keeps_some names) (take place documents)) < length (left documents))
-      × (document_at (left documents) (length (filter (keeps_some names) (take place documents))) ≡ without_widgets names (document_at documents place))
+      × (document_at (left documents) (length (filter (keeps_some names) (take place documents)))
+      ≡ without_widgets names (document_at documents place))
   left-at [] place within keeps = absurd (omega (arith, within))
   left-at (document ∷ documents) zero within keeps = (
     subst (λ b. 0 < length (cond b (thin document ∷ left documents) (left documents))) (sym keeps) (omega arith),
@@ -188,16 +213,19 @@ module _ (names : List (List ℕ)) where
       let count = length (filter (keeps_some names) (take place documents)) in
       let less : count < length (left documents) = rest.0 in
       elim (has_widgets (thin document)) as (λ b.
-      (length (cond b (document ∷ filter (keeps_some names) (take place documents)) (filter (keeps_some names) (take place documents))) < length
+      (length (cond b (document ∷ filter (keeps_some names) (take place documents))
+      (filter (keeps_some names) (take place documents))) < length
       (cond b (thin document ∷ left documents) (left documents)))
       × (document_at (cond b (thin document ∷ left documents) (left documents))
-      (length (cond b (document ∷ filter (keeps_some names) (take place documents)) (filter (keeps_some names) (take place documents))))
+      (length (cond b (document ∷ filter (keeps_some names) (take place documents))
+      (filter (keeps_some names) (take place documents))))
       ≡ without_widgets names (document_at documents place))) [
         | true ↦ (omega (arith, less), rest.1)
         | false ↦ rest
       ]
 
-  filtered-none : (name : List ℕ) (keeps : List ℕ → Bool) (all : List (List ℕ)) → is_among name all ≡ false → is_among name (filter keeps all) ≡ false
+  filtered-none : (name : List ℕ) (keeps : List ℕ → Bool) (all : List (List ℕ)) → is_among name all ≡ false →
+      is_among name (filter keeps all) ≡ false
   filtered-none name keeps [] none = refl
   filtered-none name keeps (first ∷ all) none =
       let parts = neither (is_same name first) (is_among name all) none in
@@ -207,28 +235,35 @@ module _ (names : List (List ℕ)) where
         | false ↦ rest
       ]
 
-  pub left-among : (name : List ℕ) (document : Document) → is_among name (window_names (thin document)) ≡ true → is_among name (window_names document) ≡ true
-  left-among name document there = elim (is_among name (window_names document)) as (λ b. is_among name (window_names document) ≡ b → b ≡ true) [
-    | true ↦ λ _. refl
-    | false ↦ λ none. absurd (true≢false (sym there ∙ ap (is_among name) (left-names names document)
-        ∙ filtered-none name (λ n. not (is_among n names)) (window_names document) none))
-  ] refl
+  pub left-among : (name : List ℕ) (document : Document) → is_among name (window_names (thin document)) ≡ true →
+      is_among name (window_names document) ≡ true
+  left-among name document there =
+      elim (is_among name (window_names document)) as (λ b. is_among name (window_names document) ≡ b → b ≡ true) [
+        | true ↦ λ _. refl
+        | false ↦ λ none. absurd (true≢false (sym there ∙ ap (is_among name) (left-names names document)
+            ∙ filtered-none name (λ n. not (is_among n names)) (window_names document) none))
+      ] refl
 
-  left-before : (document before : Document) → IsBefore document before → has_widgets (thin before) ≡ true → IsBefore (thin document) (thin before)
+  left-before : (document before : Document) → IsBefore document before → has_widgets (thin before) ≡ true →
+      IsBefore (thin document) (thin before)
   left-before document before is stays = record {
     shown = ltb-true 0 (length (thin before).widgets) stays;
     apart = λ name there. ap (is_among name) (left-names names before)
-        ∙ filtered-none name (λ n. not (is_among n names)) (window_names before) (is.apart name (left-among name document there));
+        ∙ filtered-none name (λ n. not (is_among n names)) (window_names before)
+        (is.apart name (left-among name document there));
   }
 
-  pub left-front : (document : Document) (documents : List Document) (place : ℕ) → AllByRecursion (IsBefore document) (take place documents)
-      → AllByRecursion (IsBefore (thin document)) (take (length (filter (keeps_some names) (take place documents))) (left documents))
+  pub left-front : (document : Document) (documents : List Document) (place : ℕ) →
+      AllByRecursion (IsBefore document) (take place documents)
+      → AllByRecursion (IsBefore (thin document))
+      (take (length (filter (keeps_some names) (take place documents))) (left documents))
   left-front document documents zero all = tt
   left-front document [] (suc place) all = tt
   left-front document (first ∷ documents) (suc place) all =
       let rest = left-front document documents place all.1 in
       elim (has_widgets (thin first)) as (λ b. has_widgets (thin first) ≡ b → AllByRecursion (IsBefore (thin document))
-      (take (length (cond b (first ∷ filter (keeps_some names) (take place documents)) (filter (keeps_some names) (take place documents))))
+      (take (length (cond b (first ∷ filter (keeps_some names) (take place documents))
+      (filter (keeps_some names) (take place documents))))
       (cond b (thin first ∷ left documents) (left documents)))) [
         | true ↦ λ stays. (left-before document first all.0 stays, rest)
         | false ↦ λ _. rest

@@ -1,5 +1,6 @@
 -- The texts of ranges, as a list of those that aren't empty.
-use Rattle.std.proofs.Common.{◌≡◌, ◌≢◌, ℕ, zero, suc, true≢false, ◌-◌, ◌<◌, ◌≤◌, ◌==◌, true, false, cond, List, [], ◌∷◌, ◌++◌, length, take, drop, get_or, refl, sym, ap, subst, ◌∙◌, arith}
+use Rattle.std.proofs.Common.{◌≡◌, ◌≢◌, ℕ, zero, suc, true≢false, ◌-◌, ◌<◌, ◌≤◌, ◌==◌, true, false, cond, List, [], ◌∷◌}
+use Rattle.std.proofs.Common.{◌++◌, length, take, drop, get_or, refl, sym, ap, subst, ◌∙◌, arith}
 use Rattle.std.specs.Prelude.{filter, if◌then◌else◌}
 use Rattle.std.proofs.lemmas.List.{take_rest, append_assoc, append-nil}
 use Rattle.tcl_words.specs.ListGrowth.{Goes}
@@ -17,50 +18,63 @@ pub record AreGot (document : Document) (widget : Widget) (places rest : List �
   pub goes : Goes old new (filter is_filled done)
 
 texts-two : (document : Document) (widget : Widget) (places : List ℕ) → 2 ≤ length places
-    → texts_of_places document widget places ≡ text_of document widget (get_or places 0 0) (get_or places 1 0) ∷ texts_of_places document widget (drop 2 places)
+    → texts_of_places document widget places ≡ text_of document widget (get_or places 0 0) (get_or places 1 0)
+    ∷ texts_of_places document widget (drop 2 places)
 texts-two document widget [] two = absurd (omega arith)
 texts-two document widget (from ∷ []) two = absurd (omega arith)
 texts-two document widget (from ∷ to ∷ places) two = refl
 
-pub got-one_more : (document : Document) (widget : Widget) (old between new text : List ℕ) (done : List (List ℕ)) → Goes old between (filter is_filled done)
+pub got-one_more : (document : Document) (widget : Widget) (old between new text : List ℕ) (done : List (List ℕ)) →
+    Goes old between (filter is_filled done)
     → Goes between new (if is_filled text then text ∷ [] else []) → Goes old new (filter is_filled (done ++ text ∷ []))
 got-one_more document widget old between new text done first second =
     subst (Goes old new) (sym (filter-append is_filled done (text ∷ [])))
-    (goes_on old between new (filter is_filled done) _ first (elim (is_filled text) as (λ b. Goes between new (if b then text ∷ [] else []) → Goes between new (cond b (text ∷ []) [])) [
+    (goes_on old between new (filter is_filled done) _ first
+    (elim (is_filled text) as (λ b. Goes between new (if b then text ∷ [] else []) →
+    Goes between new (cond b (text ∷ []) [])) [
       | true ↦ λ goes. goes
       | false ↦ λ goes. goes
     ] second))
 
-pub got-more : (document : Document) (widget : Widget) (places rest old between new text : List ℕ) → 2 ≤ length rest → AreGot document widget places rest old between
-    → text ≡ text_of document widget (get_or rest 0 0) (get_or rest 1 0) → Goes between new (if is_filled text then text ∷ [] else [])
+pub got-more : (document : Document) (widget : Widget) (places rest old between new text : List ℕ) → 2 ≤ length rest →
+    AreGot document widget places rest old between
+    → text ≡ text_of document widget (get_or rest 0 0) (get_or rest 1 0) →
+    Goes between new (if is_filled text then text ∷ [] else [])
     → AreGot document widget places (take (length rest - 2) (drop 2 rest)) old new
 got-more document widget places rest old between new text two got is goes = record {
   done = got.done ++ text ∷ [];
-  texts = got.texts ∙ ap (λ ts. got.done ++ ts) (texts-two document widget rest two ∙ ap (λ t. t ∷ texts_of_places document widget (drop 2 rest)) (sym is))
+  texts = got.texts ∙ ap (λ ts. got.done ++ ts) (texts-two document widget rest two
+      ∙ ap (λ t. t ∷ texts_of_places document widget (drop 2 rest)) (sym is))
       ∙ sym (append_assoc got.done (text ∷ []) (texts_of_places document widget (drop 2 rest)))
       ∙ ap (λ ps. (got.done ++ text ∷ []) ++ texts_of_places document widget ps) (sym (take_rest rest 2));
   goes = got-one_more document widget old between new text got.done got.goes goes;
 }
 
-pub got-end : (document : Document) (widget : Widget) (places rest old new : List ℕ) → length rest ≡ 0 → AreGot document widget places rest old new
+pub got-end : (document : Document) (widget : Widget) (places rest old new : List ℕ) → length rest ≡ 0 →
+    AreGot document widget places rest old new
     → Goes old new (filter is_filled (texts_of_places document widget places))
-got-end document widget places [] old new none got = subst (λ ts. Goes old new (filter is_filled ts)) (sym (got.texts ∙ append-nil got.done)) got.goes
+got-end document widget places [] old new none got =
+    subst (λ ts. Goes old new (filter is_filled ts)) (sym (got.texts ∙ append-nil got.done)) got.goes
 got-end document widget places (place ∷ rest) old new none got = absurd (omega (arith, none))
 
-pub got-last : (document : Document) (widget : Widget) (places rest old between new text : List ℕ) → length rest ≡ 1 → AreGot document widget places rest old between
-    → text ≡ text_of document widget (get_or rest 0 0) (suc (get_or rest 0 0)) → Goes between new (if is_filled text then text ∷ [] else [])
+pub got-last : (document : Document) (widget : Widget) (places rest old between new text : List ℕ) → length rest ≡ 1 →
+    AreGot document widget places rest old between
+    → text ≡ text_of document widget (get_or rest 0 0) (suc (get_or rest 0 0)) →
+    Goes between new (if is_filled text then text ∷ [] else [])
     → Goes old new (filter is_filled (texts_of_places document widget places))
 got-last document widget places [] old between new text one got is goes = absurd (omega (arith, one))
 got-last document widget places (from ∷ to ∷ rest) old between new text one got is goes = absurd (omega (arith, one))
 got-last document widget places (from ∷ []) old between new text one got is goes =
-    subst (λ ts. Goes old new (filter is_filled ts)) (sym (got.texts ∙ ap (λ t. got.done ++ t ∷ []) (sym is))) (got-one_more document widget old between new text got.done got.goes goes)
+    subst (λ ts. Goes old new (filter is_filled ts)) (sym (got.texts ∙ ap (λ t. got.done ++ t ∷ []) (sym is)))
+    (got-one_more document widget old between new text got.done got.goes goes)
 
 pub one_left : (n : ℕ) → (n == 0) ≡ false → n < 2 → n ≡ 1
 one_left zero some few = absurd (true≢false some)
 one_left (suc zero) some few = refl
 one_left (suc (suc n)) some few = absurd (omega (arith, few))
 
-pub got-empty : (document : Document) (widget : Widget) (places : List ℕ) → length places ≡ 0 → got document widget places ≡ Text []
+pub got-empty : (document : Document) (widget : Widget) (places : List ℕ) → length places ≡ 0 →
+    got document widget places ≡ Text []
 got-empty document widget [] none = refl
 got-empty document widget (place ∷ places) none = absurd (omega (arith, none))
 

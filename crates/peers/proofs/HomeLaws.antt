@@ -1,8 +1,12 @@
 -- Where widgets are found, as documents and widgets come and go. A document is known by the names of its widgets here.
-use Rattle.std.proofs.Common.{◌≡◌, ℕ, zero, suc, ◌+◌, ◌-◌, ◌<◌, ◌≤◌, Bool, true, false, cond, not, List, [], ◌∷◌, ◌++◌, length, map, take, drop, get_or, replicate, insert, slice_set, filter, flat_map, option_map, is_some, Option, Some, None, if◌then◌else◌, refl, sym, ap, ap₂, subst, ◌∙◌, append_assoc, append-nil, arith}
+use Rattle.std.proofs.Common.{◌≡◌, ℕ, zero, suc, ◌+◌, ◌-◌, ◌<◌, ◌≤◌, Bool, true, false, cond, not, List, [], ◌∷◌, ◌++◌}
+use Rattle.std.proofs.Common.{length, map, take, drop, get_or, replicate, insert, slice_set, filter, flat_map}
+use Rattle.std.proofs.Common.{option_map, is_some, Option, Some, None, if◌then◌else◌, refl, sym, ap, ap₂, subst, ◌∙◌}
+use Rattle.std.proofs.Common.{append_assoc, append-nil, arith}
 use Rattle.std.specs.Prelude.{◌||◌}
 use Rattle.std.specs.List.{list_any}
-use Rattle.std.proofs.lemmas.List.{map-append, length-append, length-map, length-replicate, length-take, take-append-le, take_all, take_more, drop_all, flat_map_more}
+use Rattle.std.proofs.lemmas.List.{map-append, length-append, length-map, length-replicate, length-take, take-append-le}
+use Rattle.std.proofs.lemmas.List.{take_all, take_more, drop_all, flat_map_more}
 use lib.Seq.{take-append-add}
 use Rattle.std.proofs.lemmas.List.Edits.{insert_end, insert-append_left, insert-append_right}
 use Rattle.command_parts.specs.Words.{is_among, is_same}
@@ -37,7 +41,8 @@ found-in name place (first ∷ names) others =
 pub found-some : (name : List ℕ) (homes : Homes) → is_some (home_in name homes) ≡ is_among name (names_in homes)
 found-some name [] = refl
 found-some name (home ∷ homes) =
-    elim (is_same name home.0) as (λ b. is_some (if b then Some home.1 else home_in name homes) ≡ (b || is_among name (names_in homes))) [
+    elim (is_same name home.0) as (λ b. is_some (if b then Some home.1 else home_in name homes)
+    ≡ (b || is_among name (names_in homes))) [
       | false ↦ found-some name homes
       | true ↦ refl
     ]
@@ -67,13 +72,15 @@ module _ {D : Type 0} (names : D → List (List ℕ)) where
   homes-found name place [] = refl
   homes-found name place (d ∷ ds) =
       found-in name place (names d) (homes_from (suc place) (map names ds))
-      ∙ elim (is_among name (names d)) as (λ b. (if b then Some place else home_in name (homes_from (suc place) (map names ds)))
+      ∙ elim (is_among name (names d)) as (λ b. (if b then Some place
+      else home_in name (homes_from (suc place) (map names ds)))
       ≡ option_map (λ k. place + k) (if b then Some 0 else option_map suc (first_with name ds))) [
         | false ↦ homes-found name (suc place) ds ∙ onward (first_with name ds)
         | true ↦ let same : place ≡ place + 0 = omega arith in ap Some same
       ]
     where
-      onward : (found : Option ℕ) → option_map (λ k. suc place + k) found ≡ option_map (λ k. place + k) (option_map suc found)
+      onward : (found : Option ℕ) → option_map (λ k. suc place + k) found
+          ≡ option_map (λ k. place + k) (option_map suc found)
       onward None = refl
       onward (Some k) = let same : suc place + k ≡ place + suc k = omega arith in ap Some same
 
@@ -91,10 +98,12 @@ module _ {D : Type 0} (names : D → List (List ℕ)) where
   pub homes-added : (place : ℕ) (ds : List D) (d : D) → homes_from place (map names (ds ++ d ∷ []))
       ≡ homes_from place (map names ds) ++ placed_at (place + length ds) (names d)
   homes-added place [] d =
-      append-nil (placed_at place (names d)) ∙ (let same : place ≡ place + 0 = omega arith in ap (λ p. placed_at p (names d)) same)
+      append-nil (placed_at place (names d)) ∙ (let same : place ≡ place + 0 = omega arith in
+      ap (λ p. placed_at p (names d)) same)
   homes-added place (e ∷ ds) d =
       ap (λ hs. placed_at place (names e) ++ hs) (homes-added (suc place) ds d)
-      ∙ sym (append_assoc (placed_at place (names e)) (homes_from (suc place) (map names ds)) (placed_at (suc place + length ds) (names d)))
+      ∙ sym (append_assoc (placed_at place (names e)) (homes_from (suc place) (map names ds))
+      (placed_at (suc place + length ds) (names d)))
       ∙ (let same : suc place + length ds ≡ place + suc (length ds) = omega arith in
       ap (λ p. (placed_at place (names e) ++ homes_from (suc place) (map names ds)) ++ placed_at p (names d)) same)
 
@@ -122,17 +131,20 @@ module _ {D : Type 0} (names : D → List (List ℕ)) where
       let long : length here ≡ length (names d) = length-map (names d) (λ n. (n, place)) in
       let count : length (names d ++ flat_map names (take (at + 1) ds)) ≡ length (names d) + more =
       length-append (names d) (flat_map names (take (at + 1) ds)) in
-      let back : length (names d ++ flat_map names (take (at + 1) ds)) - length (names d) ≡ more = omega (arith, count) in
+      let back : length (names d ++ flat_map names (take (at + 1) ds)) - length (names d)
+      ≡ more = omega (arith, count) in
       let same : suc place + at ≡ place + suc at = omega arith in
       ap (λ hs. here ++ hs) (homes-peer (suc place) at ds new nothing name (omega (arith, within)) is)
       ∙ ap₂ (λ i p. here ++ insert behind i (name, p)) (sym back) same
-      ∙ sym (insert-append_right here behind (length (names d)) (length (names d ++ flat_map names (take (at + 1) ds))) (name, place + suc at)
+      ∙ sym (insert-append_right here behind (length (names d)) (length (names d ++ flat_map names (take (at + 1) ds)))
+      (name, place + suc at)
       long (omega (arith, count)))
       ∙ (let step : suc (at + 1) ≡ suc at + 1 = omega arith in
       ap (λ n. insert (here ++ behind) (length (flat_map names (take n (d ∷ ds)))) (name, place + suc at)) step)
 
   -- a document that keeps its widgets
-  pub names-same : (at : ℕ) (ds : List D) (new nothing : D) → names new ≡ names (get_or ds at nothing) → map names (slice_set ds at new) ≡ map names ds
+  pub names-same : (at : ℕ) (ds : List D) (new nothing : D) → names new ≡ names (get_or ds at nothing) →
+      map names (slice_set ds at new) ≡ map names ds
   names-same at [] new nothing is = refl
   names-same zero (d ∷ ds) new nothing is = ap (λ ns. ns ∷ map names ds) is
   names-same (suc at) (d ∷ ds) new nothing is = ap (λ rest. names d ∷ rest) (names-same at ds new nothing is)
@@ -153,10 +165,16 @@ module _ {D : Type 0} (names : D → List (List ℕ)) where
   front-count zero ds = omega arith
   front-count (suc count) [] = omega arith
   front-count (suc count) (d ∷ ds) =
-      omega (arith, front-count count ds, length-append (names d) (flat_map names (take count ds)), length-append (names d) (flat_map names ds))
+      omega (
+        arith,
+        front-count count ds,
+        length-append (names d) (flat_map names (take count ds)),
+        length-append (names d) (flat_map names ds),
+      )
 
   pub next-count : (count : ℕ) (ds : List D) (nothing : D) → count < length ds
-      → length (flat_map names (take (count + 1) ds)) ≡ length (flat_map names (take count ds)) + length (names (get_or ds count nothing))
+      → length (flat_map names (take (count + 1) ds))
+      ≡ length (flat_map names (take count ds)) + length (names (get_or ds count nothing))
   next-count count ds nothing within =
       ap (λ front. length (flat_map names front)) (take_more ds count nothing within)
       ∙ ap length (flat_map-append (take count ds) (get_or ds count nothing ∷ []))
@@ -165,10 +183,12 @@ module _ {D : Type 0} (names : D → List (List ℕ)) where
     where
       flat_map-append : (xs ys : List D) → flat_map names (xs ++ ys) ≡ flat_map names xs ++ flat_map names ys
       flat_map-append [] ys = refl
-      flat_map-append (x ∷ xs) ys = ap (λ rest. names x ++ rest) (flat_map-append xs ys) ∙ sym (append_assoc (names x) (flat_map names xs) (flat_map names ys))
+      flat_map-append (x ∷ xs) ys = ap (λ rest. names x ++ rest) (flat_map-append xs ys)
+          ∙ sym (append_assoc (names x) (flat_map names xs) (flat_map names ys))
 
   -- the widgets of the next document end where others do, or at the end
-  pub noted-within : (ds : List D) (count end : ℕ) (homes : Homes) (nothing : D) → AreNoted ds count end homes → count < length ds
+  pub noted-within : (ds : List D) (count end : ℕ) (homes : Homes) (nothing : D) → AreNoted ds count end homes →
+      count < length ds
       → end + length (names (get_or ds count nothing)) ≤ length homes
   noted-within ds count end homes nothing noted within =
       omega (
@@ -180,7 +200,8 @@ module _ {D : Type 0} (names : D → List (List ℕ)) where
         length-map homes (λ home. home.0),
       )
 
-  pub noted-more : (ds : List D) (count start end : ℕ) (old new : Homes) (nothing : D) → AreNoted ds count start old → count < length ds
+  pub noted-more : (ds : List D) (count start end : ℕ) (old new : Homes) (nothing : D) → AreNoted ds count start old →
+      count < length ds
       → end ≡ start + length (names (get_or ds count nothing)) → names_in new ≡ names_in old
       → places_in new ≡ take start (places_in old) ++ replicate (end - start) count ++ drop end (places_in old)
       → AreNoted ds (count + 1) end new
@@ -202,42 +223,54 @@ module _ {D : Type 0} (names : D → List (List ℕ)) where
             ∙ ap (λ n. take n (front ++ replicate c count ++ drop end (places_in old))) at_end
             ∙ ap (take (length front + c)) (append_assoc front (replicate c count) (drop end (places_in old)))
             ∙ take-append-add front (replicate c count ++ drop end (places_in old)) c
-            ∙ ap (λ xs. front ++ xs) (take-append-le c (replicate c count) (drop end (places_in old)) (omega (arith, counted))
+            ∙ ap (λ xs. front ++ xs) (take-append-le c (replicate c count) (drop end (places_in old))
+            (omega (arith, counted))
             ∙ take_all c (replicate c count) (omega (arith, counted)))
             ∙ ap₂ (λ xs ys. xs ++ ys) noted.right (sym (placed-places count (names d)))
             ∙ sym (map-append (λ home. home.1) (homes_from 0 (map names (take count ds))) (placed_at count (names d)))
-            ∙ ap places_in ((let here : count ≡ 0 + length (take count ds) = omega (arith, length-take-least count ds (omega (arith, within))) in
+            ∙ ap places_in ((let here : count ≡ 0 + length (take count ds) = omega (
+              arith,
+              length-take-least count ds (omega (arith, within)),
+            ) in
             ap (λ p. homes_from 0 (map names (take count ds)) ++ placed_at p (names d)) here)
-            ∙ sym (homes-added 0 (take count ds) d) ∙ ap (λ front. homes_from 0 (map names front)) (sym (take_more ds count nothing within)));
+            ∙ sym (homes-added 0 (take count ds) d)
+            ∙ ap (λ front. homes_from 0 (map names front)) (sym (take_more ds count nothing within)));
       }
     where
       length-take-least : {A : Type 0} (n : ℕ) (xs : List A) → n ≤ length xs → length (take n xs) ≡ n
       length-take-least n xs le = omega (arith, length-take n xs, le)
 
-  pub noted-all : (ds : List D) (count end : ℕ) (homes : Homes) → AreNoted ds count end homes → length ds ≤ count → homes ≡ homes_from 0 (map names ds)
+  pub noted-all : (ds : List D) (count end : ℕ) (homes : Homes) → AreNoted ds count end homes → length ds ≤ count →
+      homes ≡ homes_from 0 (map names ds)
   noted-all ds count end homes noted all =
       let whole : take count ds ≡ ds = take_all count ds all in
       let long : length (places_in homes) ≡ length homes = length-map homes (λ home. home.1) in
-      let reached : end ≡ length homes = noted.end_is ∙ ap (λ front. length (flat_map names front)) whole ∙ sym (ap length noted.names_stay) ∙ length-map homes (λ home. home.0) in
+      let reached : end ≡ length homes = noted.end_is ∙ ap (λ front. length (flat_map names front)) whole
+      ∙ sym (ap length noted.names_stay) ∙ length-map homes (λ home. home.0) in
       homes-by_parts homes (homes_from 0 (map names ds))
       (noted.names_stay ∙ sym (homes-names 0 ds))
-      (sym (take_all end (places_in homes) (omega (arith, reached, long))) ∙ noted.right ∙ ap (λ front. places_in (homes_from 0 (map names front))) whole)
+      (sym (take_all end (places_in homes) (omega (arith, reached, long))) ∙ noted.right
+      ∙ ap (λ front. places_in (homes_from 0 (map names front))) whole)
 
 -- ---- widgets that go
 
-pub names-filtered : (keeps : List ℕ → Bool) (homes : Homes) → names_in (filter (λ home. keeps home.0) homes) ≡ filter keeps (names_in homes)
+pub names-filtered : (keeps : List ℕ → Bool) (homes : Homes) →
+    names_in (filter (λ home. keeps home.0) homes) ≡ filter keeps (names_in homes)
 names-filtered keeps [] = refl
 names-filtered keeps (home ∷ homes) =
-    elim (keeps home.0) as (λ b. names_in (cond b (home ∷ filter (λ h. keeps h.0) homes) (filter (λ h. keeps h.0) homes))
+    elim (keeps home.0) as (λ b.
+    names_in (cond b (home ∷ filter (λ h. keeps h.0) homes) (filter (λ h. keeps h.0) homes))
     ≡ cond b (home.0 ∷ filter keeps (names_in homes)) (filter keeps (names_in homes))) [
       | false ↦ names-filtered keeps homes
       | true ↦ ap (λ ns. home.0 ∷ ns) (names-filtered keeps homes)
     ]
 
-filter-append : {A : Type 0} (keeps : A → Bool) (xs ys : List A) → filter keeps (xs ++ ys) ≡ filter keeps xs ++ filter keeps ys
+filter-append : {A : Type 0} (keeps : A → Bool) (xs ys : List A) →
+    filter keeps (xs ++ ys) ≡ filter keeps xs ++ filter keeps ys
 filter-append keeps [] ys = refl
 filter-append keeps (x ∷ xs) ys =
-    elim (keeps x) as (λ b. cond b (x ∷ filter keeps (xs ++ ys)) (filter keeps (xs ++ ys)) ≡ cond b (x ∷ filter keeps xs) (filter keeps xs) ++ filter keeps ys) [
+    elim (keeps x) as (λ b. cond b (x ∷ filter keeps (xs ++ ys)) (filter keeps (xs ++ ys))
+    ≡ cond b (x ∷ filter keeps xs) (filter keeps xs) ++ filter keeps ys) [
       | false ↦ filter-append keeps xs ys
       | true ↦ ap (λ zs. x ∷ zs) (filter-append keeps xs ys)
     ]
@@ -249,7 +282,8 @@ pub names-left : {D : Type 0} (names : D → List (List ℕ)) (thin : D → D) (
 names-left names thin has keeps left none [] = refl
 names-left names thin has keeps left none (d ∷ ds) =
     let rest = names-left names thin has keeps left none ds in
-    elim (has (thin d)) as (λ b. has (thin d) ≡ b → flat_map names (cond b (thin d ∷ filter has (map thin ds)) (filter has (map thin ds)))
+    elim (has (thin d)) as (λ b. has (thin d) ≡ b →
+    flat_map names (cond b (thin d ∷ filter has (map thin ds)) (filter has (map thin ds)))
     ≡ filter keeps (names d ++ flat_map names ds)) [
       | false ↦ λ gone. rest ∙ ap (λ xs. xs ++ filter keeps (flat_map names ds)) (sym (none (thin d) gone) ∙ left d)
           ∙ sym (filter-append keeps (names d) (flat_map names ds))
@@ -260,19 +294,24 @@ names-left names thin has keeps left none (d ∷ ds) =
 pub filter-twice : {A : Type 0} (keeps : A → Bool) (xs : List A) → filter keeps (filter keeps xs) ≡ filter keeps xs
 filter-twice keeps [] = refl
 filter-twice keeps (x ∷ xs) =
-    elim (keeps x) as (λ b. keeps x ≡ b → filter keeps (cond b (x ∷ filter keeps xs) (filter keeps xs)) ≡ cond b (x ∷ filter keeps xs) (filter keeps xs)) [
+    elim (keeps x) as (λ b. keeps x ≡ b → filter keeps (cond b (x ∷ filter keeps xs) (filter keeps xs))
+    ≡ cond b (x ∷ filter keeps xs) (filter keeps xs)) [
       | false ↦ λ gone. filter-twice keeps xs
-      | true ↦ λ kept. ap (λ b. cond b (x ∷ filter keeps (filter keeps xs)) (filter keeps (filter keeps xs))) kept ∙ ap (λ ys. x ∷ ys) (filter-twice keeps xs)
+      | true ↦ λ kept. ap (λ b. cond b (x ∷ filter keeps (filter keeps xs)) (filter keeps (filter keeps xs))) kept
+          ∙ ap (λ ys. x ∷ ys) (filter-twice keeps xs)
     ] refl
 
 -- those that are changed are those that stay
-pub filter-changed : {A : Type 0} (keeps has : A → Bool) (one other : A → A) → ((x : A) → keeps (one x) ≡ has (other x)) → ((x : A) → has (other x) ≡ true → one x ≡ other x)
+pub filter-changed : {A : Type 0} (keeps has : A → Bool) (one other : A → A) →
+    ((x : A) → keeps (one x) ≡ has (other x)) → ((x : A) → has (other x) ≡ true → one x ≡ other x)
     → (xs : List A) → filter keeps (map one xs) ≡ filter has (map other xs)
 filter-changed keeps has one other same alike [] = refl
 filter-changed keeps has one other same alike (x ∷ xs) =
     let rest = filter-changed keeps has one other same alike xs in
     ap (λ b. cond b (one x ∷ filter keeps (map one xs)) (filter keeps (map one xs))) (same x)
-    ∙ elim (has (other x)) as (λ b. has (other x) ≡ b → cond b (one x ∷ filter keeps (map one xs)) (filter keeps (map one xs)) ≡ cond b (other x ∷ filter has (map other xs)) (filter has (map other xs))) [
+    ∙ elim (has (other x)) as (λ b. has (other x) ≡ b →
+    cond b (one x ∷ filter keeps (map one xs)) (filter keeps (map one xs))
+    ≡ cond b (other x ∷ filter has (map other xs)) (filter has (map other xs))) [
       | false ↦ λ _. rest
       | true ↦ λ stays. ap₂ (λ y ys. y ∷ ys) (alike x stays) rest
     ] refl

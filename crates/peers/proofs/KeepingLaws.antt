@@ -1,5 +1,6 @@
 -- Options of which none says what is kept leave that, and so do the commands that take options.
-use Rattle.std.proofs.Common.{◌≡◌, ℕ, ◌+◌, Bool, true, false, List, [], ◌∷◌, Ok, Err, refl, sym, ap, ◌∙◌, subst, true≢false}
+use Rattle.std.proofs.Common.{◌≡◌, ℕ, ◌+◌, Bool, true, false, List, [], ◌∷◌, Ok, Err, refl, sym, ap, ◌∙◌, subst}
+use Rattle.std.proofs.Common.{true≢false}
 use Rattle.std.specs.Prelude.{◌&&◌, ◌||◌, IfOk, Result, drop, is_ok, nat_le, ok_or, length, if◌then◌else◌}
 use Rattle.text_model.specs.Lines.{lines}
 use Rattle.text_model.specs.LimitTable.{LimitTable}
@@ -7,10 +8,13 @@ use Rattle.undo_stack.specs.History.{limit_of}
 use Rattle.command_table.specs.Numbers.{boolean_of, integer_of}
 use Rattle.command_parts.specs.declared.answers.Answer.TheVariants.{Empty, Word}
 use Rattle.command_parts.specs.declared.answers.Fault.{Fault}
-use Rattle.command_parts.specs.declared.answers.Fault.TheVariants.{BadBoolean, BadInteger, BadOption, InvalidCommandName, StartLineAfterEndLine, TooManyWidgets, WindowExists}
+use Rattle.command_parts.specs.declared.answers.Fault.TheVariants.{BadBoolean, BadInteger, BadOption}
+use Rattle.command_parts.specs.declared.answers.Fault.TheVariants.{InvalidCommandName, StartLineAfterEndLine}
+use Rattle.command_parts.specs.declared.answers.Fault.TheVariants.{TooManyWidgets, WindowExists}
 use Rattle.command_parts.specs.declared.settings.Settings.{Settings}
 use Rattle.command_parts.specs.Faults.{with_value}
-use Rattle.command_parts.specs.Settings.{end_bound, is_behind, line_of_word, setting_read, settings_checked, settings_read, start_bound, state_of}
+use Rattle.command_parts.specs.Settings.{end_bound, is_behind, line_of_word, setting_read, settings_checked}
+use Rattle.command_parts.specs.Settings.{settings_read, start_bound, state_of}
 use Rattle.command_parts.specs.Words.{is_among, is_same, literal}
 use Rattle.documents.specs.Documents.{Document, Widget, characters}
 use Rattle.documents.specs.Kept.{is_window_name}
@@ -35,7 +39,8 @@ record Keeps (old new : Settings) : Type 0 where
 keeps-all : (settings : Settings) → Keeps settings settings
 keeps-all settings = record { undo = refl; most = refl }
 
-through : {A : Type 0} (old : Settings) (found : Result A Fault) (next : A → Settings) → ((value : A) → Keeps old (next value))
+through : {A : Type 0} (old : Settings) (found : Result A Fault) (next : A → Settings) →
+    ((value : A) → Keeps old (next value))
     → IfOk (with_value found (λ value. Ok (next value))) (Keeps old)
 through old (Ok value) next keeps = keeps value
 through old (Err fault) next keeps = tt
@@ -49,30 +54,42 @@ third lines at option value settings =
     (λ disabled. Ok (record settings { disabled = disabled }))
     else (if is_same option (literal "-startline") then with_value (ok_or (line_of_word value) (BadInteger at))
     (λ line. Ok (record settings { start = start_bound lines line }))
-    else with_value (ok_or (line_of_word value) (BadInteger at)) (λ line. Ok (record settings { end = end_bound lines line }))))
+    else with_value (ok_or (line_of_word value) (BadInteger at)) (λ line.
+    Ok (record settings { end = end_bound lines line }))))
 
-if-keeps : (old : Settings) (test : Bool) (one other : Result Settings Fault) → IfOk one (Keeps old) → IfOk other (Keeps old)
+if-keeps : (old : Settings) (test : Bool) (one other : Result Settings Fault) → IfOk one (Keeps old) →
+    IfOk other (Keeps old)
     → IfOk (if test then one else other) (Keeps old)
 if-keeps old true one other first second = first
 if-keeps old false one other first second = second
 
-third-keeps : (lines at : ℕ) (option value : List ℕ) (settings : Settings) → IfOk (third lines at option value settings) (Keeps settings)
+third-keeps : (lines at : ℕ) (option value : List ℕ) (settings : Settings) →
+    IfOk (third lines at option value settings) (Keeps settings)
 third-keeps lines at option value settings =
     let separators = with_value (ok_or (boolean_of value) (BadBoolean at))
     (λ separators. Ok (record settings { document = record settings.document { separators = separators } })) in
-    let state = with_value (ok_or (state_of value) (BadOption at)) (λ disabled. Ok (record settings { disabled = disabled })) in
-    let start = with_value (ok_or (line_of_word value) (BadInteger at)) (λ line. Ok (record settings { start = start_bound lines line })) in
-    let end = with_value (ok_or (line_of_word value) (BadInteger at)) (λ line. Ok (record settings { end = end_bound lines line })) in
+    let state = with_value (ok_or (state_of value) (BadOption at)) (λ disabled.
+    Ok (record settings { disabled = disabled })) in
+    let start = with_value (ok_or (line_of_word value) (BadInteger at)) (λ line.
+    Ok (record settings { start = start_bound lines line })) in
+    let end = with_value (ok_or (line_of_word value) (BadInteger at)) (λ line.
+    Ok (record settings { end = end_bound lines line })) in
     if-keeps settings (is_same option (literal "-autoseparators")) separators
-    (if is_same option (literal "-state") then state else (if is_same option (literal "-startline") then start else end))
+    (if is_same option (literal "-state") then state
+    else (if is_same option (literal "-startline") then start else end))
     (through settings (ok_or (boolean_of value) (BadBoolean at))
-    (λ separators. record settings { document = record settings.document { separators = separators } }) (λ _. record { undo = refl; most = refl }))
-    (if-keeps settings (is_same option (literal "-state")) state (if is_same option (literal "-startline") then start else end)
-    (through settings (ok_or (state_of value) (BadOption at)) (λ disabled. record settings { disabled = disabled }) (λ _. record { undo = refl; most = refl }))
-    (if-keeps settings (is_same option (literal "-startline")) start end
-    (through settings (ok_or (line_of_word value) (BadInteger at)) (λ line. record settings { start = start_bound lines line })
+    (λ separators. record settings { document = record settings.document { separators = separators } }) (λ _.
+    record { undo = refl; most = refl }))
+    (if-keeps settings (is_same option (literal "-state")) state (if is_same option (literal "-startline") then start
+    else end)
+    (through settings (ok_or (state_of value) (BadOption at)) (λ disabled. record settings { disabled = disabled })
     (λ _. record { undo = refl; most = refl }))
-    (through settings (ok_or (line_of_word value) (BadInteger at)) (λ line. record settings { end = end_bound lines line })
+    (if-keeps settings (is_same option (literal "-startline")) start end
+    (through settings (ok_or (line_of_word value) (BadInteger at)) (λ line.
+    record settings { start = start_bound lines line })
+    (λ _. record { undo = refl; most = refl }))
+    (through settings (ok_or (line_of_word value) (BadInteger at)) (λ line.
+    record settings { end = end_bound lines line })
     (λ _. record { undo = refl; most = refl }))))
 
 one-keeps : (lines at : ℕ) (option value : List ℕ) (settings : Settings) → is_same option (literal "-undo") ≡ false
@@ -80,12 +97,15 @@ one-keeps : (lines at : ℕ) (option value : List ℕ) (settings : Settings) →
     → IfOk (setting_read lines at option value settings) (Keeps settings)
 one-keeps lines at option value settings no_undo no_most =
     let undo : Result Settings Fault =
-    with_value (ok_or (boolean_of value) (BadBoolean at)) (λ undo. Ok (record settings { document = record settings.document { undo = undo } })) in
+    with_value (ok_or (boolean_of value) (BadBoolean at)) (λ undo.
+    Ok (record settings { document = record settings.document { undo = undo } })) in
     let most : Result Settings Fault =
-    with_value (ok_or (integer_of value) (BadInteger at)) (λ most. Ok (record settings { document = record settings.document { most_undo = most } })) in
+    with_value (ok_or (integer_of value) (BadInteger at)) (λ most.
+    Ok (record settings { document = record settings.document { most_undo = most } })) in
     let rest : Result Settings Fault = third lines at option value settings in
     let is : setting_read lines at option value settings ≡ rest =
-    ap (λ b. if b then undo else (if is_same option (literal "-maxundo") then most else rest)) no_undo ∙ ap (λ b. if b then most else rest) no_most in
+    ap (λ b. if b then undo else (if is_same option (literal "-maxundo") then most else rest)) no_undo
+    ∙ ap (λ b. if b then most else rest) no_most in
     subst (λ r. IfOk r (Keeps settings)) (sym is) (third-keeps lines at option value settings)
 
 neither : (a b c : Bool) → (a || b || c) ≡ false → (a ≡ false) × (b ≡ false) × (c ≡ false)
@@ -93,7 +113,8 @@ neither true b c is = absurd (true≢false is)
 neither false true c is = absurd (true≢false is)
 neither false false c is = (refl, refl, is)
 
-onward : (old : Settings) (found : Result Settings Fault) (next : Settings → Result Settings Fault) → IfOk found (Keeps old)
+onward : (old : Settings) (found : Result Settings Fault) (next : Settings → Result Settings Fault) →
+    IfOk found (Keeps old)
     → ((settings : Settings) → IfOk (next settings) (Keeps settings)) → IfOk (with_value found next) (Keeps old)
 onward old (Err fault) next keeps later = tt
 onward old (Ok between) next keeps later = last (next between) (later between)
@@ -107,7 +128,8 @@ all-keep : (lines at : ℕ) (words : List (List ℕ)) (settings : Settings) → 
 all-keep lines at [] settings none = keeps-all settings
 all-keep lines at (option ∷ []) settings none = tt
 all-keep lines at (option ∷ value ∷ words) settings none =
-    let parts = neither (is_same option (literal "-undo")) (is_same option (literal "-maxundo")) (sets_keeping words) none in
+    let parts = neither (is_same option (literal "-undo")) (is_same option (literal "-maxundo")) (sets_keeping words)
+    none in
     onward settings (setting_read lines (at + 1) option value settings) (settings_read lines (at + 2) words)
     (one-keeps lines (at + 1) option value settings parts.0 parts.1)
     (λ next. all-keep lines (at + 2) words next parts.2)
@@ -118,7 +140,8 @@ record AreGiven (document : Document) (words : List (List ℕ)) (old new : Setti
   pub before : is_behind new.start new.end ≡ false
   pub keeps : sets_keeping words ≡ false → Keeps old new
 
-checked : (settings made : Settings) → settings_checked settings ≡ Ok made → (settings ≡ made) × (is_behind settings.start settings.end ≡ false)
+checked : (settings made : Settings) → settings_checked settings ≡ Ok made →
+    (settings ≡ made) × (is_behind settings.start settings.end ≡ false)
 checked settings made is =
     let tested : Bool → Result Settings Fault = λ b. if b then Err StartLineAfterEndLine else Ok settings in
     elim (is_behind settings.start settings.end) as (λ b. is_behind settings.start settings.end ≡ b → tested b ≡ Ok made
@@ -129,7 +152,8 @@ checked settings made is =
 
 given-of : (document : Document) (words : List (List ℕ)) (old made : Settings) (found : Result Settings Fault)
     → IfOk (with_value found settings_checked) (AreLines (lines (characters document.cells)))
-    → (sets_keeping words ≡ false → IfOk found (Keeps old)) → with_value found settings_checked ≡ Ok made → AreGiven document words old made
+    → (sets_keeping words ≡ false → IfOk found (Keeps old)) → with_value found settings_checked ≡ Ok made →
+    AreGiven document words old made
 given-of document words old made (Err fault) are keeps is = absurd (let h : Err fault ≡ Ok made = is in cc)
 given-of document words old made (Ok settings) are keeps is =
     let parts = checked settings made is in
@@ -139,67 +163,86 @@ given-of document words old made (Ok settings) are keeps is =
       keeps = λ none. subst (Keeps old) parts.0 (keeps none);
     }
 
-given : (document : Document) (at : ℕ) (words : List (List ℕ)) (settings made : Settings) → AreLines (lines (characters document.cells)) settings
+given : (document : Document) (at : ℕ) (words : List (List ℕ)) (settings made : Settings) →
+    AreLines (lines (characters document.cells)) settings
     → settings_given document at words settings ≡ Ok made → AreGiven document words settings made
 given document at words settings made are is =
     let count = lines (characters document.cells) in
-    given-of document words settings made (settings_read count at words settings) (given-lines count at words settings are)
+    given-of document words settings made (settings_read count at words settings)
+    (given-lines count at words settings are)
     (λ none. all-keep count at words settings none) is
 
 -- ---- `configure`
 
-pub leads-configured : (limit : ℕ) (start : List ℕ) (document : Document) (widget : Widget) (at : ℕ) (words : List (List ℕ)) → Leads limit start document
-    → (is_ok (configure document widget at words).reply && sets_keeping words) ≡ false → Leads limit start (configure document widget at words).document
-leads-configured limit start document widget at words leads spared = by (settings_given document at words (settings_of document widget)) refl spared
+pub leads-configured : (limit : ℕ) (start : List ℕ) (document : Document) (widget : Widget) (at : ℕ)
+    (words : List (List ℕ)) → Leads limit start document
+    → (is_ok (configure document widget at words).reply && sets_keeping words) ≡ false →
+    Leads limit start (configure document widget at words).document
+leads-configured limit start document widget at words leads spared =
+    by (settings_given document at words (settings_of document widget)) refl spared
   where
     by : (found : Result Settings Fault) → settings_given document at words (settings_of document widget) ≡ found
-        → (is_ok (change_with document found (λ settings. answered (with_settings widget settings document) Empty)).reply && sets_keeping words) ≡ false
-        → Leads limit start (change_with document found (λ settings. answered (with_settings widget settings document) Empty)).document
+        →
+        (is_ok (change_with document found (λ settings.
+        answered (with_settings widget settings document) Empty)).reply && sets_keeping words) ≡ false
+        → Leads limit start (change_with document found (λ settings.
+        answered (with_settings widget settings document) Empty)).document
     by (Err fault) is none = leads
     by (Ok settings) is none =
         let are = given document at words (settings_of document widget) settings (own-lines document widget) is in
         let keeps = are.keeps none in
-        leads-settings limit start document widget settings leads are.lines are.before (keeps.undo ∙ leads.undo) (ap limit_of keeps.most ∙ leads.most)
+        leads-settings limit start document widget settings leads are.lines are.before (keeps.undo
+        ∙ leads.undo) (ap limit_of keeps.most ∙ leads.most)
 
-pub named-configured : (windows : List (List ℕ)) (document : Document) (widget : Widget) (at : ℕ) (words : List (List ℕ))
+pub named-configured : (windows : List (List ℕ)) (document : Document) (widget : Widget) (at : ℕ)
+    (words : List (List ℕ))
     → AreNamed windows document (configure document widget at words).document
 named-configured windows document widget at words = by (settings_given document at words (settings_of document widget))
   where
     by : (found : Result Settings Fault)
-        → AreNamed windows document (change_with document found (λ settings. answered (with_settings widget settings document) Empty)).document
+        → AreNamed windows document (change_with document found (λ settings.
+        answered (with_settings widget settings document) Empty)).document
     by (Err fault) = named-same windows document document refl
-    by (Ok settings) = named-same windows document (with_settings widget settings document) (settings-kept widget settings document)
+    by (Ok settings) =
+        named-same windows document (with_settings widget settings document) (settings-kept widget settings document)
 
 -- ---- `peer create`
 
 module _ (limits : LimitTable) (windows : List (List ℕ)) (document : Document) (widget : Widget) (at : ℕ) where
   leads-with : (limit : ℕ) (start name : List ℕ) (settings : Settings) (sets : Bool)
-      → ((is_ok (peer_with limits windows document at name settings).reply && sets) ≡ false) → Leads limit start document
+      → ((is_ok (peer_with limits windows document at name settings).reply && sets) ≡ false) →
+      Leads limit start document
       → (sets ≡ false → Leads limit start (with_peer name settings document))
       → Leads limit start (peer_with limits windows document at name settings).document
   leads-with limit start name settings sets spared leads next =
       let made : Change = answered (with_peer name settings document) (Word at) in
       let few : Change = if nat_le limits.widgets (length windows) then refused document TooManyWidgets else made in
-      elim (is_among name windows) as (λ b. (is_ok (if b then refused document (WindowExists at) else few).reply && sets) ≡ false
+      elim (is_among name windows) as (λ b. (is_ok (if b then refused document (WindowExists at) else few).reply
+      && sets) ≡ false
       → Leads limit start (if b then refused document (WindowExists at) else few).document) [
         | true ↦ λ _. leads
-        | false ↦ elim (nat_le limits.widgets (length windows)) as (λ b. (is_ok (if b then refused document TooManyWidgets else made).reply && sets) ≡ false
+        | false ↦ elim (nat_le limits.widgets (length windows)) as (λ b.
+            (is_ok (if b then refused document TooManyWidgets else made).reply && sets) ≡ false
             → Leads limit start (if b then refused document TooManyWidgets else made).document) [
               | true ↦ λ _. leads
               | false ↦ λ none. next none
             ]
       ] spared
 
-  leads-given : (limit : ℕ) (start name : List ℕ) (words : List (List ℕ)) → Leads limit start document → (found : Result Settings Fault)
+  leads-given : (limit : ℕ) (start name : List ℕ) (words : List (List ℕ)) → Leads limit start document →
+      (found : Result Settings Fault)
       → settings_given document (at + 1) words (peer_settings document widget) ≡ found
-      → (is_ok (change_with document found (peer_with limits windows document at name)).reply && sets_keeping words) ≡ false
+      → (is_ok (change_with document found (peer_with limits windows document at name)).reply && sets_keeping words)
+      ≡ false
       → Leads limit start (change_with document found (peer_with limits windows document at name)).document
   leads-given limit start name words leads (Err fault) is spared = leads
   leads-given limit start name words leads (Ok settings) is spared =
       let own = own-lines document widget in
-      let are = given document (at + 1) words (peer_settings document widget) settings (record { start = own.start; end = own.end }) is in
+      let are = given document (at + 1) words (peer_settings document widget) settings
+      (record { start = own.start; end = own.end }) is in
       leads-with limit start name settings (sets_keeping words) spared leads
-      (λ none. let keeps = are.keeps none in leads-peer limit start document name settings leads are.lines are.before (keeps.undo
+      (λ none. let keeps = are.keeps none in
+      leads-peer limit start document name settings leads are.lines are.before (keeps.undo
       ∙ leads.undo) (ap limit_of keeps.most ∙ leads.most))
 
   pub leads-peered : (limit : ℕ) (start : List ℕ) (words : List (List ℕ)) → Leads limit start document
@@ -209,7 +252,8 @@ module _ (limits : LimitTable) (windows : List (List ℕ)) (document : Document)
   leads-peered limit start (name ∷ words) leads spared =
       let found = settings_given document (at + 1) words (peer_settings document widget) in
       let made : Change = change_with document found (peer_with limits windows document at name) in
-      elim (is_window_name name) as (λ b. (is_ok (if b then made else refused document (InvalidCommandName at)).reply && sets_keeping words) ≡ false
+      elim (is_window_name name) as (λ b. (is_ok (if b then made else refused document (InvalidCommandName at)).reply
+      && sets_keeping words) ≡ false
       → Leads limit start (if b then made else refused document (InvalidCommandName at)).document) [
         | true ↦ λ none. leads-given limit start name words leads found refl none
         | false ↦ λ _. leads
@@ -222,7 +266,8 @@ module _ (limits : LimitTable) (windows : List (List ℕ)) (document : Document)
       let few : Change = if nat_le limits.widgets (length windows) then refused document TooManyWidgets else made in
       let same = named-same windows document document refl in
       elim (is_among name windows) as
-      (λ b. is_among name windows ≡ b → AreNamed windows document (if b then refused document (WindowExists at) else few).document) [
+      (λ b. is_among name windows ≡ b → AreNamed windows document (if b then refused document (WindowExists at)
+      else few).document) [
         | true ↦ λ _. same
         | false ↦ λ new. elim (nat_le limits.widgets (length windows)) as
             (λ b. AreNamed windows document (if b then refused document TooManyWidgets else made).document) [
@@ -236,13 +281,15 @@ module _ (limits : LimitTable) (windows : List (List ℕ)) (document : Document)
   named-given name is (Err fault) = named-same windows document document refl
   named-given name is (Ok settings) = named-with name settings is
 
-  pub named-peered : (words : List (List ℕ)) → AreNamed windows document (peer_create limits windows document widget at words).document
+  pub named-peered : (words : List (List ℕ)) →
+      AreNamed windows document (peer_create limits windows document widget at words).document
   named-peered [] = named-same windows document document refl
   named-peered (name ∷ words) =
       let found = settings_given document (at + 1) words (peer_settings document widget) in
       elim (is_window_name name) as (λ b. is_window_name name ≡ b
       → AreNamed windows document
-      (if b then change_with document found (peer_with limits windows document at name) else refused document (InvalidCommandName at)).document) [
+      (if b then change_with document found (peer_with limits windows document at name)
+      else refused document (InvalidCommandName at)).document) [
         | true ↦ λ is. named-given name is found
         | false ↦ λ _. named-same windows document document refl
       ] refl

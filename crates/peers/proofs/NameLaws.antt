@@ -1,5 +1,6 @@
 -- The names of widgets, by their bytes.
-use Rattle.std.proofs.Common.{◌≡◌, ℕ, ◌<◌, ◌≤◌, Bool, true, false, List, [], ◌∷◌, ◌++◌, length, get_or, refl, sym, ap, ◌∙◌, arith}
+use Rattle.std.proofs.Common.{◌≡◌, ℕ, ◌<◌, ◌≤◌, Bool, true, false, List, [], ◌∷◌, ◌++◌, length, get_or, refl, sym, ap}
+use Rattle.std.proofs.Common.{◌∙◌, arith}
 use Rattle.std.specs.Prelude.{chars, IsUtf8, encode_utf8, encode_utf8_all, ◌==◌}
 use Rattle.std.proofs.lemmas.Bool.{false≢true}
 use Rattle.std.proofs.lemmas.Bool.Decides.{Decides-eqb}
@@ -49,7 +50,8 @@ is_window_name-chars (b ∷ bytes) text =
           ∙ sym (is_window_name-cons b bytes ∙ ap (λ dot. begins dot bytes) other ∙ begins-false bytes)
       | true ↦ λ dot.
           let same : b ≡ 46 = (Decides-eqb b 46).0 dot in
-          let front : b ∷ bytes ≡ encode_utf8 46 ++ bytes = ap (λ x. x ∷ bytes) same ∙ ap (λ x. x ++ bytes) (sym (encode_ascii 46 (omega arith))) in
+          let front : b ∷ bytes ≡ encode_utf8 46 ++ bytes = ap (λ x. x ∷ bytes) same
+          ∙ ap (λ x. x ++ bytes) (sym (encode_ascii 46 (omega arith))) in
           ap is_window_name (chars_past_char (b ∷ bytes) bytes 46 text front)
           ∙ is_window_name-cons 46 (chars bytes)
           ∙ begins-chars true bytes (IsUtf8-past_char (b ∷ bytes) bytes 46 text front)

@@ -1,23 +1,28 @@
 -- The lines of a view, as options give them.
 use Rattle.std.proofs.Common.{◌≡◌, ℕ, ◌+◌, ◌<◌, ◌≤◌, true, false, List, [], ◌∷◌, refl, subst, arith}
-use Rattle.std.specs.Prelude.{ℤ, pos, negsuc, ok_or, option_and_then, option_map, nat_lt, nat_le, IfOk, IfSome, Option, None, Some, Result, Ok, Err, if◌then◌else◌}
+use Rattle.std.specs.Prelude.{ℤ, pos, negsuc, ok_or, option_and_then, option_map, nat_lt, nat_le, IfOk, IfSome, Option}
+use Rattle.std.specs.Prelude.{None, Some, Result, Ok, Err, if◌then◌else◌}
 use Rattle.std.proofs.lemmas.Bool.Decides.{nat_tests}
 use Rattle.command_table.specs.Numbers.{boolean_of, integer_of}
 use Rattle.command_parts.specs.declared.answers.Fault.{Fault}
-use Rattle.command_parts.specs.declared.answers.Fault.TheVariants.{BadBoolean, BadInteger, BadOption, StartLineAfterEndLine}
+use Rattle.command_parts.specs.declared.answers.Fault.TheVariants.{BadBoolean, BadInteger, BadOption}
+use Rattle.command_parts.specs.declared.answers.Fault.TheVariants.{StartLineAfterEndLine}
 use Rattle.command_parts.specs.declared.settings.Settings.{Settings}
 use Rattle.command_parts.specs.Faults.{with_value}
-use Rattle.command_parts.specs.Settings.{end_bound, is_behind, line_numbered, line_of_word, setting_read, settings_checked, settings_read, start_bound, state_of}
+use Rattle.command_parts.specs.Settings.{end_bound, is_behind, line_numbered, line_of_word, setting_read}
+use Rattle.command_parts.specs.Settings.{settings_checked, settings_read, start_bound, state_of}
 use Rattle.command_parts.specs.Words.{is_same, literal}
 use Rattle.documents.specs.Options.{AreLines, IsLine}
 
 -- ---- values that are found
 
-value-found : {A : Type 0} (found : Result A Fault) (P : A → Type 0) (value : A) → IfOk found P → found ≡ Ok value → P value
+value-found : {A : Type 0} (found : Result A Fault) (P : A → Type 0) (value : A) → IfOk found P → found ≡ Ok value →
+    P value
 value-found (Ok other) P value holds is = (let same : other ≡ value = cc in subst P same holds)
 value-found (Err fault) P value holds is = absurd (cc)
 
-through : {A : Type 0} (found : Result A Fault) (next : A → Result Settings Fault) (P : Settings → Type 0) → ((value : A) → found ≡ Ok value → IfOk (next value) P) → IfOk (with_value found next) P
+through : {A : Type 0} (found : Result A Fault) (next : A → Result Settings Fault) (P : Settings → Type 0) →
+    ((value : A) → found ≡ Ok value → IfOk (next value) P) → IfOk (with_value found next) P
 through (Ok value) next P holds = holds value refl
 through (Err fault) next P holds = tt
 
@@ -27,16 +32,18 @@ abbrev IsPositive : ℕ → Type 0
 IsPositive line = 0 < line
 
 numbered : (number : ℤ) → IfSome (line_numbered number) IsPositive
-numbered (pos number) = elim (nat_lt 0 number) as (λ b. nat_lt 0 number ≡ b → IfSome (if b then Some number else None) IsPositive) [
-  | true ↦ λ above. grind (arith, nat_tests, above)
-  | false ↦ λ _. tt
-] refl
+numbered (pos number) =
+    elim (nat_lt 0 number) as (λ b. nat_lt 0 number ≡ b → IfSome (if b then Some number else None) IsPositive) [
+      | true ↦ λ above. grind (arith, nat_tests, above)
+      | false ↦ λ _. tt
+    ] refl
 numbered (negsuc n) = tt
 
 abbrev lines_found : Option ℤ → Option (Option ℕ)
 lines_found found = option_and_then (λ number. option_map (λ line. Some line) (line_numbered number)) found
 
-some-line : (line : Option ℕ) → IfSome line IsPositive → IfSome (option_map (λ l. Some l) line) (λ l. IfSome l IsPositive)
+some-line : (line : Option ℕ) → IfSome line IsPositive →
+    IfSome (option_map (λ l. Some l) line) (λ l. IfSome l IsPositive)
 some-line None positive = tt
 some-line (Some line) positive = positive
 
@@ -48,9 +55,11 @@ of-word : (value : List ℕ) → IfSome (line_of_word value) (λ l. IfSome l IsP
 of-word [] = tt
 of-word (character ∷ characters) = found-line (integer_of (character ∷ characters))
 
-at-word : (found : Option (Option ℕ)) (fault : Fault) (line : Option ℕ) → IfSome found (λ l. IfSome l IsPositive) → ok_or found fault ≡ Ok line → IfSome line IsPositive
+at-word : (found : Option (Option ℕ)) (fault : Fault) (line : Option ℕ) → IfSome found (λ l. IfSome l IsPositive) →
+    ok_or found fault ≡ Ok line → IfSome line IsPositive
 at-word None fault line holds is = absurd (let h : Err fault ≡ Ok line = is in cc)
-at-word (Some other) fault line holds is = (let h : Ok other ≡ Ok line = is in let same : other ≡ line = cc in subst (λ l. IfSome l IsPositive) same holds)
+at-word (Some other) fault line holds is =
+    (let h : Ok other ≡ Ok line = is in let same : other ≡ line = cc in subst (λ l. IfSome l IsPositive) same holds)
 
 starts : (lines : ℕ) (line : Option ℕ) → IfSome line IsPositive → IfSome (start_bound lines line) (IsLine lines)
 starts lines None positive = tt
@@ -58,45 +67,95 @@ starts lines (Some line) positive = (omega (arith, positive), omega arith)
 
 ends : (lines : ℕ) (line : Option ℕ) → IfSome line IsPositive → IfSome (end_bound lines line) (IsLine lines)
 ends lines None positive = tt
-ends lines (Some line) positive = elim (nat_le line lines) as (λ b. nat_le line lines ≡ b → IfSome (if b then Some line else None) (IsLine lines)) [
-  | true ↦ λ within. (positive, (let h : line ≤ lines = grind (arith, nat_tests, within) in omega (arith, h)))
-  | false ↦ λ _. tt
-] refl
+ends lines (Some line) positive =
+    elim (nat_le line lines) as (λ b. nat_le line lines ≡ b → IfSome (if b then Some line else None) (IsLine lines)) [
+      | true ↦ λ within. (positive, (let h : line ≤ lines = grind (arith, nat_tests, within) in omega (arith, h)))
+      | false ↦ λ _. tt
+    ] refl
 
 -- ---- options
 
 -- an option more
-one-lines : (lines at : ℕ) (option value : List ℕ) (settings : Settings) → AreLines lines settings → IfOk (setting_read lines at option value settings) (AreLines lines)
+one-lines : (lines at : ℕ) (option value : List ℕ) (settings : Settings) → AreLines lines settings →
+    IfOk (setting_read lines at option value settings) (AreLines lines)
 one-lines lines at option value settings are =
     let P : Settings → Type 0 = AreLines lines in
-    elim (is_same option (literal "-undo")) as (λ b. IfOk (if b then with_value (ok_or (boolean_of value) (BadBoolean at)) (λ undo. Ok (record settings { document = record settings.document { undo = undo } }))
-    else (if is_same option (literal "-maxundo") then with_value (ok_or (integer_of value) (BadInteger at)) (λ most. Ok (record settings { document = record settings.document { most_undo = most } }))
-    else (if is_same option (literal "-autoseparators") then with_value (ok_or (boolean_of value) (BadBoolean at)) (λ separators. Ok (record settings { document = record settings.document { separators = separators } }))
-    else (if is_same option (literal "-state") then with_value (ok_or (state_of value) (BadOption at)) (λ disabled. Ok (record settings { disabled = disabled }))
-    else (if is_same option (literal "-startline") then with_value (ok_or (line_of_word value) (BadInteger at)) (λ line. Ok (record settings { start = start_bound lines line }))
-    else with_value (ok_or (line_of_word value) (BadInteger at)) (λ line. Ok (record settings { end = end_bound lines line }))))))) P) [
-      | true ↦ through (ok_or (boolean_of value) (BadBoolean at)) _ P (λ _ _. record { start = are.start; end = are.end })
-      | false ↦ elim (is_same option (literal "-maxundo")) as (λ b. IfOk (if b then with_value (ok_or (integer_of value) (BadInteger at)) (λ most. Ok (record settings { document = record settings.document { most_undo = most } }))
-          else (if is_same option (literal "-autoseparators") then with_value (ok_or (boolean_of value) (BadBoolean at)) (λ separators. Ok (record settings { document = record settings.document { separators = separators } }))
-          else (if is_same option (literal "-state") then with_value (ok_or (state_of value) (BadOption at)) (λ disabled. Ok (record settings { disabled = disabled }))
-          else (if is_same option (literal "-startline") then with_value (ok_or (line_of_word value) (BadInteger at)) (λ line. Ok (record settings { start = start_bound lines line }))
-          else with_value (ok_or (line_of_word value) (BadInteger at)) (λ line. Ok (record settings { end = end_bound lines line })))))) P) [
-            | true ↦ through (ok_or (integer_of value) (BadInteger at)) _ P (λ _ _. record { start = are.start; end = are.end })
-            | false ↦ elim (is_same option (literal "-autoseparators")) as (λ b. IfOk (if b then with_value (ok_or (boolean_of value) (BadBoolean at)) (λ separators. Ok (record settings { document = record settings.document { separators = separators } }))
-                else (if is_same option (literal "-state") then with_value (ok_or (state_of value) (BadOption at)) (λ disabled. Ok (record settings { disabled = disabled }))
-                else (if is_same option (literal "-startline") then with_value (ok_or (line_of_word value) (BadInteger at)) (λ line. Ok (record settings { start = start_bound lines line }))
-                else with_value (ok_or (line_of_word value) (BadInteger at)) (λ line. Ok (record settings { end = end_bound lines line }))))) P) [
-                  | true ↦ through (ok_or (boolean_of value) (BadBoolean at)) _ P (λ _ _. record { start = are.start; end = are.end })
-                  | false ↦ elim (is_same option (literal "-state")) as (λ b. IfOk (if b then with_value (ok_or (state_of value) (BadOption at)) (λ disabled. Ok (record settings { disabled = disabled }))
-                      else (if is_same option (literal "-startline") then with_value (ok_or (line_of_word value) (BadInteger at)) (λ line. Ok (record settings { start = start_bound lines line }))
-                      else with_value (ok_or (line_of_word value) (BadInteger at)) (λ line. Ok (record settings { end = end_bound lines line })))) P) [
-                        | true ↦ through (ok_or (state_of value) (BadOption at)) _ P (λ _ _. record { start = are.start; end = are.end })
-                        | false ↦ elim (is_same option (literal "-startline")) as (λ b. IfOk (if b then with_value (ok_or (line_of_word value) (BadInteger at)) (λ line. Ok (record settings { start = start_bound lines line }))
-                            else with_value (ok_or (line_of_word value) (BadInteger at)) (λ line. Ok (record settings { end = end_bound lines line }))) P) [
+    elim (is_same option (literal "-undo")) as (λ b.
+    IfOk (if b then with_value (ok_or (boolean_of value) (BadBoolean at)) (λ undo.
+    Ok (record settings { document = record settings.document { undo = undo } }))
+    else (if is_same option (literal "-maxundo")
+    then with_value (ok_or (integer_of value) (BadInteger at)) (λ most.
+    Ok (record settings { document = record settings.document { most_undo = most } }))
+    else (if is_same option (literal "-autoseparators")
+    then with_value (ok_or (boolean_of value) (BadBoolean at)) (λ separators.
+    Ok (record settings { document = record settings.document { separators = separators } }))
+    else (if is_same option (literal "-state")
+    then with_value (ok_or (state_of value) (BadOption at)) (λ disabled.
+    Ok (record settings { disabled = disabled }))
+    else (if is_same option (literal "-startline")
+    then with_value (ok_or (line_of_word value) (BadInteger at)) (λ line.
+    Ok (record settings { start = start_bound lines line }))
+    else with_value (ok_or (line_of_word value) (BadInteger at)) (λ line.
+    Ok (record settings { end = end_bound lines line }))))))) P) [
+      | true ↦ through (ok_or (boolean_of value) (BadBoolean at)) _ P (λ _ _.
+          record { start = are.start; end = are.end })
+      | false ↦ elim (is_same option (literal "-maxundo")) as (λ b.
+          IfOk (if b then with_value (ok_or (integer_of value) (BadInteger at)) (λ most.
+          Ok (record settings { document = record settings.document { most_undo = most } }))
+          else (if is_same option (literal "-autoseparators")
+          then with_value (ok_or (boolean_of value) (BadBoolean at)) (λ separators.
+          Ok (record settings { document = record settings.document { separators = separators } }))
+          else (if is_same option (literal "-state")
+          then with_value (ok_or (state_of value) (BadOption at)) (λ disabled.
+          Ok (record settings { disabled = disabled }))
+          else (if is_same option (literal "-startline")
+          then with_value (ok_or (line_of_word value) (BadInteger at)) (λ line.
+          Ok (record settings { start = start_bound lines line }))
+          else with_value (ok_or (line_of_word value) (BadInteger at)) (λ line.
+          Ok (record settings { end = end_bound lines line })))))) P) [
+            | true ↦ through (ok_or (integer_of value) (BadInteger at)) _ P (λ _ _.
+                record { start = are.start; end = are.end })
+            | false ↦ elim (is_same option (literal "-autoseparators")) as (λ b.
+                IfOk (if b then with_value (ok_or (boolean_of value) (BadBoolean at)) (λ separators.
+                Ok (record settings { document = record settings.document { separators = separators } }))
+                else (if is_same option (literal "-state")
+                then with_value (ok_or (state_of value) (BadOption at)) (λ disabled.
+                Ok (record settings { disabled = disabled }))
+                else (if is_same option (literal "-startline")
+                then with_value (ok_or (line_of_word value) (BadInteger at)) (λ line.
+                Ok (record settings { start = start_bound lines line }))
+                else with_value (ok_or (line_of_word value) (BadInteger at)) (λ line.
+                Ok (record settings { end = end_bound lines line }))))) P) [
+                  | true ↦ through (ok_or (boolean_of value) (BadBoolean at)) _ P (λ _ _.
+                      record { start = are.start; end = are.end })
+                  | false ↦ elim (is_same option (literal "-state")) as (λ b.
+                      IfOk (if b then with_value (ok_or (state_of value) (BadOption at)) (λ disabled.
+                      Ok (record settings { disabled = disabled }))
+                      else (if is_same option (literal "-startline")
+                      then with_value (ok_or (line_of_word value) (BadInteger at)) (λ line.
+                      Ok (record settings { start = start_bound lines line }))
+                      else with_value (ok_or (line_of_word value) (BadInteger at)) (λ line.
+                      Ok (record settings { end = end_bound lines line })))) P) [
+                        | true ↦ through (ok_or (state_of value) (BadOption at)) _ P (λ _ _.
+                            record { start = are.start; end = are.end })
+                        | false ↦ elim (is_same option (literal "-startline")) as (λ b.
+                            IfOk (if b then with_value (ok_or (line_of_word value) (BadInteger at)) (λ line.
+                            Ok (record settings { start = start_bound lines line }))
+                            else with_value (ok_or (line_of_word value) (BadInteger at)) (λ line.
+                            Ok (record settings { end = end_bound lines line }))) P) [
                               | true ↦ through (ok_or (line_of_word value) (BadInteger at)) _ P
-                                  (λ line is. record { start = starts lines line (at-word (line_of_word value) (BadInteger at) line (of-word value) is); end = are.end })
+                                  (λ line is.
+                                  record {
+                                    start = starts lines line
+                                        (at-word (line_of_word value) (BadInteger at) line (of-word value) is);
+                                    end = are.end;
+                                  })
                               | false ↦ through (ok_or (line_of_word value) (BadInteger at)) _ P
-                                  (λ line is. record { start = are.start; end = ends lines line (at-word (line_of_word value) (BadInteger at) line (of-word value) is) })
+                                  (λ line is. record {
+                                    start = are.start;
+                                    end = ends lines line
+                                        (at-word (line_of_word value) (BadInteger at) line (of-word value) is);
+                                  })
                             ]
                       ]
                 ]
@@ -104,20 +163,27 @@ one-lines lines at option value settings are =
     ]
 
 -- all of them
-read-lines : (lines at : ℕ) (words : List (List ℕ)) (settings : Settings) → AreLines lines settings → IfOk (settings_read lines at words settings) (AreLines lines)
+read-lines : (lines at : ℕ) (words : List (List ℕ)) (settings : Settings) → AreLines lines settings →
+    IfOk (settings_read lines at words settings) (AreLines lines)
 read-lines lines at [] settings are = are
 read-lines lines at (option ∷ []) settings are = tt
 read-lines lines at (option ∷ value ∷ words) settings are =
     through (setting_read lines (at + 1) option value settings) (settings_read lines (at + 2) words) (AreLines lines)
-    (λ next is. read-lines lines (at + 2) words next (value-found (setting_read lines (at + 1) option value settings) (AreLines lines) next (one-lines lines (at + 1) option value settings are) is))
+    (λ next is. read-lines lines (at + 2) words next
+    (value-found (setting_read lines (at + 1) option value settings) (AreLines lines) next
+    (one-lines lines (at + 1) option value settings are) is))
 
 checked-so : (P : Settings → Type 0) (settings : Settings) → P settings → IfOk (settings_checked settings) P
-checked-so P settings holds = elim (is_behind settings.start settings.end) as (λ b. IfOk (if b then Err StartLineAfterEndLine else Ok settings) P) [
-  | true ↦ tt
-  | false ↦ holds
-]
+checked-so P settings holds = elim (is_behind settings.start settings.end) as (λ b.
+    IfOk (if b then Err StartLineAfterEndLine else Ok settings) P) [
+      | true ↦ tt
+      | false ↦ holds
+    ]
 
-pub given-lines : (lines at : ℕ) (words : List (List ℕ)) (settings : Settings) → AreLines lines settings → IfOk (with_value (settings_read lines at words settings) settings_checked) (AreLines lines)
+pub given-lines : (lines at : ℕ) (words : List (List ℕ)) (settings : Settings) → AreLines lines settings →
+    IfOk (with_value (settings_read lines at words settings) settings_checked) (AreLines lines)
 given-lines lines at words settings are =
     through (settings_read lines at words settings) settings_checked (AreLines lines)
-    (λ made is. checked-so (AreLines lines) made (value-found (settings_read lines at words settings) (AreLines lines) made (read-lines lines at words settings are) is))
+    (λ made is. checked-so (AreLines lines) made
+    (value-found (settings_read lines at words settings) (AreLines lines) made
+    (read-lines lines at words settings are) is))

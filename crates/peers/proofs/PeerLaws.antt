@@ -14,13 +14,15 @@ use Rattle.peers.specs.Peers.{peer_create, peer_settings, peer_with, peer_words}
 
 -- ---- the words of `peer create`
 
-pub no-peer : (limits : LimitTable) (windows : List (List ℕ)) (document : Document) (widget : Widget) (at : ℕ) (words : List (List ℕ)) (fault : Fault)
+pub no-peer : (limits : LimitTable) (windows : List (List ℕ)) (document : Document) (widget : Widget) (at : ℕ)
+    (words : List (List ℕ)) (fault : Fault)
     → first_of words ≡ Err fault → peer_create limits windows document widget at words ≡ refused document fault
 no-peer limits windows document widget at words fault none =
     ap (λ parts. change_with document parts (peer_words limits windows document widget at)) none
 
 module _ (limits : LimitTable) (windows : List (List ℕ)) (document : Document) (widget : Widget) (at : ℕ)
-    (words : List (List ℕ)) (name : List ℕ) (options : List (List ℕ)) (first : first_of words ≡ Ok (name, options)) where
+    (words : List (List ℕ)) (name : List ℕ) (options : List (List ℕ)) (first : first_of words
+    ≡ Ok (name, options)) where
   abbrev with_options : Result Settings Fault → Change
   with_options found = change_with document found (peer_with limits windows document at name)
 
@@ -33,13 +35,16 @@ module _ (limits : LimitTable) (windows : List (List ℕ)) (document : Document)
   read : peer_create limits windows document widget at words ≡ worded (is_window_name name)
   read = ap (λ parts. change_with document parts (peer_words limits windows document widget at)) first
 
-  pub unnamed-peer : is_window_name name ≡ false → peer_create limits windows document widget at words ≡ refused document (InvalidCommandName at)
+  pub unnamed-peer : is_window_name name ≡ false → peer_create limits windows document widget at words
+      ≡ refused document (InvalidCommandName at)
   unnamed-peer unnamed = read ∙ ap worded unnamed
 
-  pub bad-peer : (fault : Fault) → is_window_name name ≡ true → settings_given document (at + 1) options (peer_settings document widget) ≡ Err fault
+  pub bad-peer : (fault : Fault) → is_window_name name ≡ true →
+      settings_given document (at + 1) options (peer_settings document widget) ≡ Err fault
       → peer_create limits windows document widget at words ≡ refused document fault
   bad-peer fault named bad = read ∙ ap worded named ∙ ap with_options bad
 
-  pub good-peer : (settings : Settings) → is_window_name name ≡ true → settings_given document (at + 1) options (peer_settings document widget) ≡ Ok settings
+  pub good-peer : (settings : Settings) → is_window_name name ≡ true →
+      settings_given document (at + 1) options (peer_settings document widget) ≡ Ok settings
       → peer_create limits windows document widget at words ≡ peer_with limits windows document at name settings
   good-peer settings named good = read ∙ ap worded named ∙ ap with_options good

@@ -1,5 +1,7 @@
 -- Documents in a world: where their widgets are found, as they come and go.
-use Rattle.std.proofs.Common.{◌≡◌, ℕ, zero, suc, ◌+◌, ◌<◌, ◌≤◌, Bool, true, false, cond, not, List, [], ◌∷◌, ◌++◌, length, map, get_or, filter, flat_map, slice_set, insert, option_map, Option, Some, None, is_some, take, refl, sym, ap, subst, ◌∙◌, nat_lt, arith}
+use Rattle.std.proofs.Common.{◌≡◌, ℕ, zero, suc, ◌+◌, ◌<◌, ◌≤◌, Bool, true, false, cond, not, List, [], ◌∷◌, ◌++◌}
+use Rattle.std.proofs.Common.{length, map, get_or, filter, flat_map, slice_set, insert, option_map, Option, Some, None}
+use Rattle.std.proofs.Common.{is_some, take, refl, sym, ap, subst, ◌∙◌, nat_lt, arith}
 use Rattle.std.specs.List.{AllByRecursion, IsDistinct, list_any}
 use Rattle.std.proofs.lemmas.List.{append_assoc, append-nil, length-append}
 use Rattle.std.specs.Prelude.{◌||◌, remove}
@@ -22,7 +24,9 @@ use Rattle.peers.specs.WellFormed.{IsWellFormed}
 use Rattle.documents.specs.WellFormed.{IsWellFormedDocument}
 use Rattle.peers.specs.Windows.{Homes, home_in, homes_of, names_in}
 use Rattle.peers.specs.World.{World, all_windows, document_at, home, windows_of}
-use Rattle.peers.proofs.HomeLaws.{names-filtered, filter-changed, filter-twice, first_with, found-some, front-count, homes-added, homes-count, homes-found, homes-names, homes-peer, names-left, names-same, next-count, placed_at}
+use Rattle.peers.proofs.HomeLaws.{names-filtered, filter-changed, filter-twice, first_with, found-some, front-count}
+use Rattle.peers.proofs.HomeLaws.{homes-added, homes-count, homes-found, homes-names, homes-peer, names-left}
+use Rattle.peers.proofs.HomeLaws.{names-same, next-count, placed_at}
 use Rattle.std.proofs.lemmas.List.Edits.{insert_end, length-insert}
 use Rattle.documents.specs.Widgets as widgets
 
@@ -30,10 +34,12 @@ use Rattle.documents.specs.Widgets as widgets
 
 home-first : (name : List ℕ) (documents : List Document) → home name documents ≡ first_with window_names name documents
 home-first name [] = refl
-home-first name (document ∷ documents) = ap (λ found. cond (is_among name (window_names document)) (Some 0) (option_map suc found)) (home-first name documents)
+home-first name (document ∷ documents) = ap (λ found.
+    cond (is_among name (window_names document)) (Some 0) (option_map suc found)) (home-first name documents)
 
 pub home-found : (name : List ℕ) (documents : List Document) → home_in name (homes_of documents) ≡ home name documents
-home-found name documents = homes-found window_names name 0 documents ∙ from_none (first_with window_names name documents) ∙ sym (home-first name documents)
+home-found name documents = homes-found window_names name 0 documents
+    ∙ from_none (first_with window_names name documents) ∙ sym (home-first name documents)
   where
     from_none : (found : Option ℕ) → option_map (λ k. 0 + k) found ≡ found
     from_none None = refl
@@ -41,17 +47,24 @@ home-found name documents = homes-found window_names name 0 documents ∙ from_n
 
 -- ---- widgets of a document
 
-pub peer-names : (name : List ℕ) (settings : Settings) (document : Document) → window_names (with_peer name settings document) ≡ window_names document ++ name ∷ []
-peer-names name settings document = map-append (λ (widget : Widget). widget.name) document.widgets (new_widget document name settings ∷ [])
+pub peer-names : (name : List ℕ) (settings : Settings) (document : Document) →
+    window_names (with_peer name settings document) ≡ window_names document ++ name ∷ []
+peer-names name settings document =
+    map-append (λ (widget : Widget). widget.name) document.widgets (new_widget document name settings ∷ [])
 
-pub left-names : (names : List (List ℕ)) (document : Document) → window_names (without_widgets names document) ≡ filter (λ name. not (is_among name names)) (window_names document)
+pub left-names : (names : List (List ℕ)) (document : Document) →
+    window_names (without_widgets names document) ≡ filter (λ name. not (is_among name names)) (window_names document)
 left-names names document = all document.widgets
   where
-    all : (widgets : List Widget) → map (λ (widget : Widget). widget.name) (filter (is_kept names) widgets) ≡ filter (λ name. not (is_among name names)) (map (λ (widget : Widget). widget.name) widgets)
+    all : (widgets : List Widget) → map (λ (widget : Widget). widget.name) (filter (is_kept names) widgets)
+        ≡ filter (λ name. not (is_among name names)) (map (λ (widget : Widget). widget.name) widgets)
     all [] = refl
     all (widget ∷ widgets) =
-        elim (not (is_among widget.name names)) as (λ b. map (λ (w : Widget). w.name) (cond b (widget ∷ filter (is_kept names) widgets) (filter (is_kept names) widgets))
-        ≡ cond b (widget.name ∷ filter (λ name. not (is_among name names)) (map (λ (w : Widget). w.name) widgets)) (filter (λ name. not (is_among name names)) (map (λ (w : Widget). w.name) widgets))) [
+        elim (not (is_among widget.name names)) as (λ b.
+        map (λ (w : Widget). w.name) (cond b (widget ∷ filter (is_kept names) widgets)
+        (filter (is_kept names) widgets))
+        ≡ cond b (widget.name ∷ filter (λ name. not (is_among name names)) (map (λ (w : Widget). w.name) widgets))
+        (filter (λ name. not (is_among name names)) (map (λ (w : Widget). w.name) widgets))) [
           | false ↦ all widgets
           | true ↦ ap (λ ns. widget.name ∷ ns) (all widgets)
         ]
@@ -59,58 +72,77 @@ left-names names document = all document.widgets
 bare-names : (document : Document) → has_widgets document ≡ false → window_names document ≡ []
 bare-names document none = all document.widgets none
   where
-    all : (widgets : List Widget) → nat_lt 0 (length widgets) ≡ false → map (λ (widget : Widget). widget.name) widgets ≡ []
+    all : (widgets : List Widget) → nat_lt 0 (length widgets) ≡ false →
+        map (λ (widget : Widget). widget.name) widgets ≡ []
     all [] is = refl
-    all (widget ∷ widgets) is = absurd (let none : length (widget ∷ widgets) ≡ 0 = grind (arith, nat_tests, is) in omega (arith, none))
+    all (widget ∷ widgets) is =
+        absurd (let none : length (widget ∷ widgets) ≡ 0 = grind (arith, nat_tests, is) in omega (arith, none))
 
 -- ---- documents that are left
 
 pub left-windows : (names : List (List ℕ)) (documents : List Document)
-    → windows_of (filter has_widgets (map (without_widgets names) documents)) ≡ filter (λ name. not (is_among name names)) (windows_of documents)
-left-windows names documents = names-left window_names (without_widgets names) has_widgets (λ name. not (is_among name names)) (left-names names) bare-names documents
+    → windows_of (filter has_widgets (map (without_widgets names) documents))
+    ≡ filter (λ name. not (is_among name names)) (windows_of documents)
+left-windows names documents = names-left window_names (without_widgets names) has_widgets (λ name.
+    not (is_among name names)) (left-names names) bare-names documents
 
 pub left-documents : (names : List (List ℕ)) (documents : List Document)
-    → filter (keeps_some names) (map (thinned names) documents) ≡ filter has_widgets (map (without_widgets names) documents)
-left-documents names documents = filter-changed (keeps_some names) has_widgets (thinned names) (without_widgets names) same alike documents
+    → filter (keeps_some names) (map (thinned names) documents)
+    ≡ filter has_widgets (map (without_widgets names) documents)
+left-documents names documents =
+    filter-changed (keeps_some names) has_widgets (thinned names) (without_widgets names) same alike documents
   where
-    alike : (document : Document) → has_widgets (without_widgets names document) ≡ true → thinned names document ≡ without_widgets names document
+    alike : (document : Document) → has_widgets (without_widgets names document) ≡ true →
+        thinned names document ≡ without_widgets names document
     alike document keeps = ap (λ b. cond b (without_widgets names document) document) keeps
 
-    same : (document : Document) → keeps_some names (thinned names document) ≡ has_widgets (without_widgets names document)
+    same : (document : Document) → keeps_some names (thinned names document)
+        ≡ has_widgets (without_widgets names document)
     same document =
-        elim (keeps_some names document) as (λ b. keeps_some names document ≡ b → keeps_some names (cond b (without_widgets names document) document) ≡ has_widgets (without_widgets names document)) [
+        elim (keeps_some names document) as (λ b. keeps_some names document ≡ b →
+        keeps_some names (cond b (without_widgets names document) document)
+        ≡ has_widgets (without_widgets names document)) [
           | false ↦ λ _. refl
           | true ↦ λ _. ap (λ ws. nat_lt 0 (length ws)) (filter-twice (is_kept names) document.widgets)
         ] refl
 
 -- ---- what holds of each document
 
-pub all-added : (Good : Document → Type 0) (documents : List Document) (new : Document) → AllByRecursion Good documents → Good new → AllByRecursion Good (documents ++ new ∷ [])
+pub all-added : (Good : Document → Type 0) (documents : List Document) (new : Document) →
+    AllByRecursion Good documents → Good new → AllByRecursion Good (documents ++ new ∷ [])
 all-added Good [] new all good = (good, tt)
 all-added Good (document ∷ documents) new all good = (all.0, all-added Good documents new all.1 good)
 
-pub all-changed : (Good : Document → Type 0) (documents : List Document) (place : ℕ) (new : Document) → AllByRecursion Good documents → Good new → AllByRecursion Good (slice_set documents place new)
+pub all-changed : (Good : Document → Type 0) (documents : List Document) (place : ℕ) (new : Document) →
+    AllByRecursion Good documents → Good new → AllByRecursion Good (slice_set documents place new)
 all-changed Good [] place new all good = tt
 all-changed Good (document ∷ documents) zero new all good = (good, all.1)
-all-changed Good (document ∷ documents) (suc place) new all good = (all.0, all-changed Good documents place new all.1 good)
+all-changed Good (document ∷ documents) (suc place) new all good =
+    (all.0, all-changed Good documents place new all.1 good)
 
-pub all-at : (Good : Document → Type 0) (documents : List Document) (place : ℕ) → AllByRecursion Good documents → place < length documents → Good (document_at documents place)
+pub all-at : (Good : Document → Type 0) (documents : List Document) (place : ℕ) → AllByRecursion Good documents →
+    place < length documents → Good (document_at documents place)
 all-at Good [] place all within = absurd (omega (arith, within))
 all-at Good (document ∷ documents) zero all within = all.0
 all-at Good (document ∷ documents) (suc place) all within = all-at Good documents place all.1 (omega (arith, within))
 
-pub all-kept : (Good : Document → Type 0) (keeps : Document → Bool) (documents : List Document) → AllByRecursion Good documents → AllByRecursion Good (filter keeps documents)
+pub all-kept : (Good : Document → Type 0) (keeps : Document → Bool) (documents : List Document) →
+    AllByRecursion Good documents → AllByRecursion Good (filter keeps documents)
 all-kept Good keeps [] all = tt
 all-kept Good keeps (document ∷ documents) all =
-    elim (keeps document) as (λ b. AllByRecursion Good (cond b (document ∷ filter keeps documents) (filter keeps documents))) [
+    elim (keeps document) as (λ b. AllByRecursion Good
+    (cond b (document ∷ filter keeps documents) (filter keeps documents))) [
       | false ↦ all-kept Good keeps documents all.1
       | true ↦ (all.0, all-kept Good keeps documents all.1)
     ]
 
-pub all-shown : (documents : List Document) → AllByRecursion (λ (document : Document). 0 < length document.widgets) (filter has_widgets documents)
+pub all-shown : (documents : List Document) →
+    AllByRecursion (λ (document : Document). 0 < length document.widgets) (filter has_widgets documents)
 all-shown [] = tt
 all-shown (document ∷ documents) =
-    elim (has_widgets document) as (λ b. has_widgets document ≡ b → AllByRecursion (λ (d : Document). 0 < length d.widgets) (cond b (document ∷ filter has_widgets documents) (filter has_widgets documents))) [
+    elim (has_widgets document) as (λ b. has_widgets document ≡ b →
+    AllByRecursion (λ (d : Document). 0 < length d.widgets)
+    (cond b (document ∷ filter has_widgets documents) (filter has_widgets documents))) [
       | false ↦ λ _. all-shown documents
       | true ↦ λ some. (shown document.widgets some, all-shown documents)
     ] refl
@@ -123,58 +155,74 @@ all-shown (document ∷ documents) =
 pub homes-windows : (documents : List Document) → names_in (homes_of documents) ≡ windows_of documents
 homes-windows documents = homes-names window_names 0 documents
 
-pub some-home : (name : List ℕ) (documents : List Document) (windows : Homes) → windows ≡ homes_of documents → is_some (home_in name windows) ≡ is_among name (windows_of documents)
-some-home name documents windows found = found-some name windows ∙ ap (λ homes. is_among name (names_in homes)) found ∙ ap (is_among name) (homes-windows documents)
+pub some-home : (name : List ℕ) (documents : List Document) (windows : Homes) → windows ≡ homes_of documents →
+    is_some (home_in name windows) ≡ is_among name (windows_of documents)
+some-home name documents windows found = found-some name windows ∙ ap (λ homes. is_among name (names_in homes)) found
+    ∙ ap (is_among name) (homes-windows documents)
 
 none-of : (found : Option ℕ) → is_some found ≡ false → found ≡ None
 none-of None is = refl
 none-of (Some k) is = absurd (let h : true ≡ false = is in cc)
 
-pub absent-home : (name : List ℕ) (documents : List Document) (windows : Homes) → windows ≡ homes_of documents → is_among name (windows_of documents) ≡ false → home_in name windows ≡ None
-absent-home name documents windows found new = none-of (home_in name windows) (some-home name documents windows found ∙ new)
+pub absent-home : (name : List ℕ) (documents : List Document) (windows : Homes) → windows ≡ homes_of documents →
+    is_among name (windows_of documents) ≡ false → home_in name windows ≡ None
+absent-home name documents windows found new =
+    none-of (home_in name windows) (some-home name documents windows found ∙ new)
 
 -- how many they are
-pub windows-count : (documents : List Document) (windows : Homes) → windows ≡ homes_of documents → length windows ≡ length (windows_of documents)
+pub windows-count : (documents : List Document) (windows : Homes) → windows ≡ homes_of documents →
+    length windows ≡ length (windows_of documents)
 windows-count documents windows found = ap length found ∙ homes-count window_names 0 documents
 
-pub added-homes : (name : List ℕ) (settings : Settings) (documents : List Document) (windows new : Homes) (index place : ℕ) → windows ≡ homes_of documents → index ≡ length windows → place ≡ length documents
+pub added-homes : (name : List ℕ) (settings : Settings) (documents : List Document) (windows new : Homes)
+    (index place : ℕ) → windows ≡ homes_of documents → index ≡ length windows → place ≡ length documents
     → new ≡ insert windows index (name, place) → new ≡ homes_of (documents ++ new_document name settings ∷ [])
 added-homes name settings documents windows new index place found end last made =
     let here : place ≡ 0 + length documents = omega (arith, last) in
-    made ∙ ap (λ n. insert windows n (name, place)) end ∙ insert_end windows (name, place) ∙ ap (λ homes. homes ++ (name, place) ∷ []) found
+    made ∙ ap (λ n. insert windows n (name, place)) end ∙ insert_end windows (name, place)
+    ∙ ap (λ homes. homes ++ (name, place) ∷ []) found
     ∙ ap (λ p. homes_of documents ++ (name, p) ∷ []) here
     ∙ sym (homes-added window_names 0 documents (new_document name settings))
 
 -- a widget more of the document at a place
-pub peer-homes : (name : List ℕ) (settings : Settings) (documents : List Document) (windows new : Homes) (index place : ℕ) → windows ≡ homes_of documents → place < length documents
+pub peer-homes : (name : List ℕ) (settings : Settings) (documents : List Document) (windows new : Homes)
+    (index place : ℕ) → windows ≡ homes_of documents → place < length documents
     → index ≡ length (windows_of (take (place + 1) documents)) → new ≡ insert windows index (name, place)
     → new ≡ homes_of (slice_set documents place (with_peer name settings (document_at documents place)))
 peer-homes name settings documents windows new index place found within end made =
     let old = document_at documents place in
     let here : place ≡ 0 + place = omega arith in
-    made ∙ ap (λ homes. insert homes index (name, place)) found ∙ ap (λ n. insert (homes_of documents) n (name, place)) end
+    made ∙ ap (λ homes. insert homes index (name, place)) found
+    ∙ ap (λ n. insert (homes_of documents) n (name, place)) end
     ∙ ap (λ p. insert (homes_of documents) (length (windows_of (take (place + 1) documents))) (name, p)) here
-    ∙ sym (homes-peer window_names 0 place documents (with_peer name settings old) widgets.bare_document name within (peer-names name settings old))
+    ∙ sym (homes-peer window_names 0 place documents (with_peer name settings old) widgets.bare_document name within
+    (peer-names name settings old))
 
 -- a document that keeps its widgets
-pub same-homes : (documents : List Document) (place : ℕ) (new : Document) → window_names new ≡ window_names (document_at documents place)
+pub same-homes : (documents : List Document) (place : ℕ) (new : Document) →
+    window_names new ≡ window_names (document_at documents place)
     → homes_of (slice_set documents place new) ≡ homes_of documents
-same-homes documents place new same = ap (Rattle.peers.specs.Windows.homes_from 0) (names-same window_names place documents new widgets.bare_document same)
+same-homes documents place new same = ap (Rattle.peers.specs.Windows.homes_from 0)
+    (names-same window_names place documents new widgets.bare_document same)
 
-pub front-windows : (count : ℕ) (documents : List Document) → length (windows_of (take count documents)) ≤ length (windows_of documents)
+pub front-windows : (count : ℕ) (documents : List Document) →
+    length (windows_of (take count documents)) ≤ length (windows_of documents)
 front-windows count documents = front-count window_names count documents
 
 pub next-windows : (count : ℕ) (documents : List Document) → count < length documents
-    → length (windows_of (take (count + 1) documents)) ≡ length (windows_of (take count documents)) + length (window_names (document_at documents count))
+    → length (windows_of (take (count + 1) documents))
+    ≡ length (windows_of (take count documents)) + length (window_names (document_at documents count))
 next-windows count documents within = next-count window_names count documents widgets.bare_document within
 
 -- a document that is read
-pub read-is : (documents : List Document) (place : ℕ) (document : Document) → place < length documents → document ≡ get_or documents place document
+pub read-is : (documents : List Document) (place : ℕ) (document : Document) → place < length documents →
+    document ≡ get_or documents place document
     → document ≡ document_at documents place
 read-is documents place document within is = get_or_read documents place document within is widgets.bare_document
 
 -- the widgets of a document that is read
-pub read-count : (documents : List Document) (place : ℕ) (document : Document) → place < length documents → document ≡ get_or documents place document
+pub read-count : (documents : List Document) (place : ℕ) (document : Document) → place < length documents →
+    document ≡ get_or documents place document
     → length document.widgets ≡ length (window_names (document_at documents place))
 read-count documents place document within is =
     ap (λ (d : Document). length d.widgets) (read-is documents place document within is)
@@ -183,14 +231,17 @@ read-count documents place document within is =
 -- ---- a document among others
 
 -- a name that no widget has isn't that of one of a document's
-pub own-absent : (name : List ℕ) (documents : List Document) (place : ℕ) → place < length documents → is_among name (windows_of documents) ≡ false
+pub own-absent : (name : List ℕ) (documents : List Document) (place : ℕ) → place < length documents →
+    is_among name (windows_of documents) ≡ false
     → is_among name (window_names (document_at documents place)) ≡ false
 own-absent name [] place within new = absurd (omega (arith, within))
 own-absent name (document ∷ documents) place within new =
     let none = sym (among-append name (window_names document) (windows_of documents)) ∙ new in
-    elim place as (λ at. at < length (document ∷ documents) → is_among name (window_names (document_at (document ∷ documents) at)) ≡ false) [
+    elim place as (λ at. at < length (document ∷ documents) →
+    is_among name (window_names (document_at (document ∷ documents) at)) ≡ false) [
       | zero ↦ λ inside. (neither (is_among name (window_names document)) (is_among name (windows_of documents)) none).0
-      | suc at ↦ λ inside. own-absent name documents at (omega (arith, inside)) (neither (is_among name (window_names document)) (is_among name (windows_of documents)) none).1
+      | suc at ↦ λ inside. own-absent name documents at (omega (arith, inside))
+          (neither (is_among name (window_names document)) (is_among name (windows_of documents)) none).1
     ] within
   where
     neither : (b c : Bool) → (b || c) ≡ false → (b ≡ false) × (c ≡ false)
@@ -198,9 +249,15 @@ own-absent name (document ∷ documents) place within new =
     neither true c none = absurd (let h : true ≡ false = none in cc)
 
 -- its widgets are no more than all
-pub own-count : (documents : List Document) (place : ℕ) → place < length documents → length (document_at documents place).widgets ≤ length (windows_of documents)
+pub own-count : (documents : List Document) (place : ℕ) → place < length documents →
+    length (document_at documents place).widgets ≤ length (windows_of documents)
 own-count documents place within =
-    omega (arith, next-windows place documents within, front-windows (place + 1) documents, length-map (document_at documents place).widgets (λ (widget : Widget). widget.name))
+    omega (
+      arith,
+      next-windows place documents within,
+      front-windows (place + 1) documents,
+      length-map (document_at documents place).widgets (λ (widget : Widget). widget.name),
+    )
 
 pub remove-insert : {A : Type 0} (xs : List A) (i : ℕ) (x : A) → i ≤ length xs → remove (insert xs i x) i ≡ xs
 remove-insert xs zero x le = refl
@@ -209,7 +266,8 @@ remove-insert (y ∷ xs) (suc i) x le = ap (λ ys. y ∷ ys) (remove-insert xs i
 
 -- names that go, of the widgets as they are looked up
 pub left-homes : (names : List (List ℕ)) (documents : List Document) (windows : Homes) → windows ≡ homes_of documents
-    → names_in (filter (λ home. not (is_among home.0 names)) windows) ≡ windows_of (filter has_widgets (map (without_widgets names) documents))
+    → names_in (filter (λ home. not (is_among home.0 names)) windows)
+    ≡ windows_of (filter has_widgets (map (without_widgets names) documents))
 left-homes names documents windows found =
     names-filtered (λ name. not (is_among name names)) windows
     ∙ ap (λ homes. filter (λ name. not (is_among name names)) (names_in homes)) found
@@ -218,36 +276,63 @@ left-homes names documents windows found =
 
 -- ---- a name that is taken, and too many widgets
 
-pub named-taken : (world : World) (name : List ℕ) (settings : Settings) → is_among name (all_windows world) ≡ true → create_named world name settings ≡ refuses world (WindowExists 1)
-named-taken world name settings taken = ap (λ b. if b then refuses world (WindowExists 1) else create_new world name settings) taken
+pub named-taken : (world : World) (name : List ℕ) (settings : Settings) → is_among name (all_windows world) ≡ true →
+    create_named world name settings ≡ refuses world (WindowExists 1)
+named-taken world name settings taken =
+    ap (λ b. if b then refuses world (WindowExists 1) else create_new world name settings) taken
 
-pub named-many : (world : World) (name : List ℕ) (settings : Settings) → is_among name (all_windows world) ≡ false → nat_le world.limits.widgets (length (all_windows world)) ≡ true
+pub named-many : (world : World) (name : List ℕ) (settings : Settings) → is_among name (all_windows world) ≡ false →
+    nat_le world.limits.widgets (length (all_windows world)) ≡ true
     → create_named world name settings ≡ refuses world TooManyWidgets
 named-many world name settings new many =
     ap (λ b. if b then refuses world (WindowExists 1) else create_new world name settings) new
-    ∙ ap (λ b. if b then refuses world TooManyWidgets else record { reply = Ok (Word 1); world = record world { documents = world.documents ++ new_document name settings ∷ [] } }) many
+    ∙ ap (λ b. if b then refuses world TooManyWidgets
+    else record {
+      reply = Ok (Word 1);
+      world = record world { documents = world.documents ++ new_document name settings ∷ [] };
+    }) many
 
-pub named-new : (world : World) (name : List ℕ) (settings : Settings) → is_among name (all_windows world) ≡ false → nat_le world.limits.widgets (length (all_windows world)) ≡ false
-    → create_named world name settings ≡ record { reply = Ok (Word 1); world = record world { documents = world.documents ++ new_document name settings ∷ [] } }
+pub named-new : (world : World) (name : List ℕ) (settings : Settings) → is_among name (all_windows world) ≡ false →
+    nat_le world.limits.widgets (length (all_windows world)) ≡ false
+    → create_named world name settings ≡ record {
+      reply = Ok (Word 1);
+      world = record world { documents = world.documents ++ new_document name settings ∷ [] };
+    }
 named-new world name settings new few =
     ap (λ b. if b then refuses world (WindowExists 1) else create_new world name settings) new
-    ∙ ap (λ b. if b then refuses world TooManyWidgets else record { reply = Ok (Word 1); world = record world { documents = world.documents ++ new_document name settings ∷ [] } }) few
+    ∙ ap (λ b. if b then refuses world TooManyWidgets
+    else record {
+      reply = Ok (Word 1);
+      world = record world { documents = world.documents ++ new_document name settings ∷ [] };
+    }) few
 
-pub peer-taken : (limits : LimitTable) (windows : List (List ℕ)) (document : Document) (at : ℕ) (name : List ℕ) (settings : Settings) → is_among name windows ≡ true
+pub peer-taken : (limits : LimitTable) (windows : List (List ℕ)) (document : Document) (at : ℕ) (name : List ℕ)
+    (settings : Settings) → is_among name windows ≡ true
     → peer_with limits windows document at name settings ≡ refused document (WindowExists at)
 peer-taken limits windows document at name settings taken =
-    ap (λ b. if b then refused document (WindowExists at) else (if nat_le limits.widgets (length windows) then refused document TooManyWidgets else answered (with_peer name settings document) (Word at))) taken
+    ap (λ b. if b then refused document (WindowExists at)
+    else (if nat_le limits.widgets (length windows) then refused document TooManyWidgets
+    else answered (with_peer name settings document) (Word at))) taken
 
-pub peer-many : (limits : LimitTable) (windows : List (List ℕ)) (document : Document) (at : ℕ) (name : List ℕ) (settings : Settings) → is_among name windows ≡ false
-    → nat_le limits.widgets (length windows) ≡ true → peer_with limits windows document at name settings ≡ refused document TooManyWidgets
+pub peer-many : (limits : LimitTable) (windows : List (List ℕ)) (document : Document) (at : ℕ) (name : List ℕ)
+    (settings : Settings) → is_among name windows ≡ false
+    → nat_le limits.widgets (length windows) ≡ true → peer_with limits windows document at name settings
+    ≡ refused document TooManyWidgets
 peer-many limits windows document at name settings new many =
-    ap (λ b. if b then refused document (WindowExists at) else (if nat_le limits.widgets (length windows) then refused document TooManyWidgets else answered (with_peer name settings document) (Word at))) new
-    ∙ ap (λ b. if b then refused document TooManyWidgets else answered (with_peer name settings document) (Word at)) many
+    ap (λ b. if b then refused document (WindowExists at)
+    else (if nat_le limits.widgets (length windows) then refused document TooManyWidgets
+    else answered (with_peer name settings document) (Word at))) new
+    ∙ ap (λ b. if b then refused document TooManyWidgets
+    else answered (with_peer name settings document) (Word at)) many
 
-pub peer-new : (limits : LimitTable) (windows : List (List ℕ)) (document : Document) (at : ℕ) (name : List ℕ) (settings : Settings) → is_among name windows ≡ false
-    → nat_le limits.widgets (length windows) ≡ false → peer_with limits windows document at name settings ≡ answered (with_peer name settings document) (Word at)
+pub peer-new : (limits : LimitTable) (windows : List (List ℕ)) (document : Document) (at : ℕ) (name : List ℕ)
+    (settings : Settings) → is_among name windows ≡ false
+    → nat_le limits.widgets (length windows) ≡ false → peer_with limits windows document at name settings
+    ≡ answered (with_peer name settings document) (Word at)
 peer-new limits windows document at name settings new few =
-    ap (λ b. if b then refused document (WindowExists at) else (if nat_le limits.widgets (length windows) then refused document TooManyWidgets else answered (with_peer name settings document) (Word at))) new
+    ap (λ b. if b then refused document (WindowExists at)
+    else (if nat_le limits.widgets (length windows) then refused document TooManyWidgets
+    else answered (with_peer name settings document) (Word at))) new
     ∙ ap (λ b. if b then refused document TooManyWidgets else answered (with_peer name settings document) (Word at)) few
 
 -- ---- a world that stays well formed
@@ -259,7 +344,8 @@ distinct-none : IsDistinct is_same []
 unfolding IsDistinct
 distinct-none = tt
 
-pub formed-none : (limits : LimitTable) (documents : List Document) → documents ≡ [] → AreLimits limits → IsWellFormed (with_all limits documents)
+pub formed-none : (limits : LimitTable) (documents : List Document) → documents ≡ [] → AreLimits limits →
+    IsWellFormed (with_all limits documents)
 formed-none limits documents none bounds = subst (λ ds. IsWellFormed (with_all limits ds)) (sym none) (record {
   limits = bounds;
   shown = tt;
@@ -268,21 +354,32 @@ formed-none limits documents none bounds = subst (λ ds. IsWellFormed (with_all 
   widget_count = omega arith;
 })
 
-added-count : (documents : List Document) (new : Document) → length (windows_of (documents ++ new ∷ [])) ≡ length (windows_of documents) + length (window_names new)
+added-count : (documents : List Document) (new : Document) →
+    length (windows_of (documents ++ new ∷ [])) ≡ length (windows_of documents) + length (window_names new)
 added-count [] new = omega (arith, ap length (append-nil (window_names new)))
 added-count (document ∷ documents) new =
-    omega (arith, length-append (window_names document) (windows_of (documents ++ new ∷ [])), length-append (window_names document) (windows_of documents), added-count documents new)
+    omega (
+      arith,
+      length-append (window_names document) (windows_of (documents ++ new ∷ [])),
+      length-append (window_names document) (windows_of documents),
+      added-count documents new,
+    )
 
-pub formed-added : {A E : Type 0} (limits : LimitTable) (name : List ℕ) (settings : Settings) (documents new : List Document) (result : Result A E) → IsWellFormed (with_all limits documents)
-    → nat_le limits.widgets (length (windows_of documents)) ≡ false → OnOk result (new ≡ documents ++ new_document name settings ∷ []) → OnErr result (new ≡ documents)
-    → OnOk result (IsDistinct is_same (windows_of new)) → AllByRecursion (IsWellFormedDocument limits) new → IsWellFormed (with_all limits new)
+pub formed-added : {A E : Type 0} (limits : LimitTable) (name : List ℕ) (settings : Settings)
+    (documents new : List Document) (result : Result A E) → IsWellFormed (with_all limits documents)
+    → nat_le limits.widgets (length (windows_of documents)) ≡ false →
+    OnOk result (new ≡ documents ++ new_document name settings ∷ []) → OnErr result (new ≡ documents)
+    → OnOk result (IsDistinct is_same (windows_of new)) → AllByRecursion (IsWellFormedDocument limits) new →
+    IsWellFormed (with_all limits new)
 formed-added limits name settings documents new (Ok value) formed few made kept distinct all =
     let count = ap (λ ds. length (windows_of ds)) made in
     let more = added-count documents (new_document name settings) in
     let room : length (windows_of documents) < limits.widgets = grind (arith, nat_tests, few) in
     record {
       limits = formed.limits;
-      shown = subst (AllByRecursion (λ (d : Document). 0 < length d.widgets)) (sym made) (all-added (λ (d : Document). 0 < length d.widgets) documents (new_document name settings) formed.shown (omega arith));
+      shown = subst (AllByRecursion (λ (d : Document). 0 < length d.widgets)) (sym made)
+          (all-added (λ (d : Document). 0 < length d.widgets) documents (new_document name settings) formed.shown
+          (omega arith));
       documents = all;
       widget_names = distinct;
       widget_count = omega (arith, count, more, room);
@@ -299,16 +396,19 @@ fewer passes (x ∷ xs) =
       | false ↦ omega (arith, rest)
     ]
 
-pub formed-left : {A E : Type 0} (limits : LimitTable) (names : List (List ℕ)) (documents new : List Document) (result : Result A E) → IsWellFormed (with_all limits documents)
+pub formed-left : {A E : Type 0} (limits : LimitTable) (names : List (List ℕ)) (documents new : List Document)
+    (result : Result A E) → IsWellFormed (with_all limits documents)
     → OnOk result (new ≡ filter has_widgets (map (without_widgets names) documents)) → OnErr result (new ≡ documents)
-    → OnOk result (IsDistinct is_same (windows_of new)) → AllByRecursion (IsWellFormedDocument limits) new → IsWellFormed (with_all limits new)
+    → OnOk result (IsDistinct is_same (windows_of new)) → AllByRecursion (IsWellFormedDocument limits) new →
+    IsWellFormed (with_all limits new)
 formed-left limits names documents new (Ok value) formed made kept distinct all =
     let windows = ap (λ ds. length (windows_of ds)) made in
     let left = ap length (left-windows names documents) in
     let less = fewer (λ name. not (is_among name names)) (windows_of documents) in
     record {
       limits = formed.limits;
-      shown = subst (AllByRecursion (λ (d : Document). 0 < length d.widgets)) (sym made) (all-shown (map (without_widgets names) documents));
+      shown = subst (AllByRecursion (λ (d : Document). 0 < length d.widgets)) (sym made)
+          (all-shown (map (without_widgets names) documents));
       documents = all;
       widget_names = distinct;
       widget_count = omega (arith, windows, left, less, formed.widget_count);
@@ -318,31 +418,46 @@ formed-left limits names documents new (Err error) formed made kept distinct all
 
 -- ---- a widget more of a document
 
-pub set-same : (documents : List Document) (place : ℕ) → slice_set documents place (document_at documents place) ≡ documents
+pub set-same : (documents : List Document) (place : ℕ) →
+    slice_set documents place (document_at documents place) ≡ documents
 set-same [] place = refl
 set-same (document ∷ documents) zero = refl
 set-same (document ∷ documents) (suc place) = ap (λ ds. document ∷ ds) (set-same documents place)
 
 -- what is refused changes no document
-pub changed-refused : (limits : LimitTable) (documents : List Document) (place : ℕ) (change : Change) → change.document ≡ document_at documents place
+pub changed-refused : (limits : LimitTable) (documents : List Document) (place : ℕ) (change : Change) →
+    change.document ≡ document_at documents place
     → (changed (with_all limits documents) place change).world ≡ with_all limits documents
-changed-refused limits documents place change same = ap (with_all limits) (ap (slice_set documents place) same ∙ set-same documents place)
+changed-refused limits documents place change same =
+    ap (with_all limits) (ap (slice_set documents place) same ∙ set-same documents place)
 
 peer-count : (name : List ℕ) (settings : Settings) (documents : List Document) (place : ℕ) → place < length documents
-    → length (windows_of (slice_set documents place (with_peer name settings (document_at documents place)))) ≡ length (windows_of documents) + 1
+    → length (windows_of (slice_set documents place (with_peer name settings (document_at documents place))))
+    ≡ length (windows_of documents) + 1
 peer-count name settings documents place within =
     let old = document_at documents place in
     let new = slice_set documents place (with_peer name settings old) in
     let index = length (windows_of (take (place + 1) documents)) in
     let count = homes-count window_names 0 documents in
     let low : index ≤ length (homes_of documents) = omega (arith, front-windows (place + 1) documents, count) in
-    let made = ap length (homes-peer window_names 0 place documents (with_peer name settings old) widgets.bare_document name within (peer-names name settings old)) in
-    omega (arith, count, homes-count window_names 0 new, made, length-insert (homes_of documents) index (name, 0 + place) low)
+    let made = ap length (homes-peer window_names 0 place documents (with_peer name settings old) widgets.bare_document
+    name within (peer-names name settings old)) in
+    omega (
+      arith,
+      count,
+      homes-count window_names 0 new,
+      made,
+      length-insert (homes_of documents) index (name, 0 + place) low,
+    )
 
-pub formed-peer : {A E : Type 0} (limits : LimitTable) (name : List ℕ) (settings : Settings) (documents new : List Document) (place : ℕ) (result : Result A E)
-    → IsWellFormed (with_all limits documents) → place < length documents → nat_le limits.widgets (length (windows_of documents)) ≡ false
-    → OnOk result (new ≡ slice_set documents place (with_peer name settings (document_at documents place))) → OnErr result (new ≡ documents)
-    → OnOk result (IsDistinct is_same (windows_of new)) → AllByRecursion (IsWellFormedDocument limits) new → IsWellFormed (with_all limits new)
+pub formed-peer : {A E : Type 0} (limits : LimitTable) (name : List ℕ) (settings : Settings)
+    (documents new : List Document) (place : ℕ) (result : Result A E)
+    → IsWellFormed (with_all limits documents) → place < length documents →
+    nat_le limits.widgets (length (windows_of documents)) ≡ false
+    → OnOk result (new ≡ slice_set documents place (with_peer name settings (document_at documents place))) →
+    OnErr result (new ≡ documents)
+    → OnOk result (IsDistinct is_same (windows_of new)) → AllByRecursion (IsWellFormedDocument limits) new →
+    IsWellFormed (with_all limits new)
 formed-peer limits name settings documents new place (Ok value) formed within few made kept distinct all =
     let old = document_at documents place in
     let count = ap (λ ds. length (windows_of ds)) made in
@@ -352,7 +467,8 @@ formed-peer limits name settings documents new place (Ok value) formed within fe
     record {
       limits = formed.limits;
       shown = subst (AllByRecursion (λ (d : Document). 0 < length d.widgets)) (sym made)
-          (all-changed (λ (d : Document). 0 < length d.widgets) documents place (with_peer name settings old) formed.shown (omega (arith, shown)));
+          (all-changed (λ (d : Document). 0 < length d.widgets) documents place (with_peer name settings old)
+          formed.shown (omega (arith, shown)));
       documents = all;
       widget_names = distinct;
       widget_count = omega (arith, count, more, room);

@@ -16,16 +16,18 @@ use Rattle.documents.specs.Deletions.{delete_places, replace_span}
 -- `W delete I ?I ..?`
 abbrev pub delete : Document → Widget → ℕ → List (List ℕ) → Change
 delete document widget at words =
-    change_with document (places_at document widget at words) (λ places. unless_idle widget document (delete_places document widget places))
+    change_with document (places_at document widget at words) (λ places.
+    unless_idle widget document (delete_places document widget places))
 
 -- ---- replace
 
--- The second place, of which the word stands at a position, may not be before the first; behind the last character both are
--- before it.
+-- The second place, of which the word stands at a position, may not be before the first; behind the last character both
+-- are before it.
 abbrev pub replace_places : LimitTable → Document → Widget → ℕ → ℕ → ℕ → List Pair → Change
 replace_places limits document widget second from to pairs =
     if nat_lt to from then refused document (IndexOrder second)
-    else unless_idle widget document (replace_span limits document widget (insertion_offset document widget from) (insertion_offset document widget to) pairs)
+    else unless_idle widget document (replace_span limits document widget (insertion_offset document widget from)
+    (insertion_offset document widget to) pairs)
 
 abbrev pub replace_words : LimitTable → Document → Widget → ℕ → List ℕ × List ℕ × List (List ℕ) → Change
 replace_words limits document widget at (first, second, words) =
@@ -35,4 +37,5 @@ replace_words limits document widget at (first, second, words) =
 
 -- `W replace A B chars ?tagList chars ..?`
 abbrev pub replace : LimitTable → Document → Widget → ℕ → List (List ℕ) → Change
-replace limits document widget at words = change_with document (first_two_of words) (replace_words limits document widget at)
+replace limits document widget at words =
+    change_with document (first_two_of words) (replace_words limits document widget at)

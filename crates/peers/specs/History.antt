@@ -11,7 +11,8 @@ use Rattle.documents.specs.History.{modified_set}
 
 abbrev pub modified_word : Document → ℕ → Option (List ℕ) → Change
 modified_word document at None = answered document (Flag (is_modified document.modified))
-modified_word document at (Some word) = change_with document (ok_or (boolean_of word) (BadBoolean at)) (modified_set document)
+modified_word document at (Some word) =
+    change_with document (ok_or (boolean_of word) (BadBoolean at)) (modified_set document)
 
 -- `W edit modified ?bool?`
 abbrev pub edit_modified : Document → ℕ → List (List ℕ) → Change

@@ -26,11 +26,13 @@ index document widget at words = with_value (one_of words) (index_of document wi
 -- whether a comparison holds of two places: the first is decided first, then the comparison, then the second
 abbrev pub compared : Result ℕ Fault → Result Comparison Fault → Result ℕ Fault → Result Answer Fault
 compared left operator right =
-    with_value left (λ from. with_value operator (λ comparison. with_value right (λ to. Ok (Flag (holds comparison from to)))))
+    with_value left (λ from. with_value operator (λ comparison.
+    with_value right (λ to. Ok (Flag (holds comparison from to)))))
 
 abbrev pub compared_at : Document → Widget → ℕ → List ℕ × List ℕ × List ℕ → Result Answer Fault
 compared_at document widget at words =
-    compared (place_at document widget at words.0) (comparison_at (at + 1) (comparison_of words.1)) (place_at document widget (at + 2) words.2)
+    compared (place_at document widget at words.0) (comparison_at (at + 1) (comparison_of words.1))
+    (place_at document widget (at + 2) words.2)
 
 -- `W compare A op B`
 abbrev pub compare : Document → Widget → ℕ → List (List ℕ) → Result Answer Fault

@@ -26,10 +26,12 @@ use Rattle.documents.specs.Marks.{mark_names, place_named, with_mark, mark_offse
 -- ---- marks that are set, and unset
 
 abbrev pub set_at : LimitTable → Document → Widget → List ℕ → ℕ → Change
-set_at limits document widget name place = set_found limits document widget name (mark_offset document widget name place) (place_named document widget name)
+set_at limits document widget name place =
+    set_found limits document widget name (mark_offset document widget name place) (place_named document widget name)
 
 abbrev pub set_words : LimitTable → Document → Widget → ℕ → List ℕ × List ℕ → Change
-set_words limits document widget at (name, word) = change_with document (place_at document widget (at + 1) word) (set_at limits document widget name)
+set_words limits document widget at (name, word) =
+    change_with document (place_at document widget (at + 1) word) (set_at limits document widget name)
 
 -- `W mark set M I`
 abbrev pub mark_set : LimitTable → Document → Widget → ℕ → List (List ℕ) → Change
@@ -46,11 +48,13 @@ gravity_asked document at (Some place) = answered document (Text (gravity_word p
 abbrev pub gravity_given : Document → Widget → ℕ → List ℕ → Option Place → Option Gravity → Change
 gravity_given document widget at name None gravity = refused document (NoSuchMark at)
 gravity_given document widget at name (Some place) None = refused document (BadGravity (at + 1))
-gravity_given document widget at name (Some place) (Some gravity) = answered (with_mark document widget name (record place { gravity = gravity })) Empty
+gravity_given document widget at name (Some place) (Some gravity) =
+    answered (with_mark document widget name (record place { gravity = gravity })) Empty
 
 abbrev pub gravity_words : Document → Widget → ℕ → List ℕ × Option (List ℕ) → Change
 gravity_words document widget at (name, None) = gravity_asked document at (place_named document widget name)
-gravity_words document widget at (name, Some word) = gravity_given document widget at name (place_named document widget name) (gravity_of word)
+gravity_words document widget at (name, Some word) =
+    gravity_given document widget at name (place_named document widget name) (gravity_of word)
 
 -- `W mark gravity M ?left or right?`
 abbrev pub mark_gravity : Document → Widget → ℕ → List (List ℕ) → Change

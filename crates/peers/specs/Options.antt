@@ -12,7 +12,8 @@ use Rattle.documents.specs.Options.{settings_of, with_settings}
 use Rattle.documents.specs.Promise.{Change, answered, change_with}
 use Rattle.documents.specs.Documents.{Document, Widget, characters}
 
--- the settings with the values of options, of which the first stands at a position: each value is decided, and then the lines
+-- the settings with the values of options, of which the first stands at a position: each value is decided, and then the
+-- lines
 abbrev pub settings_given : Document → ℕ → List (List ℕ) → Settings → Result Settings Fault
 settings_given document at words settings =
     with_value (settings_read (lines (characters document.cells)) at words settings) settings_checked
@@ -20,8 +21,10 @@ settings_given document at words settings =
 -- `W configure option value ?option value ..?`: all values are decided before anything changes
 abbrev pub configure : Document → Widget → ℕ → List (List ℕ) → Change
 configure document widget at words =
-    change_with document (settings_given document at words (settings_of document widget)) (λ settings. answered (with_settings widget settings document) Empty)
+    change_with document (settings_given document at words (settings_of document widget)) (λ settings.
+    answered (with_settings widget settings document) Empty)
 
 -- `W cget option`
 abbrev pub cget : Document → Widget → List (List ℕ) → Result Answer Fault
-cget document widget words = with_value (one_of words) (λ option. Ok (setting_answer option (settings_of document widget)))
+cget document widget words =
+    with_value (one_of words) (λ option. Ok (setting_answer option (settings_of document widget)))

@@ -31,12 +31,14 @@ peer_with limits windows document at name settings =
 abbrev pub peer_words : LimitTable → List (List ℕ) → Document → Widget → ℕ → List ℕ × List (List ℕ) → Change
 peer_words limits windows document widget at (name, words) =
     if is_window_name name
-    then change_with document (settings_given document (at + 1) words (peer_settings document widget)) (peer_with limits windows document at name)
+    then change_with document (settings_given document (at + 1) words (peer_settings document widget))
+    (peer_with limits windows document at name)
     else refused document (InvalidCommandName at)
 
 -- `W peer create V ?option value ..?`; the names of all windows are known
 abbrev pub peer_create : LimitTable → List (List ℕ) → Document → Widget → ℕ → List (List ℕ) → Change
-peer_create limits windows document widget at words = change_with document (first_of words) (peer_words limits windows document widget at)
+peer_create limits windows document widget at words =
+    change_with document (first_of words) (peer_words limits windows document widget at)
 
 -- `W peer names`: the other widgets of the document, by their creation
 abbrev pub peer_names : Document → Widget → Result Answer Fault

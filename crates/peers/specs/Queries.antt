@@ -1,5 +1,6 @@
 -- Commands that ask what stands in a view: `search`, `count` and `dump`.
-use Rattle.std.specs.Prelude.{ℕ, suc, ◌+◌, min, Bool, true, ◌||◌, List, [], ◌∷◌, length, map, reverse, Option, None, Some, Result, Ok, if◌then◌else◌}
+use Rattle.std.specs.Prelude.{ℕ, suc, ◌+◌, min, Bool, true, ◌||◌, List, [], ◌∷◌, length, map, reverse, Option, None}
+use Rattle.std.specs.Prelude.{Some, Result, Ok, if◌then◌else◌}
 use Rattle.std.specs.List.{find, list_any, starts_with}
 use Rattle.command_table.specs.Words.{is_character}
 use Rattle.index_grammar.specs.declared.indices.Direction.{Direction}
@@ -40,7 +41,8 @@ is_direction word = stands_for (literal "-forwards") word || stands_for (literal
 -- a direction with a word more
 abbrev pub turned : Direction → List ℕ → Direction
 turned direction word =
-    if stands_for (literal "-backwards") word then Back else (if stands_for (literal "-forwards") word then Forward else direction)
+    if stands_for (literal "-backwards") word then Back
+    else (if stands_for (literal "-forwards") word then Forward else direction)
 
 abbrev pub direction_by : Option (List ℕ) → Direction
 direction_by None = Forward
@@ -52,7 +54,8 @@ direction_of words = direction_by (find is_direction (reverse words))
 abbrev pub search_switches : List (List ℕ) → SearchSwitches
 search_switches words = record {
   direction = direction_of words;
-  wanted = if has_switch (literal "-all") words then (if has_switch (literal "-overlap") words then All else Apart) else First;
+  wanted = if has_switch (literal "-all") words then (if has_switch (literal "-overlap") words then All else Apart)
+      else First;
   ignores_case = has_switch (literal "-nocase") words;
   is_strict = has_switch (literal "-strictlimits") words;
 }
@@ -63,16 +66,19 @@ stop_at document widget at None = Ok None
 stop_at document widget at (Some word) = with_value (place_at document widget at word) (λ place. Ok (Some place))
 
 abbrev pub searched : Document → Widget → SearchSwitches → List ℕ → ℕ → Option ℕ → Result Answer Fault
-searched document widget switches pattern from stop = listed (search_result switches pattern (shown document widget) from stop)
+searched document widget switches pattern from stop =
+    listed (search_result switches pattern (shown document widget) from stop)
 
-abbrev pub search_words : Document → Widget → SearchSwitches → ℕ → List ℕ × List ℕ × Option (List ℕ) → Result Answer Fault
+abbrev pub search_words : Document → Widget → SearchSwitches → ℕ → List ℕ × List ℕ × Option (List ℕ) →
+    Result Answer Fault
 search_words document widget switches at (pattern, first, last) =
     with_value (place_at document widget (at + 1) first) (λ from.
     with_value (stop_at document widget (at + 2) last) (searched document widget switches pattern from))
 
 -- `W search ?switch ..? pattern I ?J?`
 abbrev pub search : Document → Widget → List (List ℕ) → ℕ → List (List ℕ) → Result Answer Fault
-search document widget switches at words = with_value (two_or_three_of words) (search_words document widget (search_switches switches) at)
+search document widget switches at words =
+    with_value (two_or_three_of words) (search_words document widget (search_switches switches) at)
 
 -- ---- count
 
@@ -84,11 +90,13 @@ count_between document widget options from to = listed (counted options (shown d
 
 abbrev pub count_words : Document → Widget → List Counted → ℕ → List ℕ × List ℕ → Result Answer Fault
 count_words document widget options at (first, second) =
-    with_value (place_at document widget at first) (λ from. with_value (place_at document widget (at + 1) second) (count_between document widget options from))
+    with_value (place_at document widget at first) (λ from.
+    with_value (place_at document widget (at + 1) second) (count_between document widget options from))
 
 -- `W count ?option ..? A B`
 abbrev pub count : Document → Widget → List (List ℕ) → ℕ → List (List ℕ) → Result Answer Fault
-count document widget options at words = with_value (two_of words) (count_words document widget (map counted_as options) at)
+count document widget options at words =
+    with_value (two_of words) (count_words document widget (map counted_as options) at)
 
 -- ---- dump
 
@@ -114,8 +122,10 @@ place_behind document widget place = min (suc place) (length (shown document wid
 abbrev pub dump_words : Document → Widget → Listed → ℕ → List ℕ × Option (List ℕ) → Result Answer Fault
 dump_words document widget elements at (first, last) =
     with_value (place_at document widget at first) (λ from.
-    with_value (place_or document widget (place_behind document widget from) (at + 1) last) (dumped document widget elements from))
+    with_value (place_or document widget (place_behind document widget from) (at + 1) last)
+    (dumped document widget elements from))
 
 -- `W dump ?switch ..? A ?B?`
 abbrev pub dump : Document → Widget → List (List ℕ) → ℕ → List (List ℕ) → Result Answer Fault
-dump document widget switches at words = with_value (one_or_two_of words) (dump_words document widget (listed_by switches) at)
+dump document widget switches at words =
+    with_value (one_or_two_of words) (dump_words document widget (listed_by switches) at)

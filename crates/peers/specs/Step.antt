@@ -1,9 +1,11 @@
 -- One command of a script: the new world and an answer, or the first fault and the same world.
-use Rattle.std.specs.Prelude.{ℕ, Bool, false, nat_le, nat_lt, List, [], ◌∷◌, ◌++◌, filter, length, map, slice_set, Option, None, Some, Result, Ok, Err, if◌then◌else◌}
+use Rattle.std.specs.Prelude.{ℕ, Bool, false, nat_le, nat_lt, List, [], ◌∷◌, ◌++◌, filter, length, map, slice_set}
+use Rattle.std.specs.Prelude.{Option, None, Some, Result, Ok, Err, if◌then◌else◌}
 use Rattle.command_parts.specs.declared.answers.Answer.{Answer}
 use Rattle.command_parts.specs.declared.answers.Answer.TheVariants.{Empty, Word}
 use Rattle.command_parts.specs.declared.answers.Fault.{Fault}
-use Rattle.command_parts.specs.declared.answers.Fault.TheVariants.{WrongArguments, InvalidCommandName, WindowExists, TooManyWidgets}
+use Rattle.command_parts.specs.declared.answers.Fault.TheVariants.{WrongArguments, InvalidCommandName, WindowExists}
+use Rattle.command_parts.specs.declared.answers.Fault.TheVariants.{TooManyWidgets}
 use Rattle.command_parts.specs.Faults.{shape_fault}
 use Rattle.command_parts.specs.Settings.{first_settings}
 use Rattle.command_parts.specs.declared.settings.Settings.{Settings}
@@ -33,7 +35,10 @@ refuses world fault = record { reply = Err fault; world = world }
 abbrev pub create_new : World → List ℕ → Settings → Outcome
 create_new world name settings =
     if nat_le world.limits.widgets (length (all_windows world)) then refuses world TooManyWidgets
-    else record { reply = Ok (Word 1); world = record world { documents = world.documents ++ new_document name settings ∷ [] } }
+    else record {
+      reply = Ok (Word 1);
+      world = record world { documents = world.documents ++ new_document name settings ∷ [] };
+    }
 
 abbrev pub create_named : World → List ℕ → Settings → Outcome
 create_named world name settings =
@@ -47,7 +52,8 @@ create_with world name (Ok settings) = create_named world name settings
 abbrev pub create : World → List (List ℕ) → Outcome
 create world [] = refuses world WrongArguments
 create world (name ∷ options) =
-    if is_window_name name then create_with world name (settings_given bare_document 2 options first_settings) else refuses world (InvalidCommandName 1)
+    if is_window_name name then create_with world name (settings_given bare_document 2 options first_settings)
+    else refuses world (InvalidCommandName 1)
 
 abbrev pub create_shaped : World → List (List ℕ) → Result Shape ShapeFault → Outcome
 create_shaped world words (Err fault) = refuses world (shape_fault fault)
@@ -60,7 +66,10 @@ has_widgets document = nat_lt 0 (length document.widgets)
 
 -- `destroy ?W ..?`: the widgets of these names go, and each document goes with its last widget
 abbrev pub destroy : World → List (List ℕ) → Outcome
-destroy world names = record { reply = Ok Empty; world = record world { documents = filter has_widgets (map (without_widgets names) world.documents) } }
+destroy world names = record {
+  reply = Ok Empty;
+  world = record world { documents = filter has_widgets (map (without_widgets names) world.documents) };
+}
 
 abbrev pub destroy_shaped : World → List (List ℕ) → Result Shape ShapeFault → Outcome
 destroy_shaped world words (Err fault) = refuses world (shape_fault fault)
@@ -71,7 +80,10 @@ destroy_shaped world words (Ok shape) = destroy world (arguments_of shape words)
 -- the world with the document at a place changed
 abbrev pub changed : World → ℕ → Change → Outcome
 changed world place change =
-    record { reply = change.reply; world = record world { documents = slice_set world.documents place change.document } }
+    record {
+      reply = change.reply;
+      world = record world { documents = slice_set world.documents place change.document };
+    }
 
 abbrev pub on_found : World → ℕ → Document → List (List ℕ) → Option Widget → Outcome
 on_found world place document words None = refuses world (InvalidCommandName 0)
@@ -89,7 +101,8 @@ on_widget world name words = on_home world name words (home name world.documents
 
 -- ---- any command
 
--- a command of a widget that takes no memory: `edit modified`, `edit reset` or `edit separator`, or words that are no command
+-- a command of a widget that takes no memory: `edit modified`, `edit reset` or `edit separator`, or words that are no
+-- command
 abbrev pub takes_none : List (List ℕ) → Bool
 takes_none [] = false
 takes_none (name ∷ others) =

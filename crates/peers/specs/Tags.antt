@@ -74,7 +74,8 @@ next_between document widget name from to =
 abbrev pub next_words : Document → Widget → ℕ → List ℕ × List ℕ × Option (List ℕ) → Result Answer Fault
 next_words document widget at (name, first, last) =
     with_value (place_at document widget (at + 1) first) (λ from.
-    with_value (place_or document widget (length (shown document widget)) (at + 2) last) (next_between document widget name from))
+    with_value (place_or document widget (length (shown document widget)) (at + 2) last)
+    (next_between document widget name from))
 
 -- `W tag nextrange T A ?B?`
 abbrev pub tag_nextrange : Document → Widget → ℕ → List (List ℕ) → Result Answer Fault
@@ -83,7 +84,8 @@ tag_nextrange document widget at words = with_value (two_or_three_of words) (nex
 -- the last range that begins before one place, if it doesn't begin before another
 abbrev pub previous_between : Document → Widget → List ℕ → ℕ → ℕ → Result Answer Fault
 previous_between document widget name from to =
-    listed_ranges document widget (begun (λ start. nat_le to start) (previous_range (flags_of document widget name) from))
+    listed_ranges document widget (begun (λ start. nat_le to start)
+    (previous_range (flags_of document widget name) from))
 
 abbrev pub previous_words : Document → Widget → ℕ → List ℕ × List ℕ × Option (List ℕ) → Result Answer Fault
 previous_words document widget at (name, first, last) =

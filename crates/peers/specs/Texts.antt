@@ -18,11 +18,13 @@ use Rattle.documents.specs.Texts.{insert_at, insertion_offset}
 
 abbrev pub insert_pairs : LimitTable → Document → Widget → Result (List Pair) Fault → ℕ → Change
 insert_pairs limits document widget pairs place =
-    change_with document pairs (λ pairs. unless_idle widget document (insert_at limits document widget (insertion_offset document widget place) pairs))
+    change_with document pairs (λ pairs. unless_idle widget document
+    (insert_at limits document widget (insertion_offset document widget place) pairs))
 
 abbrev pub insert_words : LimitTable → Document → Widget → ℕ → List ℕ × List (List ℕ) → Change
 insert_words limits document widget at (index, words) =
-    change_with document (place_at document widget at index) (insert_pairs limits document widget (pairs_at (at + 1) words))
+    change_with document (place_at document widget at index)
+    (insert_pairs limits document widget (pairs_at (at + 1) words))
 
 -- `W insert I chars ?tagList chars ..?`
 abbrev pub insert : LimitTable → Document → Widget → ℕ → List (List ℕ) → Change
@@ -36,7 +38,8 @@ text_of document widget from to = slice_range (shown document widget) from to
 abbrev pub texts_of_places : Document → Widget → List ℕ → List (List ℕ)
 texts_of_places document widget [] = []
 texts_of_places document widget (from ∷ []) = text_of document widget from (suc from) ∷ []
-texts_of_places document widget (from ∷ to ∷ places) = text_of document widget from to ∷ texts_of_places document widget places
+texts_of_places document widget (from ∷ to ∷ places) =
+    text_of document widget from to ∷ texts_of_places document widget places
 
 -- the text of one range; of more the list of the texts that aren't empty
 abbrev pub got : Document → Widget → List ℕ → Answer
@@ -48,4 +51,5 @@ got document widget (from ∷ to ∷ next ∷ places) =
 
 -- `W get I ?I ..?`
 abbrev pub get : Document → Widget → ℕ → List (List ℕ) → Result Answer Fault
-get document widget at words = with_value (places_at document widget at words) (λ places. Ok (got document widget places))
+get document widget at words =
+    with_value (places_at document widget at words) (λ places. Ok (got document widget places))

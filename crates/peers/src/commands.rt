@@ -24,7 +24,8 @@ use command_table::{Command, Shape};
 use documents::Document;
 use text_model::{Limits, TextStore};
 
-/// A command of a widget but `peer create`, with its switches, and its arguments and options, which stand from a position on.
+/// A command of a widget but `peer create`, with its switches, and its arguments and options, which stand from a
+/// position on.
 fn carry_out<S: TextStore>(
     document: &mut Document<S>,
     limits: &Limits,
@@ -40,7 +41,8 @@ fn carry_out<S: TextStore>(
     requires all { at + length arguments.now ≤ usize.MAX }
     requires own { command ≢ PeerCreate }
     ensures does { (windows : List (List ℕ)) → Does limits.now document.old document.new result
-        (done command limits.now windows document.old (widget_at document.old widget) (texts_of switches.now) at (texts_of arguments.now)) }
+        (done command limits.now windows document.old (widget_at document.old widget) (texts_of switches.now) at
+        (texts_of arguments.now)) }
     ensures sure { is_frugal command ≡ true → result ≢ Err Memory }
 {
     match command {

@@ -24,7 +24,8 @@ fn delete_found<S: TextStore>(
     requires shown { widget < length document.old.widgets }
     requires within { All (λ place. place ≤ length (shown document.old (widget_at document.old widget))) places.now }
     ensures { Does limits.now document.old document.new result
-        (unless_idle (widget_at document.old widget) document.old (delete_places document.old (widget_at document.old widget) places.now)) }
+        (unless_idle (widget_at document.old widget) document.old
+        (delete_places document.old (widget_at document.old widget) places.now)) }
 {
     if document.is_idle(widget) {
         return Ok(Answer::Empty);
@@ -42,7 +43,8 @@ pub fn delete<S: TextStore>(
 ) -> Result<Answer, Fault>
     requires shown { widget < length document.old.widgets }
     requires near { at + length arguments.now ≤ usize.MAX }
-    ensures { Does limits.now document.old document.new result (delete document.old (widget_at document.old widget) at (texts_of arguments.now)) }
+    ensures { Does limits.now document.old document.new result
+        (delete document.old (widget_at document.old widget) at (texts_of arguments.now)) }
 {
     match places_at(document, widget, at, arguments) {
         Err(fault) => Err(fault),
@@ -63,8 +65,10 @@ fn replace_ordered<S: TextStore>(
     requires ordered { from ≤ to }
     requires within { to ≤ length (shown document.old (widget_at document.old widget)) }
     ensures { Does limits.now document.old document.new result
-        (unless_idle (widget_at document.old widget) document.old (replace_span limits.now document.old (widget_at document.old widget)
-        (insertion_offset document.old (widget_at document.old widget) from) (insertion_offset document.old (widget_at document.old widget) to) pairs.items)) }
+        (unless_idle (widget_at document.old widget) document.old
+        (replace_span limits.now document.old (widget_at document.old widget)
+        (insertion_offset document.old (widget_at document.old widget) from)
+        (insertion_offset document.old (widget_at document.old widget) to) pairs.items)) }
 {
     if document.is_idle(widget) {
         return Ok(Answer::Empty);
@@ -84,7 +88,8 @@ fn replace_places<S: TextStore>(
 ) -> Result<Answer, Fault>
     requires shown { widget < length document.old.widgets }
     requires within { to ≤ length (shown document.old (widget_at document.old widget)) }
-    ensures { Does limits.now document.old document.new result (replace_places limits.now document.old (widget_at document.old widget) second from to pairs.items) }
+    ensures { Does limits.now document.old document.new result
+        (replace_places limits.now document.old (widget_at document.old widget) second from to pairs.items) }
 {
     if to < from {
         return Err(Fault::IndexOrder(second));
@@ -106,7 +111,8 @@ fn replace_found<S: TextStore>(
     requires near { at + 2 + length words.now ≤ usize.MAX }
     ensures { Does limits.now document.old document.new result
         (change_with document.old from (λ from. change_with document.old to (λ to.
-        change_with document.old (pairs_at (at + 2) (texts_of words.now)) (replace_places limits.now document.old (widget_at document.old widget) (at + 1) from to)))) }
+        change_with document.old (pairs_at (at + 2) (texts_of words.now))
+        (replace_places limits.now document.old (widget_at document.old widget) (at + 1) from to)))) }
 {
     let from = match from {
         Err(fault) => return Err(fault),
@@ -134,7 +140,11 @@ fn replace_words<S: TextStore>(
     requires shown { widget < length document.old.widgets }
     requires near { at + 2 + length words.now ≤ usize.MAX }
     ensures { Does limits.now document.old document.new result
-        (replace_words limits.now document.old (widget_at document.old widget) at (chars first.now, chars second.now, texts_of words.now)) }
+        (replace_words limits.now document.old (widget_at document.old widget) at (
+          chars first.now,
+          chars second.now,
+          texts_of words.now,
+        )) }
 {
     let from = document.place_at(widget, at, first);
     let to = document.place_at(widget, at + 1, second);
@@ -151,7 +161,8 @@ pub fn replace<S: TextStore>(
 ) -> Result<Answer, Fault>
     requires shown { widget < length document.old.widgets }
     requires near { at + length arguments.now ≤ usize.MAX }
-    ensures { Does limits.now document.old document.new result (replace limits.now document.old (widget_at document.old widget) at (texts_of arguments.now)) }
+    ensures { Does limits.now document.old document.new result
+        (replace limits.now document.old (widget_at document.old widget) at (texts_of arguments.now)) }
 {
     match first_two(arguments) {
         Err(fault) => Err(fault),

@@ -1,4 +1,5 @@
-ghost use Rattle.std.specs.Prelude.{◌≡◌, ◌+◌, ◌<◌, ◌≤◌, true, false, [], ◌∷◌, ◌++◌, chars, filter, length, map, slice_set, take, OnOk, OnErr};
+ghost use Rattle.std.specs.Prelude.{◌≡◌, ◌+◌, ◌<◌, ◌≤◌, true, false, [], ◌∷◌, ◌++◌, chars, filter, length, map};
+ghost use Rattle.std.specs.Prelude.{slice_set, take, OnOk, OnErr};
 ghost use Rattle.std.specs.List.{AllByRecursion, IsDistinct};
 ghost use Rattle.text_model.specs.LimitTable.{LimitTable, AreLimits};
 ghost use Rattle.text_model.specs.Lines.{lines};
@@ -91,7 +92,8 @@ impl<S: TextStore> Documents<S> {
         requires new { is_among (chars name.now) (windows_of self.old.list.items) ≡ false }
         requires lines { AreLines 1 settings }
         requires ordered { is_behind settings.start settings.end ≡ false }
-        ensures ok { OnOk result (self.new.list.items ≡ self.old.list.items ++ new_document (chars name.now) settings ∷ []) }
+        ensures ok { OnOk result (self.new.list.items ≡ self.old.list.items ++ new_document (chars name.now) settings
+            ∷ []) }
         ensures err { OnErr result (self.new.list.items ≡ self.old.list.items) }
         ensures found { self.new.windows ≡ homes_of self.new.list.items }
         ensures distinct { OnOk result (IsDistinct is_same (windows_of self.new.list.items)) }

@@ -33,7 +33,8 @@ fn modified_word<S: TextStore>(
     at: usize,
     word: Option<&str>,
 ) -> Result<Answer, Fault>
-    ensures does { Does limits.now document.old document.new result (modified_word document.old at (option_map (λ word. chars word.now) word.entry)) }
+    ensures does { Does limits.now document.old document.new result
+        (modified_word document.old at (option_map (λ word. chars word.now) word.entry)) }
     ensures sure { result ≢ Err Memory }
 {
     match word {
@@ -49,7 +50,8 @@ pub fn edit_modified<S: TextStore>(
     at: usize,
     arguments: &[String],
 ) -> Result<Answer, Fault>
-    ensures does { Does limits.now document.old document.new result (edit_modified document.old at (texts_of arguments.now)) }
+    ensures does { Does limits.now document.old document.new result
+        (edit_modified document.old at (texts_of arguments.now)) }
     ensures sure { result ≢ Err Memory }
 {
     match none_or_one(arguments) {

@@ -92,7 +92,11 @@ fn compared_at<S: TextStore>(
     requires shown { widget < length document.now.widgets }
     requires near { at + 2 ≤ usize.MAX }
     ensures { Gives result
-        (compared_at document.now (widget_at document.now widget) at (chars left.now, chars operator.now, chars right.now)) }
+        (compared_at document.now (widget_at document.now widget) at (
+          chars left.now,
+          chars operator.now,
+          chars right.now,
+        )) }
 {
     let from = document.place_at(widget, at, left);
     let comparison = read_comparison(at + 1, operator);

@@ -5,7 +5,9 @@ ghost use Rattle.documents.specs.View.{shown};
 ghost use Rattle.command_parts.specs.Faults.{with_value};
 ghost use Rattle.documents.specs.Promise.{Gives, Does, change_with};
 ghost use Rattle.documents.specs.Marks.{place_named};
-ghost use Rattle.peers.specs.Marks.{set_at, set_words, mark_set, gravity_asked, gravity_given, gravity_words, mark_gravity, mark_names_of, mark_answer, origin_at, next_from, next_at, mark_next, previous_from, previous_at, mark_previous};
+ghost use Rattle.peers.specs.Marks.{set_at, set_words, mark_set, gravity_asked, gravity_given, gravity_words};
+ghost use Rattle.peers.specs.Marks.{mark_gravity, mark_names_of, mark_answer, origin_at, next_from, next_at, mark_next};
+ghost use Rattle.peers.specs.Marks.{previous_from, previous_at, mark_previous};
 ghost use Rattle.mark_table.specs.Order.{rank_of};
 ghost use Rattle.documents.specs.Names.{mark_place};
 ghost use Rattle.peers.specs.Marks.{origin_marked};
@@ -25,7 +27,8 @@ fn set_at<S: TextStore>(
 ) -> Result<Answer, Fault>
     requires shown { widget < length document.old.widgets }
     requires within { place ≤ length (shown document.old (widget_at document.old widget)) }
-    ensures { Does limits.now document.old document.new result (set_at limits.now document.old (widget_at document.old widget) (chars name.now) place) }
+    ensures { Does limits.now document.old document.new result
+        (set_at limits.now document.old (widget_at document.old widget) (chars name.now) place) }
 {
     let offset = document.mark_offset(widget, name, place);
     match document.place_named(widget, name) {
@@ -50,7 +53,8 @@ fn set_place<S: TextStore>(
     requires shown { widget < length document.old.widgets }
     requires within { IfOk place (λ place. place ≤ length (shown document.old (widget_at document.old widget))) }
     ensures { Does limits.now document.old document.new result
-        (change_with document.old place (set_at limits.now document.old (widget_at document.old widget) (chars name.now))) }
+        (change_with document.old place (set_at limits.now document.old (widget_at document.old widget)
+        (chars name.now))) }
 {
     match place {
         Err(fault) => Err(fault),
@@ -85,7 +89,8 @@ pub fn mark_set<S: TextStore>(
 ) -> Result<Answer, Fault>
     requires shown { widget < length document.old.widgets }
     requires near { at + 1 ≤ usize.MAX }
-    ensures { Does limits.now document.old document.new result (mark_set limits.now document.old (widget_at document.old widget) at (texts_of arguments.now)) }
+    ensures { Does limits.now document.old document.new result
+        (mark_set limits.now document.old (widget_at document.old widget) at (texts_of arguments.now)) }
 {
     match two(arguments) {
         Err(fault) => Err(fault),
@@ -119,7 +124,8 @@ fn gravity_given<S: TextStore>(
     requires shown { widget < length document.old.widgets }
     requires near { at + 1 ≤ usize.MAX }
     ensures { Does limits.now document.old document.new result
-        (gravity_given document.old (widget_at document.old widget) at (chars name.now) (place_named document.old (widget_at document.old widget) (chars name.now)) gravity) }
+        (gravity_given document.old (widget_at document.old widget) at (chars name.now)
+        (place_named document.old (widget_at document.old widget) (chars name.now)) gravity) }
 {
     match (document.place_named(widget, name), gravity) {
         (None, _) => Err(Fault::NoSuchMark(at)),
@@ -145,7 +151,10 @@ fn gravity_words<S: TextStore>(
     requires shown { widget < length document.old.widgets }
     requires near { at + 1 ≤ usize.MAX }
     ensures { Does limits.now document.old document.new result
-        (gravity_words document.old (widget_at document.old widget) at (chars name.now, option_map (λ word. chars word.now) word.entry)) }
+        (gravity_words document.old (widget_at document.old widget) at (
+          chars name.now,
+          option_map (λ word. chars word.now) word.entry,
+        )) }
 {
     match word {
         None => gravity_asked(document, at, document.place_named(widget, name)),
@@ -163,7 +172,8 @@ pub fn mark_gravity<S: TextStore>(
 ) -> Result<Answer, Fault>
     requires shown { widget < length document.old.widgets }
     requires near { at + 1 ≤ usize.MAX }
-    ensures { Does limits.now document.old document.new result (mark_gravity document.old (widget_at document.old widget) at (texts_of arguments.now)) }
+    ensures { Does limits.now document.old document.new result
+        (mark_gravity document.old (widget_at document.old widget) at (texts_of arguments.now)) }
 {
     match one_or_two(arguments) {
         Err(fault) => Err(fault),
@@ -199,7 +209,8 @@ fn origin_marked<S: TextStore>(
     mark: WidgetMark,
 ) -> Result<Origin, Fault>
     requires shown { widget < length document.now.widgets }
-    ensures { result ≡ origin_marked at (rank_of mark) (mark_place document.now (widget_at document.now widget) (rank_of mark)) }
+    ensures { result ≡ origin_marked at (rank_of mark)
+        (mark_place document.now (widget_at document.now widget) (rank_of mark)) }
 {
     if document.shows_mark(widget, mark) {
         Ok(Origin::Mark(mark))

@@ -13,8 +13,8 @@ use command_parts::{Answer, Fault, Settings, one};
 use documents::Document;
 use text_model::{Limits, TextStore};
 
-/// The settings with the values of options, of which the first stands at a position, for a document of so many lines: each value
-/// is decided, and then whether the view begins behind its end.
+/// The settings with the values of options, of which the first stands at a position, for a document of so many lines:
+/// each value is decided, and then whether the view begins behind its end.
 pub fn settings_given(
     settings: Settings,
     at: usize,
@@ -43,7 +43,8 @@ pub fn configure<S: TextStore>(
 ) -> Result<Answer, Fault>
     requires shown { widget < length document.old.widgets }
     requires near { at + length words.now ≤ usize.MAX }
-    ensures { Does limits.now document.old document.new result (configure document.old (widget_at document.old widget) at (texts_of words.now)) }
+    ensures { Does limits.now document.old document.new result
+        (configure document.old (widget_at document.old widget) at (texts_of words.now)) }
 {
     match settings_given(document.settings(widget), at, words, document.lines()) {
         Err(fault) => Err(fault),
@@ -58,7 +59,8 @@ fn setting<S: TextStore>(
     option: &str,
 ) -> Result<Answer, Fault>
     requires shown { widget < length document.now.widgets }
-    ensures { Gives result (Ok (setting_answer (chars option.now) (settings_of document.now (widget_at document.now widget)))) }
+    ensures { Gives result (Ok (setting_answer (chars option.now)
+        (settings_of document.now (widget_at document.now widget)))) }
 {
     Ok(
         document

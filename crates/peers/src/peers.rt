@@ -13,8 +13,8 @@ use command_parts::{Answer, Fault, Settings};
 use documents::Document;
 use text_model::TextStore;
 
-/// The settings of a further widget: those of the one that makes it, but for whether it is disabled, and then the values of
-/// options, of which the first stands at a position.
+/// The settings of a further widget: those of the one that makes it, but for whether it is disabled, and then the
+/// values of options, of which the first stands at a position.
 pub fn peer_settings<S: TextStore>(
     document: &Document<S>,
     widget: usize,

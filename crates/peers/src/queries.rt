@@ -135,8 +135,10 @@ fn stop_at<S: TextStore>(
     word: Option<&str>,
 ) -> Result<Option<usize>, Fault>
     requires shown { widget < length document.now.widgets }
-    ensures value { Gives result (stop_at document.now (widget_at document.now widget) at (option_map (λ word. chars word.now) word.entry)) }
-    ensures within { IfOk result (λ stop. IfSome stop (λ place. place ≤ length (shown document.now (widget_at document.now widget)))) }
+    ensures value { Gives result (stop_at document.now (widget_at document.now widget) at
+        (option_map (λ word. chars word.now) word.entry)) }
+    ensures within { IfOk result (λ stop. IfSome stop (λ place. place
+        ≤ length (shown document.now (widget_at document.now widget)))) }
 {
     match word {
         None => Ok(None),
@@ -158,8 +160,10 @@ fn searched<S: TextStore>(
 ) -> Result<Answer, Fault>
     requires shown { widget < length document.now.widgets }
     requires from { IfOk from (λ from. from ≤ length (shown document.now (widget_at document.now widget))) }
-    requires stop { IfOk stop (λ stop. IfSome stop (λ place. place ≤ length (shown document.now (widget_at document.now widget)))) }
-    ensures { Gives result (with_value from (λ from. with_value stop (searched document.now (widget_at document.now widget) switches (chars pattern.now) from))) }
+    requires stop { IfOk stop (λ stop. IfSome stop (λ place. place
+        ≤ length (shown document.now (widget_at document.now widget)))) }
+    ensures { Gives result (with_value from (λ from.
+        with_value stop (searched document.now (widget_at document.now widget) switches (chars pattern.now) from))) }
 {
     match (from, stop) {
         (Err(fault), _) => Err(fault),
@@ -199,7 +203,8 @@ pub fn search<S: TextStore>(
 ) -> Result<Answer, Fault>
     requires shown { widget < length document.now.widgets }
     requires near { at + 2 ≤ usize.MAX }
-    ensures { Gives result (search document.now (widget_at document.now widget) (texts_of switches.now) at (texts_of arguments.now)) }
+    ensures { Gives result (search document.now (widget_at document.now widget) (texts_of switches.now) at
+        (texts_of arguments.now)) }
 {
     match two_or_three(arguments) {
         Err(fault) => Err(fault),
@@ -228,7 +233,8 @@ fn count_between<S: TextStore>(
     requires shown { widget < length document.now.widgets }
     requires from { IfOk from (λ from. from ≤ length (shown document.now (widget_at document.now widget))) }
     requires to { IfOk to (λ to. to ≤ length (shown document.now (widget_at document.now widget))) }
-    ensures { Gives result (with_value from (λ from. with_value to (count_between document.now (widget_at document.now widget) options.now from))) }
+    ensures { Gives result (with_value from (λ from.
+        with_value to (count_between document.now (widget_at document.now widget) options.now from))) }
 {
     match (from, to) {
         (Err(fault), _) => Err(fault),
@@ -247,7 +253,10 @@ fn count_words<S: TextStore>(
 ) -> Result<Answer, Fault>
     requires shown { widget < length document.now.widgets }
     requires near { at + 1 ≤ usize.MAX }
-    ensures { Gives result (count_words document.now (widget_at document.now widget) options.now at (chars first.now, chars second.now)) }
+    ensures { Gives result (count_words document.now (widget_at document.now widget) options.now at (
+      chars first.now,
+      chars second.now,
+    )) }
 {
     let from = document.place_at(widget, at, first);
     let to = document.place_at(widget, at + 1, second);
@@ -264,7 +273,8 @@ pub fn count<S: TextStore>(
 ) -> Result<Answer, Fault>
     requires shown { widget < length document.now.widgets }
     requires near { at + 1 ≤ usize.MAX }
-    ensures { Gives result (count document.now (widget_at document.now widget) (texts_of options.now) at (texts_of arguments.now)) }
+    ensures { Gives result (count document.now (widget_at document.now widget) (texts_of options.now) at
+        (texts_of arguments.now)) }
 {
     match two(arguments) {
         Err(fault) => Err(fault),
@@ -298,7 +308,9 @@ fn dump_from<S: TextStore>(
     requires shown { widget < length document.now.widgets }
     requires within { IfOk from (λ from. from ≤ length (shown document.now (widget_at document.now widget))) }
     ensures { Gives result (with_value from (λ from.
-        with_value (place_or document.now (widget_at document.now widget) (place_behind document.now (widget_at document.now widget) from) at (option_map (λ word. chars word.now) last.entry))
+        with_value (place_or document.now (widget_at document.now widget)
+        (place_behind document.now (widget_at document.now widget) from) at
+        (option_map (λ word. chars word.now) last.entry))
         (dumped document.now (widget_at document.now widget) listed from))) }
 {
     match from {
@@ -344,7 +356,10 @@ fn dump_words<S: TextStore>(
 ) -> Result<Answer, Fault>
     requires shown { widget < length document.now.widgets }
     requires near { at + 1 ≤ usize.MAX }
-    ensures { Gives result (dump_words document.now (widget_at document.now widget) listed at (chars first.now, option_map (λ word. chars word.now) last.entry)) }
+    ensures { Gives result (dump_words document.now (widget_at document.now widget) listed at (
+      chars first.now,
+      option_map (λ word. chars word.now) last.entry,
+    )) }
 {
     let from = document.place_at(widget, at, first);
     dump_from(document, widget, listed, from, at + 1, last)
@@ -360,7 +375,8 @@ pub fn dump<S: TextStore>(
 ) -> Result<Answer, Fault>
     requires shown { widget < length document.now.widgets }
     requires near { at + 1 ≤ usize.MAX }
-    ensures { Gives result (dump document.now (widget_at document.now widget) (texts_of switches.now) at (texts_of arguments.now)) }
+    ensures { Gives result (dump document.now (widget_at document.now widget) (texts_of switches.now) at
+        (texts_of arguments.now)) }
 {
     match one_or_two(arguments) {
         Err(fault) => Err(fault),

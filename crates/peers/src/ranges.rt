@@ -19,9 +19,12 @@ pub fn places_at<S: TextStore>(
 ) -> Result<Vec<usize>, Fault>
     requires shown { widget < length document.now.widgets }
     requires near { at + length words.now ≤ usize.MAX }
-    ensures ok { IfOk result (λ places. places_at document.now (widget_at document.now widget) at (texts_of words.now) ≡ Ok places.items) }
-    ensures err { IfErr result (λ fault. fault ≢ Memory → places_at document.now (widget_at document.now widget) at (texts_of words.now) ≡ Err fault) }
-    ensures within { IfOk result (λ places. All (λ place. place ≤ length (shown document.now (widget_at document.now widget))) places.items) }
+    ensures ok { IfOk result (λ places. places_at document.now (widget_at document.now widget) at (texts_of words.now)
+        ≡ Ok places.items) }
+    ensures err { IfErr result (λ fault. fault ≢ Memory →
+        places_at document.now (widget_at document.now widget) at (texts_of words.now) ≡ Err fault) }
+    ensures within { IfOk result (λ places. All (λ place. place
+        ≤ length (shown document.now (widget_at document.now widget))) places.items) }
 {
     let mut places = Vec::with_capacity(document.allocator(), words.len())?;
     for (index, word) in words.iter().enumerate() {

@@ -4,7 +4,9 @@ ghost use Rattle.documents.specs.Documents.{widget_at};
 ghost use Rattle.documents.specs.View.{shown};
 ghost use Rattle.command_parts.specs.Faults.{with_value};
 ghost use Rattle.documents.specs.Promise.{Gives, Does};
-ghost use Rattle.peers.specs.Tags.{add_words, tag_add, remove_words, tag_remove, names_on, names_at_word, tag_names, tag_ranges_of, ranges_of, place_or, next_between, next_words, tag_nextrange, previous_between, previous_words, tag_prevrange, tag_raise, tag_lower};
+ghost use Rattle.peers.specs.Tags.{add_words, tag_add, remove_words, tag_remove, names_on, names_at_word, tag_names};
+ghost use Rattle.peers.specs.Tags.{tag_ranges_of, ranges_of, place_or, next_between, next_words, tag_nextrange};
+ghost use Rattle.peers.specs.Tags.{previous_between, previous_words, tag_prevrange, tag_raise, tag_lower};
 
 use crate::ranges::places_at;
 use command_parts::{Answer, Fault, first, none_or_one, one, one_or_two, two_or_three};
@@ -21,7 +23,8 @@ fn add_words<S: TextStore>(
 ) -> Result<Answer, Fault>
     requires shown { widget < length document.old.widgets }
     requires near { at + 1 + length words.now ≤ usize.MAX }
-    ensures { Does limits.now document.old document.new result (add_words limits.now document.old (widget_at document.old widget) at (chars name.now, texts_of words.now)) }
+    ensures { Does limits.now document.old document.new result
+        (add_words limits.now document.old (widget_at document.old widget) at (chars name.now, texts_of words.now)) }
 {
     match places_at(document, widget, at + 1, words) {
         Err(fault) => Err(fault),
@@ -39,7 +42,8 @@ pub fn tag_add<S: TextStore>(
 ) -> Result<Answer, Fault>
     requires shown { widget < length document.old.widgets }
     requires near { at + length arguments.now ≤ usize.MAX }
-    ensures { Does limits.now document.old document.new result (tag_add limits.now document.old (widget_at document.old widget) at (texts_of arguments.now)) }
+    ensures { Does limits.now document.old document.new result
+        (tag_add limits.now document.old (widget_at document.old widget) at (texts_of arguments.now)) }
 {
     match first(arguments) {
         Err(fault) => Err(fault),
@@ -57,7 +61,8 @@ fn remove_words<S: TextStore>(
 ) -> Result<Answer, Fault>
     requires shown { widget < length document.old.widgets }
     requires near { at + 1 + length words.now ≤ usize.MAX }
-    ensures { Does limits.now document.old document.new result (remove_words document.old (widget_at document.old widget) at (chars name.now, texts_of words.now)) }
+    ensures { Does limits.now document.old document.new result
+        (remove_words document.old (widget_at document.old widget) at (chars name.now, texts_of words.now)) }
 {
     match places_at(document, widget, at + 1, words) {
         Err(fault) => Err(fault),
@@ -75,7 +80,8 @@ pub fn tag_remove<S: TextStore>(
 ) -> Result<Answer, Fault>
     requires shown { widget < length document.old.widgets }
     requires near { at + length arguments.now ≤ usize.MAX }
-    ensures { Does limits.now document.old document.new result (tag_remove document.old (widget_at document.old widget) at (texts_of arguments.now)) }
+    ensures { Does limits.now document.old document.new result
+        (tag_remove document.old (widget_at document.old widget) at (texts_of arguments.now)) }
 {
     match first(arguments) {
         Err(fault) => Err(fault),
@@ -106,7 +112,8 @@ fn names_at_word<S: TextStore>(
     word: Option<&str>,
 ) -> Result<Answer, Fault>
     requires shown { widget < length document.now.widgets }
-    ensures { Gives result (names_at_word document.now (widget_at document.now widget) at (option_map (λ word. chars word.now) word.entry)) }
+    ensures { Gives result (names_at_word document.now (widget_at document.now widget) at
+        (option_map (λ word. chars word.now) word.entry)) }
 {
     match word {
         None => Ok(Answer::Text(document.all_tags()?)),
@@ -166,7 +173,8 @@ pub fn place_or<S: TextStore>(
 ) -> Result<usize, Fault>
     requires shown { widget < length document.now.widgets }
     requires within { place ≤ length (shown document.now (widget_at document.now widget)) }
-    ensures value { Gives result (place_or document.now (widget_at document.now widget) place at (option_map (λ word. chars word.now) word.entry)) }
+    ensures value { Gives result (place_or document.now (widget_at document.now widget) place at
+        (option_map (λ word. chars word.now) word.entry)) }
     ensures within { IfOk result (λ place. place ≤ length (shown document.now (widget_at document.now widget))) }
 {
     match word {
@@ -185,7 +193,8 @@ fn next_between<S: TextStore>(
 ) -> Result<Answer, Fault>
     requires shown { widget < length document.now.widgets }
     requires within { IfOk from (λ from. from ≤ length (shown document.now (widget_at document.now widget))) }
-    ensures { Gives result (with_value from (λ first. with_value to (next_between document.now (widget_at document.now widget) (chars name.now) first))) }
+    ensures { Gives result (with_value from (λ first.
+        with_value to (next_between document.now (widget_at document.now widget) (chars name.now) first))) }
 {
     match (from, to) {
         (Err(fault), _) => Err(fault),
@@ -239,7 +248,8 @@ fn previous_between<S: TextStore>(
 ) -> Result<Answer, Fault>
     requires shown { widget < length document.now.widgets }
     requires within { IfOk from (λ from. from ≤ length (shown document.now (widget_at document.now widget))) }
-    ensures { Gives result (with_value from (λ first. with_value to (previous_between document.now (widget_at document.now widget) (chars name.now) first))) }
+    ensures { Gives result (with_value from (λ first.
+        with_value to (previous_between document.now (widget_at document.now widget) (chars name.now) first))) }
 {
     match (from, to) {
         (Err(fault), _) => Err(fault),

@@ -27,7 +27,8 @@ fn insert_pairs<S: TextStore>(
     requires shown { widget < length document.old.widgets }
     requires within { place ≤ length (shown document.old (widget_at document.old widget)) }
     ensures { Does limits.now document.old document.new result
-        (unless_idle (widget_at document.old widget) document.old (insert_at limits.now document.old (widget_at document.old widget)
+        (unless_idle (widget_at document.old widget) document.old
+        (insert_at limits.now document.old (widget_at document.old widget)
         (insertion_offset document.old (widget_at document.old widget) place) pairs.items)) }
 {
     if document.is_idle(widget) {
@@ -54,7 +55,8 @@ fn insert_place<S: TextStore>(
     requires within { IfOk place (λ place. place ≤ length (shown document.old (widget_at document.old widget))) }
     requires near { at + length words.now ≤ usize.MAX }
     ensures { Does limits.now document.old document.new result
-        (change_with document.old place (insert_pairs limits.now document.old (widget_at document.old widget) (pairs_at at (texts_of words.now)))) }
+        (change_with document.old place (insert_pairs limits.now document.old (widget_at document.old widget)
+        (pairs_at at (texts_of words.now)))) }
 {
     let place = match place {
         Err(fault) => return Err(fault),
@@ -76,7 +78,11 @@ fn insert_words<S: TextStore>(
 ) -> Result<Answer, Fault>
     requires shown { widget < length document.old.widgets }
     requires near { at + 1 + length words.now ≤ usize.MAX }
-    ensures { Does limits.now document.old document.new result (insert_words limits.now document.old (widget_at document.old widget) at (chars index.now, texts_of words.now)) }
+    ensures { Does limits.now document.old document.new result
+        (insert_words limits.now document.old (widget_at document.old widget) at (
+          chars index.now,
+          texts_of words.now,
+        )) }
 {
     let place = document.place_at(widget, at, index);
     insert_place(document, limits, widget, place, at + 1, words)
@@ -92,7 +98,8 @@ pub fn insert<S: TextStore>(
 ) -> Result<Answer, Fault>
     requires shown { widget < length document.old.widgets }
     requires near { at + length arguments.now ≤ usize.MAX }
-    ensures { Does limits.now document.old document.new result (insert limits.now document.old (widget_at document.old widget) at (texts_of arguments.now)) }
+    ensures { Does limits.now document.old document.new result
+        (insert limits.now document.old (widget_at document.old widget) at (texts_of arguments.now)) }
 {
     match first(arguments) {
         Err(fault) => Err(fault),
@@ -108,7 +115,8 @@ fn got_list<S: TextStore>(
 ) -> Result<Text, AllocError>
     requires shown { widget < length document.now.widgets }
     requires within { All (λ place. place ≤ length (shown document.now (widget_at document.now widget))) places.now }
-    ensures { IfOk result (λ list. list ≡ list_text (filter is_filled (texts_of_places document.now (widget_at document.now widget) places.now))) }
+    ensures { IfOk result (λ list. list
+        ≡ list_text (filter is_filled (texts_of_places document.now (widget_at document.now widget) places.now))) }
 {
     let mut list = String::new(document.allocator());
     let mut rest = places;

@@ -6,7 +6,8 @@ ghost use Rattle.command_parts.specs.Settings.{is_behind};
 ghost use Rattle.command_parts.specs.Words.{is_among};
 ghost use Rattle.documents.specs.Documents.{characters, widget_at};
 ghost use Rattle.documents.specs.Kept.{is_window_name};
-ghost use Rattle.peers.specs.Step.{changed, create_named, create, create_shaped, destroy, destroy_shaped, on_home, on_widget, step, takes_none};
+ghost use Rattle.peers.specs.Step.{changed, create_named, create, create_shaped, destroy, destroy_shaped, on_home};
+ghost use Rattle.peers.specs.Step.{on_widget, step, takes_none};
 ghost use Rattle.peers.specs.Command.{is_frugal, is_frugal_reading};
 ghost use Rattle.peers.specs.Peers.{peer_create, peer_with, peer_words};
 ghost use Rattle.peers.specs.WellFormed.{IsWellFormed};
@@ -126,8 +127,10 @@ impl<S: TextStore> World<S> {
     /// `text W ?option value ..?`, of all its words.
     fn create_shaped(&mut self, words: &[String]) -> Result<Answer, Fault>
         requires { 0 < length words.now }
-        ensures reply { result ≢ Err Fault.Memory → result ≡ (create_shaped self.old (texts_of words.now) (reading (texts_of words.now))).reply }
-        ensures world { result ≢ Err Fault.Memory → self.new ≡ (create_shaped self.old (texts_of words.now) (reading (texts_of words.now))).world }
+        ensures reply { result ≢ Err Fault.Memory → result
+            ≡ (create_shaped self.old (texts_of words.now) (reading (texts_of words.now))).reply }
+        ensures world { result ≢ Err Fault.Memory → self.new
+            ≡ (create_shaped self.old (texts_of words.now) (reading (texts_of words.now))).world }
         ensures refused { IfErr result (λ _. self.new ≡ self.old) }
         ensures well_formed { IsWellFormed self.new }
     {
@@ -153,8 +156,10 @@ impl<S: TextStore> World<S> {
     /// `destroy ?W ..?`, of all its words.
     fn destroy_shaped(&mut self, words: &[String]) -> Result<Answer, Fault>
         requires { 0 < length words.now }
-        ensures reply { result ≢ Err Fault.Memory → result ≡ (destroy_shaped self.old (texts_of words.now) (reading (texts_of words.now))).reply }
-        ensures world { result ≢ Err Fault.Memory → self.new ≡ (destroy_shaped self.old (texts_of words.now) (reading (texts_of words.now))).world }
+        ensures reply { result ≢ Err Fault.Memory → result
+            ≡ (destroy_shaped self.old (texts_of words.now) (reading (texts_of words.now))).reply }
+        ensures world { result ≢ Err Fault.Memory → self.new
+            ≡ (destroy_shaped self.old (texts_of words.now) (reading (texts_of words.now))).world }
         ensures refused { IfErr result (λ _. self.new ≡ self.old) }
         ensures well_formed { IsWellFormed self.new }
     {
@@ -197,7 +202,8 @@ impl<S: TextStore> World<S> {
         Ok(Answer::Word(at))
     }
 
-    /// `W peer create V ?option value ..?` (text(n), "PEER WIDGETS"), of a widget of the document at a place. The arguments
+    /// `W peer create V ?option value ..?` (text(n), "PEER WIDGETS"), of a widget of the document at a place. The
+    /// arguments
     /// stand from a position on.
     fn create_peer(
         &mut self,

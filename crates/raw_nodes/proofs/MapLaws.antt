@@ -1,9 +1,11 @@
 -- The map of a store, by name.
-use Rattle.std.proofs.Common.{◌≡◌, ℕ, ◌<◌, ◌+◌, Bool, true, false, cond, inl, inr, List, [], ◌∷◌, ◌++◌, length, get_or, set, refl, sym, ap, ◌∙◌, subst, arith}
+use Rattle.std.proofs.Common.{◌≡◌, ℕ, ◌<◌, ◌+◌, Bool, true, false, cond, inl, inr, List, [], ◌∷◌, ◌++◌, length, get_or}
+use Rattle.std.proofs.Common.{set, refl, sym, ap, ◌∙◌, subst, arith}
 use Prim.Native.Nat.{zero, suc, ◌-◌}
 use mathlib.Core.Bool.{false≢true}
 use Rattle.std.specs.Prelude.{◌≢◌, IfSome, IsSome, Option, None, Some, is_some}
-use Rattle.std.specs.FinMap.{empty, get, insert, len, remove, get-empty, get-insert, get-remove, len-insert, len-remove, empty_of_len, same_map}
+use Rattle.std.specs.FinMap.{empty, get, insert, len, remove, get-empty, get-insert, get-remove, len-insert, len-remove}
+use Rattle.std.specs.FinMap.{empty_of_len, same_map}
 use Rattle.std.specs.Ordering.{eq_by_cmp}
 use Rattle.std.proofs.lemmas.List.{get_or-set_same, get_or-set_other}
 use Rattle.raw_nodes.specs.Cells.{IsPlace, name_cmp, number_in}
@@ -31,18 +33,21 @@ some_of (Some x) s = (x, refl)
 pub at_some : {X : Type 0} (o : Option X) (P : X → Type 0) (x : X) → IfSome o P → o ≡ Some x → P x
 at_some o P x h e = subst (λ q. IfSome q P) e h
 
-pub kept_insert : (m : Records) (p : NodePtr) (v : Record) (q : NodePtr) → IsSome (get m q) → IsSome (get (insert m p v) q)
+pub kept_insert : (m : Records) (p : NodePtr) (v : Record) (q : NodePtr) → IsSome (get m q) →
+    IsSome (get (insert m p v) q)
 kept_insert m p v q s = elim (same_or_other q p) [
   | inl e ↦ subst (λ r. IsSome (get (insert m p v) r)) (sym e) (subst (λ o. IsSome o) (sym (get_inserted m p v)) refl)
   | inr n ↦ subst (λ o. IsSome o) (sym (get_other m p v q n)) s
 ]
 
 -- ---- what is found among the cells of places
-cell_step : (b : Bool) (o : Option Record) (cs : List (Option Record)) (n : ℕ) → cond b o (get_or cs n None) ≡ get_or (o ∷ cs) (cond b 0 (suc n)) None
+cell_step : (b : Bool) (o : Option Record) (cs : List (Option Record)) (n : ℕ) →
+    cond b o (get_or cs n None) ≡ get_or (o ∷ cs) (cond b 0 (suc n)) None
 cell_step true o cs n = refl
 cell_step false o cs n = refl
 
-pub get_record : (ps : List NodePtr) (cs : List (Option Record)) (q : NodePtr) → length ps ≡ length cs → get (records_of ps cs) q ≡ get_or cs (number_in ps q) None
+pub get_record : (ps : List NodePtr) (cs : List (Option Record)) (q : NodePtr) → length ps ≡ length cs →
+    get (records_of ps cs) q ≡ get_or cs (number_in ps q) None
 get_record [] [] q e = get-empty name_cmp q
 get_record [] (c ∷ cs) q e = absurd (omega arith)
 get_record (p ∷ ps) [] q e = absurd (omega arith)
@@ -61,15 +66,18 @@ some_within (c ∷ cs) zero s = omega arith
 some_within (c ∷ cs) (suc n) s = let rest = some_within cs n s in omega arith
 
 -- a name is a place
-pub place_of_name : (ps : List NodePtr) (cs : List (Option Record)) (q : NodePtr) → length ps ≡ length cs → IsSome (get (records_of ps cs) q) → IsPlace ps q
-place_of_name ps cs q e s = let within = some_within cs (number_in ps q) (subst (λ o. IsSome o) (get_record ps cs q e) s) in omega (arith, within, e)
+pub place_of_name : (ps : List NodePtr) (cs : List (Option Record)) (q : NodePtr) → length ps ≡ length cs →
+    IsSome (get (records_of ps cs) q) → IsPlace ps q
+place_of_name ps cs q e s = let within = some_within cs (number_in ps q)
+    (subst (λ o. IsSome o) (get_record ps cs q e) s) in omega (arith, within, e)
 
 set_long : (cs : List (Option Record)) (i : ℕ) (o : Option Record) → length (set cs i o) ≡ length cs
 set_long [] i o = refl
 set_long (c ∷ cs) zero o = refl
 set_long (c ∷ cs) (suc i) o = ap suc (set_long cs i o)
 
-module _ (ps : List NodePtr) (cs : List (Option Record)) (p : NodePtr) (place : IsPlace ps p) (e : length ps ≡ length cs) where
+module _ (ps : List NodePtr) (cs : List (Option Record)) (p : NodePtr) (place : IsPlace ps p) (e : length ps
+    ≡ length cs) where
   get_this : (o : Option Record) → get (records_of ps (set cs (number_in ps p) o)) p ≡ o
   get_this o =
       get_record ps (set cs (number_in ps p) o) p (e ∙ sym (set_long cs (number_in ps p) o))
@@ -78,7 +86,8 @@ module _ (ps : List NodePtr) (cs : List (Option Record)) (p : NodePtr) (place : 
   other_number : (q : NodePtr) → (q ≡ p → ⊥) → number_in ps q ≢ number_in ps p
   other_number q n s = n (same_number ps q p (let h = place in omega (arith, h, s)) place s)
 
-  get_that : (o : Option Record) (q : NodePtr) → (q ≡ p → ⊥) → get (records_of ps (set cs (number_in ps p) o)) q ≡ get (records_of ps cs) q
+  get_that : (o : Option Record) (q : NodePtr) → (q ≡ p → ⊥) →
+      get (records_of ps (set cs (number_in ps p) o)) q ≡ get (records_of ps cs) q
   get_that o q n =
       get_record ps (set cs (number_in ps p) o) q (e ∙ sym (set_long cs (number_in ps p) o))
       ∙ get_or-set_other cs (number_in ps p) (number_in ps q) o None (other_number q n)
@@ -109,7 +118,8 @@ none_taken p =
     ])
 
 -- one more place with no record
-pub records_grown : (ps : List NodePtr) (cs : List (Option Record)) (b : NodePtr) → length ps ≡ length cs → records_of (ps ++ b ∷ []) (cs ++ None ∷ []) ≡ records_of ps cs
+pub records_grown : (ps : List NodePtr) (cs : List (Option Record)) (b : NodePtr) → length ps ≡ length cs →
+    records_of (ps ++ b ∷ []) (cs ++ None ∷ []) ≡ records_of ps cs
 records_grown [] [] b e = none_taken b
 records_grown [] (c ∷ cs) b e = absurd (omega arith)
 records_grown (p ∷ ps) [] b e = absurd (omega arith)
@@ -117,17 +127,21 @@ records_grown (p ∷ ps) (None ∷ cs) b e = ap (λ m. remove m p) (records_grow
 records_grown (p ∷ ps) (Some r ∷ cs) b e = ap (λ m. insert m p r) (records_grown ps cs b (omega arith))
 
 -- ---- how many there are
-pub len_made : (m n : Records) (p : NodePtr) (r : Record) (s t : ℕ) → get m p ≡ None → n ≡ insert m p r → t + 1 ≡ s → t + len n ≡ s + len m
+pub len_made : (m n : Records) (p : NodePtr) (r : Record) (s t : ℕ) → get m p ≡ None → n ≡ insert m p r → t + 1 ≡ s →
+    t + len n ≡ s + len m
 len_made m n p r s t none is fewer =
-    let more : len n ≡ len m + 1 = ap len is ∙ len-insert name_total m p r ∙ ap (λ (o : Option Record). cond (is_some o) (len m) (len m + 1)) none in omega (arith, more, fewer)
+    let more : len n ≡ len m + 1 = ap len is ∙ len-insert name_total m p r
+    ∙ ap (λ (o : Option Record). cond (is_some o) (len m) (len m + 1)) none in omega (arith, more, fewer)
 
 some_long : (m : Records) (p : NodePtr) → IsSome (get m p) → 0 < len m
 some_long m p some = elim (len m) as (λ k. len m ≡ k → 0 < k) [
-  | zero ↦ λ e. absurd (false≢true (sym (ap is_some (get-empty name_cmp p)) ∙ subst (λ n. IsSome (get n p)) (empty_of_len m e) some))
+  | zero ↦ λ e. absurd (false≢true (sym (ap is_some (get-empty name_cmp p))
+      ∙ subst (λ n. IsSome (get n p)) (empty_of_len m e) some))
   | suc k ↦ λ e. omega arith
 ] refl
 
-pub len_given : (m n : Records) (p : NodePtr) (s t : ℕ) → IsSome (get m p) → n ≡ remove m p → t ≡ s + 1 → t + len n ≡ s + len m
+pub len_given : (m n : Records) (p : NodePtr) (s t : ℕ) → IsSome (get m p) → n ≡ remove m p → t ≡ s + 1 →
+    t + len n ≡ s + len m
 len_given m n p s t some is more =
     let fewer : len n ≡ len m - 1 = ap len is ∙ len-remove name_total m p ∙ ap (λ b. cond b (len m - 1) (len m)) some in
     let long = some_long m p some in omega (arith, fewer, more, long)

@@ -1,5 +1,6 @@
 -- What a name says of the node that it leads to, and what a change of the node does.
-use Rattle.std.proofs.Common.{◌≡◌, ℕ, ◌<◌, ◌+◌, true, false, List, [], ◌∷◌, ◌++◌, length, get_or, set, map, refl, sym, ap, ◌∙◌, subst, arith}
+use Rattle.std.proofs.Common.{◌≡◌, ℕ, ◌<◌, ◌+◌, true, false, List, [], ◌∷◌, ◌++◌, length, get_or, set, map, refl, sym}
+use Rattle.std.proofs.Common.{ap, ◌∙◌, subst, arith}
 use lib.ListN.{length-set}
 use mathlib.Core.Bool.{false≢true}
 use Rattle.std.specs.Prelude.{IfSome, IsSome, Option, None, Some, is_some}
@@ -9,10 +10,13 @@ use Rattle.std.specs.FinMap.{get, insert, remove}
 use Rattle.std.specs.List.{range_with_len, sum_by}
 use Rattle.std.proofs.lemmas.List.{map-append, map-set, length-map, get_or-map}
 use Rattle.raw_nodes.specs.Cells.{IsPlace, node_at, number_in}
-use Rattle.raw_nodes.specs.Chain.{IsChain, before_of, befores_of, flag_of, marks_of, nexts_of, numbers_of, room_in, room_of}
+use Rattle.raw_nodes.specs.Chain.{IsChain, before_of, befores_of, flag_of, marks_of, nexts_of, numbers_of, room_in}
+use Rattle.raw_nodes.specs.Chain.{room_of}
 use Rattle.raw_nodes.specs.HeldLending.{IsLine, IsRoom}
 use Rattle.raw_nodes.specs.Links.{link_name}
-use Rattle.raw_nodes.specs.Records.{Record, cell_of, cells_of, if_used, inner_record, is_used, nones, line_in, record_in, record_of, records_in, records_of, update, updated, with_child, with_line, with_parent, with_sum}
+use Rattle.raw_nodes.specs.Records.{Record, cell_of, cells_of, if_used, inner_record, is_used, nones, line_in}
+use Rattle.raw_nodes.specs.Records.{record_in, record_of, records_in, records_of, update, updated, with_child}
+use Rattle.raw_nodes.specs.Records.{with_line, with_parent, with_sum}
 use Rattle.raw_nodes.specs.Rooms.{with_room_child, with_room_sum}
 use Rattle.raw_nodes.specs.declared.names.Link.{Link}
 use Rattle.raw_nodes.specs.declared.branch.Branch.{Branch}
@@ -21,7 +25,8 @@ use Rattle.raw_nodes.specs.declared.nodes.Held.{Held}
 use Rattle.raw_nodes.specs.declared.nodes.Held.TheVariants.{Spare, Line, Inner}
 use Rattle.raw_nodes.specs.declared.nodes.Node.{Node}
 use Rattle.raw_nodes.specs.declared.nodes.Room.{Room}
-use Rattle.raw_nodes.proofs.ChainLaws.{cell_is, given_cells, made_cells, is_used_at, listed_set, numbered_set, room_moved, used_chain, used_count}
+use Rattle.raw_nodes.proofs.ChainLaws.{cell_is, given_cells, made_cells, is_used_at, listed_set, numbered_set}
+use Rattle.raw_nodes.proofs.ChainLaws.{room_moved, used_chain, used_count}
 use Rattle.raw_nodes.proofs.HeapSteps.{any_default}
 use Rattle.raw_nodes.proofs.RowLaws.{get_or-nones}
 use Rattle.raw_nodes.proofs.MapLaws.{get_record, place_of_name, records_grown, records_set, records_unset}
@@ -33,13 +38,16 @@ IsNamed ps xs p = IsSome (get (records_in ps xs) p)
 cells_long : (ps : List NodePtr) (xs : List Node) → length ps ≡ length xs → length ps ≡ length (cells_of xs)
 cells_long ps xs paired = paired ∙ sym (length-map xs cell_of)
 
-pub name_place : (ps : List NodePtr) (xs : List Node) (p : NodePtr) → length ps ≡ length xs → IsNamed ps xs p → IsPlace ps p
+pub name_place : (ps : List NodePtr) (xs : List Node) (p : NodePtr) → length ps ≡ length xs → IsNamed ps xs p →
+    IsPlace ps p
 name_place ps xs p paired named = place_of_name ps (cells_of xs) p (cells_long ps xs paired) named
 
-pub place_within : (ps : List NodePtr) (xs : List Node) (p : NodePtr) → length ps ≡ length xs → IsPlace ps p → number_in ps p < length xs
+pub place_within : (ps : List NodePtr) (xs : List Node) (p : NodePtr) → length ps ≡ length xs → IsPlace ps p →
+    number_in ps p < length xs
 place_within ps xs p paired place = omega (arith, paired, place)
 
-module _ (ps : List NodePtr) (xs : List Node) (p : NodePtr) (x : Node) (paired : length ps ≡ length xs) (named : IsNamed ps xs p) (e : x ≡ node_at ps xs p x) where
+module _ (ps : List NodePtr) (xs : List Node) (p : NodePtr) (x : Node) (paired : length ps
+    ≡ length xs) (named : IsNamed ps xs p) (e : x ≡ node_at ps xs p x) where
   abbrev i : ℕ
   i = number_in ps p
 
@@ -47,7 +55,8 @@ module _ (ps : List NodePtr) (xs : List Node) (p : NodePtr) (x : Node) (paired :
   name_within = place_within ps xs p paired (name_place ps xs p paired named)
 
   pub in_use : is_used x.held ≡ true
-  in_use = is_used_at xs i x name_within e (subst (λ o. IsSome o) (get_record ps (cells_of xs) p (cells_long ps xs paired)) named)
+  in_use = is_used_at xs i x name_within e (subst (λ o. IsSome o)
+      (get_record ps (cells_of xs) p (cells_long ps xs paired)) named)
 
   pub entry_is : get (records_in ps xs) p ≡ Some (record_of x)
   entry_is = get_record ps (cells_of xs) p (cells_long ps xs paired) ∙ cell_is xs i x name_within e in_use
@@ -60,59 +69,77 @@ module _ (ps : List NodePtr) (xs : List Node) (p : NodePtr) (x : Node) (paired :
   pub told_entry : (P : Record → Type 0) → IfSome (get (records_in ps xs) p) P → P (record_of x)
   told_entry P h = subst (λ o. IfSome o P) entry_is h
 
-module _ (ps : List NodePtr) (xs : List Node) (p : NodePtr) (w : Node) (paired : length ps ≡ length xs) (place : IsPlace ps p) where
+module _ (ps : List NodePtr) (xs : List Node) (p : NodePtr) (w : Node) (paired : length ps
+    ≡ length xs) (place : IsPlace ps p) where
   -- the map after a node was written that is in use
-  pub written_records : is_used w.held ≡ true → records_in ps (set xs (number_in ps p) w) ≡ insert (records_in ps xs) p (record_of w)
-  written_records v = ap (records_of ps) (made_cells xs (number_in ps p) w v) ∙ records_set ps (cells_of xs) p place (cells_long ps xs paired) (record_of w)
+  pub written_records : is_used w.held ≡ true → records_in ps (set xs (number_in ps p) w)
+      ≡ insert (records_in ps xs) p (record_of w)
+  written_records v = ap (records_of ps) (made_cells xs (number_in ps p) w v)
+      ∙ records_set ps (cells_of xs) p place (cells_long ps xs paired) (record_of w)
 
   -- after one that is not
   pub removed_records : is_used w.held ≡ false → records_in ps (set xs (number_in ps p) w) ≡ remove (records_in ps xs) p
-  removed_records v = ap (records_of ps) (given_cells xs (number_in ps p) w v) ∙ records_unset ps (cells_of xs) p place (cells_long ps xs paired)
+  removed_records v = ap (records_of ps) (given_cells xs (number_in ps p) w v)
+      ∙ records_unset ps (cells_of xs) p place (cells_long ps xs paired)
 
 pub spare_cell : (w : Node) → is_used w.held ≡ false → cell_of w ≡ None
 spare_cell w v = ap (λ y. if_used y (record_of w)) v
 
 -- after one more that is not
-pub grown_records : (ps : List NodePtr) (xs : List Node) (b : NodePtr) (w : Node) → length ps ≡ length xs → is_used w.held ≡ false → records_in (ps ++ b ∷ []) (xs ++ w ∷ []) ≡ records_in ps xs
+pub grown_records : (ps : List NodePtr) (xs : List Node) (b : NodePtr) (w : Node) → length ps ≡ length xs →
+    is_used w.held ≡ false → records_in (ps ++ b ∷ []) (xs ++ w ∷ []) ≡ records_in ps xs
 grown_records ps xs b w paired v =
-    ap (records_of (ps ++ b ∷ [])) (map-append cell_of xs (w ∷ []) ∙ ap (λ o. cells_of xs ++ o ∷ []) (spare_cell w v)) ∙ records_grown ps (cells_of xs) b (cells_long ps xs paired)
+    ap (records_of (ps ++ b ∷ [])) (map-append cell_of xs (w ∷ []) ∙ ap (λ o. cells_of xs ++ o ∷ []) (spare_cell w v))
+    ∙ records_grown ps (cells_of xs) b (cells_long ps xs paired)
 
 -- a spare has no record
-pub entry_none : (ps : List NodePtr) (xs : List Node) (p : NodePtr) (x : Node) → length ps ≡ length xs → number_in ps p < length xs → x ≡ node_at ps xs p x → is_used x.held ≡ false → get (records_in ps xs) p ≡ None
+pub entry_none : (ps : List NodePtr) (xs : List Node) (p : NodePtr) (x : Node) → length ps ≡ length xs →
+    number_in ps p < length xs → x ≡ node_at ps xs p x → is_used x.held ≡ false → get (records_in ps xs) p ≡ None
 entry_none ps xs p x paired h e v =
-    get_record ps (cells_of xs) p (cells_long ps xs paired) ∙ get_or-map cell_of xs (number_in ps p) x None h ∙ ap cell_of (sym e) ∙ spare_cell x v
+    get_record ps (cells_of xs) p (cells_long ps xs paired) ∙ get_or-map cell_of xs (number_in ps p) x None h
+    ∙ ap cell_of (sym e) ∙ spare_cell x v
 
 -- ---- a node in use is written
-module _ (ps : List NodePtr) (xs : List Node) (p : NodePtr) (x w : Node) (paired : length ps ≡ length xs) (named : IsNamed ps xs p) (e : x ≡ node_at ps xs p x) (v : is_used w.held ≡ true) where
+module _ (ps : List NodePtr) (xs : List Node) (p : NodePtr) (x w : Node) (paired : length ps
+    ≡ length xs) (named : IsNamed ps xs p) (e : x ≡ node_at ps xs p x) (v : is_used w.held ≡ true) where
   abbrev j : ℕ
   j = number_in ps p
 
-  pub rewritten : (f : Record → Record) → record_of w ≡ f (record_of x) → records_in ps (set xs j w) ≡ update (records_in ps xs) p f
+  pub rewritten : (f : Record → Record) → record_of w ≡ f (record_of x) →
+      records_in ps (set xs j w) ≡ update (records_in ps xs) p f
   unfolding update
   rewritten f s =
       let m = records_in ps xs in
-      written_records ps xs p w paired (name_place ps xs p paired named) v ∙ ap (insert m p) s ∙ sym (ap (updated m p f) (entry_is ps xs p x paired named e))
+      written_records ps xs p w paired (name_place ps xs p paired named) v ∙ ap (insert m p) s
+      ∙ sym (ap (updated m p f) (entry_is ps xs p x paired named e))
 
-  pub chain_kept : (n : ℕ) (o : Option NodePtr) → ∥ IsChain ps (marks_of xs) (nexts_of xs) n o ∥₁ → ∥ IsChain ps (marks_of (set xs j w)) (nexts_of (set xs j w)) n o ∥₁
-  chain_kept n o c = used_chain ps xs n o j x w (name_within ps xs p x paired named e) e (in_use ps xs p x paired named e) c
+  pub chain_kept : (n : ℕ) (o : Option NodePtr) → ∥ IsChain ps (marks_of xs) (nexts_of xs) n o ∥₁ →
+      ∥ IsChain ps (marks_of (set xs j w)) (nexts_of (set xs j w)) n o ∥₁
+  chain_kept n o c =
+      used_chain ps xs n o j x w (name_within ps xs p x paired named e) e (in_use ps xs p x paired named e) c
 
   pub count_kept : (n : ℕ) → n ≡ sum_by flag_of xs → n ≡ sum_by flag_of (set xs j w)
   count_kept n h = used_count xs j x w n (name_within ps xs p x paired named e) e (in_use ps xs p x paired named e) v h
 
-  pub listed_kept : (last : Option NodePtr) → before_of w ≡ before_of x → befores_of xs ++ last ∷ [] ≡ None ∷ map Some ps → befores_of (set xs j w) ++ last ∷ [] ≡ None ∷ map Some ps
+  pub listed_kept : (last : Option NodePtr) → before_of w ≡ before_of x →
+      befores_of xs ++ last ∷ [] ≡ None ∷ map Some ps → befores_of (set xs j w) ++ last ∷ [] ≡ None ∷ map Some ps
   listed_kept last same h = listed_set ps xs j x w last e same h
 
   pub whole_kept : (n : ℕ) → n ≡ length xs → n ≡ length (set xs j w)
   whole_kept n h = h ∙ sym (length-set xs j w)
 
-  pub numbers_kept : w.number ≡ x.number → numbers_of xs ≡ range_with_len 0 (length xs) → numbers_of (set xs j w) ≡ range_with_len 0 (length (set xs j w))
+  pub numbers_kept : w.number ≡ x.number → numbers_of xs ≡ range_with_len 0 (length xs) →
+      numbers_of (set xs j w) ≡ range_with_len 0 (length (set xs j w))
   numbers_kept same h = numbered_set xs j x w e same h
 
-  pub rooms_kept : (k c : ℕ) → room_in w.held ≡ room_in x.held → k + sum_by room_of xs ≡ c → k + sum_by room_of (set xs j w) ≡ c
-  rooms_kept k c same h = let moved = room_moved xs j x w (name_within ps xs p x paired named e) e in omega (arith, moved, same, h)
+  pub rooms_kept : (k c : ℕ) → room_in w.held ≡ room_in x.held → k + sum_by room_of xs ≡ c →
+      k + sum_by room_of (set xs j w) ≡ c
+  rooms_kept k c same h = let moved = room_moved xs j x w (name_within ps xs p x paired named e) e in
+      omega (arith, moved, same, h)
 
 -- ---- what the setters write
-pub parented : (h : Held) (parent new : Option NodePtr) (slot n : ℕ) → is_used h ≡ true → record_in h new n ≡ with_parent (record_in h parent slot) new n
+pub parented : (h : Held) (parent new : Option NodePtr) (slot n : ℕ) → is_used h ≡ true →
+    record_in h new n ≡ with_parent (record_in h parent slot) new n
 parented Spare parent new slot n u = absurd (false≢true u)
 parented (Line line) parent new slot n u = refl
 parented (Inner room) parent new slot n u = refl
@@ -121,29 +148,36 @@ parented (Inner room) parent new slot n u = refl
 room_record : Option NodePtr → ℕ → Room → Record
 room_record parent slot room = inner_record parent slot (map link_name room.children) room.sum
 
-pub summed : (h : Held) (old new : Branch) (parent : Option NodePtr) (slot : ℕ) (sum : Count) → h ≡ Inner old → new.room.value ≡ with_room_sum old.room.value sum
+pub summed : (h : Held) (old new : Branch) (parent : Option NodePtr) (slot : ℕ) (sum : Count) → h ≡ Inner old →
+    new.room.value ≡ with_room_sum old.room.value sum
     → record_in (Inner new) parent slot ≡ with_sum (record_in h parent slot) sum
 unfolding room_record
-summed h old new parent slot sum e d = ap (room_record parent slot) d ∙ ap (λ k. with_sum (record_in k parent slot) sum) (sym e)
+summed h old new parent slot sum e d =
+    ap (room_record parent slot) d ∙ ap (λ k. with_sum (record_in k parent slot) sum) (sym e)
 
-pub lodged : (h : Held) (old new : Branch) (parent : Option NodePtr) (slot i : ℕ) (link : Link) (child : Option NodePtr) → h ≡ Inner old → new.room.value ≡ with_room_child old.room.value i link → link_name link ≡ child
+pub lodged : (h : Held) (old new : Branch) (parent : Option NodePtr) (slot i : ℕ) (link : Link) (child : Option NodePtr)
+    → h ≡ Inner old → new.room.value ≡ with_room_child old.room.value i link → link_name link ≡ child
     → record_in (Inner new) parent slot ≡ with_child (record_in h parent slot) i child
 unfolding room_record
 lodged h old new parent slot i link child e d n =
     ap (room_record parent slot) d
-    ∙ ap (λ cs. inner_record parent slot cs old.room.value.sum) (map-set link_name old.room.value.children i link ∙ ap (set (map link_name old.room.value.children) i) n)
+    ∙ ap (λ cs. inner_record parent slot cs old.room.value.sum) (map-set link_name old.room.value.children i link
+    ∙ ap (set (map link_name old.room.value.children) i) n)
     ∙ ap (λ k. with_child (record_in k parent slot) i child) (sym e)
 
-pub lined : (h : Held) (line w : LineContent) (parent : Option NodePtr) (slot : ℕ) → h ≡ Line line → record_in (Line w) parent slot ≡ with_line (record_in h parent slot) w
+pub lined : (h : Held) (line w : LineContent) (parent : Option NodePtr) (slot : ℕ) → h ≡ Line line →
+    record_in (Line w) parent slot ≡ with_line (record_in h parent slot) w
 lined h line w parent slot e = ap (λ k. with_line (record_in k parent slot) w) (sym e)
 
 -- ---- what a node is
-pub line_said : (h : Held) (parent : Option NodePtr) (slot : ℕ) → is_used h ≡ true → (record_in h parent slot).line ≡ line_in h
+pub line_said : (h : Held) (parent : Option NodePtr) (slot : ℕ) → is_used h ≡ true →
+    (record_in h parent slot).line ≡ line_in h
 line_said Spare parent slot u = absurd (false≢true u)
 line_said (Line line) parent slot u = refl
 line_said (Inner room) parent slot u = refl
 
-pub room_if : (h : Held) (parent : Option NodePtr) (slot : ℕ) → is_used h ≡ true → (record_in h parent slot).line ≡ None → IsRoom h
+pub room_if : (h : Held) (parent : Option NodePtr) (slot : ℕ) → is_used h ≡ true →
+    (record_in h parent slot).line ≡ None → IsRoom h
 room_if Spare parent slot u n = absurd (false≢true u)
 room_if (Line line) parent slot u n = absurd (false≢true (sym (ap is_some n)))
 room_if (Inner room) parent slot u n = tt
@@ -159,7 +193,8 @@ no_line (Line line) s = absurd (false≢true (sym s))
 no_line (Inner room) s = refl
 
 -- ---- two names
-pub same_node : (ps : List NodePtr) (xs : List Node) (p : NodePtr) (x y : Node) → number_in ps p < length xs → x ≡ node_at ps xs p x → y ≡ node_at ps xs p y → x ≡ y
+pub same_node : (ps : List NodePtr) (xs : List Node) (p : NodePtr) (x y : Node) → number_in ps p < length xs →
+    x ≡ node_at ps xs p x → y ≡ node_at ps xs p y → x ≡ y
 same_node ps xs p x y h e d = e ∙ any_default xs (number_in ps p) x y h ∙ sym d
 
 pub line_off : (h : Held) → ((line : LineContent) → h ≡ Line line → ⊥) → line_in h ≡ None
@@ -168,7 +203,8 @@ line_off (Line line) n = absurd (n line refl)
 line_off (Inner room) n = refl
 
 -- a node that has no room has no children
-pub childless : (h : Held) (parent : Option NodePtr) (slot : ℕ) → is_used h ≡ true → ((room : Branch) → h ≡ Inner room → ⊥) → (record_in h parent slot).children ≡ nones
+pub childless : (h : Held) (parent : Option NodePtr) (slot : ℕ) → is_used h ≡ true →
+    ((room : Branch) → h ≡ Inner room → ⊥) → (record_in h parent slot).children ≡ nones
 childless Spare parent slot u n = refl
 childless (Line line) parent slot u n = refl
 childless (Inner room) parent slot u n = absurd (n room refl)
@@ -176,12 +212,14 @@ childless (Inner room) parent slot u n = absurd (n room refl)
 pub none_at : (cs : List (Option NodePtr)) (i : ℕ) → cs ≡ nones → None ≡ get_or cs i None
 none_at cs i e = sym (ap (λ ds. get_or ds i None) e ∙ get_or-nones 12 i)
 
-pub slot_said : (h : Held) (parent : Option NodePtr) (slot : ℕ) → is_used h ≡ true → slot ≡ (record_in h parent slot).slot
+pub slot_said : (h : Held) (parent : Option NodePtr) (slot : ℕ) → is_used h ≡ true →
+    slot ≡ (record_in h parent slot).slot
 slot_said Spare parent slot u = absurd (false≢true u)
 slot_said (Line line) parent slot u = refl
 slot_said (Inner room) parent slot u = refl
 
-pub parent_said : (h : Held) (parent : Option NodePtr) (slot : ℕ) → is_used h ≡ true → parent ≡ (record_in h parent slot).parent
+pub parent_said : (h : Held) (parent : Option NodePtr) (slot : ℕ) → is_used h ≡ true →
+    parent ≡ (record_in h parent slot).parent
 parent_said Spare parent slot u = absurd (false≢true u)
 parent_said (Line line) parent slot u = refl
 parent_said (Inner room) parent slot u = refl

@@ -1,5 +1,6 @@
 -- Names in order, and where one stands among others.
-use Rattle.std.proofs.Common.{◌≡◌, ℕ, ◌<◌, Bool, true, false, cond, ◌⊎◌, inl, inr, List, [], ◌∷◌, ◌++◌, length, get_or, refl, sym, ap, ◌∙◌, subst, arith}
+use Rattle.std.proofs.Common.{◌≡◌, ℕ, ◌<◌, Bool, true, false, cond, ◌⊎◌, inl, inr, List, [], ◌∷◌, ◌++◌, length, get_or}
+use Rattle.std.proofs.Common.{refl, sym, ap, ◌∙◌, subst, arith}
 use Prim.Native.Nat.{suc}
 use base.Stored.{Coded-set}
 use mathlib.Core.Bool.{false≢true}
@@ -32,7 +33,8 @@ pub name_total : IsTotalOrder name_cmp
 name_total = on_total (λ (p : NodePtr). block_of p.at) nat_cmp_total
 
 pub name_antisym : IsAntisymmetric name_cmp
-name_antisym p q e = name_is p q (p.start ∙ ap (λ b. block_ptr b 0) (nat_cmp-IsAntisymmetric (block_of p.at) (block_of q.at) e) ∙ sym q.start)
+name_antisym p q e = name_is p q (p.start
+    ∙ ap (λ b. block_ptr b 0) (nat_cmp-IsAntisymmetric (block_of p.at) (block_of q.at) e) ∙ sym q.start)
 
 equal_of : (r : Ordering) → is_eq r ≡ true → r ≡ Equal
 equal_of Less e = absurd (false≢true e)
@@ -55,7 +57,8 @@ same_or_other p q = elim (eq_by_cmp name_cmp p q) as (λ y. eq_by_cmp name_cmp p
 ] refl
 
 -- ---- where a name stands
-found : (b : Bool) (p q : NodePtr) (qs : List NodePtr) (d : NodePtr) (n : ℕ) → eq_by_cmp name_cmp p q ≡ b → cond b 0 (suc n) < suc (length qs) → (n < length qs → get_or qs n d ≡ p) → get_or (q ∷ qs) (cond b 0 (suc n)) d ≡ p
+found : (b : Bool) (p q : NodePtr) (qs : List NodePtr) (d : NodePtr) (n : ℕ) → eq_by_cmp name_cmp p q ≡ b →
+    cond b 0 (suc n) < suc (length qs) → (n < length qs → get_or qs n d ≡ p) → get_or (q ∷ qs) (cond b 0 (suc n)) d ≡ p
 found true p q qs d n e h rest = sym (one_of_tied p q e)
 found false p q qs d n e h rest = rest (omega arith)
 
@@ -63,25 +66,31 @@ pub at_number : (ps : List NodePtr) (p d : NodePtr) → IsPlace ps p → get_or 
 at_number [] p d h = absurd (omega arith)
 at_number (q ∷ ps) p d h = found (eq_by_cmp name_cmp p q) p q ps d (number_in ps p) refl h (at_number ps p d)
 
-pub ptr_at_number : (ps : List NodePtr) (p : NodePtr) (d : Ptr) → IsPlace ps p → get_or (ats ps) (number_in ps p) d ≡ p.at
-ptr_at_number ps p d h = get_or-map (λ (q : NodePtr). q.at) ps (number_in ps p) p d h ∙ ap (λ (q : NodePtr). q.at) (at_number ps p p h)
+pub ptr_at_number : (ps : List NodePtr) (p : NodePtr) (d : Ptr) → IsPlace ps p →
+    get_or (ats ps) (number_in ps p) d ≡ p.at
+ptr_at_number ps p d h =
+    get_or-map (λ (q : NodePtr). q.at) ps (number_in ps p) p d h ∙ ap (λ (q : NodePtr). q.at) (at_number ps p p h)
 
-pub same_number : (ps : List NodePtr) (p q : NodePtr) → IsPlace ps p → IsPlace ps q → number_in ps p ≡ number_in ps q → p ≡ q
+pub same_number : (ps : List NodePtr) (p q : NodePtr) → IsPlace ps p → IsPlace ps q → number_in ps p ≡ number_in ps q →
+    p ≡ q
 same_number ps p q c d e = sym (at_number ps p p c) ∙ ap (λ i. get_or ps i p) e ∙ at_number ps q p d
 
 pub within_ats : (ps : List NodePtr) (p : NodePtr) → IsPlace ps p → number_in ps p < length (ats ps)
 within_ats ps p h = let long = length-map ps (λ (q : NodePtr). q.at) in omega (arith, h)
 
-stays : (b : Bool) (ps : List NodePtr) (n m : ℕ) → (n < length ps → m ≡ n) → cond b 0 (suc n) < suc (length ps) → cond b 0 (suc m) ≡ cond b 0 (suc n)
+stays : (b : Bool) (ps : List NodePtr) (n m : ℕ) → (n < length ps → m ≡ n) → cond b 0 (suc n) < suc (length ps) →
+    cond b 0 (suc m) ≡ cond b 0 (suc n)
 stays true ps n m e h = refl
 stays false ps n m e h = ap suc (e (omega arith))
 
 -- the number of a place stays where there is one more
 pub number_stays : (ps : List NodePtr) (b p : NodePtr) → IsPlace ps p → number_in (ps ++ b ∷ []) p ≡ number_in ps p
 number_stays [] b p h = absurd (omega arith)
-number_stays (q ∷ ps) b p h = stays (eq_by_cmp name_cmp p q) ps (number_in ps p) (number_in (ps ++ b ∷ []) p) (number_stays ps b p) h
+number_stays (q ∷ ps) b p h =
+    stays (eq_by_cmp name_cmp p q) ps (number_in ps p) (number_in (ps ++ b ∷ []) p) (number_stays ps b p) h
 
 -- a new place is the last
 pub number_new : (ps : List NodePtr) (p : NodePtr) → NotIn (ats ps) p.at → number_in (ps ++ p ∷ []) p ≡ length ps
 number_new [] p n = ap (λ b. cond b 0 1) (tied p p refl)
-number_new (q ∷ ps) p n = ap (λ b. cond b 0 (suc (number_in (ps ++ p ∷ []) p))) (apart p q (λ e. n.0 (ap (λ (r : NodePtr). r.at) (sym e)))) ∙ ap suc (number_new ps p n.1)
+number_new (q ∷ ps) p n = ap (λ b. cond b 0 (suc (number_in (ps ++ p ∷ []) p)))
+    (apart p q (λ e. n.0 (ap (λ (r : NodePtr). r.at) (sym e)))) ∙ ap suc (number_new ps p n.1)

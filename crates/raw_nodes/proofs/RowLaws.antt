@@ -3,7 +3,8 @@
 --     get_or-row      what stands in a slot is the child of that number
 --     somes-row       the names in a row are the children that it was made of; somes, of any number of empty slots
 --     length-row      a row has 12 slots
-use Rattle.std.proofs.Common.{◌≡◌, ℕ, zero, suc, ◌+◌, ◌-◌, ◌≤◌, List, [], ◌∷◌, ◌++◌, length, get_or, map, replicate, refl, ap, ◌∙◌, arith}
+use Rattle.std.proofs.Common.{◌≡◌, ℕ, zero, suc, ◌+◌, ◌-◌, ◌≤◌, List, [], ◌∷◌, ◌++◌, length, get_or, map, replicate}
+use Rattle.std.proofs.Common.{refl, ap, ◌∙◌, arith}
 use Rattle.std.specs.Prelude.{Option, None, Some, slice_get}
 use Rattle.std.specs.List.{filter_map}
 use Rattle.std.proofs.lemmas.List.{length-replicate}
@@ -31,7 +32,8 @@ somes (c ∷ cs) n = ap (λ ds. c ∷ ds) (somes cs n)
 pub somes-row : (cs : List NodePtr) → filter_map (λ c. c) (row cs) ≡ cs
 somes-row cs = somes cs (12 - length cs)
 
-row_long : (cs : List NodePtr) (n k : ℕ) → length cs + n ≡ k → length (map (λ c. Some c) cs ++ replicate {A = Option NodePtr} n None) ≡ k
+row_long : (cs : List NodePtr) (n k : ℕ) → length cs + n ≡ k →
+    length (map (λ c. Some c) cs ++ replicate {A = Option NodePtr} n None) ≡ k
 row_long [] n k e = length-replicate {A = Option NodePtr} n None ∙ (let f : n ≡ k = omega arith in f)
 row_long (c ∷ cs) n zero e = absurd (omega arith)
 row_long (c ∷ cs) n (suc k) e = ap suc (row_long cs n k (omega arith))

@@ -1,7 +1,8 @@
 ghost use Rattle.raw_nodes.specs.Chain.{room_in, rooms_for};
 ghost use Rattle.raw_nodes.specs.Links.{link_name};
 ghost use Rattle.raw_nodes.specs.Records.{blank, is_used, line_in, nones, record_in};
-ghost use Rattle.std.specs.Prelude.{◌≡◌, ◌+◌, ◌<◌, ◌≤◌, None, count_by, is_some, length, map, slice_index_or, true, vec_capacity};
+ghost use Rattle.std.specs.Prelude.{◌≡◌, ◌+◌, ◌<◌, ◌≤◌, None, count_by, is_some, length, map, slice_index_or, true};
+ghost use Rattle.std.specs.Prelude.{vec_capacity};
 ghost use Rattle.toggle_sums.specs.Counts.{no_text};
 
 use crate::branch::Branch;

@@ -1,8 +1,11 @@
-ghost use Rattle.raw_nodes.specs.Chain.{IsChain, befores_of, flag_of, marks_of, nexts_of, numbers_of, room_of, rooms_for};
+ghost use Rattle.raw_nodes.specs.Chain.{IsChain, befores_of, flag_of, marks_of, nexts_of, numbers_of, room_of};
+ghost use Rattle.raw_nodes.specs.Chain.{rooms_for};
 ghost use Rattle.std.specs.FinMap as finite;
 ghost use Rattle.std.specs.FinSet as set;
 ghost use Rattle.std.specs.List.{range_with_len};
-ghost use Rattle.std.specs.Prelude.{◌≡◌, ◌≢◌, ◌+◌, ◌^◌, ◌<◌, ◌≤◌, [], ◌∷◌, ◌++◌, IfSome, None, Some, OnErr, OnOk, count_by, false, is_some, length, map, max, option_map, slice_index_or, sum_by, true, vec_capacity};
+ghost use Rattle.std.specs.Prelude.{◌≡◌, ◌≢◌, ◌+◌, ◌^◌, ◌<◌, ◌≤◌, [], ◌∷◌, ◌++◌, IfSome, None, Some, OnErr, OnOk};
+ghost use Rattle.std.specs.Prelude.{count_by, false, is_some, length, map, max, option_map, slice_index_or, sum_by};
+ghost use Rattle.std.specs.Prelude.{true, vec_capacity};
 
 use crate::heap::Heap;
 use crate::names::{Link, NodePtr};

@@ -1,5 +1,6 @@
 -- The characters of what is printed.
-use Rattle.std.proofs.Common.{◌≡◌, ℕ, ◌<◌, ◌≤◌, true, false, take, arith, List, [], ◌∷◌, ◌++◌, length, get_or, String, string_bytes, encode_utf8_all, codes, refl, sym, ap, ◌∙◌, append_assoc}
+use Rattle.std.proofs.Common.{◌≡◌, ℕ, ◌<◌, ◌≤◌, true, false, take, arith, List, [], ◌∷◌, ◌++◌, length, get_or, String}
+use Rattle.std.proofs.Common.{string_bytes, encode_utf8_all, codes, refl, sym, ap, ◌∙◌, append_assoc}
 use Rattle.std.specs.Str.{chars, IsUtf8, IsCharBoundary}
 use Rattle.std.specs.Prelude.{if◌then◌else◌}
 use Rattle.std.proofs.lemmas.Bool.Decides.{nat_tests}
@@ -36,7 +37,8 @@ pub no_memory : chars (codes "error: out of memory\n") ≡ error_line (literal "
 unfolding chars
 no_memory = refl
 
-pub no_substitution : chars (codes "error: substitution isn't supported\n") ≡ error_line (literal "substitution isn't supported")
+pub no_substitution : chars (codes "error: substitution isn't supported\n")
+    ≡ error_line (literal "substitution isn't supported")
 unfolding chars
 no_substitution = refl
 
@@ -52,11 +54,13 @@ pub no_quote : chars (codes "error: missing \"\n") ≡ error_line (literal "miss
 unfolding chars
 no_quote = refl
 
-pub more_after_brace : chars (codes "error: extra characters after close-brace\n") ≡ error_line (literal "extra characters after close-brace")
+pub more_after_brace : chars (codes "error: extra characters after close-brace\n")
+    ≡ error_line (literal "extra characters after close-brace")
 unfolding chars
 more_after_brace = refl
 
-pub more_after_quote : chars (codes "error: extra characters after close-quote\n") ≡ error_line (literal "extra characters after close-quote")
+pub more_after_quote : chars (codes "error: extra characters after close-quote\n")
+    ≡ error_line (literal "extra characters after close-quote")
 unfolding chars
 more_after_quote = refl
 
@@ -68,7 +72,8 @@ pub answer_line : (text : List ℕ) → chars (codes "") ++ (text ++ chars (code
 unfolding chars
 answer_line text = refl
 
-pub no_word : {Z : Type 0} (words : List (String Z)) (position : ℕ) → length words ≤ position → chars [] ≡ word_at (texts_of words) position
+pub no_word : {Z : Type 0} (words : List (String Z)) (position : ℕ) → length words ≤ position →
+    chars [] ≡ word_at (texts_of words) position
 unfolding chars
 no_word words position past = sym (get_or-eq_default (texts_of words) [] (grind (arith, common_steps)))
 
@@ -86,20 +91,26 @@ boundary-no bytes at isn't =
     ] refl
 
 -- the front of a word, where its bytes are some characters, and else
-pub front-some : (word front : List ℕ) (len : ℕ) → IsUtf8 word → IsCharBoundary word len → front ≡ take len word → chars front ≡ front_of len (chars word)
+pub front-some : (word front : List ℕ) (len : ℕ) → IsUtf8 word → IsCharBoundary word len → front ≡ take len word →
+    chars front ≡ front_of len (chars word)
 front-some word front len utf8 boundary is =
     let bytes : encode_utf8_all (chars word) ≡ word = encodes-chars word utf8 in
     ap chars (is ∙ ap (take len) (sym bytes))
-    ∙ sym (ap (λ b. if b then chars (take len (encode_utf8_all (chars word))) else chars word) (ap (λ bs. is_boundary bs len) bytes ∙ boundary-yes word len boundary))
+    ∙ sym (ap (λ b. if b then chars (take len (encode_utf8_all (chars word)))
+    else chars word) (ap (λ bs. is_boundary bs len) bytes ∙ boundary-yes word len boundary))
 
-pub front-none : (word : List ℕ) (len : ℕ) → IsUtf8 word → ¬ IsCharBoundary word len → chars word ≡ front_of len (chars word)
+pub front-none : (word : List ℕ) (len : ℕ) → IsUtf8 word → ¬ IsCharBoundary word len →
+    chars word ≡ front_of len (chars word)
 front-none word len utf8 cut =
     let bytes : encode_utf8_all (chars word) ≡ word = encodes-chars word utf8 in
-    sym (ap (λ b. if b then chars (take len (encode_utf8_all (chars word))) else chars word) (ap (λ bs. is_boundary bs len) bytes ∙ boundary-no word len cut))
+    sym (ap (λ b. if b then chars (take len (encode_utf8_all (chars word)))
+    else chars word) (ap (λ bs. is_boundary bs len) bytes ∙ boundary-no word len cut))
 
 -- the bytes of five texts
-pub five_texts : (before word between other after : List ℕ) → IsUtf8 before → IsUtf8 word → IsUtf8 between → IsUtf8 other → IsUtf8 after
-    → (before ++ word) ++ ((between ++ other) ++ after) ≡ encode_utf8_all (chars before ++ (chars word ++ (chars between ++ (chars other ++ chars after))))
+pub five_texts : (before word between other after : List ℕ) → IsUtf8 before → IsUtf8 word → IsUtf8 between →
+    IsUtf8 other → IsUtf8 after
+    → (before ++ word) ++ ((between ++ other) ++ after)
+    ≡ encode_utf8_all (chars before ++ (chars word ++ (chars between ++ (chars other ++ chars after))))
 five_texts before word between other after first second third fourth fifth =
     append_assoc before word ((between ++ other) ++ after)
     ∙ ap (λ rest. before ++ (word ++ rest)) (append_assoc between other after)

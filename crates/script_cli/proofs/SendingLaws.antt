@@ -1,5 +1,6 @@
 -- Bytes that pass one after another, and bytes that wait.
-use Rattle.std.proofs.Common.{◌≡◌, ℕ, ◌+◌, ◌-◌, arith, Bool, true, false, cond, List, [], ◌++◌, length, take, drop, Option, None, Some, refl, sym, ap, ◌∙◌, append_assoc}
+use Rattle.std.proofs.Common.{◌≡◌, ℕ, ◌+◌, ◌-◌, arith, Bool, true, false, cond, List, [], ◌++◌, length, take, drop}
+use Rattle.std.proofs.Common.{Option, None, Some, refl, sym, ap, ◌∙◌, append_assoc}
 use Rattle.std.proofs.lemmas.Grind.{common_steps}
 use Rattle.std.proofs.lemmas.List.{take-append-drop, append-nil, take_all}
 use Rattle.std.proofs.Math.Seq.{take-add}
@@ -10,7 +11,8 @@ Appends-nil : (known : Option (List ℕ)) → Appends known known []
 Appends-nil None = tt
 Appends-nil (Some xs) = ap Some (sym (append-nil xs))
 
-Appends-then : (old mid new : Option (List ℕ)) (a b : List ℕ) → Appends old mid a → Appends mid new b → Appends old new (a ++ b)
+Appends-then : (old mid new : Option (List ℕ)) (a b : List ℕ) → Appends old mid a → Appends mid new b →
+    Appends old new (a ++ b)
 Appends-then None mid new a b first second = tt
 Appends-then (Some xs) mid new a b first second =
     let after = rw first at second in rw (← append_assoc) after
@@ -26,16 +28,19 @@ Takes-then old mid new a b first second = (
 )
 
 pub Takes-more : (old mid new : WriteLog) (bytes : List ℕ) (n m : ℕ)
-    → Takes old mid (take n bytes) → Takes mid new (take m (take (length bytes - n) (drop n bytes))) → Takes old new (take (n + m) bytes)
+    → Takes old mid (take n bytes) → Takes mid new (take m (take (length bytes - n) (drop n bytes))) →
+    Takes old new (take (n + m) bytes)
 Takes-more old mid new bytes n m first second =
-    let rest : take (length bytes - n) (drop n bytes) ≡ drop n bytes = take_all (length bytes - n) (drop n bytes) (grind (arith, common_steps)) in
+    let rest : take (length bytes - n) (drop n bytes)
+    ≡ drop n bytes = take_all (length bytes - n) (drop n bytes) (grind (arith, common_steps)) in
     rw (take-add n m bytes) (Takes-then old mid new (take n bytes) (take m (drop n bytes)) first (rw rest at second))
 
 Consumes-nil : (known : Option (List ℕ)) → Consumes known known []
 Consumes-nil None = tt
 Consumes-nil (Some xs) = (xs, refl, refl)
 
-Consumes-then : (old mid new : Option (List ℕ)) (a b : List ℕ) → Consumes old mid a → Consumes mid new b → Consumes old new (a ++ b)
+Consumes-then : (old mid new : Option (List ℕ)) (a b : List ℕ) → Consumes old mid a → Consumes mid new b →
+    Consumes old new (a ++ b)
 Consumes-then None mid new a b first second = tt
 Consumes-then (Some xs) mid new a b first second =
     let after = rw first.1 at second in
@@ -48,7 +53,8 @@ HandsOut-nil log = (sym (append-nil log.bytes), omega arith, Consumes-nil log.le
 plus_none : (n : ℕ) → n + 0 ≡ n
 plus_none n = omega arith
 
-pub HandsOut-then : (old mid new : ReadLog) (a b : List ℕ) (ended : Bool) → HandsOut old mid a false → HandsOut mid new b ended
+pub HandsOut-then : (old mid new : ReadLog) (a b : List ℕ) (ended : Bool) → HandsOut old mid a false →
+    HandsOut mid new b ended
     → HandsOut old new (a ++ b) ended
 HandsOut-then old mid new a b ended first second = (
   second.0 ∙ ap (λ xs. xs ++ b) first.0 ∙ append_assoc old.bytes a b,
@@ -58,7 +64,8 @@ HandsOut-then old mid new a b ended first second = (
 )
 
 -- what was written is a front
-pub Sends-front : (old new : WriteLog) (bytes : List ℕ) (n : ℕ) → Takes old new (take n bytes) → Sends old new bytes false
+pub Sends-front : (old new : WriteLog) (bytes : List ℕ) (n : ℕ) → Takes old new (take n bytes) →
+    Sends old new bytes false
 Sends-front old new bytes n sent = (take n bytes, drop n bytes, sym (take-append-drop n bytes), sent)
 
 -- the bytes are put behind those that wait
@@ -66,11 +73,13 @@ pub Gathers-held : (log : WriteLog) (waited bytes : List ℕ) → Gathers log wa
 Gathers-held log waited bytes = ([], refl, Takes-nil log)
 
 -- those that waited are written first
-pub Gathers-flushed : (old new : WriteLog) (waited bytes : List ℕ) → Sends old new waited true → Gathers old waited new bytes bytes true
+pub Gathers-flushed : (old new : WriteLog) (waited bytes : List ℕ) → Sends old new waited true →
+    Gathers old waited new bytes bytes true
 Gathers-flushed old new waited bytes sent = (waited, refl, sent)
 
 -- the writer fails at those that waited
-pub Gathers-cut : (old new : WriteLog) (waited waits bytes : List ℕ) → Sends old new waited false → Gathers old waited new waits bytes false
+pub Gathers-cut : (old new : WriteLog) (waited waits bytes : List ℕ) → Sends old new waited false →
+    Gathers old waited new waits bytes false
 Gathers-cut old new waited waits bytes sent =
     (sent.0, sent.1 ++ bytes, ap (λ xs. xs ++ bytes) sent.2 ∙ append_assoc sent.0 sent.1 bytes, sent.3)
 
@@ -88,7 +97,8 @@ Gathers-past old mid new waited bytes false first second = (
 
 regroup : (p a s q b t r : List ℕ) → p ++ a ≡ s ++ q → q ++ b ≡ t ++ r → p ++ (a ++ b) ≡ (s ++ t) ++ r
 regroup p a s q b t r e f =
-    sym (append_assoc p a b) ∙ ap (λ xs. xs ++ b) e ∙ append_assoc s q b ∙ ap (λ xs. s ++ xs) f ∙ sym (append_assoc s t r)
+    sym (append_assoc p a b) ∙ ap (λ xs. xs ++ b) e ∙ append_assoc s q b ∙ ap (λ xs. s ++ xs) f
+    ∙ sym (append_assoc s t r)
 
 -- one after the other
 pub Gathers-then : (first_log mid last : WriteLog) (waited between waits a b : List ℕ) (done : Bool)
@@ -109,8 +119,13 @@ Gathers-then old mid new waited between waits a b false first second = (
 -- the writer fails at the first
 pub Gathers-stop : (old new : WriteLog) (waited between waits a b : List ℕ)
     → Gathers old waited new between a false → Gathers old waited new waits (a ++ b) false
-Gathers-stop old new waited between waits a b first =
-    (first.0, first.1 ++ b, sym (append_assoc waited a b) ∙ ap (λ xs. xs ++ b) first.2 ∙ append_assoc first.0 first.1 b, first.3)
+Gathers-stop old new waited between waits a b first = (
+  first.0,
+  first.1 ++ b,
+  sym (append_assoc waited a b) ∙ ap (λ xs. xs ++ b) first.2
+      ∙ append_assoc first.0 first.1 b,
+  first.3,
+)
 
 pub ruleset writing = Takes-nil
 

@@ -1,5 +1,6 @@
 -- A run over devices that tell their bytes.
-use Rattle.std.proofs.Common.{◌≡◌, ℕ, ◌+◌, ◌||◌, Bool, true, false, cond, List, [], ◌∷◌, ◌++◌, length, Option, None, Some, inl, inr, refl, ap, ◌∙◌, append_assoc, arith, encode_utf8_all}
+use Rattle.std.proofs.Common.{◌≡◌, ℕ, ◌+◌, ◌||◌, Bool, true, false, cond, List, [], ◌∷◌, ◌++◌, length, Option, None}
+use Rattle.std.proofs.Common.{Some, inl, inr, refl, ap, ◌∙◌, append_assoc, arith, encode_utf8_all}
 use Rattle.std.specs.Prelude.{is_some, is_err, IfSome, Err}
 use Rattle.std.proofs.lemmas.Bool.{false≢true}
 use Rattle.std.proofs.lemmas.List.{append-nil}
@@ -19,7 +20,8 @@ use Rattle.script_cli.specs.Told.{WritesRunOf, WritesFrontOf, WritesFrontOfRead}
 use Rattle.script_cli.proofs.RunLaws.{plain_runs}
 
 -- a front with a fault is the script, however it goes on
-front_reads : (commands : List (List (List ℕ))) (read rest : List ℕ) (fault : ScriptFault) → ReadsFront read commands (Some fault)
+front_reads : (commands : List (List (List ℕ))) (read rest : List ℕ) (fault : ScriptFault) →
+    ReadsFront read commands (Some fault)
     → ReadsScript (read ++ rest) commands (Some fault)
 front_reads [] read rest fault holds = holds rest
 front_reads (words ∷ commands) read rest fault reads = (
@@ -31,19 +33,23 @@ front_reads (words ∷ commands) read rest fault reads = (
 )
 
 -- the script of which these bytes were read, and these are left
-holds_script : (ended : Bool) (read rest : List ℕ) (commands : List (List (List ℕ))) (fault : Option ScriptFault) → LeavesNone ended (Some rest)
+holds_script : (ended : Bool) (read rest : List ℕ) (commands : List (List (List ℕ))) (fault : Option ScriptFault) →
+    LeavesNone ended (Some rest)
     → (ended || is_some fault) ≡ true → Holds ended read commands fault → ReadsScript (read ++ rest) commands fault
 holds_script true read rest commands fault none over holds = rw (none, append-nil read) holds
 holds_script false read rest commands None none over holds = absurd (false≢true over)
 holds_script false read rest commands (Some fault) none over holds = front_reads commands read rest fault holds
 
-told_run_at : (limits : LimitTable) (left now : Option (List ℕ)) (read : List ℕ) (ended : Bool) (commands : List (List (List ℕ))) (fault : Option ScriptFault)
+told_run_at : (limits : LimitTable) (left now : Option (List ℕ)) (read : List ℕ) (ended : Bool)
+    (commands : List (List (List ℕ))) (fault : Option ScriptFault)
     (out : List ℕ) (old new : Option (List ℕ)) (summary : RunSummary) → Consumes left now read → LeavesNone ended now
     → (ended || is_some fault) ≡ true → Holds ended read commands fault
     → RunsTo (no_documents limits) commands fault out summary.refused → Appends old new (encode_utf8_all out)
     → summary.commands ≡ length commands → summary.script_fault ≡ is_some fault
     → IfSome left (λ script. WritesRunOf limits script old new summary)
-told_run_at limits None now read ended commands fault out old new summary consumed none over holds runs appends count faulted = tt
+told_run_at limits None now read ended commands fault out old new summary consumed none over holds runs appends count
+    faulted =
+    tt
 told_run_at limits (Some script) now read ended commands fault out old new summary consumed none over holds runs appends count faulted = (
   commands,
   fault,
@@ -55,11 +61,13 @@ told_run_at limits (Some script) now read ended commands fault out old new summa
   faulted,
 )
 
-pub told_run : (limits : LimitTable) (source_old source_new : ReadLog) (sink_old sink_new : WriteLog) (summary : RunSummary)
+pub told_run : (limits : LimitTable) (source_old source_new : ReadLog) (sink_old sink_new : WriteLog)
+    (summary : RunSummary)
     → WritesRun limits source_old source_new sink_old sink_new summary
     → IfSome source_old.left (λ script. WritesRunOf limits script sink_old.held sink_new.held summary)
 told_run limits source_old source_new sink_old sink_new summary run =
-    told_run_at limits source_old.left source_new.left run.0 run.1 run.2 run.3 run.4 sink_old.held sink_new.held summary run.5.2 run.5.3 run.7 run.6 run.8
+    told_run_at limits source_old.left source_new.left run.0 run.1 run.2 run.3 run.4 sink_old.held sink_new.held summary
+    run.5.2 run.5.3 run.7 run.6 run.8
     run.9.1 run.10 run.11
 
 -- a run of the script that begins with a run of its front
@@ -70,10 +78,17 @@ Extends world script out =
 
 extends_nil : (world : World) (script out : List ℕ) → out ≡ [] → Extends world script out
 extends_nil world script out none =
-    let reading = a_reading script in let commands = reading.0 in let fault = reading.1 in
-    (commands, fault, run_output world commands fault, refused_count world commands, reading.2, rw none (plain_runs commands world fault))
+    let reading = a_reading script in let commands = reading.0 in let fault = reading.1 in (
+      commands,
+      fault,
+      run_output world commands fault,
+      refused_count world commands,
+      reading.2,
+      rw none (plain_runs commands world fault),
+    )
 
-extends : (commands : List (List (List ℕ))) (world : World) (read rest out : List ℕ) (refused : ℕ) → ReadsFront read commands None
+extends : (commands : List (List (List ℕ))) (world : World) (read rest out : List ℕ) (refused : ℕ) →
+    ReadsFront read commands None
     → RunsTo world commands None out refused → Extends world (read ++ rest) out
 extends [] world read rest out refused reads runs = extends_nil world (read ++ rest) out runs.0
 extends (words ∷ commands) world read rest out refused reads (inl by_step) =
@@ -83,8 +98,22 @@ extends (words ∷ commands) world read rest out refused reads (inl by_step) =
       after.1,
       after.2,
       cond (is_err (step world words).reply) 1 0 + after.3,
-      (reads.0, reads.1 ++ rest, ap (λ xs. xs ++ rest) reads.2 ∙ append_assoc reads.0 reads.1 rest, inl reads.3, after.4),
-      inl (by_step.0 ++ after.2, after.3, ap (λ xs. xs ++ after.2) by_step.2 ∙ append_assoc text by_step.0 after.2, refl, after.5),
+      (
+        reads.0,
+        reads.1 ++ rest,
+        ap (λ xs. xs ++ rest) reads.2
+            ∙ append_assoc reads.0 reads.1 rest,
+        inl reads.3,
+        after.4,
+      ),
+      inl (
+        by_step.0 ++ after.2,
+        after.3,
+        ap (λ xs. xs ++ after.2) by_step.2
+            ∙ append_assoc text by_step.0 after.2,
+        refl,
+        after.5,
+      ),
     )
 extends (words ∷ commands) world read rest out refused reads (inr by_memory) =
     let after = extends commands world reads.1 rest by_memory.0 by_memory.1 reads.4 by_memory.4 in
@@ -93,29 +122,55 @@ extends (words ∷ commands) world read rest out refused reads (inr by_memory) =
       after.1,
       after.2,
       1 + after.3,
-      (reads.0, reads.1 ++ rest, ap (λ xs. xs ++ rest) reads.2 ∙ append_assoc reads.0 reads.1 rest, inl reads.3, after.4),
-      inr (by_memory.0 ++ after.2, after.3, ap (λ xs. xs ++ after.2) by_memory.2 ∙ append_assoc text by_memory.0 after.2, refl, after.5),
+      (
+        reads.0,
+        reads.1 ++ rest,
+        ap (λ xs. xs ++ rest) reads.2
+            ∙ append_assoc reads.0 reads.1 rest,
+        inl reads.3,
+        after.4,
+      ),
+      inr (
+        by_memory.0 ++ after.2,
+        after.3,
+        ap (λ xs. xs ++ after.2) by_memory.2
+            ∙ append_assoc text by_memory.0 after.2,
+        refl,
+        after.5,
+      ),
     )
 
-as_it_is : (world : World) (script out : List ℕ) (commands : List (List (List ℕ))) (fault : Option ScriptFault) (refused : ℕ)
+as_it_is : (world : World) (script out : List ℕ) (commands : List (List (List ℕ))) (fault : Option ScriptFault)
+    (refused : ℕ)
     → ReadsScript script commands fault → RunsTo world commands fault out refused → Extends world script out
-as_it_is world script out commands fault refused reads runs = (commands, fault, [], refused, reads, rw (append-nil out) runs)
+as_it_is world script out commands fault refused reads runs =
+    (commands, fault, [], refused, reads, rw (append-nil out) runs)
 
-extends_held : (ended : Bool) (world : World) (read rest : List ℕ) (commands : List (List (List ℕ))) (fault : Option ScriptFault) (out : List ℕ) (refused : ℕ)
-    → LeavesNone ended (Some rest) → Holds ended read commands fault → RunsTo world commands fault out refused → Extends world (read ++ rest) out
+extends_held : (ended : Bool) (world : World) (read rest : List ℕ) (commands : List (List (List ℕ)))
+    (fault : Option ScriptFault) (out : List ℕ) (refused : ℕ)
+    → LeavesNone ended (Some rest) → Holds ended read commands fault → RunsTo world commands fault out refused →
+    Extends world (read ++ rest) out
 extends_held true world read rest commands fault out refused none holds runs =
     as_it_is world (read ++ rest) out commands fault refused (rw (none, append-nil read) holds) runs
-extends_held false world read rest commands None out refused none holds runs = extends commands world read rest out refused holds runs
+extends_held false world read rest commands None out refused none holds runs =
+    extends commands world read rest out refused holds runs
 extends_held false world read rest commands (Some fault) out refused none holds runs =
     as_it_is world (read ++ rest) out commands (Some fault) refused (front_reads commands read rest fault holds) runs
 
-told_front_at : (limits : LimitTable) (left now : Option (List ℕ)) (read : List ℕ) (ended : Bool) (commands : List (List (List ℕ))) (fault : Option ScriptFault)
-    (out : List ℕ) (refused : ℕ) (front back : List ℕ) (old new : Option (List ℕ)) → Consumes left now read → LeavesNone ended now
-    → Holds ended read commands fault → RunsTo (no_documents limits) commands fault out refused → encode_utf8_all out ≡ front ++ back → Appends old new front
+told_front_at : (limits : LimitTable) (left now : Option (List ℕ)) (read : List ℕ) (ended : Bool)
+    (commands : List (List (List ℕ))) (fault : Option ScriptFault)
+    (out : List ℕ) (refused : ℕ) (front back : List ℕ) (old new : Option (List ℕ)) → Consumes left now read →
+    LeavesNone ended now
+    → Holds ended read commands fault → RunsTo (no_documents limits) commands fault out refused →
+    encode_utf8_all out ≡ front ++ back → Appends old new front
     → IfSome left (λ script. WritesFrontOf limits script old new)
-told_front_at limits None now read ended commands fault out refused front back old new consumed none holds runs is appends = tt
-told_front_at limits (Some script) now read ended commands fault out refused front back old new consumed none holds runs is appends =
-    let all = extends_held ended (no_documents limits) read consumed.0 commands fault out refused (rw consumed.1 at none) holds runs in (
+told_front_at limits None now read ended commands fault out refused front back old new consumed none holds runs is
+    appends =
+    tt
+told_front_at limits (Some script) now read ended commands fault out refused front back old new consumed none holds runs
+    is appends =
+    let all = extends_held ended (no_documents limits) read consumed.0 commands fault out refused
+    (rw consumed.1 at none) holds runs in (
       all.0,
       all.1,
       out ++ all.2,
@@ -124,7 +179,8 @@ told_front_at limits (Some script) now read ended commands fault out refused fro
       back ++ encode_utf8_all all.2,
       rw consumed.2 all.4,
       all.5,
-      encodes-append out all.2 ∙ ap (λ xs. xs ++ encode_utf8_all all.2) is ∙ append_assoc front back (encode_utf8_all all.2),
+      encodes-append out all.2 ∙ ap (λ xs. xs ++ encode_utf8_all all.2) is
+          ∙ append_assoc front back (encode_utf8_all all.2),
       appends,
     )
 
@@ -132,15 +188,19 @@ pub told_front : (limits : LimitTable) (source_old source_new : ReadLog) (sink_o
     → WritesFront limits source_old source_new sink_old sink_new
     → IfSome source_old.left (λ script. WritesFrontOf limits script sink_old.held sink_new.held)
 told_front limits source_old source_new sink_old sink_new cut =
-    told_front_at limits source_old.left source_new.left cut.0 cut.1 cut.2 cut.3 cut.4 cut.5 cut.6 cut.7 sink_old.held sink_new.held cut.8.2 cut.8.3 cut.9
+    told_front_at limits source_old.left source_new.left cut.0 cut.1 cut.2 cut.3 cut.4 cut.5 cut.6 cut.7 sink_old.held
+    sink_new.held cut.8.2 cut.8.3 cut.9
     cut.10 cut.11 cut.12.1
 
-told_read_at : (limits : LimitTable) (left now : Option (List ℕ)) (read : List ℕ) (commands : List (List (List ℕ))) (fault : Option ScriptFault)
+told_read_at : (limits : LimitTable) (left now : Option (List ℕ)) (read : List ℕ) (commands : List (List (List ℕ)))
+    (fault : Option ScriptFault)
     (out : List ℕ) (refused : ℕ) (front back : List ℕ) (old new : Option (List ℕ)) → Consumes left now read
-    → ReadsFront read commands fault → RunsTo (no_documents limits) commands fault out refused → encode_utf8_all out ≡ front ++ back → Appends old new front
+    → ReadsFront read commands fault → RunsTo (no_documents limits) commands fault out refused →
+    encode_utf8_all out ≡ front ++ back → Appends old new front
     → IfSome left (λ script. WritesFrontOfRead limits script now old new)
 told_read_at limits None now read commands fault out refused front back old new consumed holds runs is appends = tt
-told_read_at limits (Some script) now read commands fault out refused front back old new consumed holds runs is appends =
+told_read_at limits (Some script) now read commands fault out refused front back old new consumed holds runs is appends
+    =
     rw consumed.1 (read, consumed.2, commands, fault, out, refused, front, back, holds, runs, is, appends)
 
 none_ended : (ended : Bool) (old new : ℕ) → new ≡ old + cond ended 1 0 → new ≡ old → ended ≡ false
@@ -152,5 +212,6 @@ pub told_read : (limits : LimitTable) (source_old source_new : ReadLog) (sink_ol
     → IfSome source_old.left (λ script. WritesFrontOfRead limits script source_new.left sink_old.held sink_new.held)
 told_read limits source_old source_new sink_old sink_new cut same =
     let is = none_ended cut.1 source_old.ends source_new.ends cut.8.1 same in
-    told_read_at limits source_old.left source_new.left cut.0 cut.2 cut.3 cut.4 cut.5 cut.6 cut.7 sink_old.held sink_new.held cut.8.2 (rw is at cut.9)
+    told_read_at limits source_old.left source_new.left cut.0 cut.2 cut.3 cut.4 cut.5 cut.6 cut.7 sink_old.held
+    sink_new.held cut.8.2 (rw is at cut.9)
     cut.10 cut.11 cut.12.1

@@ -16,7 +16,8 @@ use Rattle.std.proofs.lemmas.Bool.{false≢true}
 
 -- a result that isn't want of memory is the step's
 by_step : (world new : World) (words : List (List ℕ)) (reply : Result Answer Fault)
-    → reply ≡ (step world words).reply → new ≡ (step world words).world → Replies world new words (is_err reply) (piece words reply)
+    → reply ≡ (step world words).reply → new ≡ (step world words).world →
+    Replies world new words (is_err reply) (piece words reply)
 by_step world new words reply same goes = inl (ap (piece words) same, ap is_err same, goes)
 
 pub replies : (world new : World) (words : List (List ℕ)) (reply : Result Answer Fault)
@@ -24,9 +25,11 @@ pub replies : (world new : World) (words : List (List ℕ)) (reply : Result Answ
     → (reply ≢ Err fault.Memory → new ≡ (step world words).world)
     → IfErr reply (λ _. new ≡ world)
     → Replies world new words (is_err reply) (piece words reply)
-replies world new words (Ok answer) same goes kept = by_step world new words (Ok answer) (same (search rules)) (goes (search rules))
+replies world new words (Ok answer) same goes kept =
+    by_step world new words (Ok answer) (same (search rules)) (goes (search rules))
 replies world new words (Err fault.Memory) same goes kept = inr (refl, refl, kept)
-replies world new words (Err fault) same goes kept = by_step world new words (Err fault) (same (search rules)) (goes (search rules))
+replies world new words (Err fault) same goes kept =
+    by_step world new words (Err fault) (same (search rules)) (goes (search rules))
 
 -- the command that is taken
 pub meets : (world after : World) (old new : Unread) (words : List (List ℕ)) (refused : Bool) (text : List ℕ)
@@ -35,7 +38,8 @@ pub meets : (world after : World) (old new : Unread) (words : List (List ℕ)) (
 meets world after old new words refused text shorter takes reply = (words, takes.0, takes.2, shorter, takes.4, reply)
 
 -- the fault that is met
-pub meets_fault : (old new : Unread) (fault : ScriptFault) → old.fault ≡ None → StopsAt old fault new → HasFault old.finished old.rest fault
+pub meets_fault : (old new : Unread) (fault : ScriptFault) → old.fault ≡ None → StopsAt old fault new →
+    HasFault old.finished old.rest fault
 meets_fault old new fault none stops = let is = stops.0 in rw none at is
 
 -- a command that was met goes on, and is refused or not

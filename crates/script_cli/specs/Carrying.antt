@@ -7,7 +7,8 @@ use Rattle.script_cli.specs.declared.summary.RunSummary.{RunSummary}
 use Rattle.devices.specs.Devices.{WriteLog, Takes}
 use Rattle.script_cli.specs.Run.{Holds, RunsTo}
 
--- From this world the bytes have this run: so many commands, of which so many are refused, perhaps a fault, and this printed.
+-- From this world the bytes have this run: so many commands, of which so many are refused, perhaps a fault, and this
+-- printed.
 abbrev pub RunsBytes : World → Bool → List ℕ → ℕ → ℕ → Option ScriptFault → List ℕ → Type 0
 RunsBytes world ended bytes met refused fault out =
     (commands : List (List (List ℕ))) × Holds ended bytes commands fault × RunsTo world commands fault out refused
@@ -18,8 +19,8 @@ abbrev pub MayFollow : Bool → Bool → List ℕ → Type 0
 MayFollow false ended later = ⊤
 MayFollow true ended later = (ended ≡ true) × (later ≡ [])
 
--- From old to new, with these bytes before and those left, so many commands were met, of which so many were refused, and
--- this was printed: whatever the rest prints, with what follows it, comes behind.
+-- From old to new, with these bytes before and those left, so many commands were met, of which so many were refused,
+-- and this was printed: whatever the rest prints, with what follows it, comes behind.
 abbrev pub Carries : Bool → World → List ℕ → ℕ → ℕ → List ℕ → World → List ℕ → Type 0
 Carries finished old bytes met refused out new left =
     (ended : Bool) (later : List ℕ) (others others_refused : ℕ) (fault : Option ScriptFault) (more : List ℕ)

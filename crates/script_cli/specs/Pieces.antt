@@ -1,9 +1,16 @@
 -- What is printed for a command, as characters.
-use Rattle.std.specs.Prelude.{ℕ, ◌-◌, Bool, true, false, ◌&&◌, ◌||◌, nat_le, nat_lt, List, [], ◌∷◌, ◌++◌, length, take, chars, encode_utf8_all, slice_index, slice_index_or, Result, Ok, Err, if◌then◌else◌}
+use Rattle.std.specs.Prelude.{ℕ, ◌-◌, Bool, true, false, ◌&&◌, ◌||◌, nat_le, nat_lt, List, [], ◌∷◌, ◌++◌, length, take}
+use Rattle.std.specs.Prelude.{chars, encode_utf8_all, slice_index, slice_index_or, Result, Ok, Err, if◌then◌else◌}
 use Rattle.command_parts.specs.declared.answers.Answer.{Answer}
 use Rattle.command_parts.specs.declared.answers.Answer.TheVariants.{Empty, Word, Flag, Text}
 use Rattle.command_parts.specs.declared.answers.Fault.{Fault}
-use Rattle.command_parts.specs.declared.answers.Fault.TheVariants.{BadIndex, NoTaggedCharacters, NoSuchMark, NoSuchTag, BadOption, WrongArguments, InvalidCommandName, WindowExists, BadComparison, BadGravity, BadList, IndexOrder, BadBoolean, BadInteger, StartLineAfterEndLine, NothingToUndo, NothingToRedo, TooManyWidgets, TooManyTags, TooManyMarks, TextTooLong, Memory}
+use Rattle.command_parts.specs.declared.answers.Fault.TheVariants.{BadIndex, NoTaggedCharacters, NoSuchMark, NoSuchTag}
+use Rattle.command_parts.specs.declared.answers.Fault.TheVariants.{BadOption, WrongArguments, InvalidCommandName}
+use Rattle.command_parts.specs.declared.answers.Fault.TheVariants.{WindowExists, BadComparison, BadGravity, BadList}
+use Rattle.command_parts.specs.declared.answers.Fault.TheVariants.{IndexOrder, BadBoolean, BadInteger}
+use Rattle.command_parts.specs.declared.answers.Fault.TheVariants.{StartLineAfterEndLine, NothingToUndo, NothingToRedo}
+use Rattle.command_parts.specs.declared.answers.Fault.TheVariants.{TooManyWidgets, TooManyTags, TooManyMarks}
+use Rattle.command_parts.specs.declared.answers.Fault.TheVariants.{TextTooLong, Memory}
 use Rattle.tcl_words.specs.declared.fault.ScriptFault.{ScriptFault}
 use Rattle.tcl_words.specs.declared.fault.ScriptFault.TheVariants as script
 use Prim.Native.String.{String}
@@ -16,7 +23,8 @@ word_at words position = slice_index_or words position []
 -- a character of a text begins at a byte, or the text ends there
 abbrev pub is_boundary : List ℕ → ℕ → Bool
 is_boundary bytes at =
-    nat_le at (length bytes) && (nat_le (length bytes) at || (nat_lt (slice_index bytes at) 128 || nat_le 192 (slice_index bytes at)))
+    nat_le at (length bytes) && (nat_le (length bytes) at
+    || (nat_lt (slice_index bytes at) 128 || nat_le 192 (slice_index bytes at)))
 
 -- the characters that so many bytes at the front of a word spell; the whole word where these cut a character
 abbrev pub front_of : ℕ → List ℕ → List ℕ
@@ -60,7 +68,8 @@ fault_line words (BadIndex position) = around "error: bad text index \"" (word_a
 fault_line words (NoTaggedCharacters position len) =
     around "error: text doesn't contain any characters tagged with \"" (front_of len (word_at words position)) "\"\n"
 fault_line words (NoSuchMark position) = around "error: there is no mark named \"" (word_at words position) "\"\n"
-fault_line words (NoSuchTag position) = around "error: tag \"" (word_at words position) "\" isn't defined in text widget\n"
+fault_line words (NoSuchTag position) =
+    around "error: tag \"" (word_at words position) "\" isn't defined in text widget\n"
 fault_line words (BadOption position) = around "error: bad option \"" (word_at words position) "\"\n"
 fault_line words WrongArguments = alone "error: wrong # args\n"
 fault_line words (InvalidCommandName position) = around "error: invalid command name \"" (word_at words position) "\"\n"
@@ -69,8 +78,10 @@ fault_line words (BadComparison position) = around "error: bad comparison operat
 fault_line words (BadGravity position) = around "error: bad mark gravity \"" (word_at words position) "\"\n"
 fault_line words (BadList position) = around "error: bad list \"" (word_at words position) "\"\n"
 fault_line words (IndexOrder position) =
-    around_two "error: index \"" (word_at words position) "\" before \"" (word_at words (position - 1)) "\" in the text\n"
-fault_line words (BadBoolean position) = around "error: expected boolean value but got \"" (word_at words position) "\"\n"
+    around_two "error: index \"" (word_at words position) "\" before \"" (word_at words (position - 1))
+    "\" in the text\n"
+fault_line words (BadBoolean position) =
+    around "error: expected boolean value but got \"" (word_at words position) "\"\n"
 fault_line words (BadInteger position) = around "error: expected integer but got \"" (word_at words position) "\"\n"
 fault_line words StartLineAfterEndLine = alone "error: -startline must be less than or equal to -endline\n"
 fault_line words NothingToUndo = alone "error: nothing to undo\n"

@@ -7,7 +7,8 @@ use Rattle.script_cli.specs.Run.{run_output, refused_count}
 
 -- all of the plain run
 abbrev pub IsPlain : World → List (List (List ℕ)) → Option ScriptFault → List ℕ → ℕ → Type 0
-IsPlain world commands fault out refused = (out ≡ run_output world commands fault) × (refused ≡ refused_count world commands)
+IsPlain world commands fault out refused =
+    (out ≡ run_output world commands fault) × (refused ≡ refused_count world commands)
 
 -- the plain run of the commands before one, and of that one that memory is wanted
 abbrev pub IsPlainUpToRefusal : World → List (List (List ℕ)) → List ℕ → Type 0

@@ -1,5 +1,6 @@
 -- What a whole script prints.
-use Rattle.std.specs.Prelude.{◌≡◌, ℕ, ◌+◌, ◌⊎◌, Bool, true, false, ◌||◌, List, [], ◌∷◌, ◌++◌, length, Option, None, Some, is_some, is_err, encode_utf8_all, Err, if◌then◌else◌}
+use Rattle.std.specs.Prelude.{◌≡◌, ℕ, ◌+◌, ◌⊎◌, Bool, true, false, ◌||◌, List, [], ◌∷◌, ◌++◌, length, Option, None}
+use Rattle.std.specs.Prelude.{Some, is_some, is_err, encode_utf8_all, Err, if◌then◌else◌}
 use Rattle.text_model.specs.LimitTable.{LimitTable}
 use Rattle.tcl_words.specs.ScriptGrammar.{ReadsScript, ReadsFront}
 use Rattle.tcl_words.specs.declared.fault.ScriptFault.{ScriptFault}
@@ -48,8 +49,8 @@ abbrev pub Holds : Bool → List ℕ → List (List (List ℕ)) → Option Scrip
 Holds true read commands fault = ReadsScript read commands fault
 Holds false read commands fault = ReadsFront read commands fault
 
--- From old to new the reader handed out bytes, and the writer took the whole run of these, up to the script's end or its
--- fault; this is its summary.
+-- From old to new the reader handed out bytes, and the writer took the whole run of these, up to the script's end or
+-- its fault; this is its summary.
 abbrev pub WritesRun : LimitTable → ReadLog → ReadLog → WriteLog → WriteLog → RunSummary → Type 0
 WritesRun limits source_old source_new sink_old sink_new summary =
     (read : List ℕ) × (ended : Bool) × (commands : List (List (List ℕ))) × (fault : Option ScriptFault) × (out : List ℕ)
@@ -63,4 +64,5 @@ WritesFront limits source_old source_new sink_old sink_new =
     (read : List ℕ) × (ended : Bool) × (commands : List (List (List ℕ))) × (fault : Option ScriptFault) × (out : List ℕ)
     × (refused : ℕ) × (front : List ℕ) × (back : List ℕ)
     × HandsOut source_old source_new read ended × Holds ended read commands fault
-    × RunsTo (no_documents limits) commands fault out refused × (encode_utf8_all out ≡ front ++ back) × Takes sink_old sink_new front
+    × RunsTo (no_documents limits) commands fault out refused × (encode_utf8_all out ≡ front ++ back)
+    × Takes sink_old sink_new front

@@ -1,4 +1,5 @@
--- What a run writes where its devices tell their bytes: the reader those that it has left, and the writer those that it holds.
+-- What a run writes where its devices tell their bytes: the reader those that it has left, and the writer those that it
+-- holds.
 use Rattle.std.specs.Prelude.{◌≡◌, ℕ, List, ◌++◌, length, Option, None, Some, is_some, encode_utf8_all, ⊤}
 use Rattle.text_model.specs.LimitTable.{LimitTable}
 use Rattle.tcl_words.specs.ScriptGrammar.{ReadsScript, ReadsFront}

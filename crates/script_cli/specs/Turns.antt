@@ -13,7 +13,8 @@ use Rattle.script_cli.specs.Run.{last_piece}
 -- from old to new a command is carried out, or refused for memory, and this is printed
 abbrev pub Replies : World → World → List (List ℕ) → Bool → List ℕ → Type 0
 Replies old new words refused text =
-    ((text ≡ piece words (step old words).reply) × (refused ≡ is_err (step old words).reply) × (new ≡ (step old words).world))
+    ((text ≡ piece words (step old words).reply) × (refused ≡ is_err (step old words).reply)
+    × (new ≡ (step old words).world))
     ⊎ ((text ≡ piece words (Err Memory)) × (refused ≡ true) × (new ≡ old))
 
 -- the next command of the bytes that are left is met
@@ -22,11 +23,13 @@ MeetsCommand finished old rest new left refused text =
     (words : List (List ℕ)) × (used : List ℕ) × (rest ≡ used ++ left) × (length left < length rest)
     × IsNextCommand finished left words used × Replies old new words refused text
 
--- From old to new, with these bytes before and those left of a script that is finished or not, this is met and this text printed.
+-- From old to new, with these bytes before and those left of a script that is finished or not, this is met and this
+-- text printed.
 abbrev pub Meets : Bool → World → List ℕ → World → List ℕ → Met → List ℕ → Type 0
 Meets finished old rest new left Answer text = MeetsCommand finished old rest new left false text
 Meets finished old rest new left Refusal text = MeetsCommand finished old rest new left true text
-Meets finished old rest new left Fault text = (fault : ScriptFault) × HasFault finished rest fault × (text ≡ last_piece (Some fault))
+Meets finished old rest new left Fault text =
+    (fault : ScriptFault) × HasFault finished rest fault × (text ≡ last_piece (Some fault))
 Meets finished old rest new left End text = HasNoCommand finished rest × (new ≡ old) × (left ≡ rest) × (text ≡ [])
 
 -- a command was met, and the script goes on

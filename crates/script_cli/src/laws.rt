@@ -13,7 +13,8 @@ ghost use Rattle.script_cli.specs.PlainRun.{IsPlain, IsPlainUpToRefusal};
 /// What a run prints is what the run without refusals for memory prints, up to the first command that is refused for
 /// memory, and all of it where none is.
 pub fn plain_run()
-    ensures { (world : World) (commands : List (List (List ℕ))) (fault : Option ScriptFault) (out : List ℕ) (refused : ℕ) →
+    ensures { (world : World) (commands : List (List (List ℕ))) (fault : Option ScriptFault) (out : List ℕ)
+        (refused : ℕ) →
         RunsTo world commands fault out refused →
         IsPlain world commands fault out refused ⊎ IsPlainUpToRefusal world commands out }
 {}
@@ -24,11 +25,12 @@ pub fn some_run()
         RunsTo world commands fault (run_output world commands fault) (refused_count world commands) }
 {}
 
-/// Where the reader tells the bytes that it has left, what a run wrote is the run of that script, whose bytes may come in
-/// any reads, and after a run that ended early a front of it; and where no read brought the end, of the commands that are
-/// whole in the bytes read. The bytes of a writer that tells what it holds grew by just that.
+/// Where the reader tells the bytes that it has left, what a run wrote is the run of that script, whose bytes may come
+/// in any reads, and after a run that ended early a front of it; and where no read brought the end, of the commands
+/// that are whole in the bytes read. The bytes of a writer that tells what it holds grew by just that.
 pub fn told_bytes()
-    ensures run { (limits : LimitTable) (source_old source_new : ReadLog) (sink_old sink_new : WriteLog) (summary : RunSummary) →
+    ensures run { (limits : LimitTable) (source_old source_new : ReadLog) (sink_old sink_new : WriteLog)
+        (summary : RunSummary) →
         WritesRun limits source_old source_new sink_old sink_new summary →
         IfSome source_old.left (λ script. WritesRunOf limits script sink_old.held sink_new.held summary) }
     ensures front { (limits : LimitTable) (source_old source_new : ReadLog) (sink_old sink_new : WriteLog) →

@@ -1,6 +1,8 @@
 ghost use Rattle.std.specs.Prelude.{◌≡◌, ◌++◌, false, not, Ok, Err, chars, encode_utf8_all};
 ghost use Rattle.tcl_words.specs.Unread.{texts_of};
-ghost use Rattle.script_cli.specs.Pieces.{piece, fault_line, error_line, script_fault_text, answer_text as spec_answer_text, word_at as spec_word_at, front_of as spec_front_of};
+ghost use Rattle.script_cli.specs.Pieces.{piece, fault_line, error_line, script_fault_text};
+ghost use Rattle.script_cli.specs.Pieces.{answer_text as spec_answer_text, word_at as spec_word_at};
+ghost use Rattle.script_cli.specs.Pieces.{front_of as spec_front_of};
 ghost use Rattle.script_cli.specs.Sending.{Gathers};
 ghost use Rattle.command_parts.specs.Words.{literal};
 
@@ -73,7 +75,13 @@ impl<'a> Line<'a> {
     }
 
     fn alone(text: &'static str) -> Line<'a>
-        ensures { result ≡ record { before = chars text.now; word = literal ""; between = literal ""; other = literal ""; after = literal "" } }
+        ensures { result ≡ record {
+          before = chars text.now;
+          word = literal "";
+          between = literal "";
+          other = literal "";
+          after = literal "";
+        } }
     {
         Line::around(text, "", "")
     }

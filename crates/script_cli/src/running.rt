@@ -1,4 +1,5 @@
-ghost use Rattle.std.specs.Prelude.{◌≡◌, ◌≢◌, ◌+◌, ◌≤◌, ◌^◌, [], None, true, false, IfOk, IfErr, OnOk, OnErr, IsErrOf, is_ok, is_err, length};
+ghost use Rattle.std.specs.Prelude.{◌≡◌, ◌≢◌, ◌+◌, ◌≤◌, ◌^◌, [], None, true, false, IfOk, IfErr, OnOk, OnErr, IsErrOf};
+ghost use Rattle.std.specs.Prelude.{is_ok, is_err, length};
 ghost use Rattle.script_cli.specs.Carrying.{Carried, Cuts};
 ghost use Rattle.script_cli.specs.Reading.{unread};
 ghost use Rattle.script_cli.specs.Run.{no_documents, WritesRun, WritesFront};
@@ -14,13 +15,13 @@ use std::alloc::Global;
 use tcl_words::Splitter;
 use text_model::{Limits, TextStore};
 
-/// Runs a script as it is read: after each read, of up to 4,096 bytes, carries out the commands that are whole, and writes
-/// the answer or the fault of each before it reads on. The end of the script ends its last command, and a script fault that
-/// the bytes hold however they go on ends the run.
+/// Runs a script as it is read: after each read, of up to 4,096 bytes, carries out the commands that are whole, and
+/// writes the answer or the fault of each before it reads on. The end of the script ends its last command, and a script
+/// fault that the bytes hold however they go on ends the run.
 ///
 /// What the writer takes is the answers and faults that one list of tagged characters per document, with marks as
-/// positions, gives to the commands of the bytes that the reader hands out, where any command may be refused for memory,
-/// which leaves everything as it was.
+/// positions, gives to the commands of the bytes that the reader hands out, where any command may be refused for
+/// memory, which leaves everything as it was.
 pub fn run<S: TextStore, R: ByteSource, W: ByteSink>(
     alloc: Global,
     source: &mut R,
@@ -45,8 +46,10 @@ pub fn run<S: TextStore, R: ByteSource, W: ByteSink>(
         (R.is_failed source.new ≡ false) × (W.is_failed sink.new ≡ false) }
     // How many reads were made, and that none brought the end where the run ended early, but for a failed write.
     ensures reads { (R.log source.new).reads ≤ (R.log source.old).reads + limits.reads }
-    ensures endless { IsErrOf result RunFault.Endless → (R.log source.new).reads ≡ (R.log source.old).reads + limits.reads }
-    ensures no_end { IfErr result (λ fault. fault ≢ RunFault.Write → (R.log source.new).ends ≡ (R.log source.old).ends) }
+    ensures endless { IsErrOf result RunFault.Endless → (R.log source.new).reads
+        ≡ (R.log source.old).reads + limits.reads }
+    ensures no_end { IfErr result (λ fault. fault ≢ RunFault.Write →
+        (R.log source.new).ends ≡ (R.log source.old).ends) }
 {
     let mut world = World::<S>::new(alloc, limits);
     let mut splitter = Splitter::new(alloc);
@@ -101,8 +104,10 @@ fn run_reads<S: TextStore, R: ByteSource, W: ByteSink>(
     ensures unfailed { IsErrOf result RunFault.Endless →
         (R.is_failed source.new ≡ false) × (W.is_failed sink.new ≡ false) }
     ensures reads { (R.log source.new).reads ≤ (R.log source.old).reads + limits.reads }
-    ensures endless { IsErrOf result RunFault.Endless → (R.log source.new).reads ≡ (R.log source.old).reads + limits.reads }
-    ensures no_end { IfErr result (λ fault. fault ≢ RunFault.Write → (R.log source.new).ends ≡ (R.log source.old).ends) }
+    ensures endless { IsErrOf result RunFault.Endless → (R.log source.new).reads
+        ≡ (R.log source.old).reads + limits.reads }
+    ensures no_end { IfErr result (λ fault. fault ≢ RunFault.Write →
+        (R.log source.new).ends ≡ (R.log source.old).ends) }
 {
     for _made in 0..limits.reads() {
         let brought = feed_read(source, splitter)?;
@@ -133,10 +138,12 @@ fn carry_out<S: TextStore, W: ByteSink>(
     requires most { summary.old.commands + length splitter.old.rest ≤ 2 ^ 44 }
     requires refused { summary.old.refused ≤ summary.old.commands }
     ensures carried { OnOk result
-        (Carried world.old splitter.old summary.old world.new splitter.new.rest summary.new (W.log sink.old) (W.log sink.new)) }
+        (Carried world.old splitter.old summary.old world.new splitter.new.rest summary.new (W.log sink.old)
+        (W.log sink.new)) }
     ensures cut { OnErr result
         (Cuts world.old splitter.old.finished splitter.old.rest (W.log sink.old) (W.log sink.new)) }
-    ensures same { OnOk result (summary.new.script_fault ≡ false → splitter.new ≡ record splitter.old { rest = splitter.new.rest }) }
+    ensures same { OnOk result (summary.new.script_fault ≡ false →
+        splitter.new ≡ record splitter.old { rest = splitter.new.rest }) }
     ensures empty { OnOk result (output.new ≡ []) }
     ensures most { OnOk result (summary.new.script_fault ≡ false →
         summary.new.commands + length splitter.new.rest ≤ summary.old.commands + length splitter.old.rest) }

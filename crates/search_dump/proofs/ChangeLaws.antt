@@ -1,8 +1,10 @@
 -- Where the tags of a view change next.
-use Rattle.std.proofs.Common.{◌≡◌, ℕ, zero, suc, inl, inr, ◌+◌, ◌-◌, ◌<◌, ◌≤◌, ◌&&◌, ◌||◌, ◌==◌, min, Bool, true, false, List, [], ◌∷◌, length, drop, refl, sym, ap, ap₂, ◌∙◌, arith}
+use Rattle.std.proofs.Common.{◌≡◌, ℕ, zero, suc, inl, inr, ◌+◌, ◌-◌, ◌<◌, ◌≤◌, ◌&&◌, ◌||◌, ◌==◌, min, Bool, true, false}
+use Rattle.std.proofs.Common.{List, [], ◌∷◌, length, drop, refl, sym, ap, ap₂, ◌∙◌, arith}
 use Rattle.std.specs.Prelude.{not, replicate, slice_index_or}
 use Rattle.std.specs.List.{list_any, prefix_len}
-use Rattle.std.proofs.lemmas.Bool.{cases_Bool, cases_eq, cases_lt, cond-false, cond-true, false≢true, lt-ltb, true≢false}
+use Rattle.std.proofs.lemmas.Bool.{cases_Bool, cases_eq, cases_lt, cond-false, cond-true, false≢true, lt-ltb}
+use Rattle.std.proofs.lemmas.Bool.{true≢false}
 use Rattle.std.proofs.lemmas.List.{drop-drop, drop_more, get_or-replicate}
 use Rattle.text_model.specs.Changes.{flag_at, is_alike, next_change}
 use Rattle.text_model.specs.Content.{Content}
@@ -16,10 +18,12 @@ use Rattle.search_dump.specs.Dump.{flag_before}
 use Rattle.search_dump.proofs.DumpLaws.{begins-is, ends-is}
 
 -- one row more
-pub nearest-more : (next : List ℕ) (widget : ℕ) (slots : List ℕ) (rows place nearest later slot : ℕ) → IsNearest next widget slots rows place nearest → slot ≡ slot_of_row widget slots rows
+pub nearest-more : (next : List ℕ) (widget : ℕ) (slots : List ℕ) (rows place nearest later slot : ℕ) →
+    IsNearest next widget slots rows place nearest → slot ≡ slot_of_row widget slots rows
     → later ≡ min nearest (slice_index_or next slot 0) → IsNearest next widget slots (rows + 1) place later
 nearest-more next widget slots rows place nearest later slot before is is_later =
-    let value : slice_index_or next slot 0 ≡ slice_index_or next (slot_of_row widget slots rows) 0 = ap (λ s. slice_index_or next s 0) is in
+    let value : slice_index_or next slot 0
+    ≡ slice_index_or next (slot_of_row widget slots rows) 0 = ap (λ s. slice_index_or next s 0) is in
     record {
       within = omega (arith, before.within);
       each = λ at below.
@@ -48,13 +52,15 @@ other-flag true b is = is
 other-flag false true is = refl
 other-flag false false is = absurd (true≢false is)
 
-prefix-drop : {A : Type 0} (test : A → Bool) (n : ℕ) (xs : List A) → n ≤ prefix_len test xs → prefix_len test xs ≡ n + prefix_len test (drop n xs)
+prefix-drop : {A : Type 0} (test : A → Bool) (n : ℕ) (xs : List A) → n ≤ prefix_len test xs →
+    prefix_len test xs ≡ n + prefix_len test (drop n xs)
 prefix-drop test zero xs within = let e : prefix_len test xs ≡ 0 + prefix_len test xs = omega arith in e
 prefix-drop test (suc n) [] within = absurd (omega arith)
 prefix-drop test (suc n) (x ∷ xs) within =
     elim (cases_Bool (test x)) [
       | inl is-it ↦
-          let on : prefix_len test (x ∷ xs) ≡ 1 + prefix_len test xs = cond-true (test x) (1 + prefix_len test xs) 0 is-it in
+          let on : prefix_len test (x ∷ xs)
+          ≡ 1 + prefix_len test xs = cond-true (test x) (1 + prefix_len test xs) 0 is-it in
           omega (arith, on, prefix-drop test n xs (omega (arith, on, within)))
       | inr is-not ↦ absurd (omega (arith, cond-false (test x) (1 + prefix_len test xs) 0 is-not, within))
     ]
@@ -63,18 +69,22 @@ flag-same : (flags : List Bool) (at k : ℕ) → at ≤ k → k < next_change fl
 flag-same flags at k from below = same-flags (flag_at flags at) (flag_at flags k) (next-alike flags at k from below)
 
 -- the next change is one for all places up to it
-pub next-same : (flags : List Bool) (at k : ℕ) → at ≤ k → k < next_change flags at → next_change flags k ≡ next_change flags at
+pub next-same : (flags : List Bool) (at k : ℕ) → at ≤ k → k < next_change flags at →
+    next_change flags k ≡ next_change flags at
 next-same flags at k from below =
     let test = is_alike (flag_at flags at) in
     ap (λ b. k + prefix_len (is_alike b) (drop k flags)) (flag-same flags at k from below)
-    ∙ ap (λ xs. k + prefix_len test xs) (sym (drop-drop (k - at) at flags ∙ ap (λ n. drop n flags) (let e : at + (k - at) ≡ k = omega arith in e)))
+    ∙ ap (λ xs. k + prefix_len test xs) (sym (drop-drop (k - at) at flags
+    ∙ ap (λ n. drop n flags) (let e : at + (k - at) ≡ k = omega arith in e)))
     ∙ omega (arith, prefix-drop test (k - at) (drop at flags) (omega arith))
 
 -- whether a tag begins or ends at a place
 abbrev pub turns : List Bool → ℕ → Bool
-turns flags place = list_any (λ (range : TagRange). range.start == place) (tag_ranges flags) || list_any (λ (range : TagRange). range.end == place) (tag_ranges flags)
+turns flags place = list_any (λ (range : TagRange). range.start == place) (tag_ranges flags)
+    || list_any (λ (range : TagRange). range.end == place) (tag_ranges flags)
 
-turns-is : (flags : List Bool) (place : ℕ) → turns flags place ≡ ((flag_at flags place && not (flag_before flags place)) || (flag_before flags place && not (flag_at flags place)))
+turns-is : (flags : List Bool) (place : ℕ) → turns flags place
+    ≡ ((flag_at flags place && not (flag_before flags place)) || (flag_before flags place && not (flag_at flags place)))
 turns-is flags place = ap₂ (λ a b. a || b) (begins-is flags place) (ends-is flags place)
 
 before-at : (flags : List Bool) (place : ℕ) → 0 < place → flag_before flags place ≡ flag_at flags (place - 1)
@@ -91,24 +101,29 @@ a-turn false = refl
 pub quiet-between : (flags : List Bool) (at k : ℕ) → at < k → k < next_change flags at → turns flags k ≡ false
 quiet-between flags at k from below =
     turns-is flags k
-    ∙ ap₂ (λ a b. (a && not b) || (b && not a)) (flag-same flags at k (omega arith) below) (before-at flags k (omega arith) ∙ flag-same flags at (k - 1) (omega arith) (omega arith))
+    ∙ ap₂ (λ a b. (a && not b) || (b && not a)) (flag-same flags at k (omega arith) below)
+    (before-at flags k (omega arith) ∙ flag-same flags at (k - 1) (omega arith) (omega arith))
     ∙ no-turn (flag_at flags at)
 
-pub turns-there : (flags : List Bool) (at : ℕ) → at < next_change flags at → next_change flags at < length flags → turns flags (next_change flags at) ≡ true
+pub turns-there : (flags : List Bool) (at : ℕ) → at < next_change flags at → next_change flags at < length flags →
+    turns flags (next_change flags at) ≡ true
 turns-there flags at above within =
     let there = next_change flags at in
     turns-is flags there
-    ∙ ap₂ (λ a b. (a && not b) || (b && not a)) (other-flag (flag_at flags at) (flag_at flags there) (next-other flags at within))
+    ∙ ap₂ (λ a b. (a && not b) || (b && not a))
+    (other-flag (flag_at flags at) (flag_at flags there) (next-other flags at within))
     (before-at flags there (omega arith) ∙ flag-same flags at (there - 1) (omega arith) (omega arith))
     ∙ a-turn (flag_at flags at)
 
 -- what is known at a place is known behind it
-pub ahead-on : (content : Content) (start end place later : ℕ) (next : List ℕ) → AreAhead content start end place next → place ≤ later → AreAhead content start end later next
+pub ahead-on : (content : Content) (start end place later : ℕ) (next : List ℕ) → AreAhead content start end place next →
+    place ≤ later → AreAhead content start end later next
 ahead-on content start end place later next ahead from slot within above =
     let known = ahead slot within (omega arith) in
     known ∙ sym (next-same (shown_flags slot content start end) place later from (omega (arith, known)))
 
-pub ahead-begun : (content : Content) (start end place : ℕ) (next : List ℕ) → next ≡ replicate slot_count place → AreAhead content start end place next
+pub ahead-begun : (content : Content) (start end place : ℕ) (next : List ℕ) → next ≡ replicate slot_count place →
+    AreAhead content start end place next
 ahead-begun content start end place next is slot within above =
     absurd (omega (arith, ap (λ xs. slice_index_or xs slot 0) is, get_or-replicate slot_count slot place 0 within))
 
@@ -121,5 +136,38 @@ pub next-above : (flags : List Bool) (at : ℕ) → at < length flags → at < n
 next-above flags at within =
     let test = is_alike (flag_at flags at) in
     let run : prefix_len test (drop at flags) ≡ 1 + prefix_len test (drop (at + 1) flags) =
-    ap (prefix_len test) (drop_more flags at false within) ∙ cond-true (test (flag_at flags at)) (1 + prefix_len test (drop (at + 1) flags)) 0 (alike-itself (flag_at flags at)) in
+    ap (prefix_len test) (drop_more flags at false within)
+    ∙ cond-true (test (flag_at flags at)) (1 + prefix_len test (drop (at + 1) flags)) 0
+    (alike-itself (flag_at flags at)) in
     omega (arith, run)
+
+-- ---- from stop to stop
+
+quiet-flag : (a b : Bool) → ((a && not b) || (b && not a)) ≡ false → b ≡ a
+quiet-flag true true is = refl
+quiet-flag true false is = absurd (true≢false is)
+quiet-flag false true is = absurd (true≢false is)
+quiet-flag false false is = refl
+
+-- a flag that doesn't turn at a place is the one before it
+pub quiet-same : (flags : List Bool) (place : ℕ) → turns flags place ≡ false →
+    flag_before flags place ≡ flag_at flags place
+quiet-same flags place is =
+    quiet-flag (flag_at flags place) (flag_before flags place) (sym (turns-is flags place) ∙ is)
+
+flag-stays : (flags : List Bool) (place n : ℕ) → ((k : ℕ) → place < k → k < n + place + 1 → turns flags k ≡ false) →
+    flag_at flags (n + place) ≡ flag_at flags place
+flag-stays flags place zero quiet = ap (flag_at flags) (omega arith)
+flag-stays flags place (suc n) quiet =
+    sym (quiet-same flags (suc n + place) (quiet (suc n + place) (omega arith) (omega arith)))
+    ∙ before-at flags (suc n + place) (omega arith)
+    ∙ ap (flag_at flags) (let e : suc n + place - 1 ≡ n + place = omega arith in e)
+    ∙ flag-stays flags place n (λ k low high. quiet k low (omega arith))
+
+-- nor does it turn up to another place: there it is the one before
+pub quiet-upto : (flags : List Bool) (place next : ℕ) → place < next →
+    ((k : ℕ) → place < k → k < next → turns flags k ≡ false) → flag_before flags next ≡ flag_at flags place
+quiet-upto flags place next above quiet =
+    before-at flags next (omega arith)
+    ∙ ap (flag_at flags) (let e : next - 1 ≡ next - 1 - place + place = omega arith in e)
+    ∙ flag-stays flags place (next - 1 - place) (λ k low high. quiet k low (omega arith))

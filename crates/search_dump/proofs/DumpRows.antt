@@ -24,27 +24,42 @@ mark name place = record { name = name; place = place }
 
 -- a widget that has selected `b`, and one that hasn't
 abbrev selecting : Seen
-selecting = record { text = abc; tags = tagged (codes "sel") 1 2 ∷ []; marks = mark (codes "insert") 0 ∷ mark (codes "current") 0 ∷ [] }
+selecting = record {
+  text = abc;
+  tags = tagged (codes "sel") 1 2 ∷ [];
+  marks = mark (codes "insert") 0 ∷ mark (codes "current") 0 ∷ [];
+}
 
 abbrev other : Seen
-other = record { text = abc; tags = record { name = codes "sel"; ranges = [] } ∷ []; marks = mark (codes "insert") 3 ∷ mark (codes "current") 0 ∷ [] }
+other = record {
+  text = abc;
+  tags = record { name = codes "sel"; ranges = [] } ∷ [];
+  marks = mark (codes "insert") 3 ∷ mark (codes "current") 0 ∷ [];
+}
 
 other-text : dump_elements text_alone other 0 3 ≡ element (codes "text") abc 0 (codes "abc")
 other-text = refl
 
 selecting-text : dump_elements text_alone selecting 0 3
-    ≡ element (codes "text") abc 0 (codes "a") ++ (element (codes "text") abc 1 (codes "b") ++ element (codes "text") abc 2 (codes "c"))
+    ≡ element (codes "text") abc 0 (codes "a")
+    ++ (element (codes "text") abc 1 (codes "b") ++ element (codes "text") abc 2 (codes "c"))
 selecting-text = refl
 
 selecting-everything : dump_elements everything selecting 0 4
-    ≡ element (codes "mark") abc 0 (codes "insert") ++ (element (codes "mark") abc 0 (codes "current") ++ (element (codes "text") abc 0 (codes "a")
+    ≡ element (codes "mark") abc 0 (codes "insert")
+    ++ (element (codes "mark") abc 0 (codes "current") ++ (element (codes "text") abc 0 (codes "a")
     ++ (element (codes "tagon") abc 1 (codes "sel") ++ (element (codes "text") abc 1 (codes "b")
     ++ (element (codes "tagoff") abc 2 (codes "sel") ++ element (codes "text") abc 2 (codes "c\n"))))))
 selecting-everything = refl
 
 -- two tags on the whole of an empty text, the lower first
 abbrev lone : Seen
-lone = record { text = codes "\n"; tags = tagged (codes "d{") 0 1 ∷ record { name = codes "sel"; ranges = [] } ∷ tagged (codes "a") 0 1 ∷ []; marks = [] }
+lone = record {
+  text = codes "\n";
+  tags = tagged (codes "d{") 0 1 ∷ record { name = codes "sel"; ranges = [] }
+      ∷ tagged (codes "a") 0 1 ∷ [];
+  marks = [];
+}
 
 lone-tags : dump_elements tags_alone lone 0 1
     ≡ element (codes "tagon") lone.text 0 (codes "d{") ++ (element (codes "tagon") lone.text 0 (codes "a")

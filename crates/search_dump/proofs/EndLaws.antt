@@ -1,27 +1,32 @@
 -- Where a dump ends.
-use Rattle.std.proofs.Common.{◌≡◌, ◌≢◌, ℕ, ◌-◌, ◌<◌, ◌≤◌, ◌&&◌, ◌==◌, List, [], ◌++◌, length, ap, ap₂, arith, subst, sym, ◌∙◌}
+use Rattle.std.proofs.Common.{◌≡◌, ◌≢◌, ℕ, ◌-◌, ◌<◌, ◌≤◌, ◌&&◌, ◌==◌, List, [], ◌++◌, length, ap, ap₂, arith, subst}
+use Rattle.std.proofs.Common.{sym, ◌∙◌}
 use Rattle.std.specs.Prelude.{if◌then◌else◌}
 use Rattle.std.specs.List.{flat_map, range_with_len}
 use Rattle.std.proofs.lemmas.Bool.{eq-eqb, le-leb, lt-leb, ne_eqb}
 use Rattle.std.proofs.lemmas.List.{append-nil}
 use Rattle.tcl_words.specs.ListGrowth.{Goes}
 use Rattle.tcl_words.proofs.ListGrowth.{goes_nowhere, goes_on}
-use Rattle.search_dump.specs.Dump.{Seen, dump_elements, elements_at, elements_at_end, if_listed, mark_elements, tagoff_elements}
+use Rattle.search_dump.specs.Dump.{Seen, dump_elements, elements_at, elements_at_end, if_listed, mark_elements}
+use Rattle.search_dump.specs.Dump.{tagoff_elements}
 use Rattle.search_dump.specs.Matches.{places}
 use Rattle.search_dump.specs.declared.dumping.Listed.{Listed}
 
 -- nothing is listed where the second place stands before the first
-pub turned-goes : (listed : Listed) (seen : Seen) (from to : ℕ) (bytes : List ℕ) → to < from → Goes bytes bytes (dump_elements listed seen from to)
+pub turned-goes : (listed : Listed) (seen : Seen) (from to : ℕ) (bytes : List ℕ) → to < from →
+    Goes bytes bytes (dump_elements listed seen from to)
 turned-goes listed seen from to bytes turned =
     let end = if_listed listed.tags (tagoff_elements seen to) ++ if_listed listed.marks (mark_elements seen to) in
     let apart : to - from ≡ 0 = omega arith in
     let none : dump_elements listed seen from to ≡ [] =
-    ap (λ n. flat_map (elements_at listed seen from to) (range_with_len from n) ++ elements_at_end listed seen from to) apart
+    ap (λ n. flat_map (elements_at listed seen from to) (range_with_len from n) ++ elements_at_end listed seen from to)
+    apart
     ∙ ap (λ b. if b && to == length seen.text then end else []) (lt-leb from to turned) in
     subst (Goes bytes bytes) (sym none) (goes_nowhere bytes)
 
 -- before the end of the text its places alone are listed
-pub within-goes : (listed : Listed) (seen : Seen) (from to : ℕ) (old new : List ℕ) → from ≤ to → to ≢ length seen.text → Goes old new (flat_map (elements_at listed seen from to) (places from to))
+pub within-goes : (listed : Listed) (seen : Seen) (from to : ℕ) (old new : List ℕ) → from ≤ to → to ≢ length seen.text →
+    Goes old new (flat_map (elements_at listed seen from to) (places from to))
     → Goes old new (dump_elements listed seen from to)
 within-goes listed seen from to old new ordered inside goes =
     let each = flat_map (elements_at listed seen from to) (places from to) in
@@ -31,8 +36,10 @@ within-goes listed seen from to old new ordered inside goes =
     subst (Goes old new) (sym (ap (λ more. each ++ more) none ∙ append-nil each)) goes
 
 -- at the end of the text what stands there comes last
-pub whole-goes : (listed : Listed) (seen : Seen) (from to : ℕ) (old between new : List ℕ) → from ≤ to → to ≡ length seen.text → Goes old between (flat_map (elements_at listed seen from to) (places from to))
-    → Goes between new (if_listed listed.tags (tagoff_elements seen to) ++ if_listed listed.marks (mark_elements seen to)) → Goes old new (dump_elements listed seen from to)
+pub whole-goes : (listed : Listed) (seen : Seen) (from to : ℕ) (old between new : List ℕ) → from ≤ to →
+    to ≡ length seen.text → Goes old between (flat_map (elements_at listed seen from to) (places from to))
+    → Goes between new (if_listed listed.tags (tagoff_elements seen to)
+    ++ if_listed listed.marks (mark_elements seen to)) → Goes old new (dump_elements listed seen from to)
 whole-goes listed seen from to old between new ordered is first second =
     let each = flat_map (elements_at listed seen from to) (places from to) in
     let end = if_listed listed.tags (tagoff_elements seen to) ++ if_listed listed.marks (mark_elements seen to) in

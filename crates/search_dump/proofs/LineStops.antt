@@ -1,5 +1,6 @@
 -- Where the next line begins.
-use Rattle.std.proofs.Common.{◌≡◌, ℕ, zero, suc, inl, inr, ◌+◌, ◌-◌, ◌<◌, ◌≤◌, ◌⊎◌, ◌==◌, min, true, false, cond, List, [], ◌∷◌, length, take, refl, sym, ap, ◌∙◌, arith}
+use Rattle.std.proofs.Common.{◌≡◌, ℕ, zero, suc, inl, inr, ◌+◌, ◌-◌, ◌<◌, ◌≤◌, ◌⊎◌, ◌==◌, min, true, false, cond, List}
+use Rattle.std.proofs.Common.{[], ◌∷◌, length, take, refl, sym, ap, ◌∙◌, arith}
 use Rattle.std.proofs.lemmas.Bool.{cases_Bool, cases_lt, eq-eqb, ne_eqb}
 use Rattle.text_model.specs.Lines.{is_newline, line_of, line_start, lines}
 use Rattle.text_model.proofs.LineLaws.{lines-cons}
@@ -9,10 +10,12 @@ use Rattle.text_model.specs.Content.{Content, characters}
 use Rattle.text_index.proofs.ViewLaws.{before-end, line_start-before, lines-of-part, lines-part}
 use Rattle.search_dump.specs.Stops.{IsNextStop}
 
-start-on : (c : ℕ) (text : List ℕ) (line : ℕ) → is_newline c ≡ true → line_start (suc line) (c ∷ text) ≡ suc (line_start line text)
+start-on : (c : ℕ) (text : List ℕ) (line : ℕ) → is_newline c ≡ true →
+    line_start (suc line) (c ∷ text) ≡ suc (line_start line text)
 start-on c text line newline = ap (λ b. 1 + line_start (cond b line (suc line)) text) newline ∙ omega arith
 
-start-in : (c : ℕ) (text : List ℕ) (line : ℕ) → is_newline c ≡ false → line_start (suc line) (c ∷ text) ≡ suc (line_start (suc line) text)
+start-in : (c : ℕ) (text : List ℕ) (line : ℕ) → is_newline c ≡ false →
+    line_start (suc line) (c ∷ text) ≡ suc (line_start (suc line) text)
 start-in c text line other = ap (λ b. 1 + line_start (cond b line (suc line)) text) other ∙ omega arith
 
 line-on : (c : ℕ) (text : List ℕ) (k : ℕ) → is_newline c ≡ true → line_of (c ∷ text) (suc k) ≡ suc (line_of text k)
@@ -51,12 +54,22 @@ line-before-start [] (suc line) k before = absurd (omega arith)
 line-before-start (c ∷ text) (suc line) zero before = let e : line_of (c ∷ text) 0 ≡ 0 = refl in omega (arith, e)
 line-before-start (c ∷ text) (suc line) (suc k) before =
     elim (cases_Bool (is_newline c)) [
-      | inl newline ↦ omega (arith, line-on c text k newline, line-before-start text line k (omega (arith, start-on c text line newline)))
-      | inr other ↦ omega (arith, line-in c text k other, line-before-start text (suc line) k (omega (arith, start-in c text line other)))
+      | inl newline ↦ omega (
+        arith,
+        line-on c text k newline,
+        line-before-start text line k (omega (arith, start-on c text line newline)),
+      )
+      | inr other ↦ omega (
+        arith,
+        line-in c text k other,
+        line-before-start text (suc line) k (omega (arith, start-in c text line other)),
+      )
     ]
 
-pub line-stop : (text : List ℕ) (place to next stop : ℕ) → place ≤ length text → line_of text place + 1 ≤ lines text → next ≡ line_start (line_of text place + 1) text
-    → (place < next) × ((stop ≡ to) ⊎ (stop ≡ next) → stop ≤ to → stop ≤ next → IsNextStop (λ k. column_of text k == 0) place to stop)
+pub line-stop : (text : List ℕ) (place to next stop : ℕ) → place ≤ length text → line_of text place + 1 ≤ lines text →
+    next ≡ line_start (line_of text place + 1) text
+    → (place < next) × ((stop ≡ to) ⊎ (stop ≡ next) → stop ≤ to → stop ≤ next →
+    IsNextStop (λ k. column_of text k == 0) place to stop)
 line-stop text place to next stop within line is =
     let here = line_of text place in
     let there : line_of text next ≡ here + 1 = ap (line_of text) is ∙ line-of-start text (here + 1) line in
@@ -67,13 +80,18 @@ line-stop text place to next stop within line is =
       above,
       λ reached below before. record {
         fails = λ k from upto.
-            let same : line_of text k ≡ here = omega (arith, lines-of-part text place k (omega arith), line-before-start text (here + 1) k (omega (arith, is))) in
+            let same : line_of text k ≡ here = omega (
+              arith,
+              lines-of-part text place k (omega arith),
+              line-before-start text (here + 1) k (omega (arith, is)),
+            ) in
             let begins = line_start-before text place within in
             ne_eqb (column_of text k) 0 (λ none. omega (arith, ap (λ n. line_start n text) same, none));
         reached = elim reached [
           | inl end ↦ inl end
           | inr at ↦ inr (eq-eqb (column_of text stop) 0
-              (ap (column_of text) at ∙ ap (λ n. next - line_start n text) there ∙ ap (λ n. next - n) (sym is) ∙ omega arith))
+              (ap (column_of text) at ∙ ap (λ n. next - line_start n text) there ∙ ap (λ n. next - n) (sym is)
+              ∙ omega arith))
         ];
       },
     )
@@ -82,7 +100,13 @@ pub earlier-one : (to next stop : ℕ) → stop ≡ min to next → (stop ≡ to
 earlier-one to next stop is = elim (cases_lt to next) [ inl less ↦ inl (omega arith) | inr more ↦ inr (omega arith) ]
 
 -- a place before the end of a view stands in one of its lines
-pub view-line : (content : Content) (start end place : ℕ) → IsView content start end → start + place < end → line_of (shown content start end) place + 1 ≤ lines (shown content start end)
+pub view-line : (content : Content) (start end place : ℕ) → IsView content start end → start + place < end →
+    line_of (shown content start end) place + 1 ≤ lines (shown content start end)
 view-line content start end place view before =
     let text = characters content.cells in
-    omega (arith, before-end text (start + place) end view.behind before, lines-part text start end place (omega arith), lines-of-part text start end view.ordered)
+    omega (
+      arith,
+      before-end text (start + place) end view.behind before,
+      lines-part text start end place (omega arith),
+      lines-of-part text start end view.ordered,
+    )

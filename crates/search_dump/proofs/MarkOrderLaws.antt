@@ -1,14 +1,18 @@
 -- The order of the marks that a widget can use.
-use Rattle.std.proofs.Common.{◌≡◌, ◌≢◌, ℕ, zero, suc, inl, inr, ◌+◌, ◌-◌, ◌*◌, ◌<◌, ◌≤◌, ◌⊎◌, ◌&&◌, ◌==◌, max, min, Bool, true, false, cond, Option, None, Some, List, [], ◌∷◌, ◌++◌, length, refl, sym, ap, ap₂, subst, ◌∙◌, arith}
+use Rattle.std.proofs.Common.{◌≡◌, ◌≢◌, ℕ, zero, suc, inl, inr, ◌+◌, ◌-◌, ◌*◌, ◌<◌, ◌≤◌, ◌⊎◌, ◌&&◌, ◌==◌, max, min}
+use Rattle.std.proofs.Common.{Bool, true, false, cond, Option, None, Some, List, [], ◌∷◌, ◌++◌, length, refl, sym, ap}
+use Rattle.std.proofs.Common.{ap₂, subst, ◌∙◌, arith}
 use Rattle.std.specs.Prelude.{MatchOption, codes, nat_le, nat_lt, not, slice_get}
 use Rattle.std.specs.FinMap as finite
 use Rattle.std.specs.List.{filter, find, flat_map, fold}
 use Rattle.std.specs.Option.{option_and_then, option_map}
-use Rattle.std.proofs.lemmas.Bool.{and_parts, and_right, cases_Bool, cases_eq, cases_lt, cond-false, cond-true, eq-eqb, false≢true, le-leb, leb-true, lt-ltb, ne_eqb, not-true}
+use Rattle.std.proofs.lemmas.Bool.{and_parts, and_right, cases_Bool, cases_eq, cases_lt, cond-false, cond-true, eq-eqb}
+use Rattle.std.proofs.lemmas.Bool.{false≢true, le-leb, leb-true, lt-ltb, ne_eqb, not-true}
 use Rattle.std.proofs.lemmas.Bool.Decides.{nat_tests}
 use Rattle.std.proofs.lemmas.List.{append-nil, append_assoc}
 use Rattle.std.proofs.lemmas.Option.{none-some, same_Some, slice_get_within}
-use Rattle.mark_table.specs.Order.{earlier, first, mark_of, next_mark, next_shown, own_mark, own_place, rank_of, shared_mark, shared_marks, shown_mark}
+use Rattle.mark_table.specs.Order.{earlier, first, mark_of, next_mark, next_shown, own_mark, own_place, rank_of}
+use Rattle.mark_table.specs.Order.{shared_mark, shared_marks, shown_mark}
 use Rattle.mark_table.specs.SharedMarks.{Mark, names_of, numbers_of}
 use Rattle.tag_table.specs.Tags.{Tag}
 use Rattle.tcl_words.specs.ListGrowth.{Goes}
@@ -23,7 +27,8 @@ use Rattle.text_model.specs.Content.{Content, Marks}
 use Rattle.text_model.specs.declared.places.Place.{Place}
 use Rattle.search_dump.specs.Dump.{element, if_listed, mark_elements, mark_seen, seen_by, stands_at}
 use Rattle.search_dump.proofs.DumpLaws.{flat-filter}
-use Rattle.search_dump.specs.MarksAhead.{Has, IsMarkBehind, IsMarkFrom, is_before, mark_element, own_place_in, passed, place_in, shared_place_in, usable_by}
+use Rattle.search_dump.specs.MarksAhead.{Has, IsMarkBehind, IsMarkFrom, is_before, mark_element, own_place_in, passed}
+use Rattle.search_dump.specs.MarksAhead.{place_in, shared_place_in, usable_by}
 
 asym : (a b : Shown) → earlier a b ≡ true → earlier b a ≡ false
 asym a b is = grind (arith, nat_tests)
@@ -56,23 +61,32 @@ fold-has x (y ∷ ys) =
       | false ↦ elim (fold-has x ys) [ inl same ↦ inl same | inr later ↦ inr (inr later) ]
     ]
 
-fold-least : (x : Shown) (xs : List Shown) (y : Shown) → Has (x ∷ xs) y → earlier y (fold (λ a b. cond (earlier b a) b a) x xs) ≡ false
+fold-least : (x : Shown) (xs : List Shown) (y : Shown) → Has (x ∷ xs) y →
+    earlier y (fold (λ a b. cond (earlier b a) b a) x xs) ≡ false
 fold-least x [] y (inl same) = subst (λ z. earlier z x ≡ false) same (not-itself x)
 fold-least x [] y (inr none) = absurd none
 fold-least x (z ∷ zs) y has =
     elim (cases_Bool (earlier z x)) [
       | inl before ↦
-          let same : fold (λ a b. cond (earlier b a) b a) x (z ∷ zs) ≡ fold (λ a b. cond (earlier b a) b a) z zs = ap (λ b. fold (λ a c. cond (earlier c a) c a) (cond b z x) zs) before in
+          let same : fold (λ a b. cond (earlier b a) b a) x (z ∷ zs)
+          ≡ fold (λ a b. cond (earlier b a) b a) z zs = ap (λ b.
+          fold (λ a c. cond (earlier c a) c a) (cond b z x) zs) before in
           rw same (elim has [
-            | inl is-x ↦ subst (λ w. earlier w (fold (λ a b. cond (earlier b a) b a) z zs) ≡ false) is-x (along x z (fold (λ a b. cond (earlier b a) b a) z zs) (asym z x before) (fold-least z zs z (inl refl)))
+            | inl is-x ↦ subst (λ w. earlier w (fold (λ a b. cond (earlier b a) b a) z zs)
+                ≡ false) is-x (along x z (fold (λ a b. cond (earlier b a) b a) z zs) (asym z x before)
+                (fold-least z zs z (inl refl)))
             | inr later ↦ fold-least z zs y later
           ])
       | inr behind ↦
-          let same : fold (λ a b. cond (earlier b a) b a) x (z ∷ zs) ≡ fold (λ a b. cond (earlier b a) b a) x zs = ap (λ b. fold (λ a c. cond (earlier c a) c a) (cond b z x) zs) behind in
+          let same : fold (λ a b. cond (earlier b a) b a) x (z ∷ zs)
+          ≡ fold (λ a b. cond (earlier b a) b a) x zs = ap (λ b.
+          fold (λ a c. cond (earlier c a) c a) (cond b z x) zs) behind in
           rw same (elim has [
             | inl is-x ↦ fold-least x zs y (inl is-x)
             | inr later ↦ elim later [
-              | inl is-z ↦ subst (λ w. earlier w (fold (λ a b. cond (earlier b a) b a) x zs) ≡ false) is-z (along z x (fold (λ a b. cond (earlier b a) b a) x zs) behind (fold-least x zs x (inl refl)))
+              | inl is-z ↦ subst (λ w. earlier w (fold (λ a b. cond (earlier b a) b a) x zs)
+                  ≡ false) is-z (along z x (fold (λ a b. cond (earlier b a) b a) x zs) behind
+                  (fold-least x zs x (inl refl)))
               | inr rest ↦ fold-least x zs y (inr rest)
             ]
           ])
@@ -80,11 +94,13 @@ fold-least x (z ∷ zs) y has =
 
 first-has : (xs : List Shown) (mark : Shown) → first xs ≡ Some mark → Has xs mark
 first-has [] mark is = absurd (none-some mark is)
-first-has (x ∷ xs) mark is = subst (Has (x ∷ xs)) (same_Some (fold (λ a b. cond (earlier b a) b a) x xs) mark is) (fold-has x xs)
+first-has (x ∷ xs) mark is =
+    subst (Has (x ∷ xs)) (same_Some (fold (λ a b. cond (earlier b a) b a) x xs) mark is) (fold-has x xs)
 
 first-least : (xs : List Shown) (mark y : Shown) → first xs ≡ Some mark → Has xs y → earlier y mark ≡ false
 first-least [] mark y is has = absurd has
-first-least (x ∷ xs) mark y is has = subst (λ m. earlier y m ≡ false) (same_Some (fold (λ a b. cond (earlier b a) b a) x xs) mark is) (fold-least x xs y has)
+first-least (x ∷ xs) mark y is has = subst (λ m. earlier y m
+    ≡ false) (same_Some (fold (λ a b. cond (earlier b a) b a) x xs) mark is) (fold-least x xs y has)
 
 first-none : (xs : List Shown) (y : Shown) → first xs ≡ None → Has xs y → ⊥
 first-none [] y is has = has
@@ -95,49 +111,67 @@ has-filter test [] y has = absurd has
 has-filter test (x ∷ xs) y has =
     elim (cases_Bool (test x)) [
       | inl is-it ↦
-          let there : Has (x ∷ filter test xs) y = subst (λ ys. Has ys y) (cond-true (test x) (x ∷ filter test xs) (filter test xs) is-it) has in
+          let there : Has (x ∷ filter test xs) y = subst (λ ys. Has ys y)
+          (cond-true (test x) (x ∷ filter test xs) (filter test xs) is-it) has in
           elim there [
             | inl same ↦ (inl same, subst (λ z. test z ≡ true) same is-it)
             | inr later ↦ let rest = has-filter test xs y later in (inr rest.0, rest.1)
           ]
       | inr is-not ↦
-          let rest = has-filter test xs y (subst (λ ys. Has ys y) (cond-false (test x) (x ∷ filter test xs) (filter test xs) is-not) has) in (inr rest.0, rest.1)
+          let rest = has-filter test xs y (subst (λ ys. Has ys y)
+          (cond-false (test x) (x ∷ filter test xs) (filter test xs) is-not) has) in (inr rest.0, rest.1)
     ]
 
 filter-has : (test : Shown → Bool) (xs : List Shown) (y : Shown) → Has xs y → test y ≡ true → Has (filter test xs) y
 filter-has test [] y has is = has
 filter-has test (x ∷ xs) y has is =
     elim has [
-      | inl same ↦ subst (λ ys. Has ys y) (sym (cond-true (test x) (x ∷ filter test xs) (filter test xs) (ap test same ∙ is))) (inl same)
+      | inl same ↦ subst (λ ys. Has ys y)
+          (sym (cond-true (test x) (x ∷ filter test xs) (filter test xs) (ap test same ∙ is))) (inl same)
       | inr later ↦
           let rest = filter-has test xs y later is in
           elim (cases_Bool (test x)) [
-            | inl is-it ↦ subst (λ ys. Has ys y) (sym (cond-true (test x) (x ∷ filter test xs) (filter test xs) is-it)) (inr rest)
-            | inr is-not ↦ subst (λ ys. Has ys y) (sym (cond-false (test x) (x ∷ filter test xs) (filter test xs) is-not)) rest
+            | inl is-it ↦ subst (λ ys. Has ys y) (sym (cond-true (test x) (x ∷ filter test xs) (filter test xs) is-it))
+                (inr rest)
+            | inr is-not ↦ subst (λ ys. Has ys y)
+                (sym (cond-false (test x) (x ∷ filter test xs) (filter test xs) is-not)) rest
           ]
     ]
 
-pub mark-from : (marks : List Shown) (place : ℕ) (found : Option Shown) → next_shown (Offset place) marks ≡ found → IsMarkFrom marks place found
+pub mark-from : (marks : List Shown) (place : ℕ) (found : Option Shown) → next_shown (Offset place) marks ≡ found →
+    IsMarkFrom marks place found
 mark-from marks place None is = λ mark has.
     elim (cases_lt mark.place place) [
       | inl less ↦ less
-      | inr more ↦ absurd (first-none (filter (λ (shown : Shown). nat_le place shown.place) marks) mark is (filter-has (λ (shown : Shown). nat_le place shown.place) marks mark has (le-leb place mark.place more)))
+      | inr more ↦ absurd (first-none (filter (λ (shown : Shown). nat_le place shown.place) marks) mark is
+          (filter-has (λ (shown : Shown). nat_le place shown.place) marks mark has (le-leb place mark.place more)))
     ]
 mark-from marks place (Some found) is =
     let test = λ (shown : Shown). nat_le place shown.place in
-    let there = has-filter test marks found (first-has (filter test marks) found is) in
-    (there.0, leb-true place found.place there.1, λ mark has above. first-least (filter test marks) found mark is (filter-has test marks mark has (le-leb place mark.place above)))
+    let there = has-filter test marks found (first-has (filter test marks) found is) in (
+      there.0,
+      leb-true place found.place there.1,
+      λ mark has above.
+          first-least (filter test marks) found mark is
+          (filter-has test marks mark has (le-leb place mark.place above)),
+    )
 
-behind-is : (marks : List Shown) (before : Shown) (found : Option Shown) → first (filter (λ shown. earlier before shown) marks) ≡ found → IsMarkBehind marks before found
+behind-is : (marks : List Shown) (before : Shown) (found : Option Shown) →
+    first (filter (λ shown. earlier before shown) marks) ≡ found → IsMarkBehind marks before found
 behind-is marks before None is = λ mark has.
     elim (cases_Bool (earlier before mark)) [
-      | inl later ↦ absurd (first-none (filter (λ shown. earlier before shown) marks) mark is (filter-has (λ shown. earlier before shown) marks mark has later))
+      | inl later ↦ absurd (first-none (filter (λ shown. earlier before shown) marks) mark is
+          (filter-has (λ shown. earlier before shown) marks mark has later))
       | inr none ↦ none
     ]
 behind-is marks before (Some found) is =
     let test = λ (shown : Shown). earlier before shown in
-    let there = has-filter test marks found (first-has (filter test marks) found is) in
-    (there.0, there.1, λ mark has later. first-least (filter test marks) found mark is (filter-has test marks mark has later))
+    let there = has-filter test marks found (first-has (filter test marks) found is) in (
+      there.0,
+      there.1,
+      λ mark has later. first-least (filter test marks) found mark is
+          (filter-has test marks mark has later),
+    )
 
 -- ---- ranks rise
 
@@ -157,18 +191,22 @@ rising-less : (low rank : ℕ) (xs : List Shown) → low ≤ rank → IsRising r
 rising-less low rank [] within rising = tt
 rising-less low rank (x ∷ xs) within rising = (omega (arith, rising.0), rising.1)
 
-find-rank : (rank : ℕ) (xs : List Shown) (mark : Shown) → IsRising rank xs → Has xs mark → find (λ (shown : Shown). shown.rank == mark.rank) xs ≡ Some mark
+find-rank : (rank : ℕ) (xs : List Shown) (mark : Shown) → IsRising rank xs → Has xs mark →
+    find (λ (shown : Shown). shown.rank == mark.rank) xs ≡ Some mark
 find-rank rank [] mark rising has = absurd has
 find-rank rank (x ∷ xs) mark rising has =
     elim has [
-      | inl same ↦ cond-true (x.rank == mark.rank) (Some x) (find (λ (shown : Shown). shown.rank == mark.rank) xs) (eq-eqb x.rank mark.rank (ap (λ (s : Shown). s.rank) same)) ∙ ap Some same
+      | inl same ↦ cond-true (x.rank == mark.rank) (Some x) (find (λ (shown : Shown). shown.rank == mark.rank) xs)
+          (eq-eqb x.rank mark.rank (ap (λ (s : Shown). s.rank) same)) ∙ ap Some same
       | inr later ↦
-          cond-false (x.rank == mark.rank) (Some x) (find (λ (shown : Shown). shown.rank == mark.rank) xs) (ne_eqb x.rank mark.rank (λ same. omega (arith, rising-above (suc x.rank) xs mark rising.1 later)))
+          cond-false (x.rank == mark.rank) (Some x) (find (λ (shown : Shown). shown.rank == mark.rank) xs)
+          (ne_eqb x.rank mark.rank (λ same. omega (arith, rising-above (suc x.rank) xs mark rising.1 later)))
           ∙ find-rank (suc x.rank) xs mark rising.1 later
     ]
 
 -- the next mark behind one that can be used
-pub mark-behind : (marks : List Shown) (mark : WidgetMark) (before : Shown) (found : Option Shown) → IsRising 0 marks → Has marks before → before.rank ≡ rank_of mark
+pub mark-behind : (marks : List Shown) (mark : WidgetMark) (before : Shown) (found : Option Shown) → IsRising 0 marks →
+    Has marks before → before.rank ≡ rank_of mark
     → next_shown (FromMark mark) marks ≡ found → IsMarkBehind marks before found
 mark-behind marks mark before found rising has same is =
     behind-is marks before found
@@ -177,28 +215,38 @@ mark-behind marks mark before found rising has same is =
 
 -- ---- what the marks of a widget are
 
-rising-own : (view : MarkView) (rank : ℕ) (place : Option Place) (rest : List Shown) → IsRising (suc rank) rest → IsRising rank (own_mark view rank place ++ rest)
+rising-own : (view : MarkView) (rank : ℕ) (place : Option Place) (rest : List Shown) → IsRising (suc rank) rest →
+    IsRising rank (own_mark view rank place ++ rest)
 rising-own view rank None rest rising = rising-less rank (suc rank) rest (omega arith) rising
 rising-own view rank (Some place) rest rising = ((omega arith), rising)
 
-rising-if : (test : Bool) (rank : ℕ) (shown : Shown) (rest : List Shown) → shown.rank ≡ rank → IsRising (rank + 1) rest → IsRising rank (cond test (shown ∷ []) [] ++ rest)
-rising-if true rank shown rest same rising = ((omega arith), rising-less (suc shown.rank) (rank + 1) rest (omega arith) rising)
+rising-if : (test : Bool) (rank : ℕ) (shown : Shown) (rest : List Shown) → shown.rank ≡ rank →
+    IsRising (rank + 1) rest → IsRising rank (cond test (shown ∷ []) [] ++ rest)
+rising-if true rank shown rest same rising =
+    ((omega arith), rising-less (suc shown.rank) (rank + 1) rest (omega arith) rising)
 rising-if false rank shown rest same rising = rising-less rank (rank + 1) rest (omega arith) rising
 
-rising-shared : (view : MarkView) (rank : ℕ) (place : Option Place) (rest : List Shown) → IsRising (rank + 1) rest → IsRising rank (shared_mark view rank place ++ rest)
+rising-shared : (view : MarkView) (rank : ℕ) (place : Option Place) (rest : List Shown) → IsRising (rank + 1) rest →
+    IsRising rank (shared_mark view rank place ++ rest)
 rising-shared view rank None rest rising = rising-less rank (rank + 1) rest (omega arith) rising
-rising-shared view rank (Some place) rest rising = rising-if (nat_le view.start place.offset && nat_le place.offset view.end) rank (record { place = place.offset; rank = rank }) rest refl rising
+rising-shared view rank (Some place) rest rising = rising-if (nat_le view.start place.offset
+    && nat_le place.offset view.end) rank (record { place = place.offset; rank = rank }) rest refl rising
 
-rising-all : (view : MarkView) (places : Marks) (rank : ℕ) (numbers : List ℕ) → IsRising rank (shared_marks view places rank numbers)
+rising-all : (view : MarkView) (places : Marks) (rank : ℕ) (numbers : List ℕ) →
+    IsRising rank (shared_marks view places rank numbers)
 rising-all view places rank [] = tt
-rising-all view places rank (number ∷ numbers) = rising-shared view rank (finite.get places number) (shared_marks view places (rank + 1) numbers) (rising-all view places (rank + 1) numbers)
+rising-all view places rank (number ∷ numbers) = rising-shared view rank (finite.get places number)
+    (shared_marks view places (rank + 1) numbers) (rising-all view places (rank + 1) numbers)
 
 module _ (content : Content) (start end : ℕ) (marks : List Mark) (widget : ℕ) where
   pub usable-rising : IsRising 0 (usable_by content start end marks widget)
   usable-rising =
       let view : MarkView = record { widget = record { 0 = widget }; start = start; end = end } in
-      rising-own view 0 (finite.get content.marks (2 * widget)) (own_mark view 1 (finite.get content.marks (2 * widget + 1)) ++ shared_marks view content.marks 2 (numbers_of marks))
-      (rising-own view 1 (finite.get content.marks (2 * widget + 1)) (shared_marks view content.marks 2 (numbers_of marks)) (rising-all view content.marks 2 (numbers_of marks)))
+      rising-own view 0 (finite.get content.marks (2 * widget))
+      (own_mark view 1 (finite.get content.marks (2 * widget + 1))
+      ++ shared_marks view content.marks 2 (numbers_of marks))
+      (rising-own view 1 (finite.get content.marks (2 * widget + 1))
+      (shared_marks view content.marks 2 (numbers_of marks)) (rising-all view content.marks 2 (numbers_of marks)))
 
 -- where one of them is shown
 pub record IsPlaced (content : Content) (start end : ℕ) (marks : List Mark) (widget : ℕ) (shown : Shown) : Type 0 where
@@ -210,34 +258,51 @@ pub record IsPlaced (content : Content) (start end : ℕ) (marks : List Mark) (w
 has-append : (xs ys : List Shown) (mark : Shown) → Has (xs ++ ys) mark → Has xs mark ⊎ Has ys mark
 has-append [] ys mark has = inr has
 has-append (x ∷ xs) ys mark has =
-    elim has [ inl same ↦ inl (inl same) | inr later ↦ elim (has-append xs ys mark later) [ inl left ↦ inl (inr left) | inr right ↦ inr right ] ]
+    elim has [
+      | inl same ↦ inl (inl same)
+      | inr later ↦ elim (has-append xs ys mark later)
+          [ inl left ↦ inl (inr left) | inr right ↦ inr right ]
+    ]
 
-own-bounds : (view : MarkView) (offset : ℕ) → view.start ≤ view.end → (view.start ≤ own_place view offset) × (own_place view offset ≤ view.end) × (own_place view offset - view.start ≡ min (offset - view.start) (view.end - view.start - 1))
+own-bounds : (view : MarkView) (offset : ℕ) → view.start ≤ view.end →
+    (view.start ≤ own_place view offset) × (own_place view offset ≤ view.end)
+    × (own_place view offset - view.start ≡ min (offset - view.start) (view.end - view.start - 1))
 own-bounds view offset ordered =
     elim (cases_eq view.start view.end) [
       | inl same ↦
-          let is : own_place view offset ≡ view.start = cond-true (view.start == view.end) view.start (max view.start (min offset (view.end - 1))) (eq-eqb view.start view.end same) in
+          let is : own_place view offset ≡ view.start = cond-true (view.start == view.end) view.start
+          (max view.start (min offset (view.end - 1))) (eq-eqb view.start view.end same) in
           ((omega arith), (omega arith), (omega arith))
       | inr other ↦
-          let is : own_place view offset ≡ max view.start (min offset (view.end - 1)) = cond-false (view.start == view.end) view.start (max view.start (min offset (view.end - 1))) (ne_eqb view.start view.end other) in
+          let is : own_place view offset ≡ max view.start (min offset (view.end - 1)) = cond-false
+          (view.start == view.end) view.start (max view.start (min offset (view.end - 1)))
+          (ne_eqb view.start view.end other) in
           ((omega arith), (omega arith), (omega arith))
     ]
 
-own-has : (view : MarkView) (rank : ℕ) (found : Option Place) (shown : Shown) → view.start ≤ view.end → Has (own_mark view rank found) shown
-    → (own_place_in view.start view.end found ≡ Some (shown.place - view.start)) × (view.start ≤ shown.place) × (shown.place ≤ view.end) × (shown.rank ≡ rank)
+own-has : (view : MarkView) (rank : ℕ) (found : Option Place) (shown : Shown) → view.start ≤ view.end →
+    Has (own_mark view rank found) shown
+    → (own_place_in view.start view.end found ≡ Some (shown.place - view.start)) × (view.start ≤ shown.place)
+    × (shown.place ≤ view.end) × (shown.rank ≡ rank)
 own-has view rank None shown ordered has = absurd has
 own-has view rank (Some place) shown ordered has =
     elim has [
       | inl same ↦
           let bounds = own-bounds view place.offset ordered in
-          let at : own_place view place.offset ≡ shown.place = ap (λ (s : Shown). s.place) same in
-          (ap Some (sym bounds.2 ∙ ap (λ n. n - view.start) at), (omega (arith, bounds.0)), (omega (arith, bounds.1)), sym (ap (λ (s : Shown). s.rank) same))
+          let at : own_place view place.offset ≡ shown.place = ap (λ (s : Shown). s.place) same in (
+            ap Some (sym bounds.2 ∙ ap (λ n. n - view.start) at),
+            (omega (arith, bounds.0)),
+            (omega (arith, bounds.1)),
+            sym (ap (λ (s : Shown). s.rank) same),
+          )
       | inr none ↦ absurd none
     ]
 
-shared-if : (view : MarkView) (test : Bool) (rank : ℕ) (place : Place) (shown : Shown) → test ≡ (nat_le view.start place.offset && nat_le place.offset view.end)
+shared-if : (view : MarkView) (test : Bool) (rank : ℕ) (place : Place) (shown : Shown) →
+    test ≡ (nat_le view.start place.offset && nat_le place.offset view.end)
     → Has (cond test (record { place = place.offset; rank = rank } ∷ []) []) shown
-    → (shared_place_in view.start (Some place) ≡ Some (shown.place - view.start)) × (view.start ≤ shown.place) × (shown.place ≤ view.end) × (shown.rank ≡ rank)
+    → (shared_place_in view.start (Some place) ≡ Some (shown.place - view.start)) × (view.start ≤ shown.place)
+    × (shown.place ≤ view.end) × (shown.rank ≡ rank)
 shared-if view true rank place shown is has =
     elim has [
       | inl same ↦
@@ -245,7 +310,8 @@ shared-if view true rank place shown is has =
           let at : place.offset ≡ shown.place = ap (λ (s : Shown). s.place) same in
           let above = leb-true view.start place.offset parts.0 in
           let within = leb-true place.offset view.end parts.1 in (
-            cond-true (nat_le view.start place.offset) (Some (place.offset - view.start)) None parts.0 ∙ ap (λ n. Some (n - view.start)) at,
+            cond-true (nat_le view.start place.offset) (Some (place.offset - view.start)) None parts.0
+                ∙ ap (λ n. Some (n - view.start)) at,
             (omega arith),
             (omega arith),
             sym (ap (λ (s : Shown). s.rank) same),
@@ -254,10 +320,13 @@ shared-if view true rank place shown is has =
     ]
 shared-if view false rank place shown is has = absurd has
 
-shared-has : (view : MarkView) (rank : ℕ) (found : Option Place) (shown : Shown) → Has (shared_mark view rank found) shown
-    → (shared_place_in view.start found ≡ Some (shown.place - view.start)) × (view.start ≤ shown.place) × (shown.place ≤ view.end) × (shown.rank ≡ rank)
+shared-has : (view : MarkView) (rank : ℕ) (found : Option Place) (shown : Shown) →
+    Has (shared_mark view rank found) shown
+    → (shared_place_in view.start found ≡ Some (shown.place - view.start)) × (view.start ≤ shown.place)
+    × (shown.place ≤ view.end) × (shown.rank ≡ rank)
 shared-has view rank None shown has = absurd has
-shared-has view rank (Some place) shown has = shared-if view (nat_le view.start place.offset && nat_le place.offset view.end) rank place shown refl has
+shared-has view rank (Some place) shown has =
+    shared-if view (nat_le view.start place.offset && nat_le place.offset view.end) rank place shown refl has
 
 -- the shared mark of a rank
 record IsShared (view : MarkView) (places : Marks) (numbers : List ℕ) (rank : ℕ) (shown : Shown) : Type 0 where
@@ -269,38 +338,71 @@ record IsShared (view : MarkView) (places : Marks) (numbers : List ℕ) (rank : 
   above : view.start ≤ shown.place
   within : shown.place ≤ view.end
 
-all-has : (view : MarkView) (places : Marks) (rank : ℕ) (numbers : List ℕ) (shown : Shown) → Has (shared_marks view places rank numbers) shown → IsShared view places numbers rank shown
+all-has : (view : MarkView) (places : Marks) (rank : ℕ) (numbers : List ℕ) (shown : Shown) →
+    Has (shared_marks view places rank numbers) shown → IsShared view places numbers rank shown
 all-has view places rank [] shown has = absurd has
 all-has view places rank (number ∷ numbers) shown has =
-    elim (has-append (shared_mark view rank (finite.get places number)) (shared_marks view places (rank + 1) numbers) shown has) [
+    elim (has-append (shared_mark view rank (finite.get places number)) (shared_marks view places (rank + 1) numbers)
+    shown has) [
       | inl here ↦
           let is = shared-has view rank (finite.get places number) shown here in
-          record { at = 0; is = omega (arith, is.3); number = number; there = refl; place = is.0; above = is.1; within = is.2 }
+          record {
+            at = 0;
+            is = omega (arith, is.3);
+            number = number;
+            there = refl;
+            place = is.0;
+            above = is.1;
+            within = is.2;
+          }
       | inr later ↦
           let is = all-has view places (rank + 1) numbers shown later in
-          record { at = suc is.at; is = omega (arith, is.is); number = is.number; there = is.there; place = is.place; above = is.above; within = is.within }
+          record {
+            at = suc is.at;
+            is = omega (arith, is.is);
+            number = is.number;
+            there = is.there;
+            place = is.place;
+            above = is.above;
+            within = is.within;
+          }
     ]
 
-pub usable-placed : (content : Content) (start end : ℕ) (marks : List Mark) (widget : ℕ) (shown : Shown) → start ≤ end → Has (usable_by content start end marks widget) shown
+pub usable-placed : (content : Content) (start end : ℕ) (marks : List Mark) (widget : ℕ) (shown : Shown) → start ≤ end →
+    Has (usable_by content start end marks widget) shown
     → IsPlaced content start end marks widget shown
 usable-placed content start end marks widget shown ordered has =
     let view : MarkView = record { widget = record { 0 = widget }; start = start; end = end } in
     let numbers = numbers_of marks in
-    elim (has-append (own_mark view 0 (finite.get content.marks (2 * widget))) (own_mark view 1 (finite.get content.marks (2 * widget + 1)) ++ shared_marks view content.marks 2 numbers) shown has) [
+    elim (has-append (own_mark view 0 (finite.get content.marks (2 * widget)))
+    (own_mark view 1 (finite.get content.marks (2 * widget + 1)) ++ shared_marks view content.marks 2 numbers) shown
+    has) [
       | inl one ↦
           let is = own-has view 0 (finite.get content.marks (2 * widget)) shown ordered one in
-          record { place = ap (λ n. place_in content start end marks widget (mark_of n)) is.3 ∙ is.0; above = is.1; within = is.2; known = omega (arith, is.3) }
+          record {
+            place = ap (λ n. place_in content start end marks widget (mark_of n)) is.3 ∙ is.0;
+            above = is.1;
+            within = is.2;
+            known = omega (arith, is.3);
+          }
       | inr later ↦
-          elim (has-append (own_mark view 1 (finite.get content.marks (2 * widget + 1))) (shared_marks view content.marks 2 numbers) shown later) [
+          elim (has-append (own_mark view 1 (finite.get content.marks (2 * widget + 1)))
+          (shared_marks view content.marks 2 numbers) shown later) [
             | inl two ↦
                 let is = own-has view 1 (finite.get content.marks (2 * widget + 1)) shown ordered two in
-                record { place = ap (λ n. place_in content start end marks widget (mark_of n)) is.3 ∙ is.0; above = is.1; within = is.2; known = omega (arith, is.3) }
+                record {
+                  place = ap (λ n. place_in content start end marks widget (mark_of n)) is.3 ∙ is.0;
+                  above = is.1;
+                  within = is.2;
+                  known = omega (arith, is.3);
+                }
             | inr rest ↦
                 let is = all-has view content.marks 2 numbers shown rest in
                 let two : 2 + is.at ≡ suc (suc is.at) = omega arith in
                 record {
                   place = ap (λ n. place_in content start end marks widget (mark_of n)) (is.is ∙ two)
-                      ∙ ap (option_and_then (λ number. shared_place_in start (finite.get content.marks number))) is.there ∙ is.place;
+                      ∙ ap (option_and_then (λ number. shared_place_in start (finite.get content.marks number)))
+                      is.there ∙ is.place;
                   above = is.above;
                   within = is.within;
                   known = omega (arith, is.is, slice_get_within numbers is.at is.number is.there);
@@ -310,15 +412,20 @@ usable-placed content start end marks widget shown ordered has =
 
 -- ---- the marks at a place, one behind the other
 
-flat-none : (each : Shown → List (List ℕ)) (xs : List Shown) → ((y : Shown) → Has xs y → each y ≡ []) → flat_map each xs ≡ []
+flat-none : (each : Shown → List (List ℕ)) (xs : List Shown) → ((y : Shown) → Has xs y → each y ≡ []) →
+    flat_map each xs ≡ []
 flat-none each [] none = refl
-flat-none each (x ∷ xs) none = ap (λ ys. ys ++ flat_map each xs) (none x (inl refl)) ∙ flat-none each xs (λ y has. none y (inr has))
+flat-none each (x ∷ xs) none =
+    ap (λ ys. ys ++ flat_map each xs) (none x (inl refl)) ∙ flat-none each xs (λ y has. none y (inr has))
 
-pub flat-agree : (first second : Shown → List (List ℕ)) (xs : List Shown) → ((y : Shown) → Has xs y → first y ≡ second y) → flat_map first xs ≡ flat_map second xs
+pub flat-agree : (first second : Shown → List (List ℕ)) (xs : List Shown) →
+    ((y : Shown) → Has xs y → first y ≡ second y) → flat_map first xs ≡ flat_map second xs
 flat-agree first second [] agree = refl
-flat-agree first second (x ∷ xs) agree = ap₂ (λ a b. a ++ b) (agree x (inl refl)) (flat-agree first second xs (λ y has. agree y (inr has)))
+flat-agree first second (x ∷ xs) agree =
+    ap₂ (λ a b. a ++ b) (agree x (inl refl)) (flat-agree first second xs (λ y has. agree y (inr has)))
 
-listed-none : (place : ℕ) (each : Shown → List (List ℕ)) (next : Option Shown) (mark : Shown) → (mark.place ≡ place → is_before next mark ≡ false)
+listed-none : (place : ℕ) (each : Shown → List (List ℕ)) (next : Option Shown) (mark : Shown) →
+    (mark.place ≡ place → is_before next mark ≡ false)
     → if_listed (mark.place == place && is_before next mark) (each mark) ≡ []
 listed-none place each next mark none =
     elim (cases_eq mark.place place) [
@@ -326,42 +433,54 @@ listed-none place each next mark none =
       | inr other ↦ ap (λ b. if_listed (b && is_before next mark) (each mark)) (ne_eqb mark.place place other)
     ]
 
-listed-alike : (place : ℕ) (each : Shown → List (List ℕ)) (one other : Option Shown) (mark : Shown) → (mark.place ≡ place → is_before one mark ≡ is_before other mark)
-    → if_listed (mark.place == place && is_before one mark) (each mark) ≡ if_listed (mark.place == place && is_before other mark) (each mark)
+listed-alike : (place : ℕ) (each : Shown → List (List ℕ)) (one other : Option Shown) (mark : Shown) →
+    (mark.place ≡ place → is_before one mark ≡ is_before other mark)
+    → if_listed (mark.place == place && is_before one mark) (each mark)
+    ≡ if_listed (mark.place == place && is_before other mark) (each mark)
 listed-alike place each one other mark alike =
     elim (cases_eq mark.place place) [
       | inl same ↦ ap (λ b. if_listed (mark.place == place && b) (each mark)) (alike same)
-      | inr differs ↦ ap (λ b. if_listed (b && is_before one mark) (each mark)) (ne_eqb mark.place place differs) ∙ sym (ap (λ b. if_listed (b && is_before other mark) (each mark)) (ne_eqb mark.place place differs))
+      | inr differs ↦ ap (λ b. if_listed (b && is_before one mark) (each mark)) (ne_eqb mark.place place differs)
+          ∙ sym (ap (λ b. if_listed (b && is_before other mark) (each mark)) (ne_eqb mark.place place differs))
     ]
 
 -- none is passed at first
-pub passed-none : (marks : List Shown) (place : ℕ) (each : Shown → List (List ℕ)) (next : Option Shown) → IsMarkFrom marks place next → passed place each next marks ≡ []
+pub passed-none : (marks : List Shown) (place : ℕ) (each : Shown → List (List ℕ)) (next : Option Shown) →
+    IsMarkFrom marks place next → passed place each next marks ≡ []
 passed-none marks place each None from =
-    flat-none (λ mark. if_listed (mark.place == place && is_before None mark) (each mark)) marks (λ y has. listed-none place each None y (λ same. absurd (omega (arith, from y has))))
+    flat-none (λ mark. if_listed (mark.place == place && is_before None mark) (each mark)) marks (λ y has.
+    listed-none place each None y (λ same. absurd (omega (arith, from y has))))
 passed-none marks place each (Some next) from =
-    flat-none (λ mark. if_listed (mark.place == place && is_before (Some next) mark) (each mark)) marks (λ y has. listed-none place each (Some next) y (λ same. from.2 y has (omega arith)))
+    flat-none (λ mark. if_listed (mark.place == place && is_before (Some next) mark) (each mark)) marks (λ y has.
+    listed-none place each (Some next) y (λ same. from.2 y has (omega arith)))
 
 -- all are in the end
-pub passed-all : (marks : List Shown) (place : ℕ) (each : Shown → List (List ℕ)) (next : Option Shown) → MatchOption next (Unit {0}) (λ m. place < m.place)
+pub passed-all : (marks : List Shown) (place : ℕ) (each : Shown → List (List ℕ)) (next : Option Shown) →
+    MatchOption next (Unit {0}) (λ m. place < m.place)
     → passed place each next marks ≡ passed place each None marks
 passed-all marks place each None end = refl
 passed-all marks place each (Some next) end =
-    flat-agree (λ mark. if_listed (mark.place == place && is_before (Some next) mark) (each mark)) (λ mark. if_listed (mark.place == place && is_before None mark) (each mark)) marks
+    flat-agree (λ mark. if_listed (mark.place == place && is_before (Some next) mark) (each mark)) (λ mark.
+    if_listed (mark.place == place && is_before None mark) (each mark)) marks
     (λ y has. listed-alike place each (Some next) None y (λ same. earlier-place y next (omega arith)))
 
-behind-passed : (next : Option Shown) (marks : List Shown) (mark y : Shown) → IsMarkBehind marks mark next → Has marks y → earlier mark y ≡ true → is_before next y ≡ false
+behind-passed : (next : Option Shown) (marks : List Shown) (mark y : Shown) → IsMarkBehind marks mark next →
+    Has marks y → earlier mark y ≡ true → is_before next y ≡ false
 behind-passed None marks mark y behind has later = absurd (false≢true (sym (behind y has) ∙ later))
 behind-passed (Some next) marks mark y behind has later = behind.2 y has later
 
-before-passed : (next : Option Shown) (marks : List Shown) (mark y : Shown) → IsMarkBehind marks mark next → earlier y mark ≡ true → is_before next y ≡ true
+before-passed : (next : Option Shown) (marks : List Shown) (mark y : Shown) → IsMarkBehind marks mark next →
+    earlier y mark ≡ true → is_before next y ≡ true
 before-passed None marks mark y behind before = refl
 before-passed (Some next) marks mark y behind before = in-turn y mark next before behind.1
 
-itself-passed : (next : Option Shown) (marks : List Shown) (mark : Shown) → IsMarkBehind marks mark next → is_before next mark ≡ true
+itself-passed : (next : Option Shown) (marks : List Shown) (mark : Shown) → IsMarkBehind marks mark next →
+    is_before next mark ≡ true
 itself-passed None marks mark behind = refl
 itself-passed (Some next) marks mark behind = behind.1
 
-passed-step : (all : List Shown) (place : ℕ) (each : Shown → List (List ℕ)) (mark : Shown) (next : Option Shown) → mark.place ≡ place → IsMarkBehind all mark next
+passed-step : (all : List Shown) (place : ℕ) (each : Shown → List (List ℕ)) (mark : Shown) (next : Option Shown) →
+    mark.place ≡ place → IsMarkBehind all mark next
     → (rank : ℕ) (xs : List Shown) → IsRising rank xs → ((y : Shown) → Has xs y → Has all y) → Has xs mark
     → passed place each next xs ≡ passed place each (Some mark) xs ++ each mark
 passed-step all place each mark next here behind rank [] rising within has = absurd has
@@ -375,10 +494,14 @@ passed-step all place each mark next here behind rank (x ∷ xs) rising within h
           λ y there level. by-rank mark y (here ∙ sym level) ∙ lt-ltb mark.rank y.rank (omega (arith, after y there)) in
           let now : if_listed (x.place == place && is_before next x) (each x) ≡ each mark =
           ap (λ s. if_listed (s.place == place && is_before next s) (each s)) same
-          ∙ ap₂ (λ a b. if_listed (a && b) (each mark)) (eq-eqb mark.place place here) (itself-passed next all mark behind) in
-          let then-none : passed place each next xs ≡ [] = flat-none (λ m. if_listed (m.place == place && is_before next m) (each m)) xs
-          (λ y there. listed-none place each next y (λ level. behind-passed next all mark y behind (within y (inr there)) (later y there level))) in
-          let before-none : passed place each (Some mark) (x ∷ xs) ≡ [] = flat-none (λ m. if_listed (m.place == place && is_before (Some mark) m) (each m)) (x ∷ xs)
+          ∙ ap₂ (λ a b. if_listed (a && b) (each mark)) (eq-eqb mark.place place here)
+          (itself-passed next all mark behind) in
+          let then-none : passed place each next xs
+          ≡ [] = flat-none (λ m. if_listed (m.place == place && is_before next m) (each m)) xs
+          (λ y there. listed-none place each next y (λ level.
+          behind-passed next all mark y behind (within y (inr there)) (later y there level))) in
+          let before-none : passed place each (Some mark) (x ∷ xs)
+          ≡ [] = flat-none (λ m. if_listed (m.place == place && is_before (Some mark) m) (each m)) (x ∷ xs)
           (λ y there. listed-none place each (Some mark) y (λ level. elim there [
             | inl is-x ↦ subst (λ z. earlier z mark ≡ false) (sym same ∙ is-x) (not-itself mark)
             | inr rest ↦ asym mark y (later y rest level)
@@ -386,29 +509,39 @@ passed-step all place each mark next here behind rank (x ∷ xs) rising within h
           ap₂ (λ a b. a ++ b) now then-none ∙ append-nil (each mark) ∙ sym (ap (λ ys. ys ++ each mark) before-none)
       | inr later ↦
           let above : x.rank < mark.rank = omega (arith, rising-above (suc x.rank) xs mark rising.1 later) in
-          let same : if_listed (x.place == place && is_before next x) (each x) ≡ if_listed (x.place == place && is_before (Some mark) x) (each x) =
+          let same : if_listed (x.place == place && is_before next x) (each x)
+          ≡ if_listed (x.place == place && is_before (Some mark) x) (each x) =
           listed-alike place each next (Some mark) x (λ level.
           let before : earlier x mark ≡ true = by-rank x mark (level ∙ sym here) ∙ lt-ltb x.rank mark.rank above in
           before-passed next all mark x behind before ∙ sym before) in
-          ap₂ (λ a b. a ++ b) same (passed-step all place each mark next here behind (suc x.rank) xs rising.1 (λ y there. within y (inr there)) later)
-          ∙ sym (append_assoc (if_listed (x.place == place && is_before (Some mark) x) (each x)) (passed place each (Some mark) xs) (each mark))
+          ap₂ (λ a b. a ++ b) same (passed-step all place each mark next here behind (suc x.rank) xs rising.1
+          (λ y there. within y (inr there)) later)
+          ∙ sym (append_assoc (if_listed (x.place == place && is_before (Some mark) x) (each x))
+          (passed place each (Some mark) xs) (each mark))
     ]
 
 -- one mark more
-pub passed-on : (marks : List Shown) (place : ℕ) (each : Shown → List (List ℕ)) (mark : Shown) (next : Option Shown) → IsRising 0 marks → Has marks mark → mark.place ≡ place → IsMarkBehind marks mark next
+pub passed-on : (marks : List Shown) (place : ℕ) (each : Shown → List (List ℕ)) (mark : Shown) (next : Option Shown) →
+    IsRising 0 marks → Has marks mark → mark.place ≡ place → IsMarkBehind marks mark next
     → passed place each next marks ≡ passed place each (Some mark) marks ++ each mark
-passed-on marks place each mark next rising has here behind = passed-step marks place each mark next here behind 0 marks rising (λ y there. there) has
+passed-on marks place each mark next rising has here behind =
+    passed-step marks place each mark next here behind 0 marks rising (λ y there. there) has
 
 -- ---- the next mark, with its place
 
-then-has : (marks : List Shown) (from : Option Shown) (shown : Shown) → option_and_then (λ (before : Shown). first (filter (λ (other : Shown). earlier before other) marks)) from ≡ Some shown → Has marks shown
+then-has : (marks : List Shown) (from : Option Shown) (shown : Shown) →
+    option_and_then (λ (before : Shown). first (filter (λ (other : Shown). earlier before other) marks)) from
+    ≡ Some shown → Has marks shown
 then-has marks None shown is = absurd (none-some shown is)
 then-has marks (Some before) shown is =
-    (has-filter (λ (other : Shown). earlier before other) marks shown (first-has (filter (λ (other : Shown). earlier before other) marks) shown is)).0
+    (has-filter (λ (other : Shown). earlier before other) marks shown
+    (first-has (filter (λ (other : Shown). earlier before other) marks) shown is)).0
 
-next-has : (origin : Origin) (marks : List Shown) (shown : Shown) → next_shown origin marks ≡ Some shown → Has marks shown
+next-has : (origin : Origin) (marks : List Shown) (shown : Shown) → next_shown origin marks ≡ Some shown →
+    Has marks shown
 next-has (Offset place) marks shown is =
-    (has-filter (λ (other : Shown). nat_le place other.place) marks shown (first-has (filter (λ (other : Shown). nat_le place other.place) marks) shown is)).0
+    (has-filter (λ (other : Shown). nat_le place other.place) marks shown
+    (first-has (filter (λ (other : Shown). nat_le place other.place) marks) shown is)).0
 next-has (FromMark mark) marks shown is = then-has marks (shown_mark mark marks) shown is
 
 rank-mark : (rank : ℕ) → rank_of (mark_of rank) ≡ rank
@@ -416,19 +549,24 @@ rank-mark zero = refl
 rank-mark (suc zero) = refl
 rank-mark (suc (suc rank)) = omega arith
 
-pub record IsMarkOf (content : Content) (start end : ℕ) (marks : List Mark) (widget : ℕ) (origin : Origin) (mark : WidgetMark) : Type 0 where
+pub record IsMarkOf (content : Content) (start end : ℕ) (marks : List Mark) (widget : ℕ) (origin : Origin)
+    (mark : WidgetMark) : Type 0 where
   pub shown : Shown
   pub is : next_shown origin (usable_by content start end marks widget) ≡ Some shown
   pub place : place_in content start end marks widget mark ≡ Some (shown.place - start)
   pub above : start ≤ shown.place
   pub rank : rank_of mark ≡ shown.rank
 
-mark-given : (content : Content) (start end : ℕ) (marks : List Mark) (widget : ℕ) (origin : Origin) (mark : WidgetMark) (found : Option Shown) → start ≤ end
-    → next_shown origin (usable_by content start end marks widget) ≡ found → Some mark ≡ option_map (λ (shown : Shown). mark_of shown.rank) found → IsMarkOf content start end marks widget origin mark
+mark-given : (content : Content) (start end : ℕ) (marks : List Mark) (widget : ℕ) (origin : Origin) (mark : WidgetMark)
+    (found : Option Shown) → start ≤ end
+    → next_shown origin (usable_by content start end marks widget) ≡ found →
+    Some mark ≡ option_map (λ (shown : Shown). mark_of shown.rank) found →
+    IsMarkOf content start end marks widget origin mark
 mark-given content start end marks widget origin mark None ordered next is = absurd (none-some mark (sym is))
 mark-given content start end marks widget origin mark (Some shown) ordered next is =
     let same : mark ≡ mark_of shown.rank = same_Some mark (mark_of shown.rank) is in
-    let placed = usable-placed content start end marks widget shown ordered (next-has origin (usable_by content start end marks widget) shown next) in
+    let placed = usable-placed content start end marks widget shown ordered
+    (next-has origin (usable_by content start end marks widget) shown next) in
     record {
       shown = shown;
       is = next;
@@ -437,16 +575,27 @@ mark-given content start end marks widget origin mark (Some shown) ordered next 
       rank = ap rank_of same ∙ rank-mark shown.rank;
     }
 
-pub mark-of : (content : Content) (start end : ℕ) (marks : List Mark) (widget : ℕ) (origin : Origin) (mark : WidgetMark) → start ≤ end
-    → Some mark ≡ next_mark origin (usable_by content start end marks widget) → IsMarkOf content start end marks widget origin mark
+pub mark-of : (content : Content) (start end : ℕ) (marks : List Mark) (widget : ℕ) (origin : Origin) (mark : WidgetMark)
+    → start ≤ end
+    → Some mark ≡ next_mark origin (usable_by content start end marks widget) →
+    IsMarkOf content start end marks widget origin mark
 mark-of content start end marks widget origin mark ordered is =
-    mark-given content start end marks widget origin mark (next_shown origin (usable_by content start end marks widget)) ordered refl is
+    mark-given content start end marks widget origin mark (next_shown origin (usable_by content start end marks widget))
+    ordered refl is
 
-pub mark-is : (content : Content) (start end : ℕ) (marks : List Mark) (widget : ℕ) (origin : Origin) (mark : WidgetMark) (place : ℕ) (of : IsMarkOf content start end marks widget origin mark)
-    → Some place ≡ place_in content start end marks widget mark → Some (record { place = start + place; rank = rank_of mark }) ≡ next_shown origin (usable_by content start end marks widget)
+pub mark-is : (content : Content) (start end : ℕ) (marks : List Mark) (widget : ℕ) (origin : Origin) (mark : WidgetMark)
+    (place : ℕ) (of : IsMarkOf content start end marks widget origin mark)
+    → Some place ≡ place_in content start end marks widget mark →
+    Some (record { place = start + place; rank = rank_of mark })
+    ≡ next_shown origin (usable_by content start end marks widget)
 mark-is content start end marks widget origin mark place of is =
-    let at : start + place ≡ of.shown.place = omega (arith, same_Some place (of.shown.place - start) (is ∙ of.place), of.above) in
-    let same : ◌≡◌ {A = Shown} (record { place = start + place; rank = rank_of mark }) of.shown = λ i. record { place = at i; rank = of.rank i } in
+    let at : start + place ≡ of.shown.place = omega (
+      arith,
+      same_Some place (of.shown.place - start) (is ∙ of.place),
+      of.above,
+    ) in
+    let same : ◌≡◌ {A = Shown} (record { place = start + place; rank = rank_of mark }) of.shown = λ i.
+    record { place = at i; rank = of.rank i } in
     ap Some same ∙ sym of.is
 
 -- ---- the walk over the marks at a place
@@ -455,39 +604,53 @@ mark-is content start end marks widget origin mark place of is =
 abbrev pub IsMarkOn : List Shown → ℕ → Option Shown → Type 0
 IsMarkOn marks place next =
     MatchOption next ((mark : Shown) → Has marks mark → mark.place ≤ place)
-    (λ found. Has marks found × (place ≤ found.place) × ((mark : Shown) → Has marks mark → place + 1 ≤ mark.place → earlier mark found ≡ false))
+    (λ found. Has marks found × (place ≤ found.place)
+    × ((mark : Shown) → Has marks mark → place + 1 ≤ mark.place → earlier mark found ≡ false))
 
-pub on-begun : (marks : List Shown) (place : ℕ) (next : Option Shown) → IsMarkFrom marks place next → IsMarkOn marks place next
+pub on-begun : (marks : List Shown) (place : ℕ) (next : Option Shown) → IsMarkFrom marks place next →
+    IsMarkOn marks place next
 on-begun marks place None from = λ mark has. omega (arith, from mark has)
 on-begun marks place (Some next) from = (from.0, from.1, λ mark has above. from.2 mark has (omega arith))
 
-pub on-step : (marks : List Shown) (place : ℕ) (mark : Shown) (next : Option Shown) → mark.place ≡ place → IsMarkBehind marks mark next → IsMarkOn marks place next
+pub on-step : (marks : List Shown) (place : ℕ) (mark : Shown) (next : Option Shown) → mark.place ≡ place →
+    IsMarkBehind marks mark next → IsMarkOn marks place next
 on-step marks place mark None here behind = λ other has.
     elim (cases_lt place other.place) [
       | inl above ↦ absurd (false≢true (sym (behind other has) ∙ earlier-place mark other (omega arith)))
       | inr within ↦ within
     ]
-on-step marks place mark (Some next) here behind =
-    (behind.0, omega (arith, not-behind mark next behind.1), λ other has above. behind.2 other has (earlier-place mark other (omega arith)))
+on-step marks place mark (Some next) here behind = (
+  behind.0,
+  omega (arith, not-behind mark next behind.1),
+  λ other has above. behind.2 other has (earlier-place mark other (omega arith)),
+)
 
-pub on-above : (marks : List Shown) (place : ℕ) (next : Option Shown) → IsMarkOn marks place next → MatchOption next (Unit {0}) (λ m. m.place ≢ place) → MatchOption next (Unit {0}) (λ m. place < m.place)
+pub on-above : (marks : List Shown) (place : ℕ) (next : Option Shown) → IsMarkOn marks place next →
+    MatchOption next (Unit {0}) (λ m. m.place ≢ place) → MatchOption next (Unit {0}) (λ m. place < m.place)
 on-above marks place None on end = tt
-on-above marks place (Some next) on end = elim (cases_eq next.place place) [ inl same ↦ absurd (end same) | inr other ↦ omega (arith, on.1) ]
+on-above marks place (Some next) on end =
+    elim (cases_eq next.place place) [ inl same ↦ absurd (end same) | inr other ↦ omega (arith, on.1) ]
 
 -- how many are not before the next
 abbrev pub marks_left : List Shown → Option Shown → ℕ
 marks_left marks None = 0
 marks_left marks (Some next) = length (filter (λ (mark : Shown). not (earlier mark next)) marks)
 
-filter-less : (more fewer : Shown → Bool) (mark : Shown) (xs : List Shown) → ((y : Shown) → fewer y ≡ true → more y ≡ true) → more mark ≡ true → fewer mark ≡ false
-    → (length (filter fewer xs) ≤ length (filter more xs)) × (Has xs mark → length (filter fewer xs) < length (filter more xs))
+filter-less : (more fewer : Shown → Bool) (mark : Shown) (xs : List Shown) →
+    ((y : Shown) → fewer y ≡ true → more y ≡ true) → more mark ≡ true → fewer mark ≡ false
+    → (length (filter fewer xs) ≤ length (filter more xs))
+    × (Has xs mark → length (filter fewer xs) < length (filter more xs))
 filter-less more fewer mark [] each is none = (omega arith, λ has. absurd has)
 filter-less more fewer mark (x ∷ xs) each is none =
     let rest = filter-less more fewer mark xs each is none in
     elim (cases_Bool (fewer x)) [
       | inl in-fewer ↦
-          let few : length (filter fewer (x ∷ xs)) ≡ suc (length (filter fewer xs)) = ap length (cond-true (fewer x) (x ∷ filter fewer xs) (filter fewer xs) in-fewer) in
-          let many : length (filter more (x ∷ xs)) ≡ suc (length (filter more xs)) = ap length (cond-true (more x) (x ∷ filter more xs) (filter more xs) (each x in-fewer)) in (
+          let few : length (filter fewer (x ∷ xs))
+          ≡ suc (length (filter fewer xs)) = ap length
+          (cond-true (fewer x) (x ∷ filter fewer xs) (filter fewer xs) in-fewer) in
+          let many : length (filter more (x ∷ xs))
+          ≡ suc (length (filter more xs)) = ap length
+          (cond-true (more x) (x ∷ filter more xs) (filter more xs) (each x in-fewer)) in (
             omega (arith, few, many, rest.0),
             λ has. elim has [
               | inl same ↦ absurd (false≢true (sym none ∙ sym (ap fewer same) ∙ in-fewer))
@@ -495,13 +658,19 @@ filter-less more fewer mark (x ∷ xs) each is none =
             ],
           )
       | inr not-fewer ↦
-          let few : length (filter fewer (x ∷ xs)) ≡ length (filter fewer xs) = ap length (cond-false (fewer x) (x ∷ filter fewer xs) (filter fewer xs) not-fewer) in
+          let few : length (filter fewer (x ∷ xs))
+          ≡ length (filter fewer xs) = ap length
+          (cond-false (fewer x) (x ∷ filter fewer xs) (filter fewer xs) not-fewer) in
           elim (cases_Bool (more x)) [
             | inl in-more ↦
-                let many : length (filter more (x ∷ xs)) ≡ suc (length (filter more xs)) = ap length (cond-true (more x) (x ∷ filter more xs) (filter more xs) in-more) in
+                let many : length (filter more (x ∷ xs))
+                ≡ suc (length (filter more xs)) = ap length
+                (cond-true (more x) (x ∷ filter more xs) (filter more xs) in-more) in
                 (omega (arith, few, many, rest.0), λ has. omega (arith, few, many, rest.0))
             | inr not-more ↦
-                let many : length (filter more (x ∷ xs)) ≡ length (filter more xs) = ap length (cond-false (more x) (x ∷ filter more xs) (filter more xs) not-more) in (
+                let many : length (filter more (x ∷ xs))
+                ≡ length (filter more xs) = ap length
+                (cond-false (more x) (x ∷ filter more xs) (filter more xs) not-more) in (
                   omega (arith, few, many, rest.0),
                   λ has. elim has [
                     | inl same ↦ absurd (false≢true (sym not-more ∙ ap more same ∙ is))
@@ -511,11 +680,14 @@ filter-less more fewer mark (x ∷ xs) each is none =
           ]
     ]
 
-some-left : (marks : List Shown) (mark : Shown) → Has marks mark → 0 < length (filter (λ (other : Shown). not (earlier other mark)) marks)
+some-left : (marks : List Shown) (mark : Shown) → Has marks mark →
+    0 < length (filter (λ (other : Shown). not (earlier other mark)) marks)
 some-left marks mark has =
-    let less = (filter-less (λ (other : Shown). not (earlier other mark)) (λ (other : Shown). false) mark marks (λ y is. absurd (false≢true is)) (ap not (not-itself mark)) refl).1 has in omega arith
+    let less = (filter-less (λ (other : Shown). not (earlier other mark)) (λ (other : Shown). false) mark marks (λ y is.
+    absurd (false≢true is)) (ap not (not-itself mark)) refl).1 has in omega arith
 
-pub left-fewer : (marks : List Shown) (mark : Shown) (next : Option Shown) → Has marks mark → IsMarkBehind marks mark next → marks_left marks next < marks_left marks (Some mark)
+pub left-fewer : (marks : List Shown) (mark : Shown) (next : Option Shown) → Has marks mark →
+    IsMarkBehind marks mark next → marks_left marks next < marks_left marks (Some mark)
 left-fewer marks mark None has behind = some-left marks mark has
 left-fewer marks mark (Some next) has behind =
     (filter-less (λ (other : Shown). not (earlier other mark)) (λ (other : Shown). not (earlier other next)) mark marks
@@ -526,36 +698,50 @@ left-fewer marks mark (Some next) has behind =
     (ap not (not-itself mark)) (ap not behind.1)).1 has
 
 -- all the marks at a place
-pub marks-are : (content : Content) (start end : ℕ) (tags : List Tag) (marks : List Mark) (widget place : ℕ) → start ≤ end
-    → passed (start + place) (mark_element (shown content start end) (names_of marks) place) None (usable_by content start end marks widget) ≡ mark_elements (seen_by content start end tags marks widget) place
+pub marks-are : (content : Content) (start end : ℕ) (tags : List Tag) (marks : List Mark) (widget place : ℕ) →
+    start ≤ end
+    → passed (start + place) (mark_element (shown content start end) (names_of marks) place) None
+    (usable_by content start end marks widget) ≡ mark_elements (seen_by content start end tags marks widget) place
 marks-are content start end tags marks widget place ordered =
     let all = usable_by content start end marks widget in
     let each = mark_element (shown content start end) (names_of marks) place in
-    flat-agree (λ mark. if_listed (mark.place == start + place && is_before None mark) (each mark)) (λ (mark : Shown). if_listed (mark.place - start == place) (each mark)) all
+    flat-agree (λ mark. if_listed (mark.place == start + place && is_before None mark) (each mark)) (λ (mark : Shown).
+    if_listed (mark.place - start == place) (each mark)) all
     (λ mark has.
     let above = (usable-placed content start end marks widget mark ordered has).above in
     elim (cases_eq mark.place (start + place)) [
-      | inl same ↦ ap (λ b. if_listed (b && true) (each mark)) (eq-eqb mark.place (start + place) same) ∙ sym (ap (λ b. if_listed b (each mark)) (eq-eqb (mark.place - start) place (omega arith)))
+      | inl same ↦ ap (λ b. if_listed (b && true) (each mark)) (eq-eqb mark.place (start + place) same)
+          ∙ sym (ap (λ b. if_listed b (each mark)) (eq-eqb (mark.place - start) place (omega arith)))
       | inr other ↦
           ap (λ b. if_listed (b && true) (each mark)) (ne_eqb mark.place (start + place) other)
           ∙ sym (ap (λ b. if_listed b (each mark)) (ne_eqb (mark.place - start) place (λ same. other (omega arith))))
     ])
-    ∙ sym (flat-filter (λ mark. element (codes "mark") (shown content start end) place mark.name) (stands_at place) (mark_seen marks start) (λ (mark : Shown). if_listed (mark.place - start == place) (each mark)) all (λ mark. refl))
+    ∙ sym (flat-filter (λ mark. element (codes "mark") (shown content start end) place mark.name) (stands_at place)
+    (mark_seen marks start) (λ (mark : Shown). if_listed (mark.place - start == place) (each mark)) all (λ mark.
+    refl))
 
-pub listed-on : (listed : Bool) (old between new : List ℕ) (some more all : List (List ℕ)) → all ≡ some ++ more → Goes old between (if_listed listed some) → Goes between new (if_listed listed more)
+pub listed-on : (listed : Bool) (old between new : List ℕ) (some more all : List (List ℕ)) → all ≡ some ++ more →
+    Goes old between (if_listed listed some) → Goes between new (if_listed listed more)
     → Goes old new (if_listed listed all)
-listed-on true old between new some more all is first second = subst (Goes old new) (sym is) (goes_on old between new some more first second)
+listed-on true old between new some more all is first second =
+    subst (Goes old new) (sym is) (goes_on old between new some more first second)
 listed-on false old between new some more all is first second = goes_on old between new [] [] first second
 
-pub listed-none-yet : (listed : Bool) (old : List ℕ) (some : List (List ℕ)) → some ≡ [] → Goes old old (if_listed listed some)
+pub listed-none-yet : (listed : Bool) (old : List ℕ) (some : List (List ℕ)) → some ≡ [] →
+    Goes old old (if_listed listed some)
 listed-none-yet true old some is = subst (Goes old old) (sym is) (goes_nowhere old)
 listed-none-yet false old some is = goes_nowhere old
 
-pub goes-all : (content : Content) (start end : ℕ) (tags : List Tag) (marks : List Mark) (widget place : ℕ) (listed : Bool) (old now : List ℕ) (next : Option Shown) → start ≤ end
+pub goes-all : (content : Content) (start end : ℕ) (tags : List Tag) (marks : List Mark) (widget place : ℕ)
+    (listed : Bool) (old now : List ℕ) (next : Option Shown) → start ≤ end
     → MatchOption next (Unit {0}) (λ m. start + place < m.place)
-    → Goes old now (if_listed listed (passed (start + place) (mark_element (shown content start end) (names_of marks) place) next (usable_by content start end marks widget)))
+    →
+    Goes old now (if_listed listed (passed (start + place)
+    (mark_element (shown content start end) (names_of marks) place) next
+    (usable_by content start end marks widget)))
     → Goes old now (if_listed listed (mark_elements (seen_by content start end tags marks widget) place))
 goes-all content start end tags marks widget place listed old now next ordered above goes =
     subst (λ xs. Goes old now (if_listed listed xs))
-    (passed-all (usable_by content start end marks widget) (start + place) (mark_element (shown content start end) (names_of marks) place) next above
+    (passed-all (usable_by content start end marks widget) (start + place)
+    (mark_element (shown content start end) (names_of marks) place) next above
     ∙ marks-are content start end tags marks widget place ordered) goes

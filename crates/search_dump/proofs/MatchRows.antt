@@ -9,10 +9,12 @@ use Rattle.search_dump.specs.declared.searching.Wanted.{Wanted}
 use Rattle.search_dump.specs.declared.searching.Wanted.TheVariants.{First, Apart, All}
 
 abbrev how : Direction → Wanted → Bool → SearchSwitches
-how direction wanted strict = record { direction = direction; wanted = wanted; ignores_case = false; is_strict = strict }
+how direction wanted strict =
+    record { direction = direction; wanted = wanted; ignores_case = false; is_strict = strict }
 
 abbrev found : Direction → Wanted → Bool → ℕ → Option ℕ → List ℕ
-found direction wanted strict from stop = found_places (how direction wanted strict) (codes "aba") (codes "ababa\n") from stop
+found direction wanted strict from stop =
+    found_places (how direction wanted strict) (codes "aba") (codes "ababa\n") from stop
 
 all-apart : found Forward Apart false 0 None ≡ 0 ∷ []
 all-apart = refl

@@ -1,5 +1,6 @@
 -- Which tags are on the cells of a view.
-use Rattle.std.proofs.Common.{◌≡◌, ℕ, zero, suc, ◌+◌, ◌-◌, ◌<◌, ◌≤◌, ◌&&◌, Bool, false, List, [], ◌∷◌, ap, sym, ◌∙◌, arith, lt-ltb}
+use Rattle.std.proofs.Common.{◌≡◌, ℕ, zero, suc, ◌+◌, ◌-◌, ◌<◌, ◌≤◌, ◌&&◌, Bool, false, List, [], ◌∷◌, ap, sym, ◌∙◌}
+use Rattle.std.proofs.Common.{arith, lt-ltb}
 use Rattle.std.specs.Ordering.{nat_cmp}
 use Rattle.text_index.specs.Views.{IsView, shown}
 use Rattle.text_index.proofs.ViewLaws.{length-shown}
@@ -14,30 +15,40 @@ use Rattle.text_model.specs.Content.{Content, Slots, flags, slot_sets}
 use Rattle.text_index.specs.Views.{shown_flags}
 use Rattle.text_index.proofs.FlagLaws.{part-flag, length-part, flags-within}
 
-slots-flag : (slot : ℕ) (cells : List Cell) (at : ℕ) (slots : Slots) → slice_get (slot_sets cells) at ≡ Some slots → slice_get (flags slot cells) at ≡ Some (set.contains slots slot)
+slots-flag : (slot : ℕ) (cells : List Cell) (at : ℕ) (slots : Slots) → slice_get (slot_sets cells) at ≡ Some slots →
+    slice_get (flags slot cells) at ≡ Some (set.contains slots slot)
 slots-flag slot [] at slots is = absurd (none-some slots is)
 slots-flag slot (cell ∷ cells) zero slots is = ap (λ s. Some (set.contains s slot)) (same_Some cell.tags slots is)
 slots-flag slot (cell ∷ cells) (suc at) slots is = slots-flag slot cells at slots is
 
 -- the slots of a cell of the view say which flags it has
-pub slots-shown : (content : Content) (start end place : ℕ) (slots : Slots) → start + place < end → slice_get (slot_sets content.cells) (start + place) ≡ Some slots
+pub slots-shown : (content : Content) (start end place : ℕ) (slots : Slots) → start + place < end →
+    slice_get (slot_sets content.cells) (start + place) ≡ Some slots
     → (slot : ℕ) → set.contains slots slot ≡ flag_at (shown_flags slot content start end) place
 slots-shown content start end place slots within is slot =
-    part-flag (flags slot content.cells) start end place (set.contains slots slot) within (slots-flag slot content.cells (start + place) slots is)
+    part-flag (flags slot content.cells) start end place (set.contains slots slot) within
+    (slots-flag slot content.cells (start + place) slots is)
 
 -- no slot is on before the first place, nor behind the last
-pub none-before : (flags : List Bool) (place : ℕ) → place ≡ 0 → (slots : Slots) → slots ≡ set.empty → (slot : ℕ) → set.contains slots slot ≡ flag_before flags place
+pub none-before : (flags : List Bool) (place : ℕ) → place ≡ 0 → (slots : Slots) → slots ≡ set.empty → (slot : ℕ) →
+    set.contains slots slot ≡ flag_before flags place
 none-before flags place is slots empty slot =
     ap (λ (s : Slots). set.contains s slot) empty ∙ set.contains-empty nat_cmp slot ∙ sym (ap (flag_before flags) is)
 
-pub none-behind : (content : Content) (start end place : ℕ) → IsView content start end → place ≡ length (shown content start end) → (slots : Slots) → slots ≡ set.empty
+pub none-behind : (content : Content) (start end place : ℕ) → IsView content start end →
+    place ≡ length (shown content start end) → (slots : Slots) → slots ≡ set.empty
     → (slot : ℕ) → set.contains slots slot ≡ flag_at (shown_flags slot content start end) place
 none-behind content start end place view is slots empty slot =
-    let len : length (shown_flags slot content start end) ≡ end - start = length-part (flags slot content.cells) start end (flags-within content slot start end view) view.ordered in
-    let past : length (shown_flags slot content start end) ≤ place = omega (arith, len, is, length-shown content start end view) in
-    ap (λ (s : Slots). set.contains s slot) empty ∙ set.contains-empty nat_cmp slot ∙ sym (get_or_past (shown_flags slot content start end) place false past)
+    let len : length (shown_flags slot content start end)
+    ≡ end - start = length-part (flags slot content.cells) start end (flags-within content slot start end view)
+    view.ordered in
+    let past : length (shown_flags slot content start end)
+    ≤ place = omega (arith, len, is, length-shown content start end view) in
+    ap (λ (s : Slots). set.contains s slot) empty ∙ set.contains-empty nat_cmp slot
+    ∙ sym (get_or_past (shown_flags slot content start end) place false past)
 
-pub some-before : (content : Content) (start end place : ℕ) (slots : Slots) → 0 < place → start + place ≤ end → slice_get (slot_sets content.cells) (start + (place - 1)) ≡ Some slots
+pub some-before : (content : Content) (start end place : ℕ) (slots : Slots) → 0 < place → start + place ≤ end →
+    slice_get (slot_sets content.cells) (start + (place - 1)) ≡ Some slots
     → (slot : ℕ) → set.contains slots slot ≡ flag_before (shown_flags slot content start end) place
 some-before content start end place slots some within is slot =
     slots-shown content start end (place - 1) slots (omega arith) is slot

@@ -1,51 +1,62 @@
 -- Where a dump stops at tags.
-use Rattle.std.proofs.Common.{◌≡◌, ℕ, zero, suc, inl, inr, ◌-◌, ◌<◌, ◌≤◌, ◌||◌, Bool, true, false, List, [], ◌∷◌, length, map, get_or, refl, sym, ap, ◌∙◌, arith}
+use Rattle.std.proofs.Common.{◌≡◌, ℕ, zero, suc, inl, inr, ◌-◌, ◌<◌, ◌≤◌, ◌||◌, Bool, true, false, List, [], ◌∷◌}
+use Rattle.std.proofs.Common.{length, map, get_or, refl, sym, ap, ◌∙◌, arith}
 use Rattle.std.specs.List.{list_any}
-use Rattle.std.proofs.lemmas.Bool.{cases_lt, or_left, or_right}
+use Rattle.std.proofs.lemmas.Bool.{cases_Bool, cases_lt, or_left, or_right, true≢false}
 use Rattle.std.proofs.lemmas.List.{get_or-map}
 use Rattle.mark_table.specs.SharedMarks.{Mark}
 use Rattle.tag_table.specs.Tags.{Tag, slots_of}
 use Rattle.text_model.specs.Changes.{next_change}
-use Rattle.text_model.specs.Content.{Content}
+use Rattle.text_model.specs.Content.{Content, Slots}
 use Rattle.text_index.specs.Views.{shown_flags}
-use Rattle.search_dump.specs.Ahead.{IsKnown, IsNearest, slot_of_row}
+use Rattle.search_dump.specs.Ahead.{AreAt, AreBefore, IsKnown, IsNearest, slot_of_row}
 use Rattle.search_dump.specs.Dump.{begins_at, ends_at, own_slot, seen_by, tag_seen}
-use Rattle.search_dump.specs.Stops.{IsNextStop, has_tag_at}
-use Rattle.search_dump.proofs.ChangeLaws.{quiet-between, turns, turns-there}
-use Rattle.search_dump.proofs.DumpLaws.{no_tag}
+use Rattle.search_dump.specs.Stops.{FailsBetween, IsNextStop, has_tag_at}
+use Rattle.search_dump.proofs.ChangeLaws.{quiet-between, quiet-same, quiet-upto, turns, turns-there}
+use Rattle.search_dump.proofs.DumpLaws.{no_tag, slot-there}
 
 -- whether one of some tags turns at a place
 tag_turns : Content → ℕ → ℕ → ℕ → ℕ → Tag → Bool
 tag_turns content start end widget place tag = turns (shown_flags (own_slot widget tag.slot) content start end) place
 
-pub any-map : {A B : Type 0} (test : B → Bool) (f : A → B) (xs : List A) → list_any test (map f xs) ≡ list_any (λ x. test (f x)) xs
+pub any-map : {A B : Type 0} (test : B → Bool) (f : A → B) (xs : List A) →
+    list_any test (map f xs) ≡ list_any (λ x. test (f x)) xs
 any-map test f [] = refl
 any-map test f (x ∷ xs) = ap (λ b. test (f x) || b) (any-map test f xs)
 
-none-of : {A : Type 0} (test : A → Bool) (d : A) (xs : List A) → ((at : ℕ) → at < length xs → test (get_or xs at d) ≡ false) → list_any test xs ≡ false
+none-of : {A : Type 0} (test : A → Bool) (d : A) (xs : List A) →
+    ((at : ℕ) → at < length xs → test (get_or xs at d) ≡ false) → list_any test xs ≡ false
 none-of test d [] none = refl
-none-of test d (x ∷ xs) none = ap (λ b. b || list_any test xs) (none 0 (omega arith)) ∙ none-of test d xs (λ at within. none (suc at) (omega arith))
+none-of test d (x ∷ xs) none = ap (λ b. b || list_any test xs) (none 0 (omega arith))
+    ∙ none-of test d xs (λ at within. none (suc at) (omega arith))
 
-one-of : {A : Type 0} (test : A → Bool) (d : A) (xs : List A) (at : ℕ) → at < length xs → test (get_or xs at d) ≡ true → list_any test xs ≡ true
+one-of : {A : Type 0} (test : A → Bool) (d : A) (xs : List A) (at : ℕ) → at < length xs → test (get_or xs at d) ≡ true →
+    list_any test xs ≡ true
 one-of test d [] at within is = absurd (omega arith)
 one-of test d (x ∷ xs) zero within is = or_left (test x) (list_any test xs) is
 one-of test d (x ∷ xs) (suc at) within is = or_right (test x) (list_any test xs) (one-of test d xs at (omega arith) is)
 
 turns-same : (content : Content) (start end : ℕ) (tags : List Tag) (marks : List Mark) (widget place : ℕ)
-    → has_tag_at (seen_by content start end tags marks widget) place ≡ list_any (tag_turns content start end widget place) tags
+    → has_tag_at (seen_by content start end tags marks widget) place
+    ≡ list_any (tag_turns content start end widget place) tags
 unfolding tag_turns
-turns-same content start end tags marks widget place = any-map (λ tag. begins_at place tag || ends_at place tag) (tag_seen content start end widget) tags
+turns-same content start end tags marks widget place =
+    any-map (λ tag. begins_at place tag || ends_at place tag) (tag_seen content start end widget) tags
 
-pub tag-stop : (content : Content) (start end : ℕ) (tags : List Tag) (marks : List Mark) (widget place to stop : ℕ) (next : List ℕ) → place < to → to ≤ end - start
+pub tag-stop : (content : Content) (start end : ℕ) (tags : List Tag) (marks : List Mark) (widget place to stop : ℕ)
+    (next : List ℕ) → place < to → to ≤ end - start
     → ((slot : ℕ) → slot ≡ slot → length (shown_flags slot content start end) ≡ end - start)
     → ((at : ℕ) → at < length tags → IsKnown content start end place next (slot_of_row widget (slots_of tags) at))
-    → ((at : ℕ) → at < length tags → place < next_change (shown_flags (slot_of_row widget (slots_of tags) at) content start end) place)
+    → ((at : ℕ) → at < length tags → place
+    < next_change (shown_flags (slot_of_row widget (slots_of tags) at) content start end) place)
     → IsNearest next widget (slots_of tags) (length tags) to stop
     → (place < stop) × IsNextStop (has_tag_at (seen_by content start end tags marks widget)) place to stop
 unfolding tag_turns
 tag-stop content start end tags marks widget place to stop next some within long known later nearest =
-    let change : ℕ → ℕ = λ at. next_change (shown_flags (slot_of_row widget (slots_of tags) at) content start end) place in
-    let slot-of : (at : ℕ) → at < length tags → slot_of_row widget (slots_of tags) at ≡ own_slot widget (get_or tags at no_tag).slot =
+    let change : ℕ → ℕ = λ at. next_change (shown_flags (slot_of_row widget (slots_of tags) at) content start end) place
+    in
+    let slot-of : (at : ℕ) → at < length tags → slot_of_row widget (slots_of tags) at
+    ≡ own_slot widget (get_or tags at no_tag).slot =
     λ at inside. ap (own_slot widget) (get_or-map (λ (tag : Tag). tag.slot) tags at no_tag 0 inside) in
     let above : place < stop = elim nearest.reached [
       | inl end-is ↦ omega arith
@@ -57,20 +68,56 @@ tag-stop content start end tags marks widget place to stop next some within long
             turns-same content start end tags marks widget k
             ∙ none-of (tag_turns content start end widget k) no_tag tags (λ at inside.
             ap (λ s. turns (shown_flags s content start end) k) (sym (slot-of at inside))
-            ∙ quiet-between (shown_flags (slot_of_row widget (slots_of tags) at) content start end) place k from (omega (arith, nearest.each at inside, known at inside)));
+            ∙ quiet-between (shown_flags (slot_of_row widget (slots_of tags) at) content start end) place k from
+            (omega (arith, nearest.each at inside, known at inside)));
         reached = elim (cases_lt stop to) [
           | inr end-is ↦ inl (omega (arith, nearest.within))
           | inl before ↦ elim nearest.reached [
             | inl end-is ↦ inl end-is
             | inr row ↦
-                let there : next_change (shown_flags (slot_of_row widget (slots_of tags) row.0) content start end) place ≡ stop = sym (known row.0 row.1) ∙ row.2 in
+                let there : next_change (shown_flags (slot_of_row widget (slots_of tags) row.0) content start end) place
+                ≡ stop = sym (known row.0 row.1) ∙ row.2 in
                 inr (turns-same content start end tags marks widget stop
                 ∙ one-of (tag_turns content start end widget stop) no_tag tags row.0 row.1
                 (ap (λ s. turns (shown_flags s content start end) stop) (sym (slot-of row.0 row.1))
                 ∙ ap (turns (shown_flags (slot_of_row widget (slots_of tags) row.0) content start end)) (sym there)
-                ∙ turns-there (shown_flags (slot_of_row widget (slots_of tags) row.0) content start end) place (later row.0 row.1)
+                ∙ turns-there (shown_flags (slot_of_row widget (slots_of tags) row.0) content start end) place
+                (later row.0 row.1)
                 (omega (arith, there, long (slot_of_row widget (slots_of tags) row.0) refl))))
           ]
         ];
       },
     )
+
+-- ---- where no tag turns
+
+module _ (content : Content) (start end : ℕ) (tags : List Tag) (marks : List Mark) (widget : ℕ) where
+  none-turns : (k : ℕ) → has_tag_at (seen_by content start end tags marks widget) k ≡ false →
+      (at : ℕ) → at < length tags
+      → turns (shown_flags (slot_of_row widget (slots_of tags) at) content start end) k ≡ false
+  unfolding tag_turns
+  none-turns k none at within =
+      let test = tag_turns content start end widget k in
+      ap (λ s. turns (shown_flags s content start end) k) (slot-there widget tags at within)
+      ∙ elim (cases_Bool (test (get_or tags at no_tag))) [
+        | inl on ↦ absurd (true≢false (sym (one-of test no_tag tags at within on)
+            ∙ sym (turns-same content start end tags marks widget k) ∙ none))
+        | inr off ↦ off
+      ]
+
+  -- the tags at a place are those before the next one where a tag may turn
+  pub before-on : (place next : ℕ) (slots : Slots) → place < next →
+      FailsBetween (has_tag_at (seen_by content start end tags marks widget)) place next →
+      AreAt content start end tags widget place slots → AreBefore content start end tags widget next slots
+  before-on place next slots above quiet are at within =
+      are at within
+      ∙ sym (quiet-upto (shown_flags (slot_of_row widget (slots_of tags) at) content start end) place next above
+      (λ k low high. none-turns k (quiet k low high) at within))
+
+  -- where none turns those before a place are those at it
+  pub at-still : (place : ℕ) (slots : Slots) → has_tag_at (seen_by content start end tags marks widget) place ≡ false →
+      AreBefore content start end tags widget place slots → AreAt content start end tags widget place slots
+  at-still place slots none are at within =
+      are at within
+      ∙ quiet-same (shown_flags (slot_of_row widget (slots_of tags) at) content start end) place
+      (none-turns place none at within)

@@ -1,6 +1,7 @@
--- What `dump` answers (text(n), "dump"): at each place the tags that end there, those that begin there, the marks, and the text up
--- to the next place where it is cut.
-use Rattle.std.specs.Prelude.{ℕ, zero, suc, ◌-◌, nat_le, nat_lt, Bool, not, ◌&&◌, ◌||◌, ◌==◌, List, [], ◌∷◌, ◌++◌, map, filter, length, take, drop, codes, if◌then◌else◌, slice_index_or}
+-- What `dump` answers (text(n), "dump"): at each place the tags that end there, those that begin there, the marks, and
+-- the text up to the next place where it is cut.
+use Rattle.std.specs.Prelude.{ℕ, zero, suc, ◌-◌, nat_le, nat_lt, Bool, not, ◌&&◌, ◌||◌, ◌==◌, List, [], ◌∷◌, ◌++◌, map}
+use Rattle.std.specs.Prelude.{filter, length, take, drop, codes, if◌then◌else◌, slice_index_or}
 use Rattle.std.specs.List.{flat_map, list_any, prefix_len}
 use Rattle.mark_table.specs.Order.{usable}
 use Rattle.mark_table.specs.SharedMarks.{Mark, names_of, numbers_of}
@@ -27,8 +28,8 @@ pub record Marked : Type 0 where
   pub name : List ℕ
   pub place : ℕ
 
--- What a widget sees: the characters of its view, the tags from lowest to highest, and the marks that it can use; those at one
--- place stand in their order.
+-- What a widget sees: the characters of its view, the tags from lowest to highest, and the marks that it can use; those
+-- at one place stand in their order.
 pub record Seen : Type 0 where
   pub text : List ℕ
   pub tags : List Tagged
@@ -57,7 +58,8 @@ is_cut seen place =
 
 -- the text from a place on up to the next cut, or up to a last place
 abbrev pub piece : Seen → ℕ → ℕ → List ℕ
-piece seen to place = take (suc (prefix_len (λ later. not (is_cut seen later)) (places (suc place) to))) (drop place seen.text)
+piece seen to place =
+    take (suc (prefix_len (λ later. not (is_cut seen later)) (places (suc place) to))) (drop place seen.text)
 
 -- ---- elements: what it is, its name or characters, and where
 
@@ -77,7 +79,8 @@ abbrev pub tagon_elements : Seen → ℕ → List (List ℕ)
 tagon_elements seen place = tag_elements (codes "tagon") (begins_at place) seen place
 
 abbrev pub mark_elements : Seen → ℕ → List (List ℕ)
-mark_elements seen place = flat_map (λ (mark : Marked). element (codes "mark") seen.text place mark.name) (filter (stands_at place) seen.marks)
+mark_elements seen place =
+    flat_map (λ (mark : Marked). element (codes "mark") seen.text place mark.name) (filter (stands_at place) seen.marks)
 
 -- the text that begins at a place, if it is cut there or the dump begins there
 abbrev pub text_elements : Seen → ℕ → ℕ → ℕ → List (List ℕ)
@@ -94,11 +97,13 @@ elements_at listed seen from to place =
 -- the end of the text has the tags that end there, and marks
 abbrev pub elements_at_end : Listed → Seen → ℕ → ℕ → List (List ℕ)
 elements_at_end listed seen from to =
-    if nat_le from to && to == length seen.text then if_listed listed.tags (tagoff_elements seen to) ++ if_listed listed.marks (mark_elements seen to) else []
+    if nat_le from to && to == length seen.text then if_listed listed.tags (tagoff_elements seen to)
+    ++ if_listed listed.marks (mark_elements seen to) else []
 
 -- those of each place from one to before another, and of the last one if it is the end of the text
 abbrev pub dump_elements : Listed → Seen → ℕ → ℕ → List (List ℕ)
-dump_elements listed seen from to = flat_map (elements_at listed seen from to) (places from to) ++ elements_at_end listed seen from to
+dump_elements listed seen from to =
+    flat_map (elements_at listed seen from to) (places from to) ++ elements_at_end listed seen from to
 
 -- ---- what a widget sees of a document
 
@@ -107,7 +112,8 @@ abbrev pub own_slot : ℕ → ℕ → ℕ
 own_slot widget slot = if slot == 0 then widget else slot
 
 abbrev pub tag_seen : Content → ℕ → ℕ → ℕ → Tag → Tagged
-tag_seen content start end widget tag = record { name = tag.name; ranges = tag_ranges (shown_flags (own_slot widget tag.slot) content start end) }
+tag_seen content start end widget tag =
+    record { name = tag.name; ranges = tag_ranges (shown_flags (own_slot widget tag.slot) content start end) }
 
 -- the name of a mark by its rank: the shared ones stand behind the widget's own two
 abbrev pub name_of_rank : List (List ℕ) → ℕ → List ℕ
@@ -123,11 +129,13 @@ abbrev pub seen_by : Content → ℕ → ℕ → List Tag → List Mark → ℕ 
 seen_by content start end tags marks widget = record {
   text = shown content start end;
   tags = map (tag_seen content start end widget) tags;
-  marks = map (mark_seen marks start) (usable (record { widget = record { 0 = widget }; start = start; end = end }) content.marks (numbers_of marks));
+  marks = map (mark_seen marks start) (usable (record { widget = record { 0 = widget }; start = start; end = end })
+      content.marks (numbers_of marks));
 }
 
 -- ---- a tag by the slots of the characters beside a place: it is listed where its slot is on on one side alone
 
 abbrev pub only_in : Slots → Slots → ℕ → List ℕ → List ℕ → ℕ → Tag → List (List ℕ)
 only_in on off widget key text place tag =
-    if_listed (set.contains on (own_slot widget tag.slot) && not (set.contains off (own_slot widget tag.slot))) (element key text place tag.name)
+    if_listed (set.contains on (own_slot widget tag.slot) && not (set.contains off (own_slot widget tag.slot)))
+    (element key text place tag.name)

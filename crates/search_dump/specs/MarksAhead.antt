@@ -1,5 +1,6 @@
 -- The marks that a widget can use, from a place on.
-use Rattle.std.specs.Prelude.{codes, ◌≡◌, ℕ, ◌+◌, ◌-◌, ◌*◌, ◌<◌, ◌≤◌, ◌⊎◌, ◌==◌, ◌&&◌, nat_le, min, Bool, true, false, List, [], ◌∷◌, Option, None, Some, MatchOption, slice_get, if◌then◌else◌}
+use Rattle.std.specs.Prelude.{codes, ◌≡◌, ℕ, ◌+◌, ◌-◌, ◌*◌, ◌<◌, ◌≤◌, ◌⊎◌, ◌==◌, ◌&&◌, nat_le, min, Bool, true, false}
+use Rattle.std.specs.Prelude.{List, [], ◌∷◌, Option, None, Some, MatchOption, slice_get, if◌then◌else◌}
 use Rattle.std.specs.FinMap as finite
 use Rattle.std.specs.List.{flat_map}
 use Rattle.std.specs.Option.{option_and_then, option_map}
@@ -15,7 +16,8 @@ use Rattle.search_dump.specs.declared.dumped_marks.Marked.{Marked}
 
 -- the marks that the widget whose `sel` has a slot can use in its view
 abbrev pub usable_by : Content → ℕ → ℕ → List Mark → ℕ → List Shown
-usable_by content start end marks widget = usable (record { widget = record { 0 = widget }; start = start; end = end }) content.marks (numbers_of marks)
+usable_by content start end marks widget =
+    usable (record { widget = record { 0 = widget }; start = start; end = end }) content.marks (numbers_of marks)
 
 -- one of some marks
 abbrev pub Has : List Shown → Shown → Type 0
@@ -31,24 +33,28 @@ abbrev pub own_place_in : ℕ → ℕ → Option Place → Option ℕ
 own_place_in start end place = option_map (λ (at : Place). min (at.offset - start) (end - start - 1)) place
 
 abbrev pub shared_place_in : ℕ → Option Place → Option ℕ
-shared_place_in start place = option_and_then (λ (at : Place). if nat_le start at.offset then Some (at.offset - start) else None) place
+shared_place_in start place =
+    option_and_then (λ (at : Place). if nat_le start at.offset then Some (at.offset - start) else None) place
 
 abbrev pub place_in : Content → ℕ → ℕ → List Mark → ℕ → WidgetMark → Option ℕ
 place_in content start end marks widget Insert = own_place_in start end (finite.get content.marks (2 * widget))
 place_in content start end marks widget Current = own_place_in start end (finite.get content.marks (2 * widget + 1))
-place_in content start end marks widget (Shared at) = option_and_then (λ number. shared_place_in start (finite.get content.marks number)) (slice_get (numbers_of marks) at)
+place_in content start end marks widget (Shared at) = option_and_then (λ number.
+    shared_place_in start (finite.get content.marks number)) (slice_get (numbers_of marks) at)
 
 -- the first of some marks at a place or behind it
 abbrev pub IsMarkFrom : List Shown → ℕ → Option Shown → Type 0
 IsMarkFrom marks place first =
     MatchOption first ((mark : Shown) → Has marks mark → mark.place < place)
-    (λ found. Has marks found × (place ≤ found.place) × ((mark : Shown) → Has marks mark → place ≤ mark.place → earlier mark found ≡ false))
+    (λ found. Has marks found × (place ≤ found.place)
+    × ((mark : Shown) → Has marks mark → place ≤ mark.place → earlier mark found ≡ false))
 
 -- the first behind another mark
 abbrev pub IsMarkBehind : List Shown → Shown → Option Shown → Type 0
 IsMarkBehind marks before first =
     MatchOption first ((mark : Shown) → Has marks mark → earlier before mark ≡ false)
-    (λ found. Has marks found × (earlier before found ≡ true) × ((mark : Shown) → Has marks mark → earlier before mark ≡ true → earlier mark found ≡ false))
+    (λ found. Has marks found × (earlier before found ≡ true)
+    × ((mark : Shown) → Has marks mark → earlier before mark ≡ true → earlier mark found ≡ false))
 
 -- what is listed of the marks at a place, and of those that stand before another one
 abbrev pub is_before : Option Shown → Shown → Bool
@@ -56,7 +62,8 @@ is_before None mark = true
 is_before (Some bound) mark = earlier mark bound
 
 abbrev pub passed : ℕ → (Shown → List (List ℕ)) → Option Shown → List Shown → List (List ℕ)
-passed place each next marks = flat_map (λ (mark : Shown). if_listed (mark.place == place && is_before next mark) (each mark)) marks
+passed place each next marks =
+    flat_map (λ (mark : Shown). if_listed (mark.place == place && is_before next mark) (each mark)) marks
 
 -- a mark as it is listed at a place
 abbrev pub mark_element : List ℕ → List (List ℕ) → ℕ → Shown → List (List ℕ)

@@ -1,5 +1,7 @@
--- What `search` answers (text(n), "search"): the places at which a match may begin in their order, and which of them are listed.
-use Rattle.std.specs.Prelude.{ℕ, ◌+◌, ◌-◌, nat_lt, nat_le, Bool, ◌&&◌, Option, None, Some, List, [], ◌∷◌, ◌++◌, map, filter, reverse, length, take, drop, bytes_eq, if◌then◌else◌}
+-- What `search` answers (text(n), "search"): the places at which a match may begin in their order, and which of them
+-- are listed.
+use Rattle.std.specs.Prelude.{ℕ, ◌+◌, ◌-◌, nat_lt, nat_le, Bool, ◌&&◌, Option, None, Some, List, [], ◌∷◌, ◌++◌, map}
+use Rattle.std.specs.Prelude.{filter, reverse, length, take, drop, bytes_eq, if◌then◌else◌}
 use Rattle.std.specs.List.{list_any, range_with_len}
 use Rattle.index_grammar.specs.declared.indices.Direction.{Direction}
 use Rattle.index_grammar.specs.declared.indices.Direction.TheVariants.{Forward, Back}
@@ -13,8 +15,8 @@ use Rattle.search_dump.specs.declared.searching.Wanted.TheVariants.{First, Apart
 abbrev pub places : ℕ → ℕ → List ℕ
 places from to = range_with_len from (to - from)
 
--- The places of a text of so many characters at which a match may begin, in the order of the search: from the index on, and
--- round the end of the text where no stop is given. Backwards it begins before the index.
+-- The places of a text of so many characters at which a match may begin, in the order of the search: from the index on,
+-- and round the end of the text where no stop is given. Backwards it begins before the index.
 abbrev pub candidates : Direction → ℕ → ℕ → Option ℕ → List ℕ
 candidates Forward len from None = places from len ++ places 0 from
 candidates Forward len from (Some stop) = places from stop
@@ -37,12 +39,14 @@ compared ignores_case text = if ignores_case then map simple_fold text else text
 
 -- the characters from a place on begin with the pattern, and those that match it end at a bound or before it
 abbrev pub matches_at : List ℕ → List ℕ → ℕ → ℕ → Bool
-matches_at pattern text end place = nat_le (place + length pattern) end && bytes_eq (take (length pattern) (drop place text)) pattern
+matches_at pattern text end place =
+    nat_le (place + length pattern) end && bytes_eq (take (length pattern) (drop place text)) pattern
 
 -- the places of the matches in the order of the search
 abbrev pub matches : SearchSwitches → List ℕ → List ℕ → ℕ → Option ℕ → List ℕ
 matches search pattern text from stop =
-    filter (matches_at (compared search.ignores_case pattern) (compared search.ignores_case text) (bound search (length text) from stop))
+    filter (matches_at (compared search.ignores_case pattern) (compared search.ignores_case text)
+    (bound search (length text) from stop))
     (candidates search.direction (length text) from stop)
 
 -- whether matches of so many characters at two places share a character
@@ -62,7 +66,8 @@ wanted_of All len found = found
 
 -- the places of the matches that are listed
 abbrev pub found_places : SearchSwitches → List ℕ → List ℕ → ℕ → Option ℕ → List ℕ
-found_places search pattern text from stop = wanted_of search.wanted (length pattern) (matches search pattern text from stop)
+found_places search pattern text from stop =
+    wanted_of search.wanted (length pattern) (matches search pattern text from stop)
 
 abbrev pub search_result : SearchSwitches → List ℕ → List ℕ → ℕ → Option ℕ → List (List ℕ)
 search_result search pattern text from stop = map (position_text text) (found_places search pattern text from stop)

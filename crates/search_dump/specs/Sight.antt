@@ -1,33 +1,46 @@
--- What a view shows of a store, whose content a function tells, and what a widget sees there by the names that it knows.
+-- What a view shows of a store, whose content a function tells, and what a widget sees there by the names that it
+-- knows.
 use Rattle.std.specs.Prelude.{ℕ, List, Option}
 use Rattle.std.specs.Option.{option_map}
 use Rattle.index_grammar.specs.declared.names.Names.{Names}
 use Rattle.mark_table.specs.declared.order.Shown.{Shown}
-use Rattle.text_model.specs.Content.{Content}
+use Rattle.text_model.specs.Content.{Content, Slots}
+use Rattle.text_model.specs.declared.store.TextStore.{Ghosts}
 use Rattle.text_index.specs.Views.{shown, IsView}
 use Rattle.text_index.specs.declared.views.View.{View}
+use Rattle.search_dump.specs.Ahead.{AreAt, AreBefore}
 use Rattle.search_dump.specs.Dump.{Seen, seen_by}
 use Rattle.search_dump.specs.MarksAhead.{shown_of, usable_by, IsMarkFrom}
 use Rattle.search_dump.specs.declared.dumped_marks.Marked.{Marked}
 
 -- it shows whole lines
-abbrev pub ShowsLines : {S P : Type 0} → (S → Content) → View S P → Type 0
+abbrev pub ShowsLines : {S P : Type 0} {g : Ghosts S P} → (S → Content) → View S P g → Type 0
 ShowsLines content view = IsView (content view.store.now) view.s view.e
 
 -- its characters
-abbrev pub text_in : {S P : Type 0} → (S → Content) → View S P → List ℕ
+abbrev pub text_in : {S P : Type 0} {g : Ghosts S P} → (S → Content) → View S P g → List ℕ
 text_in content view = shown (content view.store.now) view.s view.e
 
 -- what the widget sees in it
-abbrev pub seen_in : {S P : Type 0} → (S → Content) → View S P → Names → Seen
+abbrev pub seen_in : {S P : Type 0} {g : Ghosts S P} → (S → Content) → View S P g → Names → Seen
 seen_in content view names =
     seen_by (content view.store.now) view.s view.e names.tags.now.tags names.marks.now.marks names.widget.0
 
 -- the marks that the widget can use
-abbrev pub marks_in : {S P : Type 0} → (S → Content) → View S P → Names → List Shown
+abbrev pub marks_in : {S P : Type 0} {g : Ghosts S P} → (S → Content) → View S P g → Names → List Shown
 marks_in content view names = usable_by (content view.store.now) view.s view.e names.marks.now.marks names.widget.0
 
 -- the first of these marks at an offset of the text or behind it, if there is one
-abbrev pub IsFirstMark : {S P : Type 0} → (S → Content) → View S P → Names → ℕ → Option Marked → Type 0
+abbrev pub IsFirstMark : {S P : Type 0} {g : Ghosts S P} → (S → Content) → View S P g → Names → ℕ → Option Marked →
+    Type 0
 IsFirstMark content view names offset first =
     IsMarkFrom (marks_in content view names) offset (option_map (shown_of view.s) first)
+
+-- a set of slots tells which tags of the table are on the character before a place, and on the one at it
+abbrev pub AreTagsBefore : {S P : Type 0} {g : Ghosts S P} → (S → Content) → View S P g → Names → ℕ → Slots → Type 0
+AreTagsBefore content view names place slots =
+    AreBefore (content view.store.now) view.s view.e names.tags.now.tags names.widget.0 place slots
+
+abbrev pub AreTagsAt : {S P : Type 0} {g : Ghosts S P} → (S → Content) → View S P g → Names → ℕ → Slots → Type 0
+AreTagsAt content view names place slots =
+    AreAt (content view.store.now) view.s view.e names.tags.now.tags names.widget.0 place slots

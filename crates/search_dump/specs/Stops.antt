@@ -1,7 +1,8 @@
 -- Where a dump stops: from there to the next stop nothing is listed besides text.
 use Rattle.std.specs.Prelude.{◌≡◌, ℕ, ◌<◌, ◌≤◌, ◌⊎◌, ◌||◌, Bool, true, false, Option, None, Some, List, ◌++◌, min}
 use Rattle.std.specs.List.{list_any}
-use Rattle.search_dump.specs.Dump.{Seen, begins_at, ends_at, if_listed, is_cut, stands_at, tagoff_elements, tagon_elements}
+use Rattle.search_dump.specs.Dump.{Seen, begins_at, ends_at, if_listed, is_cut, stands_at, tagoff_elements}
+use Rattle.search_dump.specs.Dump.{tagon_elements}
 use Rattle.search_dump.specs.declared.dumping.Listed.{Listed}
 use Rattle.search_dump.specs.declared.dumped_marks.Marked.{Marked}
 
@@ -34,7 +35,8 @@ stop_at_mark to (Some mark) = min to mark.place
 
 -- what is listed of the tags at a place
 abbrev pub tags_at : Listed → Seen → ℕ → List (List ℕ)
-tags_at listed seen place = if_listed listed.tags (tagoff_elements seen place) ++ if_listed listed.tags (tagon_elements seen place)
+tags_at listed seen place =
+    if_listed listed.tags (tagoff_elements seen place) ++ if_listed listed.tags (tagon_elements seen place)
 
 -- the next stop of a dump behind a place
 pub record IsStop (listed : Listed) (seen : Seen) (place to next : ℕ) : Type 0 where

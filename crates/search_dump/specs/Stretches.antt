@@ -1,5 +1,6 @@
 -- A stretch of places at which a match may begin, and what is left of it behind a match that is listed.
-use Rattle.std.specs.Prelude.{◌≡◌, ◌≢◌, ℕ, ◌+◌, ◌-◌, ◌<◌, ◌≤◌, max, min, true, List, [], ◌∷◌, Option, None, Some, filter, find, reverse, length, take, drop, unwrap_or}
+use Rattle.std.specs.Prelude.{◌≡◌, ◌≢◌, ℕ, ◌+◌, ◌-◌, ◌<◌, ◌≤◌, max, min, true, List, [], ◌∷◌, Option, None, Some}
+use Rattle.std.specs.Prelude.{filter, find, reverse, length, take, drop, unwrap_or}
 use Rattle.index_grammar.specs.declared.indices.Direction.{Direction}
 use Rattle.index_grammar.specs.declared.indices.Direction.TheVariants.{Forward, Back}
 use Rattle.search_dump.specs.declared.matching.Stretch.{Stretch}
@@ -15,7 +16,8 @@ ordered Back xs = reverse xs
 
 -- the places of a stretch at which a text has a pattern, in the order of a search
 abbrev pub matches_in : Direction → List ℕ → List ℕ → Stretch → List ℕ
-matches_in direction pattern text stretch = filter (matches_at pattern text stretch.end) (ordered direction (places stretch.low stretch.high))
+matches_in direction pattern text stretch =
+    filter (matches_at pattern text stretch.end) (ordered direction (places stretch.low stretch.high))
 
 -- the first so many places of a stretch in the order of a search, and the others
 abbrev pub front : Direction → ℕ → Stretch → Stretch
@@ -28,7 +30,8 @@ behind_front Back count stretch = record stretch { high = stretch.high - count }
 
 -- the first match of a stretch
 abbrev pub nearest : Direction → List ℕ → List ℕ → Stretch → Option ℕ
-nearest direction pattern text stretch = find (matches_at pattern text stretch.end) (ordered direction (places stretch.low stretch.high))
+nearest direction pattern text stretch =
+    find (matches_at pattern text stretch.end) (ordered direction (places stretch.low stretch.high))
 
 -- a pattern goes on like itself at a distance, and at no lesser one
 pub record IsPeriod (pattern : List ℕ) (distance : ℕ) (first last : List ℕ) : Type 0 where
@@ -69,7 +72,11 @@ first_high Back len from stop = from
 
 abbrev pub first_stretch : SearchSwitches → ℕ → ℕ → Option ℕ → Stretch
 first_stretch search len from stop =
-    record { low = first_low search.direction from stop; high = first_high search.direction len from stop; end = bound search len from stop }
+    record {
+      low = first_low search.direction from stop;
+      high = first_high search.direction len from stop;
+      end = bound search len from stop;
+    }
 
 -- Where it goes on round the end of the text.
 abbrev pub second_low : Direction → ℕ → ℕ
@@ -81,10 +88,11 @@ second_high Forward len from = from
 second_high Back len from = len
 
 abbrev pub second_stretch : Direction → ℕ → ℕ → Stretch
-second_stretch direction len from = record { low = second_low direction from; high = second_high direction len from; end = len }
+second_stretch direction len from =
+    record { low = second_low direction from; high = second_high direction len from; end = len }
 
--- What is left of a stretch behind a match of so many characters at a place: those that share no character with it, where no
--- two may, and else all others.
+-- What is left of a stretch behind a match of so many characters at a place: those that share no character with it,
+-- where no two may, and else all others.
 abbrev pub left_behind : Wanted → Direction → Stretch → ℕ → ℕ → Stretch
 left_behind First Forward stretch place len = record stretch { low = max stretch.low (place + 1) }
 left_behind First Back stretch place len = record stretch { high = min stretch.high place }
@@ -93,7 +101,8 @@ left_behind All Back stretch place len = record stretch { high = min stretch.hig
 left_behind Apart Forward stretch place len = record stretch { low = max stretch.low (place + max len 1) }
 left_behind Apart Back stretch place len = record stretch { high = min stretch.high place; end = min stretch.end place }
 
--- What is left of the stretch round the end of the text, where the first match listed is one of so many characters at a place.
+-- What is left of the stretch round the end of the text, where the first match listed is one of so many characters at a
+-- place.
 abbrev pub left_round : Wanted → Direction → Stretch → ℕ → ℕ → Stretch
 left_round First direction stretch place len = stretch
 left_round All direction stretch place len = stretch
@@ -125,10 +134,13 @@ next_of All next = next
 abbrev pub listed_from : Wanted → Direction → List ℕ → List ℕ → Stretch → Option ℕ → List ℕ
 listed_from wanted direction pattern text stretch None = []
 listed_from wanted direction pattern text stretch (Some place) =
-    place ∷ rest_of wanted (length pattern) (matches_in direction pattern text (left_behind wanted direction stretch place (length pattern)))
+    place ∷ rest_of wanted (length pattern) (matches_in direction pattern text
+    (left_behind wanted direction stretch place (length pattern)))
 
 -- what is listed of the stretch round the end of the text, behind the first match listed before
 abbrev pub listed_round : Wanted → Direction → List ℕ → List ℕ → Stretch → Option ℕ → List ℕ
-listed_round wanted direction pattern text stretch None = wanted_of wanted (length pattern) (matches_in direction pattern text stretch)
+listed_round wanted direction pattern text stretch None =
+    wanted_of wanted (length pattern) (matches_in direction pattern text stretch)
 listed_round wanted direction pattern text stretch (Some place) =
-    rest_of wanted (length pattern) (matches_in direction pattern text (left_round wanted direction stretch place (length pattern)))
+    rest_of wanted (length pattern) (matches_in direction pattern text
+    (left_round wanted direction stretch place (length pattern)))

@@ -1,4 +1,5 @@
-ghost use Rattle.std.specs.Prelude.{◌≡◌, ◌≤◌, ◌+◌, ◌++◌, ◌∷◌, [], decimal, map, string_bytes, encode_utf8_all, IfOk, IsAscii, OnOk};
+ghost use Rattle.std.specs.Prelude.{◌≡◌, ◌≤◌, ◌+◌, ◌++◌, ◌∷◌, [], decimal, map, string_bytes, encode_utf8_all, IfOk};
+ghost use Rattle.std.specs.Prelude.{IsAscii, OnOk};
 ghost use Rattle.tcl_words.specs.ListText.{list_text};
 ghost use Rattle.text_index.specs.Views.{shown, IsView};
 ghost use Rattle.search_dump.specs.Counts.{counted, difference, distance, number_at};
@@ -126,9 +127,9 @@ fn list_counts<S: TextStore>(
     Ok(list)
 }
 
-/// How much further one place of the view is than another (text(n), "count"): a number for each of the options, and that of
-/// the characters where there is none. The number is below 0 where the second place stands before the first. As the text of
-/// a list.
+/// How much further one place of the view is than another (text(n), "count"): a number for each of the options, and
+/// that of the characters where there is none. The number is below 0 where the second place stands before the first. As
+/// the text of a list.
 pub fn count<S: TextStore>(
     alloc: Global,
     view: &View<'_, S>,

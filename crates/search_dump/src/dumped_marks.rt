@@ -73,7 +73,8 @@ fn place_of<S: TextStore>(view: &View<'_, S>, names: &Names<'_>, mark: WidgetMar
     requires view { ShowsLines S.content view.now }
     requires widget { names.now.widget.0 < MOST_WIDGETS }
     ensures { result
-        ≡ place_in (S.content view.now.store.now) view.now.s view.now.e names.now.marks.now.marks names.now.widget.0 mark }
+        ≡ place_in (S.content view.now.store.now) view.now.s view.now.e names.now.marks.now.marks names.now.widget.0
+        mark }
 {
     match mark {
         WidgetMark::Insert => own_place(view, MarkNo(2 * names.widget.0)),

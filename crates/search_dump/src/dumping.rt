@@ -1,4 +1,6 @@
-ghost use Rattle.std.specs.Prelude.{◌≡◌, ◌≤◌, ◌<◌, ◌+◌, ◌++◌, ◌&&◌, ◌==◌, [], chars, length, not, slice_index_or, string_bytes, encode_utf8_all, codes, slice_range, IfOk, IfSome, IsTrue, OnOk};
+ghost use Rattle.std.specs.Prelude.{◌≡◌, ◌≤◌, ◌<◌, ◌+◌, ◌++◌, ◌&&◌, ◌==◌, [], chars, length, not, slice_index_or};
+ghost use Rattle.std.specs.Prelude.{string_bytes, encode_utf8_all, codes, slice_range, IfOk, IfSome, IsTrue, OnOk};
+ghost use Rattle.std.specs.Prelude.{false, true};
 ghost use Rattle.std.specs.FinSet as set;
 ghost use Rattle.std.specs.List.{flat_map};
 ghost use Rattle.mark_table.specs.SharedMarks as marks;
@@ -10,12 +12,15 @@ ghost use Rattle.text_model.specs.Lines.{line_of, line_start, lines};
 ghost use Rattle.text_index.specs.Values.{column_of};
 ghost use Rattle.text_index.specs.Views.{IsView};
 ghost use Rattle.search_dump.specs.Ahead.{AreAhead};
-ghost use Rattle.search_dump.specs.Stops.{has_tag_at, stop_at_mark, stops_at_marks, stops_at_tags, tags_at, IsNextStop, IsStop};
+ghost use Rattle.search_dump.specs.Stops.{has_tag_at, stop_at_mark, stops_at_marks, stops_at_tags, tags_at, IsNextStop};
+ghost use Rattle.search_dump.specs.Stops.{IsStop};
 ghost use Rattle.search_dump.specs.Matches.{places};
 ghost use Rattle.search_dump.specs.MarksAhead.{mark_element, shown_of, Has};
-ghost use Rattle.search_dump.specs.Dump.{dump_elements, elements_at, element, if_listed, mark_elements, only_in, seen_by, tagoff_elements, tagon_elements};
+ghost use Rattle.search_dump.specs.Dump.{dump_elements, elements_at, element, if_listed, mark_elements, only_in};
+ghost use Rattle.search_dump.specs.Dump.{seen_by, tagoff_elements, tagon_elements};
 ghost use Rattle.tcl_words.specs.ListGrowth.{Goes};
 ghost use Rattle.search_dump.specs.Sight.{seen_in, marks_in, text_in, IsFirstMark, ShowsLines};
+ghost use Rattle.search_dump.specs.Sight.{AreTagsAt, AreTagsBefore};
 
 use crate::dumped_marks::{Marked, mark_from};
 use crate::listing::push_place;
@@ -99,6 +104,13 @@ fn is_only_in(on: TagSet, off: TagSet, slot: TagSlot) -> bool
     on.has(slot) && !off.has(slot)
 }
 
+/// Whether two sets have the same slots.
+fn are_same(on: TagSet, off: TagSet) -> bool
+    ensures { result ≡ true → on ≡ off }
+{
+    on.words() == off.words()
+}
+
 /// Appends the tags at a place that stand in one set and not in another, from the lowest.
 fn push_tags<S: TextStore>(
     list: &mut String,
@@ -116,6 +128,9 @@ fn push_tags<S: TextStore>(
         (only_in on off names.now.widget.0 (chars key.now) (text_in S.content view.now) place)
         names.now.tags.now.tags)) }
 {
+    if are_same(on, off) {
+        return Ok(());
+    }
     for at in 0..names.tags.len() {
         let slot = own_slot(names, at);
         push_tag(list, view, names, key, place, at, is_only_in(on, off, slot))?;
@@ -123,24 +138,28 @@ fn push_tags<S: TextStore>(
     Ok(())
 }
 
-/// Appends the tags that end at a place, and those that begin there.
+/// Appends the tags that end at a place, and those that begin there, by those of the character before it, and answers
+/// those of the character at it.
 fn push_tags_at<S: TextStore>(
     list: &mut String,
     view: &View<'_, S>,
     names: &Names<'_>,
     place: usize,
-) -> Result<(), AllocError>
+    before: TagSet,
+) -> Result<TagSet, AllocError>
     requires view { ShowsLines S.content view.now }
     requires widget { names.now.widget.0 < MOST_WIDGETS }
     requires within { view.now.s + place ≤ view.now.e }
-    ensures { OnOk result (Goes (string_bytes list.old) (string_bytes list.new)
+    requires before { AreTagsBefore S.content view.now names.now place before }
+    ensures goes { OnOk result (Goes (string_bytes list.old) (string_bytes list.new)
         (tagoff_elements (seen_in S.content view.now names.now) place
         ++ tagon_elements (seen_in S.content view.now names.now) place)) }
+    ensures behind { IfOk result (λ behind. AreTagsAt S.content view.now names.now place behind) }
 {
-    let before = tags_before(view, place);
     let behind = tags_behind(view, place);
     push_tags(list, view, names, "tagoff", place, before, behind)?;
-    push_tags(list, view, names, "tagon", place, behind, before)
+    push_tags(list, view, names, "tagon", place, behind, before)?;
+    Ok(behind)
 }
 
 /// Appends a mark that stands at a place, if it is listed.
@@ -193,27 +212,39 @@ fn push_marks_at<S: TextStore>(
     Ok(None)
 }
 
-/// Appends the tags that end at a place, and those that begin there, if tags are listed.
+/// Appends the tags that end at a place, and those that begin there, if tags are listed and one of them may do so, and
+/// answers those of the character at the place by those of the one before.
 fn push_listed_tags<S: TextStore>(
     list: &mut String,
     view: &View<'_, S>,
     names: &Names<'_>,
     listed: Listed,
     place: usize,
-) -> Result<(), AllocError>
+    before: TagSet,
+    may_change: bool,
+) -> Result<TagSet, AllocError>
     requires view { ShowsLines S.content view.now }
     requires widget { names.now.widget.0 < MOST_WIDGETS }
     requires within { view.now.s + place ≤ view.now.e }
-    ensures { OnOk result (Goes (string_bytes list.old) (string_bytes list.new)
+    requires before { IsTrue listed.tags → AreTagsBefore S.content view.now names.now place before }
+    requires still { may_change ≡ false → IsTrue listed.tags
+        → has_tag_at (seen_in S.content view.now names.now) place ≡ false }
+    ensures goes { OnOk result (Goes (string_bytes list.old) (string_bytes list.new)
         (tags_at listed (seen_in S.content view.now names.now) place)) }
+    ensures behind { IfOk result (λ behind. IsTrue listed.tags →
+        AreTagsAt S.content view.now names.now place behind) }
 {
     if !listed.tags {
-        return Ok(());
+        return Ok(before);
     }
-    push_tags_at(list, view, names, place)
+    if !may_change {
+        return Ok(before);
+    }
+    push_tags_at(list, view, names, place, before)
 }
 
-/// Appends the marks at a place, if marks are listed, and answers the first mark behind the place, if a dump stops at marks.
+/// Appends the marks at a place, if marks are listed, and answers the first mark behind the place, if a dump stops at
+/// marks.
 fn push_listed_marks<S: TextStore>(
     list: &mut String,
     view: &View<'_, S>,
@@ -270,11 +301,11 @@ fn next_line<S: TextStore>(view: &View<'_, S>, place: usize) -> usize
     ensures bound { line_of (text_in S.content view.now) place + 1 ≤ lines (text_in S.content view.now) }
 {
     let _end = view.e;
-    view.line_start(view.line_of(place) + 1)
+    view.behind_at(place)
 }
 
-/// The next place behind one at which a tag begins or ends, or another place, if that stands before it or a dump doesn't
-/// stop at tags.
+/// The next place behind one at which a tag begins or ends, or another place, if that stands before it or a dump
+/// doesn't stop at tags.
 fn stop_at_tag<S: TextStore>(
     changes: &mut TagChanges,
     view: &View<'_, S>,
@@ -327,6 +358,13 @@ fn stop_at_line<S: TextStore>(view: &View<'_, S>, listed: Listed, place: usize, 
     to.min(next_line(view, place))
 }
 
+/// Where a dump stops, and whether a tag may begin or end there.
+#[derive(Clone, Copy)]
+struct Stop {
+    place: usize,
+    may_change: bool,
+}
+
 /// The next stop of a dump behind a place, or another place, if that stands before it.
 fn next_stop<S: TextStore>(
     changes: &mut TagChanges,
@@ -336,7 +374,7 @@ fn next_stop<S: TextStore>(
     mark: Option<Marked>,
     place: usize,
     to: usize,
-) -> usize
+) -> Stop
     requires view { ShowsLines S.content view.now }
     requires widget { names.now.widget.0 < MOST_WIDGETS }
     requires some { place < to }
@@ -345,16 +383,66 @@ fn next_stop<S: TextStore>(
     requires mark { IsTrue (stops_at_marks listed) →
         IsFirstMark S.content view.now names.now (view.now.s + place + 1) mark }
     requires behind { IfSome mark (λ next. place < next.place) }
-    ensures ahead { AreAhead (S.content view.now.store.now) view.now.s view.now.e result changes.new.next }
+    ensures ahead { AreAhead (S.content view.now.store.now) view.now.s view.now.e result.place changes.new.next }
     ensures mark { IsTrue (stops_at_marks listed) →
-        IsFirstMark S.content view.now names.now (view.now.s + result) mark }
-    ensures stop { IsStop listed (seen_in S.content view.now names.now) place to result }
+        IsFirstMark S.content view.now names.now (view.now.s + result.place) mark }
+    ensures stop { IsStop listed (seen_in S.content view.now names.now) place to result.place }
+    ensures still { result.may_change ≡ false → IsTrue listed.tags
+        → has_tag_at (seen_in S.content view.now names.now) result.place ≡ false }
 {
     let tag = stop_at_tag(changes, view, names, listed, place, to);
-    stop_at_line(view, listed, place, stop_at_mark(mark, tag))
+    let next = stop_at_line(view, listed, place, stop_at_mark(mark, tag));
+    Stop {
+        place: next,
+        may_change: next == tag,
+    }
 }
 
-/// Appends the elements of the places from one to before another, and answers the first mark that isn't passed.
+/// The first mark at a place or behind it, if a dump stops at marks.
+fn listed_mark<S: TextStore>(
+    view: &View<'_, S>,
+    names: &Names<'_>,
+    listed: Listed,
+    place: usize,
+) -> Option<Marked>
+    requires view { ShowsLines S.content view.now }
+    requires widget { names.now.widget.0 < MOST_WIDGETS }
+    requires within { view.now.s + place ≤ view.now.e }
+    ensures { IsTrue (stops_at_marks listed) →
+        IsFirstMark S.content view.now names.now (view.now.s + place) result }
+{
+    if !listed.stops_at_marks() {
+        return None;
+    }
+    mark_from(view, names, place)
+}
+
+/// The tags of the character before a place, if tags are listed.
+fn listed_before<S: TextStore>(
+    view: &View<'_, S>,
+    names: &Names<'_>,
+    listed: Listed,
+    place: usize,
+) -> TagSet
+    requires view { ShowsLines S.content view.now }
+    requires within { view.now.s + place ≤ view.now.e }
+    ensures { IsTrue listed.tags → AreTagsBefore S.content view.now names.now place result }
+{
+    let _widget = names.widget;
+    if !listed.tags {
+        return TagSet::empty();
+    }
+    tags_before(view, place)
+}
+
+/// What a dump knows at a place: the first mark that isn't passed, and the tags of the character before.
+#[derive(Clone, Copy)]
+struct Reached {
+    mark: Option<Marked>,
+    before: TagSet,
+}
+
+/// Appends the elements of the places from one to before another, and answers what is known there.
 fn push_elements<S: TextStore>(
     list: &mut String,
     view: &View<'_, S>,
@@ -362,48 +450,55 @@ fn push_elements<S: TextStore>(
     listed: Listed,
     from: usize,
     to: usize,
-) -> Result<Option<Marked>, AllocError>
+) -> Result<Reached, AllocError>
     requires view { ShowsLines S.content view.now }
     requires widget { names.now.widget.0 < MOST_WIDGETS }
     requires ordered { from ≤ to }
     requires within { view.now.s + to ≤ view.now.e }
     ensures goes { OnOk result (Goes (string_bytes list.old) (string_bytes list.new)
         (flat_map (elements_at listed (seen_in S.content view.now names.now) from to) (places from to))) }
-    ensures mark { IfOk result (λ mark. IsTrue (stops_at_marks listed) →
-        IsFirstMark S.content view.now names.now (view.now.s + to) mark) }
+    ensures mark { IfOk result (λ reached. IsTrue (stops_at_marks listed) →
+        IsFirstMark S.content view.now names.now (view.now.s + to) reached.mark) }
+    ensures before { IfOk result (λ reached. IsTrue listed.tags →
+        AreTagsBefore S.content view.now names.now to reached.before) }
 {
     let mut changes = TagChanges::new(from);
-    let mut mark = mark_from(view, names, from);
+    let mut mark = listed_mark(view, names, listed, from);
+    let mut tags = listed_before(view, names, listed, from);
+    let mut may_change = true;
     let mut place = from;
     while place < to {
-        push_listed_tags(list, view, names, listed, place)?;
+        tags = push_listed_tags(list, view, names, listed, place, tags, may_change)?;
         mark = push_listed_marks(list, view, names, listed, place, mark)?;
         let next = next_stop(&mut changes, view, names, listed, mark, place, to);
-        push_listed_text(list, view, listed, place, next)?;
-        place = next;
+        push_listed_text(list, view, listed, place, next.place)?;
+        may_change = next.may_change;
+        place = next.place;
     }
-    Ok(mark)
+    Ok(Reached { mark, before: tags })
 }
 
-/// Appends what is listed at the end of the view, where the first mark there may be given.
+/// Appends what is listed at the end of the view, by what is known there.
 fn push_end<S: TextStore>(
     list: &mut String,
     view: &View<'_, S>,
     names: &Names<'_>,
     listed: Listed,
     end: usize,
-    mark: Option<Marked>,
+    reached: Reached,
 ) -> Result<(), AllocError>
     requires view { ShowsLines S.content view.now }
     requires widget { names.now.widget.0 < MOST_WIDGETS }
     requires end { end ≡ length (text_in S.content view.now) }
-    requires mark { IsTrue (stops_at_marks listed) → IsFirstMark S.content view.now names.now (view.now.s + end) mark }
+    requires mark { IsTrue (stops_at_marks listed) →
+        IsFirstMark S.content view.now names.now (view.now.s + end) reached.mark }
+    requires before { IsTrue listed.tags → AreTagsBefore S.content view.now names.now end reached.before }
     ensures { OnOk result (Goes (string_bytes list.old) (string_bytes list.new)
         (if_listed listed.tags (tagoff_elements (seen_in S.content view.now names.now) end)
         ++ if_listed listed.marks (mark_elements (seen_in S.content view.now names.now) end))) }
 {
-    push_listed_tags(list, view, names, listed, end)?;
-    push_listed_marks(list, view, names, listed, end, mark)?;
+    push_listed_tags(list, view, names, listed, end, reached.before, true)?;
+    push_listed_marks(list, view, names, listed, end, reached.mark)?;
     Ok(())
 }
 
@@ -426,16 +521,17 @@ fn push_dump<S: TextStore>(
     if to < from {
         return Ok(());
     }
-    let mark = push_elements(list, view, names, listed, from, to)?;
+    let reached = push_elements(list, view, names, listed, from, to)?;
     if to != view.len() {
         return Ok(());
     }
-    push_end(list, view, names, listed, to, mark)
+    push_end(list, view, names, listed, to, reached)
 }
 
-/// What stands in the view from one place to before another (text(n), "dump"), as the text of a list: at each place the tags that
-/// end there and those that begin there, from the lowest, the marks, and the text up to where the next line begins, a mark stands
-/// or a tag begins or ends. Where the second place is the end of the view, the tags that end there and its marks come last.
+/// What stands in the view from one place to before another (text(n), "dump"), as the text of a list: at each place the
+/// tags that end there and those that begin there, from the lowest, the marks, and the text up to where the next line
+/// begins, a mark stands or a tag begins or ends. Where the second place is the end of the view, the tags that end
+/// there and its marks come last.
 pub fn dump<S: TextStore>(
     alloc: Global,
     view: &View<'_, S>,
@@ -449,7 +545,8 @@ pub fn dump<S: TextStore>(
     requires from { view.now.s + from ≤ view.now.e }
     requires to { view.now.s + to ≤ view.now.e }
     ensures { IfOk result (λ answer. string_bytes answer ≡ encode_utf8_all (list_text (dump_elements listed
-        (seen_by (S.content view.now.store.now) view.now.s view.now.e names.now.tags.now.tags names.now.marks.now.marks names.now.widget.0) from to))) }
+        (seen_by (S.content view.now.store.now) view.now.s view.now.e names.now.tags.now.tags names.now.marks.now.marks
+        names.now.widget.0) from to))) }
 {
     let mut list = String::new(alloc);
     push_dump(&mut list, view, names, listed, from, to)?;

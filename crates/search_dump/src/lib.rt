@@ -1,7 +1,9 @@
-//! What a view is asked for beyond its places: `count`, `dump` and `search` (text(n)), each answered as the text of a list.
+//! What a view is asked for beyond its places: `count`, `dump` and `search` (text(n)), each answered as the text of a
+//! list.
 //!
-//! A search reads the text in chunks, which grow with the distance, and looks for a match that stands beside another one by the
-//! period of the pattern. A dump goes from one stop to the next: where a tag begins or ends, a mark stands or a line begins.
+//! A search reads the text in chunks, which grow with the distance, and looks for a match that stands beside another
+//! one by the period of the pattern. A dump goes from one stop to the next: where a tag begins or ends, a mark stands
+//! or a line begins.
 #![tactic(auto)]
 
 mod counting;

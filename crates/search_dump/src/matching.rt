@@ -1,4 +1,5 @@
-ghost use Rattle.std.specs.Prelude.{◌≡◌, ◌≤◌, ◌<◌, ◌+◌, ◌-◌, ◌&&◌, chars, length, max, min, nat_le, nat_lt, string_bytes, slice_range, IfOk, IsTrue};
+ghost use Rattle.std.specs.Prelude.{◌≡◌, ◌≤◌, ◌<◌, ◌+◌, ◌-◌, ◌&&◌, chars, length, max, min, nat_le, nat_lt};
+ghost use Rattle.std.specs.Prelude.{string_bytes, slice_range, IfOk, IsTrue};
 ghost use Rattle.search_dump.specs.Matches.{compared};
 ghost use Rattle.search_dump.specs.Stretches.{behind_front, beside, front, HasRoom, IsBehind, IsPeriod};
 ghost use Rattle.search_dump.specs.Searched.{nearest_in, HasMatchIn};
@@ -9,8 +10,8 @@ use std::alloc::AllocError;
 use text_index::{Direction, View};
 use text_model::TextStore;
 
-/// At how many places a match may begin in the text that is read at first, and in the longest that is read at once, where the
-/// pattern isn't longer.
+/// At how many places a match may begin in the text that is read at first, and in the longest that is read at once,
+/// where the pattern isn't longer.
 const FIRST_READ: usize = 64;
 
 const LONGEST_READ: usize = 8192;
@@ -237,8 +238,9 @@ fn goes_on<S: TextStore>(
     }
 }
 
-/// The match of a stretch that comes first in a direction, where one stands at the place that the stretch begins behind. It
-/// is looked for at the pattern's period first, so that a pattern that repeats itself isn't compared anew at each place.
+/// The match of a stretch that comes first in a direction, where one stands at the place that the stretch begins
+/// behind. It is looked for at the pattern's period first, so that a pattern that repeats itself isn't compared anew at
+/// each place.
 pub fn match_beside<S: TextStore>(
     view: &View<'_, S>,
     pattern: &Pattern<'_>,

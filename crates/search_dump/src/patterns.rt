@@ -1,6 +1,7 @@
 ghost use Rattle.std.specs.Prelude.{◌≡◌, ◌+◌, chars, find, length, map, reverse, string_bytes, IfOk, IfSome};
 ghost use Rattle.ucd_case.specs.CaseFolding.{simple_fold};
 ghost use Rattle.std.specs.Option.{ForSome};
+ghost use Rattle.std.specs.Str.{IsAscii};
 ghost use Rattle.search_dump.specs.Matches.{compared, matches_at, places};
 ghost use Rattle.search_dump.specs.Stretches.{ordered, IsPeriod};
 
@@ -19,19 +20,31 @@ fn folded(alloc: Global, text: &str) -> Result<String, AllocError>
     Ok(folds)
 }
 
+/// The simple fold of each character of a text that is ASCII, in its place.
+fn lowered(text: String) -> String
+    requires { IsAscii (string_bytes text) }
+    ensures { chars (string_bytes result) ≡ map simple_fold (chars (string_bytes text)) }
+{
+    let mut text = text;
+    text.make_ascii_lowercase();
+    text
+}
+
 /// A text as it is compared: its simple folds where case is ignored.
 pub fn compared(text: String, ignores_case: bool) -> Result<String, AllocError>
     ensures { IfOk result (λ made. chars (string_bytes made) ≡ compared ignores_case (chars (string_bytes text))) }
 {
-    if ignores_case {
-        folded(*text.allocator(), text.as_str())
-    } else {
-        Ok(text)
+    if !ignores_case {
+        return Ok(text);
     }
+    if text.as_str().is_ascii() {
+        return Ok(lowered(text));
+    }
+    folded(*text.allocator(), text.as_str())
 }
 
-/// The least distance, if it is about half of a pattern at most, at which a second match may begin in one: the characters
-/// before that distance are those that the pattern repeats.
+/// The least distance, if it is about half of a pattern at most, at which a second match may begin in one: the
+/// characters before that distance are those that the pattern repeats.
 #[derive(Clone, Copy)]
 pub struct Period<'a> {
     /// The distance, in characters.

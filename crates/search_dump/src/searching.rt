@@ -1,9 +1,11 @@
-ghost use Rattle.std.specs.Prelude.{◌≡◌, ◌≤◌, ◌<◌, ◌+◌, ◌^◌, chars, length, max, string_bytes, encode_utf8_all, None, IfOk, IfSome, OnOk};
+ghost use Rattle.std.specs.Prelude.{◌≡◌, ◌≤◌, ◌<◌, ◌+◌, ◌^◌, chars, length, max, string_bytes, encode_utf8_all, None};
+ghost use Rattle.std.specs.Prelude.{IfOk, IfSome, OnOk};
 ghost use Rattle.tcl_words.specs.ListGrowth.{Goes};
 ghost use Rattle.tcl_words.specs.ListText.{list_text};
 ghost use Rattle.text_index.specs.Views.{shown, IsView};
 ghost use Rattle.search_dump.specs.Matches.{compared, search_result};
-ghost use Rattle.search_dump.specs.Stretches.{first_stretch, left_behind, left_round, left_to_list, next_of, second_stretch, IsBehind};
+ghost use Rattle.search_dump.specs.Stretches.{first_stretch, left_behind, left_round, left_to_list, next_of};
+ghost use Rattle.search_dump.specs.Stretches.{second_stretch, IsBehind};
 ghost use Rattle.search_dump.specs.Searched.{searched, nearest_in, listed_in, listed_behind, listed_whole, HasMatchIn};
 ghost use Rattle.search_dump.specs.Sight.{text_in, ShowsLines};
 
@@ -65,8 +67,8 @@ impl SearchSwitches {
         Stretch { low, high, end }
     }
 
-    /// What is left to list of the stretch round the end, where matches that are listed share no character and the first one
-    /// is one of so many characters at a place.
+    /// What is left to list of the stretch round the end, where matches that are listed share no character and the
+    /// first one is one of so many characters at a place.
     fn left_round(self, stretch: Stretch, place: usize, len: usize) -> Stretch
         requires { place + len < 2 ^ 64 }
         ensures { result ≡ left_round Wanted.Apart self.direction stretch place len }
@@ -77,8 +79,8 @@ impl SearchSwitches {
         }
     }
 
-    /// What is left to list of the stretch round the end, if anything is, where the first match listed before may be one of so
-    /// many characters at a place.
+    /// What is left to list of the stretch round the end, if anything is, where the first match listed before may be
+    /// one of so many characters at a place.
     fn left_to_list(self, whole: Stretch, listed: Option<usize>, len: usize) -> Option<Stretch>
         requires { IfSome listed (λ place. place + len < 2 ^ 64) }
         ensures { result ≡ left_to_list self.wanted self.direction whole listed len }
@@ -241,9 +243,10 @@ fn list_matches<S: TextStore>(
     }
 }
 
-/// Where a pattern stands in the view (text(n), "search"), as the text of a list of places: from a place on and round the end
-/// of the text, or up to a stop if one is given; backwards before the place. A match may begin before the stop and end behind
-/// it, if the search isn't strict. An empty pattern stands at each place before the end. No match gives an empty text.
+/// Where a pattern stands in the view (text(n), "search"), as the text of a list of places: from a place on and round
+/// the end of the text, or up to a stop if one is given; backwards before the place. A match may begin before the stop
+/// and end behind it, if the search isn't strict. An empty pattern stands at each place before the end. No match gives
+/// an empty text.
 pub fn search<S: TextStore>(
     alloc: Global,
     view: &View<'_, S>,

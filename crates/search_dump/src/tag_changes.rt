@@ -68,7 +68,8 @@ fn change_behind<S: TextStore>(view: &View<'_, S>, slot: TagSlot, place: usize) 
     view.store.next_change(view.s + place, slot).min(view.e) - view.s
 }
 
-/// For each tag, by its slot, the next place of a view at which it begins or ends, so that the store is asked for it once.
+/// For each tag, by its slot, the next place of a view at which it begins or ends, so that the store is asked for it
+/// once.
 #[derive(Drop)]
 pub struct TagChanges {
     next: [usize; TagSet::SLOTS as usize],

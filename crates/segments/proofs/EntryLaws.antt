@@ -1,5 +1,7 @@
 -- The toggles of a line: where they lie, and what they are at a column.
-use Rattle.std.proofs.Common.{◌≡◌, ℕ, zero, suc, ◌+◌, ◌*◌, ◌/◌, ◌%◌, ◌^◌, ◌<◌, ◌≤◌, ◌≢◌, min, Bool, true, false, cond, ◌&&◌, nat_lt, ◌==◌, slice_index, List, [], ◌∷◌, ◌++◌, length, take, drop, get_or, refl, sym, ap, ap₂, ◌∙◌, arith, add-one, lt-ltb, mod-eq_of_lt}
+use Rattle.std.proofs.Common.{◌≡◌, ℕ, zero, suc, ◌+◌, ◌*◌, ◌/◌, ◌%◌, ◌^◌, ◌<◌, ◌≤◌, ◌≢◌, min, Bool, true, false, cond}
+use Rattle.std.proofs.Common.{◌&&◌, nat_lt, ◌==◌, slice_index, List, [], ◌∷◌, ◌++◌, length, take, drop, get_or, refl}
+use Rattle.std.proofs.Common.{sym, ap, ap₂, ◌∙◌, arith, add-one, lt-ltb, mod-eq_of_lt}
 use Rattle.std.specs.Prelude.{if◌then◌else◌}
 use Rattle.std.proofs.lemmas.Bool.Decides.{nat_tests}
 use Rattle.std.proofs.lemmas.List.{drop_more}
@@ -18,30 +20,43 @@ use Rattle.segments.specs.declared.toggles.Toggled.{Toggled}
 use Rattle.segments.specs.Entries.{LieIn, any_of, odd_of, toggled_at}
 
 -- one entry more that stands before a column
-more_before : (from to column : ℕ) (entries : List Toggled) (i : ℕ) (d : Toggled) → LieIn from to entries → LieIn from column (take i entries) → i < length entries → (get_or entries i d).column < column → LieIn from column (take (suc i) entries)
+more_before : (from to column : ℕ) (entries : List Toggled) (i : ℕ) (d : Toggled) → LieIn from to entries →
+    LieIn from column (take i entries) → i < length entries → (get_or entries i d).column < column →
+    LieIn from column (take (suc i) entries)
 more_before from to column [] i d lie before within small = absurd (omega arith)
 more_before from to column (entry ∷ entries) zero d lie before within small = (lie.0, small, tt)
-more_before from to column (entry ∷ entries) (suc i) d lie before within small = (before.0, before.1, more_before (suc entry.column) to column entries i d lie.2 before.2 (omega arith) small)
+more_before from to column (entry ∷ entries) (suc i) d lie before within small =
+    (before.0, before.1, more_before (suc entry.column) to column entries i d lie.2 before.2 (omega arith) small)
 
-pub before_more : (from to column : ℕ) (entries : List Toggled) (i : ℕ) (d : Toggled) → LieIn from to entries → LieIn from column (take i entries) → i < length entries → (get_or entries i d).column < column → LieIn from column (take (i + 1) entries)
-before_more from to column entries i d lie before within small = rw (add-one i) (more_before from to column entries i d lie before within small)
+pub before_more : (from to column : ℕ) (entries : List Toggled) (i : ℕ) (d : Toggled) → LieIn from to entries →
+    LieIn from column (take i entries) → i < length entries → (get_or entries i d).column < column →
+    LieIn from column (take (i + 1) entries)
+before_more from to column entries i d lie before within small =
+    rw (add-one i) (more_before from to column entries i d lie before within small)
 
 -- those behind
-pub behind_all : (from to column : ℕ) (entries : List Toggled) (i : ℕ) (d : Toggled) → LieIn from to entries → from ≤ column → LieIn from column (take i entries) → (i < length entries → column ≤ (get_or entries i d).column) → LieIn column to (drop i entries)
+pub behind_all : (from to column : ℕ) (entries : List Toggled) (i : ℕ) (d : Toggled) → LieIn from to entries →
+    from ≤ column → LieIn from column (take i entries) → (i < length entries → column ≤ (get_or entries i d).column) →
+    LieIn column to (drop i entries)
 behind_all from to column [] zero d lie above before next = tt
 behind_all from to column [] (suc i) d lie above before next = tt
 behind_all from to column (entry ∷ entries) zero d lie above before next = (next (omega arith), lie.1, lie.2)
-behind_all from to column (entry ∷ entries) (suc i) d lie above before next = behind_all (suc entry.column) to column entries i d lie.2 (omega (arith, before.1)) before.2 (λ within. next (omega arith))
+behind_all from to column (entry ∷ entries) (suc i) d lie above before next = behind_all (suc entry.column) to column
+    entries i d lie.2 (omega (arith, before.1)) before.2 (λ within. next (omega arith))
 
 -- the parity so far, and that of the rest
-pub odd_more : (entries : List Toggled) (i : ℕ) (d : Toggled) (so_far whole : Slots) → i < length entries → differing so_far (odd_of (drop i entries)) ≡ whole → differing (differing so_far (get_or entries i d).slots) (odd_of (drop (i + 1) entries)) ≡ whole
+pub odd_more : (entries : List Toggled) (i : ℕ) (d : Toggled) (so_far whole : Slots) → i < length entries →
+    differing so_far (odd_of (drop i entries)) ≡ whole →
+    differing (differing so_far (get_or entries i d).slots) (odd_of (drop (i + 1) entries)) ≡ whole
 odd_more entries i d so_far whole within is =
     differing-associative so_far (get_or entries i d).slots (odd_of (drop (i + 1) entries))
     ∙ ap (λ es. differing so_far (odd_of es)) (sym (drop_more entries i d within))
     ∙ is
 
 -- the presence so far, and that of the rest
-pub any_more : (entries : List Toggled) (i : ℕ) (d : Toggled) (so_far whole : Slots) → i < length entries → set.union so_far (any_of (drop i entries)) ≡ whole → set.union (set.union so_far (get_or entries i d).slots) (any_of (drop (i + 1) entries)) ≡ whole
+pub any_more : (entries : List Toggled) (i : ℕ) (d : Toggled) (so_far whole : Slots) → i < length entries →
+    set.union so_far (any_of (drop i entries)) ≡ whole →
+    set.union (set.union so_far (get_or entries i d).slots) (any_of (drop (i + 1) entries)) ≡ whole
 any_more entries i d so_far whole within is =
     union-associative so_far (get_or entries i d).slots (any_of (drop (i + 1) entries))
     ∙ ap (λ es. set.union so_far (any_of es)) (sym (drop_more entries i d within))
@@ -55,7 +70,8 @@ pub no_slots : (words : List ℕ) → ((k : ℕ) → k < WORDS → slice_index w
 no_slots words none =
     same_slots _ _ (λ q.
     contains-slots_below slot_count words q
-    ∙ not_one (bit_at (slice_index words (q / 64)) (q % 64)) slot_count q (λ small. ap (λ w. bit_at w (q % 64)) (none (q / 64) (omega arith)) ∙ bit_at-zero (q % 64))
+    ∙ not_one (bit_at (slice_index words (q / 64)) (q % 64)) slot_count q (λ small.
+    ap (λ w. bit_at w (q % 64)) (none (q / 64) (omega arith)) ∙ bit_at-zero (q % 64))
     ∙ sym (set.contains-empty nat_cmp q))
 
 -- words whose set has no slot have no bits
@@ -67,58 +83,72 @@ unfolding word_below
 word_below-empty zero from = refl
 word_below-empty (suc n) from =
     let rest = word_below n set.empty from in
-    ap (λ b. cond b 1 0 * 2 ^ n + rest) (set.contains-empty nat_cmp (from + n)) ∙ no_more rest (2 ^ n) ∙ word_below-empty n from
+    ap (λ b. cond b 1 0 * 2 ^ n + rest) (set.contains-empty nat_cmp (from + n)) ∙ no_more rest (2 ^ n)
+    ∙ word_below-empty n from
 
 bit_off : (b : Bool) (within : Bool) → within ≡ true → (within && b) ≡ false → false ≡ b
 bit_off true within is off = absurd (let no : true ≡ false = sym (ap (λ w. w && true) is) ∙ off in cc)
 bit_off false within is off = refl
 
-no_bit : (words : List ℕ) (k i : ℕ) → slots_of words ≡ set.empty → k < WORDS → i < 64 → false ≡ (bit_at (slice_index words k) i == 1)
+no_bit : (words : List ℕ) (k i : ℕ) → slots_of words ≡ set.empty → k < WORDS → i < 64 →
+    false ≡ (bit_at (slice_index words k) i == 1)
 no_bit words k i none small below =
     let q = 64 * k + i in
     let row : q / 64 ≡ k = omega arith in
     let column : q % 64 ≡ i = omega arith in
     let off : (nat_lt q slot_count && (bit_at (slice_index words (q / 64)) (q % 64) == 1)) ≡ false =
     sym (contains-slots_below slot_count words q) ∙ ap (λ s. set.contains s q) none ∙ set.contains-empty nat_cmp q in
-    bit_off (bit_at (slice_index words (q / 64)) (q % 64) == 1) (nat_lt q slot_count) (lt-ltb q slot_count (omega arith)) off
+    bit_off (bit_at (slice_index words (q / 64)) (q % 64) == 1) (nat_lt q slot_count)
+    (lt-ltb q slot_count (omega arith)) off
     ∙ ap₂ (λ r c. bit_at (slice_index words r) c == 1) row column
 
-pub no_words : (words : List ℕ) (k : ℕ) → slots_of words ≡ set.empty → k < WORDS → slice_index words k < 2 ^ 64 → slice_index words k ≡ 0
+pub no_words : (words : List ℕ) (k : ℕ) → slots_of words ≡ set.empty → k < WORDS → slice_index words k < 2 ^ 64 →
+    slice_index words k ≡ 0
 no_words words k none small fits =
     sym (mod-eq_of_lt fits)
-    ∙ sym (word_of_bits 64 set.empty 0 (slice_index words k) (λ i below. set.contains-empty nat_cmp (0 + i) ∙ no_bit words k i none small below))
+    ∙ sym (word_of_bits 64 set.empty 0 (slice_index words k) (λ i below. set.contains-empty nat_cmp (0 + i)
+    ∙ no_bit words k i none small below))
     ∙ word_below-empty 64 0
 
 -- what an entry says of its own column, and of the others
-pub passed : (entry : Toggled) (entries : List Toggled) (at : ℕ) → entry.column ≢ at → toggled_at (entry ∷ entries) at ≡ toggled_at entries at
+pub passed : (entry : Toggled) (entries : List Toggled) (at : ℕ) → entry.column ≢ at →
+    toggled_at (entry ∷ entries) at ≡ toggled_at entries at
 passed entry entries at other =
     let test : (entry.column == at) ≡ false = grind (arith, nat_tests) in
     ap (λ b. if b then differing entry.slots (toggled_at entries at) else toggled_at entries at) test
 
-pub met : (entry : Toggled) (entries : List Toggled) (at : ℕ) → entry.column ≡ at → toggled_at (entry ∷ entries) at ≡ differing entry.slots (toggled_at entries at)
+pub met : (entry : Toggled) (entries : List Toggled) (at : ℕ) → entry.column ≡ at →
+    toggled_at (entry ∷ entries) at ≡ differing entry.slots (toggled_at entries at)
 met entry entries at same =
     let test : (entry.column == at) ≡ true = grind (arith, nat_tests) in
     ap (λ b. if b then differing entry.slots (toggled_at entries at) else toggled_at entries at) test
 
 -- nothing is toggled before the first entry
-pub none_before : (from to : ℕ) (entries : List Toggled) (at : ℕ) → LieIn from to entries → at < from → toggled_at entries at ≡ set.empty
+pub none_before : (from to : ℕ) (entries : List Toggled) (at : ℕ) → LieIn from to entries → at < from →
+    toggled_at entries at ≡ set.empty
 none_before from to [] at lie before = refl
 none_before from to (entry ∷ entries) at lie before =
-    passed entry entries at (omega (arith, lie.0)) ∙ none_before (suc entry.column) to entries at lie.2 (omega (arith, lie.0))
+    passed entry entries at (omega (arith, lie.0))
+    ∙ none_before (suc entry.column) to entries at lie.2 (omega (arith, lie.0))
 
 -- the first entry alone says what is toggled at its column
-pub own_slots : (high at : ℕ) (entry : Toggled) (entries : List Toggled) → LieIn (suc entry.column) high entries → entry.column ≡ at → toggled_at (entry ∷ entries) at ≡ entry.slots
+pub own_slots : (high at : ℕ) (entry : Toggled) (entries : List Toggled) → LieIn (suc entry.column) high entries →
+    entry.column ≡ at → toggled_at (entry ∷ entries) at ≡ entry.slots
 own_slots high at entry entries lie is =
-    met entry entries at is ∙ ap (differing entry.slots) (none_before (suc entry.column) high entries at lie (omega (arith, is))) ∙ differing-empty entry.slots
+    met entry entries at is ∙ ap (differing entry.slots)
+    (none_before (suc entry.column) high entries at lie (omega (arith, is))) ∙ differing-empty entry.slots
 
-pub front_alone : (front behind : List Toggled) (at : ℕ) → toggled_at behind at ≡ set.empty → toggled_at (front ++ behind) at ≡ toggled_at front at
+pub front_alone : (front behind : List Toggled) (at : ℕ) → toggled_at behind at ≡ set.empty →
+    toggled_at (front ++ behind) at ≡ toggled_at front at
 front_alone [] behind at none = none
 front_alone (entry ∷ front) behind at none =
     ap (λ s. if entry.column == at then differing entry.slots s else s) (front_alone front behind at none)
 
-pub LieIn-both : (from first second : ℕ) (entries : List Toggled) → LieIn from first entries → LieIn from second entries → LieIn from (min first second) entries
+pub LieIn-both : (from first second : ℕ) (entries : List Toggled) → LieIn from first entries →
+    LieIn from second entries → LieIn from (min first second) entries
 LieIn-both from first second [] lie also = tt
-LieIn-both from first second (entry ∷ entries) lie also = (lie.0, omega (arith, lie.1, also.1), LieIn-both (suc entry.column) first second entries lie.2 also.2)
+LieIn-both from first second (entry ∷ entries) lie also =
+    (lie.0, omega (arith, lie.1, also.1), LieIn-both (suc entry.column) first second entries lie.2 also.2)
 
 pub LieIn-take : (from to n : ℕ) (entries : List Toggled) → LieIn from to entries → LieIn from to (take n entries)
 LieIn-take from to zero entries lie = tt

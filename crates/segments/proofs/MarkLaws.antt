@@ -1,5 +1,7 @@
 -- The marks of a line by their numbers.
-use Rattle.std.proofs.Common.{◌≡◌, ◌≢◌, ℕ, zero, suc, ◌+◌, ◌<◌, ◌≤◌, Bool, true, false, cond, ◌&&◌, not, T, List, [], ◌∷◌, ◌++◌, Option, None, Some, length, get_or, set, take, drop, refl, sym, ap, ap₂, subst, subst₂, ◌∙◌, append_assoc, arith}
+use Rattle.std.proofs.Common.{◌≡◌, ◌≢◌, ℕ, zero, suc, ◌+◌, ◌<◌, ◌≤◌, Bool, true, false, cond, ◌&&◌, not, T, List, []}
+use Rattle.std.proofs.Common.{◌∷◌, ◌++◌, Option, None, Some, length, get_or, set, take, drop, refl, sym, ap, ap₂, subst}
+use Rattle.std.proofs.Common.{subst₂, ◌∙◌, append_assoc, arith}
 use Rattle.std.proofs.lemmas.Bool.Decides.{nat_tests}
 use Rattle.std.proofs.lemmas.List.{append-nil, drop_all, drop_more}
 use Rattle.std.proofs.lemmas.List.Elements.{All-cons, All-head, All-nil, All-push, All-tail, All-weaker}
@@ -21,16 +23,20 @@ use Rattle.segments.specs.Columns.{joined_marks, later}
 use Rattle.segments.specs.Marks.{Below, Rise, entries_of, entry_of, marks_of}
 
 pub marks_of-nil : marks_of [] ≡ finite.empty
-marks_of-nil = finite.same_map nat_cmp_total finite.nat_cmp-IsAntisymmetric _ _ (λ q. finite.get-from_sorted nat_cmp [] q tt ∙ sym (finite.get-empty nat_cmp q))
+marks_of-nil = finite.same_map nat_cmp_total finite.nat_cmp-IsAntisymmetric _ _ (λ q.
+    finite.get-from_sorted nat_cmp [] q tt ∙ sym (finite.get-empty nat_cmp q))
 
 pub entries-marks_of : (marks : List Mark) → Rise marks → finite.entries (marks_of marks) ≡ entries_of marks
 entries-marks_of marks rise = finite.entries-from_sorted nat_cmp (entries_of marks) rise
 
-pub get-marks_of : (marks : List Mark) (number : ℕ) → Rise marks → finite.get (marks_of marks) number ≡ find nat_cmp number (entries_of marks)
+pub get-marks_of : (marks : List Mark) (number : ℕ) → Rise marks →
+    finite.get (marks_of marks) number ≡ find nat_cmp number (entries_of marks)
 get-marks_of marks number rise = finite.get-from_sorted nat_cmp (entries_of marks) number rise
 
-pub slice_get-marks_of : (marks : List Mark) (index : ℕ) → Rise marks → slice_get (finite.entries (marks_of marks)) index ≡ option_map entry_of (slice_get marks index)
-slice_get-marks_of marks index rise = ap (λ es. slice_get es index) (entries-marks_of marks rise) ∙ slice_get-map entry_of marks index
+pub slice_get-marks_of : (marks : List Mark) (index : ℕ) → Rise marks →
+    slice_get (finite.entries (marks_of marks)) index ≡ option_map entry_of (slice_get marks index)
+slice_get-marks_of marks index rise =
+    ap (λ es. slice_get es index) (entries-marks_of marks rise) ∙ slice_get-map entry_of marks index
 
 is_less : (a b : ℕ) → a < b → nat_cmp a b ≡ Less
 is_less a b less = sym (nat_cmp_is a b Less less)
@@ -69,7 +75,8 @@ second_part true rest both = both
 second_part false rest both = absurd both
 
 -- ---- how many have a lower number
-behind_low : (low : ℕ) (marks : List Mark) → T (below_all nat_cmp low (entries_of marks)) → (j : ℕ) (d : Mark) → j < length marks → low < (get_or marks j d).number.0
+behind_low : (low : ℕ) (marks : List Mark) → T (below_all nat_cmp low (entries_of marks)) → (j : ℕ) (d : Mark) →
+    j < length marks → low < (get_or marks j d).number.0
 behind_low low [] all j d within = absurd (omega arith)
 behind_low low (m ∷ marks) all zero d within = rising low m.number.0 (first_part _ _ all)
 behind_low low (m ∷ marks) all (suc j) d within = behind_low low marks (second_part _ _ all) j d (omega arith)
@@ -77,99 +84,131 @@ behind_low low (m ∷ marks) all (suc j) d within = behind_low low marks (second
 pub numbers_rise : (marks : List Mark) → Rise marks → IsNonDecreasingBy (λ (m : Mark). m.number.0) marks
 numbers_rise [] rise i j d order within = absurd (omega arith)
 numbers_rise (m ∷ marks) rise zero zero d order within = omega arith
-numbers_rise (m ∷ marks) rise zero (suc j) d order within = omega (arith, behind_low m.number.0 marks (first_part _ _ rise) j d (omega arith))
+numbers_rise (m ∷ marks) rise zero (suc j) d order within =
+    omega (arith, behind_low m.number.0 marks (first_part _ _ rise) j d (omega arith))
 numbers_rise (m ∷ marks) rise (suc i) zero d order within = absurd (omega (arith, order))
-numbers_rise (m ∷ marks) rise (suc i) (suc j) d order within = numbers_rise marks (second_part _ _ rise) i j d (omega (arith, order)) (omega arith)
+numbers_rise (m ∷ marks) rise (suc i) (suc j) d order within =
+    numbers_rise marks (second_part _ _ rise) i j d (omega (arith, order)) (omega arith)
 
-pub all_below : (marks : List Mark) (i number : ℕ) → i ≤ length marks → ((k : ℕ) (d : Mark) → k < i → (get_or marks k d).number.0 < number) → All (Below number) (take i marks)
+pub all_below : (marks : List Mark) (i number : ℕ) → i ≤ length marks →
+    ((k : ℕ) (d : Mark) → k < i → (get_or marks k d).number.0 < number) → All (Below number) (take i marks)
 all_below marks zero number within below = All-nil (Below number)
 all_below [] (suc i) number within below = absurd (omega arith)
 all_below (m ∷ marks) (suc i) number within below =
-    All-cons (Below number) m (take i marks) (below 0 m (omega arith)) (all_below marks i number (omega arith) (λ k d less. below (suc k) d (omega (arith, less))))
+    All-cons (Below number) m (take i marks) (below 0 m (omega arith))
+    (all_below marks i number (omega arith) (λ k d less. below (suc k) d (omega (arith, less))))
 
-pub next_above : (marks : List Mark) (i number : ℕ) → ((k : ℕ) (d : Mark) → i ≤ k → k < length marks → number ≤ (get_or marks k d).number.0)
+pub next_above : (marks : List Mark) (i number : ℕ) →
+    ((k : ℕ) (d : Mark) → i ≤ k → k < length marks → number ≤ (get_or marks k d).number.0)
     → All (λ (m : Mark). number ≤ m.number.0) (take 1 (drop i marks))
 next_above [] zero number above = All-nil (λ (m : Mark). number ≤ m.number.0)
 next_above [] (suc i) number above = All-nil (λ (m : Mark). number ≤ m.number.0)
-next_above (m ∷ marks) zero number above = All-cons (λ (m : Mark). number ≤ m.number.0) m [] (above 0 m (omega arith) (omega arith)) (All-nil (λ (m : Mark). number ≤ m.number.0))
-next_above (m ∷ marks) (suc i) number above = next_above marks i number (λ k d order within. above (suc k) d (omega (arith, order)) (omega (arith, within)))
+next_above (m ∷ marks) zero number above = All-cons (λ (m : Mark). number
+    ≤ m.number.0) m [] (above 0 m (omega arith) (omega arith)) (All-nil (λ (m : Mark). number ≤ m.number.0))
+next_above (m ∷ marks) (suc i) number above =
+    next_above marks i number (λ k d order within. above (suc k) d (omega (arith, order)) (omega (arith, within)))
 
 -- the mark behind those with a lower number has a higher one, where it hasn't this number
-pub above_other : (marks : List Mark) (k number : ℕ) (mark : Mark) → mark ≡ get_or marks k mark → mark.number.0 ≢ number → All (λ (m : Mark). number ≤ m.number.0) (take 1 (drop k marks))
+pub above_other : (marks : List Mark) (k number : ℕ) (mark : Mark) → mark ≡ get_or marks k mark →
+    mark.number.0 ≢ number → All (λ (m : Mark). number ≤ m.number.0) (take 1 (drop k marks))
     → All (λ (m : Mark). number < m.number.0) (take 1 (drop k marks))
 above_other [] zero number mark is other above = All-nil (λ (m : Mark). number < m.number.0)
 above_other [] (suc k) number mark is other above = All-nil (λ (m : Mark). number < m.number.0)
 above_other (m ∷ marks) zero number mark is other above =
     let lowest = All-head (λ (m : Mark). number ≤ m.number.0) m [] above in
     let here = ap (λ (x : Mark). x.number.0) is in
-    All-cons (λ (m : Mark). number < m.number.0) m [] (omega (arith, other, lowest, here)) (All-nil (λ (m : Mark). number < m.number.0))
+    All-cons (λ (m : Mark). number < m.number.0) m [] (omega (arith, other, lowest, here))
+    (All-nil (λ (m : Mark). number < m.number.0))
 above_other (m ∷ marks) (suc k) number mark is other above = above_other marks k number mark is other above
 
-pub above_end : (marks : List Mark) (k number : ℕ) → length marks ≤ k → All (λ (m : Mark). number < m.number.0) (take 1 (drop k marks))
-above_end marks k number past = subst (λ rest. All (λ (m : Mark). number < m.number.0) (take 1 rest)) (sym (drop_all k marks past)) (All-nil (λ (m : Mark). number < m.number.0))
+pub above_end : (marks : List Mark) (k number : ℕ) → length marks ≤ k →
+    All (λ (m : Mark). number < m.number.0) (take 1 (drop k marks))
+above_end marks k number past = subst (λ rest. All (λ (m : Mark). number < m.number.0) (take 1 rest))
+    (sym (drop_all k marks past)) (All-nil (λ (m : Mark). number < m.number.0))
 
 -- a mark behind those with a lower number, before one with a higher number
-pub put_new : (marks : List Mark) (k : ℕ) (mark : Mark) → All (Below mark.number.0) (take k marks) → All (λ (m : Mark). mark.number.0 < m.number.0) (take 1 (drop k marks))
+pub put_new : (marks : List Mark) (k : ℕ) (mark : Mark) → All (Below mark.number.0) (take k marks) →
+    All (λ (m : Mark). mark.number.0 < m.number.0) (take 1 (drop k marks))
     → entries_of (insert marks k mark) ≡ put nat_cmp mark.number.0 mark.place (entries_of marks)
 put_new [] zero mark below above = refl
 put_new [] (suc k) mark below above = refl
 put_new (m ∷ marks) zero mark below above =
-    sym (ap (λ order. by_order order (entry_of mark ∷ entry_of m ∷ entries_of marks) ((m.number.0, mark.place) ∷ entries_of marks) (entry_of m ∷ put nat_cmp mark.number.0 mark.place (entries_of marks)))
+    sym (ap (λ order. by_order order (entry_of mark ∷ entry_of m ∷ entries_of marks)
+    ((m.number.0, mark.place) ∷ entries_of marks) (entry_of m
+    ∷ put nat_cmp mark.number.0 mark.place (entries_of marks)))
     (is_less mark.number.0 m.number.0 (All-head (λ (m : Mark). mark.number.0 < m.number.0) m [] above)))
 put_new (m ∷ marks) (suc k) mark below above =
     ap (λ es. entry_of m ∷ es) (put_new marks k mark (All-tail (Below mark.number.0) m (take k marks) below) above)
-    ∙ sym (ap (λ order. by_order order (entry_of mark ∷ entry_of m ∷ entries_of marks) ((m.number.0, mark.place) ∷ entries_of marks) (entry_of m ∷ put nat_cmp mark.number.0 mark.place (entries_of marks)))
+    ∙ sym (ap (λ order. by_order order (entry_of mark ∷ entry_of m ∷ entries_of marks)
+    ((m.number.0, mark.place) ∷ entries_of marks) (entry_of m
+    ∷ put nat_cmp mark.number.0 mark.place (entries_of marks)))
     (is_greater mark.number.0 m.number.0 (All-head (Below mark.number.0) m (take k marks) below)))
 
 -- a place in the place of that of a mark with the number
-pub put_same : (marks : List Mark) (k : ℕ) (mark : Mark) (number : ℕ) (place : Place) → k < length marks → All (Below number) (take k marks) → mark ≡ get_or marks k mark → mark.number.0 ≡ number
-    → entries_of (set marks k (record { number = mark.number; place = place })) ≡ put nat_cmp number place (entries_of marks)
+pub put_same : (marks : List Mark) (k : ℕ) (mark : Mark) (number : ℕ) (place : Place) → k < length marks →
+    All (Below number) (take k marks) → mark ≡ get_or marks k mark → mark.number.0 ≡ number
+    → entries_of (set marks k (record { number = mark.number; place = place }))
+    ≡ put nat_cmp number place (entries_of marks)
 put_same [] k mark number place within below is same = absurd (omega arith)
 put_same (m ∷ marks) zero mark number place within below is same =
     ap (λ (x : Mark). (x.number.0, place) ∷ entries_of marks) is
-    ∙ sym (ap (λ order. by_order order ((number, place) ∷ entry_of m ∷ entries_of marks) ((m.number.0, place) ∷ entries_of marks) (entry_of m ∷ put nat_cmp number place (entries_of marks)))
+    ∙ sym (ap (λ order. by_order order ((number, place) ∷ entry_of m ∷ entries_of marks)
+    ((m.number.0, place) ∷ entries_of marks) (entry_of m ∷ put nat_cmp number place (entries_of marks)))
     (is_equal number m.number.0 (sym same ∙ ap (λ (x : Mark). x.number.0) is)))
 put_same (m ∷ marks) (suc k) mark number place within below is same =
-    ap (λ es. entry_of m ∷ es) (put_same marks k mark number place (omega arith) (All-tail (Below number) m (take k marks) below) is same)
-    ∙ sym (ap (λ order. by_order order ((number, place) ∷ entry_of m ∷ entries_of marks) ((m.number.0, place) ∷ entries_of marks) (entry_of m ∷ put nat_cmp number place (entries_of marks)))
+    ap (λ es. entry_of m ∷ es) (put_same marks k mark number place (omega arith)
+    (All-tail (Below number) m (take k marks) below) is same)
+    ∙ sym (ap (λ order. by_order order ((number, place) ∷ entry_of m ∷ entries_of marks)
+    ((m.number.0, place) ∷ entries_of marks) (entry_of m ∷ put nat_cmp number place (entries_of marks)))
     (is_greater number m.number.0 (All-head (Below number) m (take k marks) below)))
 
-pub put_rise : (old new : List Mark) (number : ℕ) (place : Place) → Rise old → entries_of new ≡ put nat_cmp number place (entries_of old) → Rise new
-put_rise old new number place rise is = subst (λ es. T (is_sorted nat_cmp es)) (sym is) (is_sorted-put nat_cmp nat_cmp_total number place (entries_of old) rise)
+pub put_rise : (old new : List Mark) (number : ℕ) (place : Place) → Rise old →
+    entries_of new ≡ put nat_cmp number place (entries_of old) → Rise new
+put_rise old new number place rise is = subst (λ es. T (is_sorted nat_cmp es)) (sym is)
+    (is_sorted-put nat_cmp nat_cmp_total number place (entries_of old) rise)
 
-pub put_marks : (old new : List Mark) (number : ℕ) (place : Place) → Rise old → entries_of new ≡ put nat_cmp number place (entries_of old)
+pub put_marks : (old new : List Mark) (number : ℕ) (place : Place) → Rise old →
+    entries_of new ≡ put nat_cmp number place (entries_of old)
     → marks_of new ≡ finite.insert (marks_of old) number place
 put_marks old new number place rise is =
     finite.same_entries_map _ _
     (entries-marks_of new (put_rise old new number place rise is) ∙ is
-    ∙ ap (put nat_cmp number place) (sym (entries-marks_of old rise)) ∙ sym (finite.entries-insert nat_cmp_total (marks_of old) number place))
+    ∙ ap (put nat_cmp number place) (sym (entries-marks_of old rise))
+    ∙ sym (finite.entries-insert nat_cmp_total (marks_of old) number place))
 
 abbrev pub other_than : ℕ → ℕ → Bool
 other_than number q = not (eq_by_cmp nat_cmp number q)
 
 -- no entry with a higher number is taken away
-kept_all : (number low : ℕ) (es : List (ℕ × Place)) → number ≤ low → T (below_all nat_cmp low es) → where_key nat_cmp (other_than number) es ≡ es
+kept_all : (number low : ℕ) (es : List (ℕ × Place)) → number ≤ low → T (below_all nat_cmp low es) →
+    where_key nat_cmp (other_than number) es ≡ es
 kept_all number low [] few all = refl
 kept_all number low (e ∷ es) few all =
     let behind : low < e.0 = rising low e.0 (first_part _ _ all) in
-    ap (λ b. cond (not b) (e ∷ where_key nat_cmp (other_than number) es) (where_key nat_cmp (other_than number) es)) (apart number e.0 (λ same. omega (arith, same)))
+    ap (λ b. cond (not b) (e ∷ where_key nat_cmp (other_than number) es) (where_key nat_cmp (other_than number) es))
+    (apart number e.0 (λ same. omega (arith, same)))
     ∙ ap (λ rest. e ∷ rest) (kept_all number low es few (second_part _ _ all))
 
-pub take_same : (marks : List Mark) (k : ℕ) (mark : Mark) (number : ℕ) → Rise marks → k < length marks → All (Below number) (take k marks) → mark ≡ get_or marks k mark → mark.number.0 ≡ number
+pub take_same : (marks : List Mark) (k : ℕ) (mark : Mark) (number : ℕ) → Rise marks → k < length marks →
+    All (Below number) (take k marks) → mark ≡ get_or marks k mark → mark.number.0 ≡ number
     → entries_of (remove marks k) ≡ where_key nat_cmp (other_than number) (entries_of marks)
 take_same [] k mark number rise within below is same = absurd (omega arith)
 take_same (m ∷ marks) zero mark number rise within below is same =
     let here : number ≡ m.number.0 = sym same ∙ ap (λ (x : Mark). x.number.0) is in
     let rest = where_key nat_cmp (other_than number) (entries_of marks) in
     let low : number ≤ m.number.0 = omega (arith, here) in
-    sym (ap (λ b. cond (not b) (entry_of m ∷ rest) rest) (tied number m.number.0 here) ∙ kept_all number m.number.0 (entries_of marks) low (first_part _ _ rise))
+    sym (ap (λ b. cond (not b) (entry_of m ∷ rest) rest) (tied number m.number.0 here)
+    ∙ kept_all number m.number.0 (entries_of marks) low (first_part _ _ rise))
 take_same (m ∷ marks) (suc k) mark number rise within below is same =
     let rest = where_key nat_cmp (other_than number) (entries_of marks) in
     let lower = All-head (Below number) m (take k marks) below in
-    ap (λ es. entry_of m ∷ es) (take_same marks k mark number (second_part _ _ rise) (omega arith) (All-tail (Below number) m (take k marks) below) is same)
-    ∙ sym (ap (λ b. cond (not b) (entry_of m ∷ rest) rest) (apart number m.number.0 (λ here. omega (arith, here, lower))))
+    ap (λ es. entry_of m ∷ es) (take_same marks k mark number (second_part _ _ rise) (omega arith)
+    (All-tail (Below number) m (take k marks) below) is same)
+    ∙ sym (ap (λ b. cond (not b) (entry_of m ∷ rest) rest)
+    (apart number m.number.0 (λ here. omega (arith, here, lower))))
 
-pub take_none : (marks : List Mark) (k number : ℕ) → Rise marks → All (Below number) (take k marks) → All (λ (m : Mark). number < m.number.0) (take 1 (drop k marks))
+pub take_none : (marks : List Mark) (k number : ℕ) → Rise marks → All (Below number) (take k marks) →
+    All (λ (m : Mark). number < m.number.0) (take 1 (drop k marks))
     → entries_of marks ≡ where_key nat_cmp (other_than number) (entries_of marks)
 take_none [] k number rise below above = refl
 take_none (m ∷ marks) zero number rise below above =
@@ -181,23 +220,29 @@ take_none (m ∷ marks) zero number rise below above =
 take_none (m ∷ marks) (suc k) number rise below above =
     let rest = where_key nat_cmp (other_than number) (entries_of marks) in
     let lower = All-head (Below number) m (take k marks) below in
-    ap (λ es. entry_of m ∷ es) (take_none marks k number (second_part _ _ rise) (All-tail (Below number) m (take k marks) below) above)
-    ∙ sym (ap (λ b. cond (not b) (entry_of m ∷ rest) rest) (apart number m.number.0 (λ here. omega (arith, here, lower))))
+    ap (λ es. entry_of m ∷ es) (take_none marks k number (second_part _ _ rise)
+    (All-tail (Below number) m (take k marks) below) above)
+    ∙ sym (ap (λ b. cond (not b) (entry_of m ∷ rest) rest)
+    (apart number m.number.0 (λ here. omega (arith, here, lower))))
 
-pub take_rise : (old new : List Mark) (number : ℕ) → Rise old → entries_of new ≡ where_key nat_cmp (other_than number) (entries_of old) → Rise new
+pub take_rise : (old new : List Mark) (number : ℕ) → Rise old →
+    entries_of new ≡ where_key nat_cmp (other_than number) (entries_of old) → Rise new
 take_rise old new number rise is =
-    subst (λ es. T (is_sorted nat_cmp es)) (sym is) (is_sorted-where_key nat_cmp (other_than number) (entries_of old) rise)
+    subst (λ es. T (is_sorted nat_cmp es)) (sym is)
+    (is_sorted-where_key nat_cmp (other_than number) (entries_of old) rise)
 
 turned : (test : Bool) (one other : Option Place) → cond (not test) one other ≡ cond test other one
 turned true one other = refl
 turned false one other = refl
 
-pub take_marks : (old new : List Mark) (number : ℕ) → Rise old → entries_of new ≡ where_key nat_cmp (other_than number) (entries_of old)
+pub take_marks : (old new : List Mark) (number : ℕ) → Rise old →
+    entries_of new ≡ where_key nat_cmp (other_than number) (entries_of old)
     → marks_of new ≡ finite.remove (marks_of old) number
 take_marks old new number rise is =
     same_marks _ _ (λ q.
     get-marks_of new q (take_rise old new number rise is) ∙ ap (find nat_cmp q) is
-    ∙ find-where_key nat_cmp (other_than number) q (λ x tie. ap (other_than number) (sym (nat_cmp-IsAntisymmetric q x tie))) (entries_of old)
+    ∙ find-where_key nat_cmp (other_than number) q (λ x tie.
+    ap (other_than number) (sym (nat_cmp-IsAntisymmetric q x tie))) (entries_of old)
     ∙ turned (eq_by_cmp nat_cmp number q) (find nat_cmp q (entries_of old)) None
     ∙ ap (λ b. cond b None (find nat_cmp q (entries_of old))) ((eq_by_cmp_equiv nat_cmp_total).symm number q)
     ∙ ap (cond (eq_by_cmp nat_cmp q number) None) (sym (get-marks_of old q rise))
@@ -211,55 +256,70 @@ none_behind : (q low : ℕ) (es : List (ℕ × Place)) → q ≤ low → T (belo
 none_behind q low [] few all = refl
 none_behind q low (e ∷ es) few all =
     let behind : low < e.0 = rising low e.0 (first_part _ _ all) in
-    ap (λ b. cond b (Some e.1) (find nat_cmp q es)) (apart q e.0 (λ same. omega (arith, same))) ∙ none_behind q low es few (second_part _ _ all)
+    ap (λ b. cond b (Some e.1) (find nat_cmp q es)) (apart q e.0 (λ same. omega (arith, same)))
+    ∙ none_behind q low es few (second_part _ _ all)
 
 -- the place of a mark with the number, behind those with a lower number
-pub find_here : (marks : List Mark) (k : ℕ) (mark : Mark) (number : ℕ) → k < length marks → All (Below number) (take k marks) → mark ≡ get_or marks k mark → mark.number.0 ≡ number
+pub find_here : (marks : List Mark) (k : ℕ) (mark : Mark) (number : ℕ) → k < length marks →
+    All (Below number) (take k marks) → mark ≡ get_or marks k mark → mark.number.0 ≡ number
     → find nat_cmp number (entries_of marks) ≡ Some mark.place
 find_here [] k mark number within below is same = absurd (omega arith)
 find_here (m ∷ marks) zero mark number within below is same =
-    ap (λ b. cond b (Some m.place) (find nat_cmp number (entries_of marks))) (tied number m.number.0 (sym same ∙ ap (λ (x : Mark). x.number.0) is))
+    ap (λ b. cond b (Some m.place) (find nat_cmp number (entries_of marks)))
+    (tied number m.number.0 (sym same ∙ ap (λ (x : Mark). x.number.0) is))
     ∙ ap (λ (x : Mark). Some x.place) (sym is)
 find_here (m ∷ marks) (suc k) mark number within below is same =
     let lower = All-head (Below number) m (take k marks) below in
-    ap (λ b. cond b (Some m.place) (find nat_cmp number (entries_of marks))) (apart number m.number.0 (λ here. omega (arith, here, lower)))
+    ap (λ b. cond b (Some m.place) (find nat_cmp number (entries_of marks)))
+    (apart number m.number.0 (λ here. omega (arith, here, lower)))
     ∙ find_here marks k mark number (omega arith) (All-tail (Below number) m (take k marks) below) is same
 
-pub find_none : (marks : List Mark) (k number : ℕ) → Rise marks → All (Below number) (take k marks) → All (λ (m : Mark). number < m.number.0) (take 1 (drop k marks))
+pub find_none : (marks : List Mark) (k number : ℕ) → Rise marks → All (Below number) (take k marks) →
+    All (λ (m : Mark). number < m.number.0) (take 1 (drop k marks))
     → find nat_cmp number (entries_of marks) ≡ None
 find_none [] k number rise below above = refl
 find_none (m ∷ marks) zero number rise below above =
     let higher = All-head (λ (m : Mark). number < m.number.0) m [] above in
     let low : number ≤ m.number.0 = omega (arith, higher) in
-    ap (λ b. cond b (Some m.place) (find nat_cmp number (entries_of marks))) (apart number m.number.0 (λ here. omega (arith, here, higher)))
+    ap (λ b. cond b (Some m.place) (find nat_cmp number (entries_of marks)))
+    (apart number m.number.0 (λ here. omega (arith, here, higher)))
     ∙ none_behind number m.number.0 (entries_of marks) low (first_part _ _ rise)
 find_none (m ∷ marks) (suc k) number rise below above =
     let lower = All-head (Below number) m (take k marks) below in
-    ap (λ b. cond b (Some m.place) (find nat_cmp number (entries_of marks))) (apart number m.number.0 (λ here. omega (arith, here, lower)))
+    ap (λ b. cond b (Some m.place) (find nat_cmp number (entries_of marks)))
+    (apart number m.number.0 (λ here. omega (arith, here, lower)))
     ∙ find_none marks k number (second_part _ _ rise) (All-tail (Below number) m (take k marks) below) above
 
-find_both : (q : ℕ) (es fs : List (ℕ × Place)) → find nat_cmp q (es ++ fs) ≡ or_else (find nat_cmp q es) (find nat_cmp q fs)
+find_both : (q : ℕ) (es fs : List (ℕ × Place)) → find nat_cmp q (es ++ fs)
+    ≡ or_else (find nat_cmp q es) (find nat_cmp q fs)
 find_both q [] fs = refl
 find_both q (e ∷ es) fs =
-    elim (eq_by_cmp nat_cmp q e.0) as (λ b. cond b (Some e.1) (find nat_cmp q (es ++ fs)) ≡ or_else (cond b (Some e.1) (find nat_cmp q es)) (find nat_cmp q fs)) [
+    elim (eq_by_cmp nat_cmp q e.0) as (λ b. cond b (Some e.1) (find nat_cmp q (es ++ fs))
+    ≡ or_else (cond b (Some e.1) (find nat_cmp q es)) (find nat_cmp q fs)) [
       | true ↦ refl
       | false ↦ find_both q es fs
     ]
 
 pub get-joined_marks : (len : ℕ) (first second : Marks) (q : ℕ)
-    → finite.get (joined_marks len first second) q ≡ or_else (option_map (later len) (finite.get second q)) (finite.get first q)
+    → finite.get (joined_marks len first second) q
+    ≡ or_else (option_map (later len) (finite.get second q)) (finite.get first q)
 get-joined_marks len first second q =
     let entries = finite.entries (map_marks (later len) second) in
-    finite.get-from_entries nat_cmp_total (entries ++ finite.entries first) q ∙ find_both q entries (finite.entries first)
-    ∙ ap₂ or_else (sym (finite.get-entries (map_marks (later len) second) q) ∙ get-map_marks (later len) second q) (sym (finite.get-entries first q))
+    finite.get-from_entries nat_cmp_total (entries ++ finite.entries first) q
+    ∙ find_both q entries (finite.entries first)
+    ∙ ap₂ or_else (sym (finite.get-entries (map_marks (later len) second) q)
+    ∙ get-map_marks (later len) second q) (sym (finite.get-entries first q))
 
 -- ---- the marks of two texts, in one pass
 -- marks before one that has a higher number
-push_put : (marks : List Mark) (mark : Mark) → All (Below mark.number.0) marks → entries_of (marks ++ mark ∷ []) ≡ put nat_cmp mark.number.0 mark.place (entries_of marks)
+push_put : (marks : List Mark) (mark : Mark) → All (Below mark.number.0) marks →
+    entries_of (marks ++ mark ∷ []) ≡ put nat_cmp mark.number.0 mark.place (entries_of marks)
 push_put [] mark below = refl
 push_put (m ∷ marks) mark below =
     ap (λ es. entry_of m ∷ es) (push_put marks mark (All-tail (Below mark.number.0) m marks below))
-    ∙ sym (ap (λ order. by_order order (entry_of mark ∷ entry_of m ∷ entries_of marks) ((m.number.0, mark.place) ∷ entries_of marks) (entry_of m ∷ put nat_cmp mark.number.0 mark.place (entries_of marks)))
+    ∙ sym (ap (λ order. by_order order (entry_of mark ∷ entry_of m ∷ entries_of marks)
+    ((m.number.0, mark.place) ∷ entries_of marks) (entry_of m
+    ∷ put nat_cmp mark.number.0 mark.place (entries_of marks)))
     (is_greater mark.number.0 m.number.0 (All-head (Below mark.number.0) m marks below)))
 
 -- each of some marks has a lower number than the first of others
@@ -280,42 +340,55 @@ pub record Merges (len : ℕ) (first second marks one two : List Mark) : Type 0 
   pub rise_two : Rise two
   pub before_one : Before marks one
   pub before_two : Before marks two
-  pub found : (q : ℕ) → place_joined len (place_in two q) (or_else (place_in one q) (finite.get (marks_of marks) q)) ≡ place_joined len (place_in second q) (place_in first q)
+  pub found : (q : ℕ) → place_joined len (place_in two q) (or_else (place_in one q) (finite.get (marks_of marks) q))
+      ≡ place_joined len (place_in second q) (place_in first q)
 
-all_before : (marks : List Mark) (mark other : Mark) → All (Below mark.number.0) marks → mark.number.0 ≤ other.number.0 → All (Below other.number.0) marks
-all_before marks mark other below less = All-weaker (Below mark.number.0) (Below other.number.0) (λ m under. omega (arith, under, less)) marks below
+all_before : (marks : List Mark) (mark other : Mark) → All (Below mark.number.0) marks →
+    mark.number.0 ≤ other.number.0 → All (Below other.number.0) marks
+all_before marks mark other below less =
+    All-weaker (Below mark.number.0) (Below other.number.0) (λ m under. omega (arith, under, less)) marks below
 
-push_before : (marks others : List Mark) (mark : Mark) → All (Below mark.number.0) marks → Before (mark ∷ []) others → Before (marks ++ mark ∷ []) others
+push_before : (marks others : List Mark) (mark : Mark) → All (Below mark.number.0) marks → Before (mark ∷ []) others →
+    Before (marks ++ mark ∷ []) others
 push_before marks [] mark below before = tt
 push_before marks (other ∷ others) mark below before =
     let less = All-head (Below other.number.0) mark [] before in
     All-push (Below other.number.0) marks mark (all_before marks mark other below (omega (arith, less))) less
 
-still_before : (mark new : Mark) (others : List Mark) → mark.number.0 ≡ new.number.0 → Before (mark ∷ []) others → Before (new ∷ []) others
+still_before : (mark new : Mark) (others : List Mark) → mark.number.0 ≡ new.number.0 → Before (mark ∷ []) others →
+    Before (new ∷ []) others
 still_before mark new [] same before = tt
 still_before mark new (other ∷ others) same before =
-    All-cons (Below other.number.0) new [] (subst (λ n. n < other.number.0) same (All-head (Below other.number.0) mark [] before)) (All-nil (Below other.number.0))
+    All-cons (Below other.number.0) new [] (subst (λ n. n < other.number.0) same
+    (All-head (Below other.number.0) mark [] before)) (All-nil (Below other.number.0))
 
 next_before : (mark : Mark) (marks : List Mark) → Rise (mark ∷ marks) → Before (mark ∷ []) marks
 next_before mark [] rise = tt
 next_before mark (m ∷ marks) rise =
-    All-cons (Below m.number.0) mark [] (rising mark.number.0 m.number.0 (first_part _ _ (first_part _ _ rise))) (All-nil (Below m.number.0))
+    All-cons (Below m.number.0) mark [] (rising mark.number.0 m.number.0 (first_part _ _ (first_part _ _ rise)))
+    (All-nil (Below m.number.0))
 
 get-push : (marks : List Mark) (mark : Mark) (q : ℕ) → Rise marks → All (Below mark.number.0) marks
-    → finite.get (marks_of (marks ++ mark ∷ [])) q ≡ cond (eq_by_cmp nat_cmp q mark.number.0) (Some mark.place) (finite.get (marks_of marks) q)
+    → finite.get (marks_of (marks ++ mark ∷ [])) q
+    ≡ cond (eq_by_cmp nat_cmp q mark.number.0) (Some mark.place) (finite.get (marks_of marks) q)
 get-push marks mark q rise below =
-    ap (λ all. finite.get all q) (put_marks marks (marks ++ mark ∷ []) mark.number.0 mark.place rise (push_put marks mark below))
+    ap (λ all. finite.get all q) (put_marks marks (marks ++ mark ∷ []) mark.number.0 mark.place rise
+    (push_put marks mark below))
     ∙ finite.get-insert nat_cmp_total (marks_of marks) mark.number.0 mark.place q
 
 push_rise : (marks : List Mark) (mark : Mark) → Rise marks → All (Below mark.number.0) marks → Rise (marks ++ mark ∷ [])
-push_rise marks mark rise below = put_rise marks (marks ++ mark ∷ []) mark.number.0 mark.place rise (push_put marks mark below)
+push_rise marks mark rise below =
+    put_rise marks (marks ++ mark ∷ []) mark.number.0 mark.place rise (push_put marks mark below)
 
 -- a number that stands first stands nowhere behind
-none_later : (mark : Mark) (marks : List Mark) (q : ℕ) → Rise (mark ∷ marks) → eq_by_cmp nat_cmp q mark.number.0 ≡ true → place_in marks q ≡ None
-none_later mark marks q rise tie = let few : q ≤ mark.number.0 = omega (arith, tied_same q mark.number.0 tie) in none_behind q mark.number.0 (entries_of marks) few (first_part _ _ rise)
+none_later : (mark : Mark) (marks : List Mark) (q : ℕ) → Rise (mark ∷ marks) →
+    eq_by_cmp nat_cmp q mark.number.0 ≡ true → place_in marks q ≡ None
+none_later mark marks q rise tie = let few : q ≤ mark.number.0 = omega (arith, tied_same q mark.number.0 tie) in
+    none_behind q mark.number.0 (entries_of marks) few (first_part _ _ rise)
 
 -- nor where all numbers are higher
-none_higher : (marks : List Mark) (mark : Mark) (q : ℕ) → Rise marks → Before (mark ∷ []) marks → eq_by_cmp nat_cmp q mark.number.0 ≡ true → place_in marks q ≡ None
+none_higher : (marks : List Mark) (mark : Mark) (q : ℕ) → Rise marks → Before (mark ∷ []) marks →
+    eq_by_cmp nat_cmp q mark.number.0 ≡ true → place_in marks q ≡ None
 none_higher [] mark q rise before tie = refl
 none_higher (m ∷ marks) mark q rise before tie =
     let same = tied_same q mark.number.0 tie in
@@ -324,24 +397,33 @@ none_higher (m ∷ marks) mark q rise before tie =
     ap (λ b. cond b (Some m.place) (place_in marks q)) (apart q m.number.0 (λ here. omega (arith, here, same, less)))
     ∙ none_behind q m.number.0 (entries_of marks) low (first_part _ _ rise)
 
-first_goes : (tie : Bool) (place : Place) (found old : Option Place) → (tie ≡ true → found ≡ None) → or_else found (cond tie (Some place) old) ≡ or_else (cond tie (Some place) found) old
+first_goes : (tie : Bool) (place : Place) (found old : Option Place) → (tie ≡ true → found ≡ None) →
+    or_else found (cond tie (Some place) old) ≡ or_else (cond tie (Some place) found) old
 first_goes true place found old none = ap (λ found. or_else found (Some place)) (none refl)
 first_goes false place found old none = refl
 
-second_goes : (tie : Bool) (len : ℕ) (place : Place) (found other old : Option Place) → (tie ≡ true → found ≡ None) → (tie ≡ true → other ≡ None)
-    → place_joined len found (or_else other (cond tie (Some (later len place)) old)) ≡ place_joined len (cond tie (Some place) found) (or_else other old)
-second_goes true len place found other old none free = ap₂ (λ one two. place_joined len one (or_else two (Some (later len place)))) (none refl) (free refl)
+second_goes : (tie : Bool) (len : ℕ) (place : Place) (found other old : Option Place) → (tie ≡ true → found ≡ None) →
+    (tie ≡ true → other ≡ None)
+    → place_joined len found (or_else other (cond tie (Some (later len place)) old))
+    ≡ place_joined len (cond tie (Some place) found) (or_else other old)
+second_goes true len place found other old none free =
+    ap₂ (λ one two. place_joined len one (or_else two (Some (later len place)))) (none refl) (free refl)
 second_goes false len place found other old none free = refl
 
-both_go : (tie : Bool) (len : ℕ) (place first : Place) (found other old : Option Place) → (tie ≡ true → found ≡ None) → (tie ≡ true → other ≡ None)
-    → place_joined len found (or_else other (cond tie (Some (later len place)) old)) ≡ place_joined len (cond tie (Some place) found) (or_else (cond tie (Some first) other) old)
-both_go true len place first found other old none free = ap₂ (λ one two. place_joined len one (or_else two (Some (later len place)))) (none refl) (free refl)
+both_go : (tie : Bool) (len : ℕ) (place first : Place) (found other old : Option Place) → (tie ≡ true → found ≡ None) →
+    (tie ≡ true → other ≡ None)
+    → place_joined len found (or_else other (cond tie (Some (later len place)) old))
+    ≡ place_joined len (cond tie (Some place) found) (or_else (cond tie (Some first) other) old)
+both_go true len place first found other old none free =
+    ap₂ (λ one two. place_joined len one (or_else two (Some (later len place)))) (none refl) (free refl)
 both_go false len place first found other old none free = refl
 
 abbrev pub moved_mark : ℕ → Mark → Mark
 moved_mark len mark = record mark { place = later len mark.place }
 
-merge_first : (len : ℕ) (first second marks one two : List Mark) (mark : Mark) → Merges len first second marks (mark ∷ one) two → Before (mark ∷ []) two → Merges len first second (marks ++ mark ∷ []) one two
+merge_first : (len : ℕ) (first second marks one two : List Mark) (mark : Mark) →
+    Merges len first second marks (mark ∷ one) two → Before (mark ∷ []) two →
+    Merges len first second (marks ++ mark ∷ []) one two
 merge_first len first second marks one two mark merges before = record {
   rise = push_rise marks mark merges.rise merges.before_one;
   rise_one = second_part _ _ merges.rise_one;
@@ -349,28 +431,36 @@ merge_first len first second marks one two mark merges before = record {
   before_one = push_before marks one mark merges.before_one (next_before mark one merges.rise_one);
   before_two = push_before marks two mark merges.before_one before;
   found = λ q.
-      ap (λ old. place_joined len (place_in two q) (or_else (place_in one q) old)) (get-push marks mark q merges.rise merges.before_one)
+      ap (λ old. place_joined len (place_in two q) (or_else (place_in one q) old))
+      (get-push marks mark q merges.rise merges.before_one)
       ∙ ap (place_joined len (place_in two q))
-      (first_goes (eq_by_cmp nat_cmp q mark.number.0) mark.place (place_in one q) (finite.get (marks_of marks) q) (none_later mark one q merges.rise_one))
+      (first_goes (eq_by_cmp nat_cmp q mark.number.0) mark.place (place_in one q) (finite.get (marks_of marks) q)
+      (none_later mark one q merges.rise_one))
       ∙ merges.found q;
 }
 
-merge_second : (len : ℕ) (first second marks one two : List Mark) (mark : Mark) → Merges len first second marks one (mark ∷ two) → Before (mark ∷ []) one
+merge_second : (len : ℕ) (first second marks one two : List Mark) (mark : Mark) →
+    Merges len first second marks one (mark ∷ two) → Before (mark ∷ []) one
     → Merges len first second (marks ++ moved_mark len mark ∷ []) one two
 merge_second len first second marks one two mark merges before = record {
   rise = push_rise marks (moved_mark len mark) merges.rise merges.before_two;
   rise_one = merges.rise_one;
   rise_two = second_part _ _ merges.rise_two;
-  before_one = push_before marks one (moved_mark len mark) merges.before_two (still_before mark (moved_mark len mark) one refl before);
-  before_two = push_before marks two (moved_mark len mark) merges.before_two (still_before mark (moved_mark len mark) two refl (next_before mark two merges.rise_two));
+  before_one = push_before marks one (moved_mark len mark) merges.before_two
+      (still_before mark (moved_mark len mark) one refl before);
+  before_two = push_before marks two (moved_mark len mark) merges.before_two
+      (still_before mark (moved_mark len mark) two refl (next_before mark two merges.rise_two));
   found = λ q.
-      ap (λ old. place_joined len (place_in two q) (or_else (place_in one q) old)) (get-push marks (moved_mark len mark) q merges.rise merges.before_two)
-      ∙ second_goes (eq_by_cmp nat_cmp q mark.number.0) len mark.place (place_in two q) (place_in one q) (finite.get (marks_of marks) q) (none_later mark two q merges.rise_two)
+      ap (λ old. place_joined len (place_in two q) (or_else (place_in one q) old))
+      (get-push marks (moved_mark len mark) q merges.rise merges.before_two)
+      ∙ second_goes (eq_by_cmp nat_cmp q mark.number.0) len mark.place (place_in two q) (place_in one q)
+      (finite.get (marks_of marks) q) (none_later mark two q merges.rise_two)
       (none_higher one mark q merges.rise_one before)
       ∙ merges.found q;
 }
 
-merge_both : (len : ℕ) (first second marks one two : List Mark) (gone mark : Mark) → Merges len first second marks (gone ∷ one) (mark ∷ two) → gone.number.0 ≡ mark.number.0
+merge_both : (len : ℕ) (first second marks one two : List Mark) (gone mark : Mark) →
+    Merges len first second marks (gone ∷ one) (mark ∷ two) → gone.number.0 ≡ mark.number.0
     → Merges len first second (marks ++ moved_mark len mark ∷ []) one two
 merge_both len first second marks one two gone mark merges same =
     let before = still_before gone (moved_mark len mark) one same (next_before gone one merges.rise_one) in
@@ -379,12 +469,17 @@ merge_both len first second marks one two gone mark merges same =
       rise_one = second_part _ _ merges.rise_one;
       rise_two = second_part _ _ merges.rise_two;
       before_one = push_before marks one (moved_mark len mark) merges.before_two before;
-      before_two = push_before marks two (moved_mark len mark) merges.before_two (still_before mark (moved_mark len mark) two refl (next_before mark two merges.rise_two));
+      before_two = push_before marks two (moved_mark len mark) merges.before_two
+          (still_before mark (moved_mark len mark) two refl (next_before mark two merges.rise_two));
       found = λ q.
-          ap (λ old. place_joined len (place_in two q) (or_else (place_in one q) old)) (get-push marks (moved_mark len mark) q merges.rise merges.before_two)
-          ∙ both_go (eq_by_cmp nat_cmp q mark.number.0) len mark.place gone.place (place_in two q) (place_in one q) (finite.get (marks_of marks) q) (none_later mark two q merges.rise_two)
+          ap (λ old. place_joined len (place_in two q) (or_else (place_in one q) old))
+          (get-push marks (moved_mark len mark) q merges.rise merges.before_two)
+          ∙ both_go (eq_by_cmp nat_cmp q mark.number.0) len mark.place gone.place (place_in two q) (place_in one q)
+          (finite.get (marks_of marks) q) (none_later mark two q merges.rise_two)
           (none_higher one (moved_mark len mark) q (second_part _ _ merges.rise_one) before)
-          ∙ ap (λ n. place_joined len (place_in (mark ∷ two) q) (or_else (cond (eq_by_cmp nat_cmp q n) (Some gone.place) (place_in one q)) (finite.get (marks_of marks) q))) (sym same)
+          ∙ ap (λ n. place_joined len (place_in (mark ∷ two) q)
+          (or_else (cond (eq_by_cmp nat_cmp q n) (Some gone.place) (place_in one q))
+          (finite.get (marks_of marks) q))) (sym same)
           ∙ merges.found q;
     }
 
@@ -407,49 +502,65 @@ merge_start len first second rise_one rise_two = record {
   rise_two = rise_two;
   before_one = nothing_before first;
   before_two = nothing_before second;
-  found = λ q. ap (place_joined len (place_in second q)) (ap (or_else (place_in first q)) (get-marks_of [] q tt) ∙ none_else (place_in first q));
+  found = λ q. ap (place_joined len (place_in second q)) (ap (or_else (place_in first q)) (get-marks_of [] q tt)
+      ∙ none_else (place_in first q));
 }
 
 -- what is left of the first goes behind them
-merge_rest : (len : ℕ) (first second marks one : List Mark) → Merges len first second marks one [] → Merges len first second (marks ++ one) [] []
-merge_rest len first second marks [] merges = subst (λ all. Merges len first second all [] []) (sym (append-nil marks)) merges
+merge_rest : (len : ℕ) (first second marks one : List Mark) → Merges len first second marks one [] →
+    Merges len first second (marks ++ one) [] []
+merge_rest len first second marks [] merges =
+    subst (λ all. Merges len first second all [] []) (sym (append-nil marks)) merges
 merge_rest len first second marks (mark ∷ one) merges =
     subst (λ all. Merges len first second all [] []) (append_assoc marks (mark ∷ []) one)
     (merge_rest len first second (marks ++ mark ∷ []) one (merge_first len first second marks one [] mark merges tt))
 
-pub merge_end : (len : ℕ) (first second marks : List Mark) (i j : ℕ) → length second ≤ j → MergesAt len first second i j marks → Merges len first second (marks ++ drop i first) [] []
+pub merge_end : (len : ℕ) (first second marks : List Mark) (i j : ℕ) → length second ≤ j →
+    MergesAt len first second i j marks → Merges len first second (marks ++ drop i first) [] []
 merge_end len first second marks i j all merges =
-    merge_rest len first second marks (drop i first) (subst (Merges len first second marks (drop i first)) (drop_all j second all) merges)
+    merge_rest len first second marks (drop i first)
+    (subst (Merges len first second marks (drop i first)) (drop_all j second all) merges)
 
-pub merged : (len : ℕ) (first second marks : List Mark) → Rise first → Rise second → Merges len first second marks [] [] → marks_of marks ≡ joined_marks len (marks_of first) (marks_of second)
+pub merged : (len : ℕ) (first second marks : List Mark) → Rise first → Rise second →
+    Merges len first second marks [] [] → marks_of marks ≡ joined_marks len (marks_of first) (marks_of second)
 merged len first second marks rise_one rise_two merges =
     same_marks _ _ (λ q.
     merges.found q
     ∙ ap₂ (place_joined len) (sym (get-marks_of second q rise_two)) (sym (get-marks_of first q rise_one))
     ∙ sym (get-joined_marks len (marks_of first) (marks_of second) q))
 
-before_at : (others : List Mark) (j : ℕ) (mark d : Mark) → (j < length others → mark.number.0 < (get_or others j d).number.0) → Before (mark ∷ []) (drop j others)
+before_at : (others : List Mark) (j : ℕ) (mark d : Mark) →
+    (j < length others → mark.number.0 < (get_or others j d).number.0) → Before (mark ∷ []) (drop j others)
 before_at [] zero mark d less = tt
 before_at [] (suc j) mark d less = tt
-before_at (other ∷ others) zero mark d less = All-cons (Below other.number.0) mark [] (less (omega arith)) (All-nil (Below other.number.0))
+before_at (other ∷ others) zero mark d less =
+    All-cons (Below other.number.0) mark [] (less (omega arith)) (All-nil (Below other.number.0))
 before_at (other ∷ others) (suc j) mark d less = before_at others j mark d (λ within. less (omega (arith, within)))
 
-pub merge_first_at : (len : ℕ) (first second marks : List Mark) (i j : ℕ) (d : Mark) → i < length first → (j < length second → (get_or first i d).number.0 < (get_or second j d).number.0)
+pub merge_first_at : (len : ℕ) (first second marks : List Mark) (i j : ℕ) (d : Mark) → i < length first →
+    (j < length second → (get_or first i d).number.0 < (get_or second j d).number.0)
     → MergesAt len first second i j marks → MergesAt len first second (i + 1) j (marks ++ get_or first i d ∷ [])
 merge_first_at len first second marks i j d within less merges =
     let mark = get_or first i d in
     merge_first len first second marks (drop (i + 1) first) (drop j second) mark
-    (subst (λ one. Merges len first second marks one (drop j second)) (drop_more first i d within) merges) (before_at second j mark d less)
+    (subst (λ one. Merges len first second marks one (drop j second)) (drop_more first i d within) merges)
+    (before_at second j mark d less)
 
-pub merge_second_at : (len : ℕ) (first second marks : List Mark) (i j : ℕ) (d : Mark) → j < length second → (i < length first → (get_or second j d).number.0 < (get_or first i d).number.0)
-    → MergesAt len first second i j marks → MergesAt len first second i (j + 1) (marks ++ moved_mark len (get_or second j d) ∷ [])
+pub merge_second_at : (len : ℕ) (first second marks : List Mark) (i j : ℕ) (d : Mark) → j < length second →
+    (i < length first → (get_or second j d).number.0 < (get_or first i d).number.0)
+    → MergesAt len first second i j marks →
+    MergesAt len first second i (j + 1) (marks ++ moved_mark len (get_or second j d) ∷ [])
 merge_second_at len first second marks i j d within less merges =
     let mark = get_or second j d in
     merge_second len first second marks (drop i first) (drop (j + 1) second) mark
-    (subst (λ two. Merges len first second marks (drop i first) two) (drop_more second j d within) merges) (before_at first i mark d less)
+    (subst (λ two. Merges len first second marks (drop i first) two) (drop_more second j d within) merges)
+    (before_at first i mark d less)
 
-pub merge_both_at : (len : ℕ) (first second marks : List Mark) (i j : ℕ) (d : Mark) → i < length first → j < length second → (get_or first i d).number.0 ≡ (get_or second j d).number.0
-    → MergesAt len first second i j marks → MergesAt len first second (i + 1) (j + 1) (marks ++ moved_mark len (get_or second j d) ∷ [])
+pub merge_both_at : (len : ℕ) (first second marks : List Mark) (i j : ℕ) (d : Mark) → i < length first →
+    j < length second → (get_or first i d).number.0 ≡ (get_or second j d).number.0
+    → MergesAt len first second i j marks →
+    MergesAt len first second (i + 1) (j + 1) (marks ++ moved_mark len (get_or second j d) ∷ [])
 merge_both_at len first second marks i j d within there same merges =
     merge_both len first second marks (drop (i + 1) first) (drop (j + 1) second) (get_or first i d) (get_or second j d)
-    (subst₂ (λ one two. Merges len first second marks one two) (drop_more first i d within) (drop_more second j d there) merges) same
+    (subst₂ (λ one two. Merges len first second marks one two) (drop_more first i d within) (drop_more second j d there)
+    merges) same

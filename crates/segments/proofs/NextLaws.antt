@@ -1,5 +1,7 @@
 -- The next and the last column with a toggle of a slot, by the entries and by the columns.
-use Rattle.std.proofs.Common.{◌≡◌, ℕ, zero, suc, ◌+◌, ◌-◌, ◌<◌, ◌≤◌, Bool, true, false, cond, not, ◌&&◌, nat_lt, Option, Some, None, List, [], ◌∷◌, length, get_or, take, drop, inl, inr, refl, sym, ap, ap₂, subst, ◌∙◌, arith, length-drop}
+use Rattle.std.proofs.Common.{◌≡◌, ℕ, zero, suc, ◌+◌, ◌-◌, ◌<◌, ◌≤◌, Bool, true, false, cond, not, ◌&&◌, nat_lt, Option}
+use Rattle.std.proofs.Common.{Some, None, List, [], ◌∷◌, length, get_or, take, drop, inl, inr, refl, sym, ap, ap₂}
+use Rattle.std.proofs.Common.{subst, ◌∙◌, arith, length-drop}
 use Rattle.std.specs.Prelude.{IfSome, if◌then◌else◌, nat_le, option_map}
 use Rattle.std.proofs.lemmas.Bool.{cases_order, false≢true}
 use Rattle.std.proofs.lemmas.Bool.Decides.{nat_tests}
@@ -15,56 +17,79 @@ use Rattle.segments.proofs.ColumnLaws.{drop-columns, length-columns}
 use Rattle.segments.proofs.EntryLaws.{none_before, own_slots, passed}
 use Rattle.segments.proofs.PreviousLaws.{behind_none, own}
 
-none_has : (slot from to at : ℕ) (entries : List Toggled) → LieIn from to entries → at < from → finset.contains (toggled_at entries at) slot ≡ false
-none_has slot from to at entries lie before = ap (λ s. finset.contains s slot) (none_before from to entries at lie before) ∙ finset.contains-empty nat_cmp slot
+none_has : (slot from to at : ℕ) (entries : List Toggled) → LieIn from to entries → at < from →
+    finset.contains (toggled_at entries at) slot ≡ false
+none_has slot from to at entries lie before =
+    ap (λ s. finset.contains s slot) (none_before from to entries at lie before) ∙ finset.contains-empty nat_cmp slot
 
 -- the next entry's column
-next_low : (slot first second low high : ℕ) (entries : List Toggled) → LieIn low high entries → first ≤ low → second ≤ low → next_entry slot first entries ≡ next_entry slot second entries
+next_low : (slot first second low high : ℕ) (entries : List Toggled) → LieIn low high entries → first ≤ low →
+    second ≤ low → next_entry slot first entries ≡ next_entry slot second entries
 next_low slot first second low high [] lie one two = refl
 next_low slot first second low high (entry ∷ entries) lie one two =
     let tests : nat_le first entry.column ≡ nat_le second entry.column = grind (arith, nat_tests, lie.0, one, two) in
-    ap₂ (λ b rest. if b && finset.contains entry.slots slot then Some entry.column else rest) tests (next_low slot first second (suc entry.column) high entries lie.2 (omega (arith, lie.0)) (omega (arith, lie.0)))
+    ap₂ (λ b rest. if b && finset.contains entry.slots slot then Some entry.column
+    else rest) tests (next_low slot first second (suc entry.column) high entries lie.2 (omega (arith, lie.0))
+    (omega (arith, lie.0)))
 
 next_none : (slot at low : ℕ) (entries : List Toggled) → LieIn low at entries → next_entry slot at entries ≡ None
 next_none slot at low [] lie = refl
 next_none slot at low (entry ∷ entries) lie =
     let test : nat_le at entry.column ≡ false = grind (arith, nat_tests, lie.1) in
-    ap (λ b. if b && finset.contains entry.slots slot then Some entry.column else next_entry slot at entries) test ∙ next_none slot at (suc entry.column) entries lie.2
+    ap (λ b. if b && finset.contains entry.slots slot then Some entry.column else next_entry slot at entries) test
+    ∙ next_none slot at (suc entry.column) entries lie.2
 
-next_here : (slot at low high : ℕ) (entries : List Toggled) → LieIn low high entries → finset.contains (toggled_at entries at) slot ≡ true → next_entry slot at entries ≡ Some at
+next_here : (slot at low high : ℕ) (entries : List Toggled) → LieIn low high entries →
+    finset.contains (toggled_at entries at) slot ≡ true → next_entry slot at entries ≡ Some at
 next_here slot at low high [] lie has = absurd (false≢true (sym (finset.contains-empty nat_cmp slot) ∙ has))
 next_here slot at low high (entry ∷ entries) lie has =
     elim (cases_order entry.column at) [
       | inl here ↦
           let test : nat_le at entry.column ≡ true = grind (arith, nat_tests, here) in
-          ap₂ (λ a b. if a && b then Some entry.column else next_entry slot at entries) test (ap (λ s. finset.contains s slot) (sym (own_slots high at entry entries lie.2 here)) ∙ has) ∙ ap (λ n. Some n) here
+          ap₂ (λ a b. if a && b then Some entry.column else next_entry slot at entries) test
+          (ap (λ s. finset.contains s slot) (sym (own_slots high at entry entries lie.2 here)) ∙ has)
+          ∙ ap (λ n. Some n) here
       | inr other ↦ elim other [
         | inl before ↦
             let test : nat_le at entry.column ≡ false = grind (arith, nat_tests, before) in
-            ap (λ b. if b && finset.contains entry.slots slot then Some entry.column else next_entry slot at entries) test
-            ∙ next_here slot at (suc entry.column) high entries lie.2 (ap (λ s. finset.contains s slot) (sym (passed entry entries at (omega (arith, before)))) ∙ has)
-        | inr behind ↦ absurd (false≢true (sym (none_has slot entry.column high at (entry ∷ entries) (omega arith, lie.1, lie.2) behind) ∙ has))
+            ap (λ b. if b && finset.contains entry.slots slot then Some entry.column
+            else next_entry slot at entries) test
+            ∙ next_here slot at (suc entry.column) high entries lie.2
+            (ap (λ s. finset.contains s slot) (sym (passed entry entries at (omega (arith, before)))) ∙ has)
+        | inr behind ↦ absurd
+            (false≢true (sym (none_has slot entry.column high at (entry ∷ entries) (omega arith, lie.1, lie.2) behind)
+            ∙ has))
       ]
     ]
 
-next_skip : (slot at low high : ℕ) (entries : List Toggled) → LieIn low high entries → finset.contains (toggled_at entries at) slot ≡ false → next_entry slot at entries ≡ next_entry slot (suc at) entries
+next_skip : (slot at low high : ℕ) (entries : List Toggled) → LieIn low high entries →
+    finset.contains (toggled_at entries at) slot ≡ false → next_entry slot at entries ≡ next_entry slot (suc at) entries
 next_skip slot at low high [] lie hasn't = refl
 next_skip slot at low high (entry ∷ entries) lie hasn't =
     elim (cases_order entry.column at) [
       | inl here ↦
           let one : nat_le at entry.column ≡ true = grind (arith, nat_tests, here) in
           let two : nat_le (suc at) entry.column ≡ false = grind (arith, nat_tests, here) in
-          ap₂ (λ a b. if a && b then Some entry.column else next_entry slot at entries) one (ap (λ s. finset.contains s slot) (sym (own_slots high at entry entries lie.2 here)) ∙ hasn't)
+          ap₂ (λ a b. if a && b then Some entry.column else next_entry slot at entries) one
+          (ap (λ s. finset.contains s slot) (sym (own_slots high at entry entries lie.2 here)) ∙ hasn't)
           ∙ next_low slot at (suc at) (suc entry.column) high entries lie.2 (omega (arith, here)) (omega (arith, here))
-          ∙ ap (λ b. if b && finset.contains entry.slots slot then Some entry.column else next_entry slot (suc at) entries) (sym two)
+          ∙ ap (λ b. if b && finset.contains entry.slots slot then Some entry.column
+          else next_entry slot (suc at) entries) (sym two)
       | inr other ↦ elim other [
         | inl before ↦
             let one : nat_le at entry.column ≡ false = grind (arith, nat_tests, before) in
             let two : nat_le (suc at) entry.column ≡ false = grind (arith, nat_tests, before) in
-            ap (λ b. if b && finset.contains entry.slots slot then Some entry.column else next_entry slot at entries) one
-            ∙ next_skip slot at (suc entry.column) high entries lie.2 (ap (λ s. finset.contains s slot) (sym (passed entry entries at (omega (arith, before)))) ∙ hasn't)
-            ∙ ap (λ b. if b && finset.contains entry.slots slot then Some entry.column else next_entry slot (suc at) entries) (sym two)
-        | inr behind ↦ next_low slot at (suc at) entry.column high (entry ∷ entries) (omega arith, lie.1, lie.2) (omega (arith, behind)) (omega (arith, behind))
+            ap (λ b. if b && finset.contains entry.slots slot then Some entry.column
+            else next_entry slot at entries) one
+            ∙ next_skip slot at (suc entry.column) high entries lie.2
+            (ap (λ s. finset.contains s slot) (sym (passed entry entries at (omega (arith, before)))) ∙ hasn't)
+            ∙ ap (λ b. if b && finset.contains entry.slots slot then Some entry.column
+            else next_entry slot (suc at) entries) (sym two)
+        | inr behind ↦ next_low slot at (suc at) entry.column high (entry ∷ entries) (
+          omega arith,
+          lie.1,
+          lie.2,
+        ) (omega (arith, behind)) (omega (arith, behind))
       ]
     ]
 
@@ -80,7 +105,8 @@ one_on : (test : Bool) (k : ℕ) → cond test (Some (1 + k)) None ≡ option_ma
 one_on true k = refl
 one_on false k = refl
 
-place_skip : (p : Column → Bool) (x : Column) (xs : List Column) → p x ≡ false → position p (x ∷ xs) ≡ option_map (λ n. 1 + n) (position p xs)
+place_skip : (p : Column → Bool) (x : Column) (xs : List Column) → p x ≡ false →
+    position p (x ∷ xs) ≡ option_map (λ n. 1 + n) (position p xs)
 place_skip p x xs is =
     let k = prefix_len (λ y. not (p y)) xs in
     let test : nat_lt (1 + k) (suc (length xs)) ≡ nat_lt k (length xs) = grind (arith, nat_tests) in
@@ -88,13 +114,17 @@ place_skip p x xs is =
     ∙ ap (λ t. cond t (Some (1 + k)) None) test
     ∙ one_on (nat_lt k (length xs)) k
 
-both_on : (at : ℕ) (place : Option ℕ) → option_map (λ n. suc at + n) place ≡ option_map (λ n. at + n) (option_map (λ n. 1 + n) place)
+both_on : (at : ℕ) (place : Option ℕ) → option_map (λ n. suc at + n) place
+    ≡ option_map (λ n. at + n) (option_map (λ n. 1 + n) place)
 both_on at None = refl
 both_on at (Some n) =
     let same : suc at + n ≡ at + (1 + n) = omega arith in
     ap (λ m. Some m) same
 
-next_place : (slot at low high : ℕ) (text : List ℕ) (entries : List Toggled) → LieIn low high entries → high ≡ at + length text → next_entry slot at entries ≡ option_map (λ n. at + n) (position (λ (column : Column). finset.contains column.toggled slot) (columns_from at text entries))
+next_place : (slot at low high : ℕ) (text : List ℕ) (entries : List Toggled) → LieIn low high entries →
+    high ≡ at + length text → next_entry slot at entries
+    ≡ option_map (λ n. at + n) (position (λ (column : Column). finset.contains column.toggled slot)
+    (columns_from at text entries))
 next_place slot at low high [] entries lie is =
     let end : high ≡ at = omega (arith, is) in
     next_none slot at low entries (subst (λ n. LieIn low n entries) end lie)
@@ -102,10 +132,12 @@ next_place slot at low high (character ∷ text) entries lie is =
     let p = λ (column : Column). finset.contains column.toggled slot in
     let x : Column = record { character = character; toggled = toggled_at entries at } in
     let rest = columns_from (suc at) text entries in
-    elim (finset.contains (toggled_at entries at) slot) as (λ b. finset.contains (toggled_at entries at) slot ≡ b → next_entry slot at entries ≡ option_map (λ n. at + n) (position p (x ∷ rest))) [
+    elim (finset.contains (toggled_at entries at) slot) as (λ b. finset.contains (toggled_at entries at) slot ≡ b →
+    next_entry slot at entries ≡ option_map (λ n. at + n) (position p (x ∷ rest))) [
       | true ↦ λ has.
           let here : at ≡ at + 0 = omega arith in
-          next_here slot at low high entries lie has ∙ ap (λ n. Some n) here ∙ ap (option_map (λ n. at + n)) (sym (place_here p x rest has))
+          next_here slot at low high entries lie has ∙ ap (λ n. Some n) here
+          ∙ ap (option_map (λ n. at + n)) (sym (place_here p x rest has))
       | false ↦ λ hasn't.
           next_skip slot at low high entries lie hasn't
           ∙ next_place slot (suc at) low high text entries lie (omega (arith, is))
@@ -113,68 +145,93 @@ next_place slot at low high (character ∷ text) entries lie is =
           ∙ ap (option_map (λ n. at + n)) (sym (place_skip p x rest hasn't))
     ] refl
 
-pub next_column : (slot at : ℕ) (text : List ℕ) (entries : List Toggled) → LieIn 0 (length text) entries → at ≤ length text → next_entry slot at entries ≡ next_toggle slot at (columns_from 0 text entries)
+pub next_column : (slot at : ℕ) (text : List ℕ) (entries : List Toggled) → LieIn 0 (length text) entries →
+    at ≤ length text → next_entry slot at entries ≡ next_toggle slot at (columns_from 0 text entries)
 next_column slot at text entries lie within =
     let from : at ≡ 0 + at = omega arith in
     next_place slot at 0 (length text) (drop at text) entries lie (omega (arith, length-drop at text))
-    ∙ ap (λ columns. option_map (λ n. at + n) (position (λ (column : Column). finset.contains column.toggled slot) columns)) (ap (λ n. columns_from n (drop at text) entries) from ∙ sym (drop-columns at 0 text entries))
+    ∙ ap (λ columns. option_map (λ n. at + n)
+    (position (λ (column : Column). finset.contains column.toggled slot) columns))
+    (ap (λ n. columns_from n (drop at text) entries) from ∙ sym (drop-columns at 0 text entries))
 
 pub next_above : (slot at : ℕ) (entries : List Toggled) → IfSome (next_entry slot at entries) (λ next. at ≤ next)
 next_above slot at [] = tt
 next_above slot at (entry ∷ entries) =
     let has = finset.contains entry.slots slot in
-    elim (nat_le at entry.column && has) as (λ b. (nat_le at entry.column && has) ≡ b → IfSome (if b then Some entry.column else next_entry slot at entries) (λ next. at ≤ next)) [
+    elim (nat_le at entry.column && has) as (λ b. (nat_le at entry.column && has) ≡ b →
+    IfSome (if b then Some entry.column else next_entry slot at entries) (λ next. at ≤ next)) [
       | true ↦ λ is. grind (arith, nat_tests, is)
       | false ↦ λ isn't. next_above slot at entries
     ] refl
 
-pub next_below : (slot at low high : ℕ) (entries : List Toggled) → LieIn low high entries → IfSome (next_entry slot at entries) (λ next. next < high)
+pub next_below : (slot at low high : ℕ) (entries : List Toggled) → LieIn low high entries →
+    IfSome (next_entry slot at entries) (λ next. next < high)
 next_below slot at low high [] lie = tt
 next_below slot at low high (entry ∷ entries) lie =
-    elim (nat_le at entry.column && finset.contains entry.slots slot) as (λ b. IfSome (if b then Some entry.column else next_entry slot at entries) (λ next. next < high)) [
+    elim (nat_le at entry.column && finset.contains entry.slots slot) as (λ b.
+    IfSome (if b then Some entry.column else next_entry slot at entries) (λ next. next < high)) [
       | true ↦ lie.1
       | false ↦ next_below slot at (suc entry.column) high entries lie.2
     ]
 
 -- the last entry's column below another
-previous_here : (slot at low high : ℕ) (entries : List Toggled) → LieIn low high entries → finset.contains (toggled_at entries at) slot ≡ true → previous_entry slot (suc at) entries ≡ Some at
+previous_here : (slot at low high : ℕ) (entries : List Toggled) → LieIn low high entries →
+    finset.contains (toggled_at entries at) slot ≡ true → previous_entry slot (suc at) entries ≡ Some at
 previous_here slot at low high [] lie has = absurd (false≢true (sym (finset.contains-empty nat_cmp slot) ∙ has))
 previous_here slot at low high (entry ∷ entries) lie has =
     elim (cases_order entry.column at) [
       | inl here ↦
           let test : nat_lt entry.column (suc at) ≡ true = grind (arith, nat_tests, here) in
-          ap₂ (λ a b. later_of (if a && b then Some entry.column else None) (previous_entry slot (suc at) entries)) test (ap (λ s. finset.contains s slot) (sym (own_slots high at entry entries lie.2 here)) ∙ has)
-          ∙ ap (later_of (Some entry.column)) (behind_none slot (suc at) (suc entry.column) high entries lie.2 (omega (arith, here)))
+          ap₂ (λ a b. later_of (if a && b then Some entry.column else None) (previous_entry slot (suc at) entries)) test
+          (ap (λ s. finset.contains s slot) (sym (own_slots high at entry entries lie.2 here)) ∙ has)
+          ∙ ap (later_of (Some entry.column))
+          (behind_none slot (suc at) (suc entry.column) high entries lie.2 (omega (arith, here)))
           ∙ ap (λ n. Some n) here
       | inr other ↦ elim other [
         | inl before ↦
-            ap (later_of (own slot (suc at) entry)) (previous_here slot at (suc entry.column) high entries lie.2 (ap (λ s. finset.contains s slot) (sym (passed entry entries at (omega (arith, before)))) ∙ has))
-        | inr behind ↦ absurd (false≢true (sym (none_has slot entry.column high at (entry ∷ entries) (omega arith, lie.1, lie.2) behind) ∙ has))
+            ap (later_of (own slot (suc at) entry))
+            (previous_here slot at (suc entry.column) high entries lie.2
+            (ap (λ s. finset.contains s slot) (sym (passed entry entries at (omega (arith, before)))) ∙ has))
+        | inr behind ↦ absurd
+            (false≢true (sym (none_has slot entry.column high at (entry ∷ entries) (omega arith, lie.1, lie.2) behind)
+            ∙ has))
       ]
     ]
 
-previous_skip : (slot at low high : ℕ) (entries : List Toggled) → LieIn low high entries → finset.contains (toggled_at entries at) slot ≡ false → previous_entry slot (suc at) entries ≡ previous_entry slot at entries
+previous_skip : (slot at low high : ℕ) (entries : List Toggled) → LieIn low high entries →
+    finset.contains (toggled_at entries at) slot ≡ false →
+    previous_entry slot (suc at) entries ≡ previous_entry slot at entries
 previous_skip slot at low high [] lie hasn't = refl
 previous_skip slot at low high (entry ∷ entries) lie hasn't =
     elim (cases_order entry.column at) [
       | inl here ↦
           let one : nat_lt entry.column (suc at) ≡ true = grind (arith, nat_tests, here) in
           let two : nat_lt entry.column at ≡ false = grind (arith, nat_tests, here) in
-          ap₂ (λ a b. later_of (if a && b then Some entry.column else None) (previous_entry slot (suc at) entries)) one (ap (λ s. finset.contains s slot) (sym (own_slots high at entry entries lie.2 here)) ∙ hasn't)
-          ∙ ap (later_of None) (behind_none slot (suc at) (suc entry.column) high entries lie.2 (omega (arith, here)) ∙ sym (behind_none slot at (suc entry.column) high entries lie.2 (omega (arith, here))))
-          ∙ ap (λ b. later_of (if b && finset.contains entry.slots slot then Some entry.column else None) (previous_entry slot at entries)) (sym two)
+          ap₂ (λ a b. later_of (if a && b then Some entry.column else None) (previous_entry slot (suc at) entries)) one
+          (ap (λ s. finset.contains s slot) (sym (own_slots high at entry entries lie.2 here)) ∙ hasn't)
+          ∙ ap (later_of None) (behind_none slot (suc at) (suc entry.column) high entries lie.2 (omega (arith, here))
+          ∙ sym (behind_none slot at (suc entry.column) high entries lie.2 (omega (arith, here))))
+          ∙ ap (λ b. later_of (if b && finset.contains entry.slots slot then Some entry.column
+          else None) (previous_entry slot at entries)) (sym two)
       | inr other ↦ elim other [
         | inl before ↦
             let tests : nat_lt entry.column (suc at) ≡ nat_lt entry.column at = grind (arith, nat_tests, before) in
-            ap₂ (λ b rest. later_of (if b && finset.contains entry.slots slot then Some entry.column else None) rest) tests
-            (previous_skip slot at (suc entry.column) high entries lie.2 (ap (λ s. finset.contains s slot) (sym (passed entry entries at (omega (arith, before)))) ∙ hasn't))
+            ap₂ (λ b rest. later_of (if b && finset.contains entry.slots slot then Some entry.column else None) rest)
+            tests
+            (previous_skip slot at (suc entry.column) high entries lie.2
+            (ap (λ s. finset.contains s slot) (sym (passed entry entries at (omega (arith, before)))) ∙ hasn't))
         | inr behind ↦
             behind_none slot (suc at) entry.column high (entry ∷ entries) (omega arith, lie.1, lie.2) behind
-            ∙ sym (behind_none slot at entry.column high (entry ∷ entries) (omega arith, lie.1, lie.2) (omega (arith, behind)))
+            ∙ sym (behind_none slot at entry.column high (entry ∷ entries) (
+              omega arith,
+              lie.1,
+              lie.2,
+            ) (omega (arith, behind)))
       ]
     ]
 
-column_at : (first k : ℕ) (text : List ℕ) (entries : List Toggled) (d : Column) → k < length text → (get_or (columns_from first text entries) k d).toggled ≡ toggled_at entries (first + k)
+column_at : (first k : ℕ) (text : List ℕ) (entries : List Toggled) (d : Column) → k < length text →
+    (get_or (columns_from first text entries) k d).toggled ≡ toggled_at entries (first + k)
 column_at first k [] entries d within = absurd (omega arith)
 column_at first zero (character ∷ text) entries d within =
     let same : first ≡ first + 0 = omega arith in
@@ -183,7 +240,8 @@ column_at first (suc k) (character ∷ text) entries d within =
     let same : suc first + k ≡ first + suc k = omega arith in
     column_at (suc first) k text entries d (omega arith) ∙ ap (toggled_at entries) same
 
-pub previous_column : (slot at : ℕ) (text : List ℕ) (entries : List Toggled) → LieIn 0 (length text) entries → at ≤ length text → previous_entry slot at entries ≡ previous_toggle slot at (columns_from 0 text entries)
+pub previous_column : (slot at : ℕ) (text : List ℕ) (entries : List Toggled) → LieIn 0 (length text) entries →
+    at ≤ length text → previous_entry slot at entries ≡ previous_toggle slot at (columns_from 0 text entries)
 previous_column slot zero text entries lie within = behind_none slot 0 0 (length text) entries lie (omega arith)
 previous_column slot (suc at) text entries lie within =
     let columns = columns_from 0 text entries in
@@ -194,10 +252,14 @@ previous_column slot (suc at) text entries lie within =
     let last : suc at - 1 ≡ at = omega arith in
     let start : 0 + at ≡ at = omega arith in
     let test : p (get_or columns (suc at - 1) none) ≡ not (finset.contains (toggled_at entries at) slot) =
-    ap (λ n. p (get_or columns n none)) last ∙ ap (λ s. not (finset.contains s slot)) (column_at 0 at text entries none (omega arith) ∙ ap (toggled_at entries) start) in
-    elim (finset.contains (toggled_at entries at) slot) as (λ b. finset.contains (toggled_at entries at) slot ≡ b → previous_entry slot (suc at) entries ≡ previous_toggle slot (suc at) columns) [
+    ap (λ n. p (get_or columns n none)) last
+    ∙ ap (λ s. not (finset.contains s slot)) (column_at 0 at text entries none (omega arith)
+    ∙ ap (toggled_at entries) start) in
+    elim (finset.contains (toggled_at entries at) slot) as (λ b. finset.contains (toggled_at entries at) slot ≡ b →
+    previous_entry slot (suc at) entries ≡ previous_toggle slot (suc at) columns) [
       | true ↦ λ has.
-          let nothing : free_behind slot (take (suc at) columns) ≡ 0 = suffix_len-take_no p columns (suc at) none (omega arith) long (test ∙ ap not has) in
+          let nothing : free_behind slot (take (suc at) columns)
+          ≡ 0 = suffix_len-take_no p columns (suc at) none (omega arith) long (test ∙ ap not has) in
           let yes : nat_lt 0 (suc at) ≡ true = grind (arith, nat_tests) in
           let there : suc at - 0 - 1 ≡ at = omega arith in
           previous_here slot at 0 (length text) entries lie has
@@ -205,7 +267,8 @@ previous_column slot (suc at) text entries lie within =
           ∙ ap₂ (λ (b : Bool) n. if b then Some n else None) yes there)
       | false ↦ λ hasn't.
           let more : free_behind slot (take (suc at) columns) ≡ 1 + free =
-          suffix_len-take_yes p columns (suc at) none (omega arith) long (test ∙ ap not hasn't) ∙ ap (λ n. 1 + free_behind slot (take n columns)) last in
+          suffix_len-take_yes p columns (suc at) none (omega arith) long (test ∙ ap not hasn't)
+          ∙ ap (λ n. 1 + free_behind slot (take n columns)) last in
           let tests : nat_lt free at ≡ nat_lt (1 + free) (suc at) = grind (arith, nat_tests) in
           let same : at - free - 1 ≡ suc at - (1 + free) - 1 = omega arith in
           previous_skip slot at 0 (length text) entries lie hasn't
@@ -214,19 +277,23 @@ previous_column slot (suc at) text entries lie within =
           ∙ ap (λ n. if nat_lt n (suc at) then Some (suc at - n - 1) else None) (sym more)
     ] refl
 
-later_below : (bound : ℕ) (first second : Option ℕ) → IfSome first (λ previous. previous < bound) → IfSome second (λ previous. previous < bound) → IfSome (later_of first second) (λ previous. previous < bound)
+later_below : (bound : ℕ) (first second : Option ℕ) → IfSome first (λ previous. previous < bound) →
+    IfSome second (λ previous. previous < bound) → IfSome (later_of first second) (λ previous. previous < bound)
 later_below bound first None one two = one
 later_below bound first (Some second) one two = two
 
 own_below : (slot column : ℕ) (entry : Toggled) → IfSome (own slot column entry) (λ previous. previous < column)
 own_below slot column entry =
     let has = finset.contains entry.slots slot in
-    elim (nat_lt entry.column column && has) as (λ b. (nat_lt entry.column column && has) ≡ b → IfSome (if b then Some entry.column else None) (λ previous. previous < column)) [
+    elim (nat_lt entry.column column && has) as (λ b. (nat_lt entry.column column && has) ≡ b →
+    IfSome (if b then Some entry.column else None) (λ previous. previous < column)) [
       | true ↦ λ is. grind (arith, nat_tests, is)
       | false ↦ λ isn't. tt
     ] refl
 
-pub previous_below : (slot column : ℕ) (entries : List Toggled) → IfSome (previous_entry slot column entries) (λ previous. previous < column)
+pub previous_below : (slot column : ℕ) (entries : List Toggled) →
+    IfSome (previous_entry slot column entries) (λ previous. previous < column)
 previous_below slot column [] = tt
 previous_below slot column (entry ∷ entries) =
-    later_below column (own slot column entry) (previous_entry slot column entries) (own_below slot column entry) (previous_below slot column entries)
+    later_below column (own slot column entry) (previous_entry slot column entries) (own_below slot column entry)
+    (previous_below slot column entries)

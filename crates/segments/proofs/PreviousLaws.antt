@@ -1,5 +1,6 @@
 -- The last column with a toggle of a slot among the entries of a line.
-use Rattle.std.proofs.Common.{◌≡◌, ℕ, zero, suc, ◌<◌, ◌≤◌, true, false, ◌&&◌, nat_lt, Option, Some, None, List, [], ◌∷◌, ◌++◌, length, take, drop, get_or, refl, sym, ap, ◌∙◌, arith, take-append-drop}
+use Rattle.std.proofs.Common.{◌≡◌, ℕ, zero, suc, ◌<◌, ◌≤◌, true, false, ◌&&◌, nat_lt, Option, Some, None, List, [], ◌∷◌}
+use Rattle.std.proofs.Common.{◌++◌, length, take, drop, get_or, refl, sym, ap, ◌∙◌, arith, take-append-drop}
 use Rattle.std.specs.Prelude.{if◌then◌else◌}
 use Rattle.std.proofs.lemmas.Bool.Decides.{nat_tests}
 use Rattle.std.specs.FinSet as set
@@ -13,35 +14,50 @@ pub LieIn-all : (from to : ℕ) (entries : List Toggled) → LieIn from to entri
 LieIn-all from to [] lie = tt
 LieIn-all from to (entry ∷ entries) lie = (omega arith, lie.1, lie.2)
 
-own_none : (slot column : ℕ) (entry : Toggled) → (nat_lt entry.column column && set.contains entry.slots slot) ≡ false → own slot column entry ≡ None
+own_none : (slot column : ℕ) (entry : Toggled) → (nat_lt entry.column column && set.contains entry.slots slot) ≡ false →
+    own slot column entry ≡ None
 own_none slot column entry test = ap (λ b. if b then Some entry.column else None) test
 
-pub behind_none : (slot column from to : ℕ) (entries : List Toggled) → LieIn from to entries → column ≤ from → previous_entry slot column entries ≡ None
+pub behind_none : (slot column from to : ℕ) (entries : List Toggled) → LieIn from to entries → column ≤ from →
+    previous_entry slot column entries ≡ None
 behind_none slot column from to [] lie far = refl
 behind_none slot column from to (entry ∷ entries) lie far =
-    let test : (nat_lt entry.column column && set.contains entry.slots slot) ≡ false = grind (arith, nat_tests, lie.0, far) in
-    ap (later_of (own slot column entry)) (behind_none slot column (suc entry.column) to entries lie.2 (omega (arith, lie.0))) ∙ own_none slot column entry test
+    let test : (nat_lt entry.column column && set.contains entry.slots slot)
+    ≡ false = grind (arith, nat_tests, lie.0, far) in
+    ap (later_of (own slot column entry)) (behind_none slot column (suc entry.column) to entries lie.2
+    (omega (arith, lie.0))) ∙ own_none slot column entry test
 
-front_only : (slot column : ℕ) (front behind : List Toggled) → previous_entry slot column behind ≡ None → previous_entry slot column (front ++ behind) ≡ previous_entry slot column front
+front_only : (slot column : ℕ) (front behind : List Toggled) → previous_entry slot column behind ≡ None →
+    previous_entry slot column (front ++ behind) ≡ previous_entry slot column front
 front_only slot column [] behind none = none
-front_only slot column (entry ∷ front) behind none = ap (later_of (own slot column entry)) (front_only slot column front behind none)
+front_only slot column (entry ∷ front) behind none =
+    ap (later_of (own slot column entry)) (front_only slot column front behind none)
 
 -- the entries from the column on say nothing
-pub previous_front : (slot column to count : ℕ) (entries : List Toggled) → LieIn column to (drop count entries) → previous_entry slot column entries ≡ previous_entry slot column (take count entries)
+pub previous_front : (slot column to count : ℕ) (entries : List Toggled) → LieIn column to (drop count entries) →
+    previous_entry slot column entries ≡ previous_entry slot column (take count entries)
 previous_front slot column to count entries lie =
     ap (previous_entry slot column) (sym (take-append-drop count entries))
-    ∙ front_only slot column (take count entries) (drop count entries) (behind_none slot column column to (drop count entries) lie (omega arith))
+    ∙ front_only slot column (take count entries) (drop count entries)
+    (behind_none slot column column to (drop count entries) lie (omega arith))
 
 -- the last entry with the slot, and one without it
-pub previous_last : (slot column from i : ℕ) (entries : List Toggled) (d e : Toggled) → LieIn from column (take (suc i) entries) → i < length entries → set.contains (get_or entries i e).slots slot ≡ true → previous_entry slot column (take (suc i) entries) ≡ Some (get_or entries i d).column
+pub previous_last : (slot column from i : ℕ) (entries : List Toggled) (d e : Toggled) →
+    LieIn from column (take (suc i) entries) → i < length entries →
+    set.contains (get_or entries i e).slots slot ≡ true →
+    previous_entry slot column (take (suc i) entries) ≡ Some (get_or entries i d).column
 previous_last slot column from i [] d e lie within has = absurd (omega arith)
 previous_last slot column from zero (entry ∷ entries) d e lie within has =
-    let test : (nat_lt entry.column column && set.contains entry.slots slot) ≡ true = grind (arith, nat_tests, lie.1, has) in
+    let test : (nat_lt entry.column column && set.contains entry.slots slot)
+    ≡ true = grind (arith, nat_tests, lie.1, has) in
     ap (λ b. if b then Some entry.column else None) test
 previous_last slot column from (suc i) (entry ∷ entries) d e lie within has =
-    ap (later_of (own slot column entry)) (previous_last slot column (suc entry.column) i entries d e lie.2 (omega arith) has)
+    ap (later_of (own slot column entry)) (previous_last slot column (suc entry.column) i entries d e lie.2
+    (omega arith) has)
 
-pub previous_less : (slot column i : ℕ) (entries : List Toggled) (d : Toggled) → i < length entries → set.contains (get_or entries i d).slots slot ≡ false → previous_entry slot column (take (suc i) entries) ≡ previous_entry slot column (take i entries)
+pub previous_less : (slot column i : ℕ) (entries : List Toggled) (d : Toggled) → i < length entries →
+    set.contains (get_or entries i d).slots slot ≡ false →
+    previous_entry slot column (take (suc i) entries) ≡ previous_entry slot column (take i entries)
 previous_less slot column i [] d within has = absurd (omega arith)
 previous_less slot column zero (entry ∷ entries) d within has =
     let test : (nat_lt entry.column column && set.contains entry.slots slot) ≡ false = grind (arith, nat_tests, has) in
@@ -49,7 +65,8 @@ previous_less slot column zero (entry ∷ entries) d within has =
 previous_less slot column (suc i) (entry ∷ entries) d within has =
     ap (later_of (own slot column entry)) (previous_less slot column i entries d (omega arith) has)
 
-pub LieIn-less : (from to i : ℕ) (entries : List Toggled) → LieIn from to (take (suc i) entries) → LieIn from to (take i entries)
+pub LieIn-less : (from to i : ℕ) (entries : List Toggled) → LieIn from to (take (suc i) entries) →
+    LieIn from to (take i entries)
 LieIn-less from to zero entries lie = tt
 LieIn-less from to (suc i) [] lie = tt
 LieIn-less from to (suc i) (entry ∷ entries) lie = (lie.0, lie.1, LieIn-less (suc entry.column) to i entries lie.2)

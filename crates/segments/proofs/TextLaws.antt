@@ -1,19 +1,24 @@
 -- Where the columns of a text begin in its bytes.
-use Rattle.std.proofs.Common.{◌≡◌, ℕ, zero, suc, ◌+◌, ◌-◌, ◌<◌, ◌≤◌, List, [], ◌∷◌, ◌++◌, length, take, drop, sym, ap, ap₂, ◌∙◌, arith, append-nil, length-append, length-drop, length-take-le, drop-drop, take-append-drop}
+use Rattle.std.proofs.Common.{◌≡◌, ℕ, zero, suc, ◌+◌, ◌-◌, ◌<◌, ◌≤◌, List, [], ◌∷◌, ◌++◌, length, take, drop, sym, ap}
+use Rattle.std.proofs.Common.{ap₂, ◌∙◌, arith, append-nil, length-append, length-drop, length-take-le, drop-drop}
+use Rattle.std.proofs.Common.{take-append-drop}
 use Rattle.std.specs.Prelude.{chars, encode_utf8, encode_utf8_all, slice_get, IsUtf8, Some}
 use Rattle.std.specs.Char.{len_utf8}
 use Rattle.std.specs.Str.{IsAscii, IsCharBoundary}
 use Rattle.text_model.specs.Splices.{inserted, removed}
 use Rattle.std.proofs.lemmas.Bool.Decides.{nat_tests}
 use Rattle.std.proofs.lemmas.List.{append_cancel_right}
-use Rattle.std.proofs.lemmas.Str.{chars-append, chars-nil, chars_past_char, drop_past_char, encode_ascii, encodes-chars, IsCharBoundary-past_char, IsUtf8-append, IsUtf8-drop, IsUtf8-nil, IsUtf8-take, length-encode, length-le-encodes, len_utf8_bounds}
+use Rattle.std.proofs.lemmas.Str.{chars-append, chars-nil, chars_past_char, drop_past_char, encode_ascii, encodes-chars}
+use Rattle.std.proofs.lemmas.Str.{IsCharBoundary-past_char, IsUtf8-append, IsUtf8-drop, IsUtf8-nil, IsUtf8-take}
+use Rattle.std.proofs.lemmas.Str.{length-encode, length-le-encodes, len_utf8_bounds}
 
 pub some_bytes : (bytes : List ℕ) → 0 < length (chars bytes) → 0 < length bytes
 some_bytes [] some = absurd (omega (arith, ap length chars-nil))
 some_bytes (byte ∷ bytes) some = omega arith
 
 -- a column further on, past a character
-pub column_on : (text rest : List ℕ) (byte column c : ℕ) → IsUtf8 text → IsCharBoundary text byte → chars (drop byte text) ≡ drop column (chars text) → drop byte text ≡ encode_utf8 c ++ rest
+pub column_on : (text rest : List ℕ) (byte column c : ℕ) → IsUtf8 text → IsCharBoundary text byte →
+    chars (drop byte text) ≡ drop column (chars text) → drop byte text ≡ encode_utf8 c ++ rest
     → IsCharBoundary text (byte + len_utf8 c) × (chars (drop (byte + len_utf8 c) text) ≡ drop (column + 1) (chars text))
 column_on text rest byte column c utf8 boundary behind is =
     let later = IsUtf8-drop text byte utf8 boundary in (
@@ -24,7 +29,8 @@ column_on text rest byte column c utf8 boundary behind is =
     )
 
 -- what stands before a column
-pub front_of : (text : List ℕ) (byte column : ℕ) → IsUtf8 text → IsCharBoundary text byte → chars (drop byte text) ≡ drop column (chars text) → chars (take byte text) ≡ take column (chars text)
+pub front_of : (text : List ℕ) (byte column : ℕ) → IsUtf8 text → IsCharBoundary text byte →
+    chars (drop byte text) ≡ drop column (chars text) → chars (take byte text) ≡ take column (chars text)
 front_of text byte column utf8 boundary behind =
     append_cancel_right (chars (take byte text)) (take column (chars text)) (drop column (chars text))
     (ap (λ rest. chars (take byte text) ++ rest) (sym behind)
@@ -40,7 +46,8 @@ ascii_more c bytes small ascii zero = small
 ascii_more c bytes small ascii (suc i) = ascii i
 
 -- as many characters as bytes: each takes one
-ascii_encoded : (characters : List ℕ) → length characters ≡ length (encode_utf8_all characters) → IsAscii (encode_utf8_all characters)
+ascii_encoded : (characters : List ℕ) → length characters ≡ length (encode_utf8_all characters) →
+    IsAscii (encode_utf8_all characters)
 ascii_encoded [] same = λ i. omega arith
 ascii_encoded (c ∷ characters) same =
     let least = length-le-encodes characters in
@@ -48,7 +55,8 @@ ascii_encoded (c ∷ characters) same =
     let long = length-append (encode_utf8 c) (encode_utf8_all characters) in
     let one : len_utf8 c ≡ 1 = omega (arith, same, least, bounds.0, long, length-encode c) in
     let small = one_byte c one in
-    rw (encode_ascii c small) (ascii_more c (encode_utf8_all characters) small (ascii_encoded characters (omega (arith, same, one, long, length-encode c))))
+    rw (encode_ascii c small) (ascii_more c (encode_utf8_all characters) small
+    (ascii_encoded characters (omega (arith, same, one, long, length-encode c))))
 
 pub is_ascii : (text : List ℕ) → IsUtf8 text → length (chars text) ≡ length text → IsAscii text
 is_ascii text utf8 same =
@@ -59,28 +67,34 @@ is_ascii text utf8 same =
 pub fewer_characters : (text : List ℕ) → IsUtf8 text → length (chars text) ≤ length text
 fewer_characters text utf8 = omega (arith, length-le-encodes (chars text), ap length (encodes-chars text utf8))
 
-pub found_at : (characters rest : List ℕ) (column c : ℕ) → drop column characters ≡ c ∷ rest → slice_get characters column ≡ Some c
+pub found_at : (characters rest : List ℕ) (column c : ℕ) → drop column characters ≡ c ∷ rest →
+    slice_get characters column ≡ Some c
 found_at [] rest zero c is = absurd (let no : [] ≡ c ∷ rest = is in cc)
 found_at [] rest (suc column) c is = absurd (let no : [] ≡ c ∷ rest = is in cc)
 found_at (d ∷ characters) rest zero c is = ap (λ xs. slice_get xs 0) is
 found_at (d ∷ characters) rest (suc column) c is = found_at characters rest column c is
 
 -- the characters of a text with a part replaced
-chars-replaced : (text new : List ℕ) (start end from to : ℕ) → IsUtf8 text → IsUtf8 new → IsCharBoundary text start → chars (take start text) ≡ take from (chars text) → chars (drop end text) ≡ drop to (chars text)
+chars-replaced : (text new : List ℕ) (start end from to : ℕ) → IsUtf8 text → IsUtf8 new → IsCharBoundary text start →
+    chars (take start text) ≡ take from (chars text) → chars (drop end text) ≡ drop to (chars text)
     → chars ((take start text ++ new) ++ drop end text) ≡ (take from (chars text) ++ chars new) ++ drop to (chars text)
 chars-replaced text new start end from to utf8 also boundary front behind =
     let before = IsUtf8-take text start utf8 boundary in
     chars-append (take start text ++ new) (drop end text) (IsUtf8-append (take start text) new before also)
     ∙ ap₂ (λ xs ys. xs ++ ys) (chars-append (take start text) new before ∙ ap (λ xs. xs ++ chars new) front) behind
 
-pub inserted_text : (old text new found : List ℕ) (byte column : ℕ) → text ≡ old → IsUtf8 text → IsUtf8 new → IsCharBoundary text byte → chars (take byte text) ≡ take column (chars text) → chars (drop byte text) ≡ drop column (chars text)
+pub inserted_text : (old text new found : List ℕ) (byte column : ℕ) → text ≡ old → IsUtf8 text → IsUtf8 new →
+    IsCharBoundary text byte → chars (take byte text) ≡ take column (chars text) →
+    chars (drop byte text) ≡ drop column (chars text)
     → found ≡ (take byte old ++ new) ++ drop byte old → chars found ≡ inserted column (chars new) (chars old)
 inserted_text old text new found byte column same utf8 also boundary front behind is =
     ap chars (is ∙ ap (λ t. (take byte t ++ new) ++ drop byte t) (sym same))
     ∙ chars-replaced text new byte byte column column utf8 also boundary front behind
     ∙ ap (λ t. inserted column (chars new) (chars t)) same
 
-pub removed_text : (old text rest found : List ℕ) (start long from to : ℕ) → text ≡ old → IsUtf8 text → IsCharBoundary text start → chars (take start text) ≡ take from (chars text) → chars (drop start text) ≡ drop from (chars text)
+pub removed_text : (old text rest found : List ℕ) (start long from to : ℕ) → text ≡ old → IsUtf8 text →
+    IsCharBoundary text start → chars (take start text) ≡ take from (chars text) →
+    chars (drop start text) ≡ drop from (chars text)
     → rest ≡ drop start text → chars (drop long rest) ≡ drop (to - from) (chars rest) → from ≤ to
     → found ≡ (take start old ++ []) ++ drop (start + long) old → chars found ≡ removed from to (chars old)
 removed_text old text rest found start long from to same utf8 boundary front behind rest_is rest_behind ordered is =
@@ -92,14 +106,23 @@ removed_text old text rest found start long from to same utf8 boundary front beh
     ∙ ap (λ n. drop n (chars text)) (let sum : from + (to - from) ≡ to = omega arith in sum) in
     ap chars (is ∙ ap (λ t. (take start t ++ []) ++ drop (start + long) t) (sym same))
     ∙ chars-replaced text [] start (start + long) from to utf8 IsUtf8-nil boundary front further
-    ∙ ap (λ xs. xs ++ drop to (chars text)) (ap (λ xs. take from (chars text) ++ xs) chars-nil ∙ append-nil (take from (chars text)))
+    ∙ ap (λ xs. xs ++ drop to (chars text)) (ap (λ xs. take from (chars text) ++ xs) chars-nil
+    ∙ append-nil (take from (chars text)))
     ∙ ap (λ t. removed from to (chars t)) same
 
-pub length-inserted : (characters new : List ℕ) (column : ℕ) → column ≤ length characters → length (inserted column new characters) ≡ length characters + length new
+pub length-inserted : (characters new : List ℕ) (column : ℕ) → column ≤ length characters →
+    length (inserted column new characters) ≡ length characters + length new
 length-inserted characters new column within =
-    omega (arith, length-append (take column characters ++ new) (drop column characters), length-append (take column characters) new, length-take-le column characters within, length-drop column characters)
+    omega (
+      arith,
+      length-append (take column characters ++ new) (drop column characters),
+      length-append (take column characters) new,
+      length-take-le column characters within,
+      length-drop column characters,
+    )
 
-pub length-removed : (characters : List ℕ) (from to : ℕ) → from ≤ to → to ≤ length characters → length (removed from to characters) ≡ length characters - (to - from)
+pub length-removed : (characters : List ℕ) (from to : ℕ) → from ≤ to → to ≤ length characters →
+    length (removed from to characters) ≡ length characters - (to - from)
 length-removed characters from to ordered within =
     let front : length (take from characters) ≡ from = length-take-le from characters (omega arith) in
     omega (arith, length-append (take from characters) (drop to characters), front, length-drop to characters)

@@ -1,6 +1,7 @@
 -- A line of text as contracts see it: its columns, each a character with the slots that are toggled before it, and its
 -- marks by their numbers, whose places are columns.
-use Rattle.std.specs.Prelude.{ℕ, ◌+◌, ◌-◌, Bool, not, nat_lt, nat_le, Option, None, Some, List, [], ◌∷◌, ◌++◌, map, length, take, drop, slice_range, option_map, if◌then◌else◌}
+use Rattle.std.specs.Prelude.{ℕ, ◌+◌, ◌-◌, Bool, not, nat_lt, nat_le, Option, None, Some, List, [], ◌∷◌, ◌++◌, map}
+use Rattle.std.specs.Prelude.{length, take, drop, slice_range, option_map, if◌then◌else◌}
 use Rattle.std.specs.List.{filter, position, suffix_len}
 use Rattle.std.specs.FinMap as finite
 use Rattle.std.specs.FinSet as set

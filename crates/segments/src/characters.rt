@@ -1,4 +1,5 @@
-ghost use Rattle.std.specs.Prelude.{◌≡◌, ◌+◌, ◌<◌, ◌≤◌, ◌^◌, [], ◌++◌, ℕ, List, encode_utf8, length, take, drop, chars, string_bytes, slice_range, slice_get, Some, IfOk, OnOk, OnErr};
+ghost use Rattle.std.specs.Prelude.{◌≡◌, ◌+◌, ◌<◌, ◌≤◌, ◌^◌, [], ◌++◌, ℕ, List, encode_utf8, length, take, drop, chars};
+ghost use Rattle.std.specs.Prelude.{string_bytes, slice_range, slice_get, Some, IfOk, OnOk, OnErr};
 ghost use Rattle.std.specs.Str.{IsCharBoundary};
 ghost use Rattle.text_model.specs.Splices.{inserted, removed};
 
@@ -102,16 +103,39 @@ impl Characters {
         first_character(&text[byte_of(text, self.count, column)..])
     }
 
+    /// The characters from one column to another, lent. All of them are no search for columns.
+    fn part(&self, from: usize, to: usize) -> &str
+        requires ordered { from ≤ to }
+        requires within { to ≤ length self.now }
+        ensures { chars result.now ≡ slice_range self.now from to }
+    {
+        let text = self.text.as_str();
+        if to - from == self.count {
+            return text;
+        }
+        let rest = &text[byte_of(text, self.count, from)..];
+        let taken = byte_of(rest, self.count - from, to - from);
+        &rest[..taken]
+    }
+
     /// The characters from one column to another.
     pub fn copy(&self, alloc: Global, from: usize, to: usize) -> Result<String, AllocError>
         requires ordered { from ≤ to }
         requires within { to ≤ length self.now }
         ensures { IfOk result (λ text. chars (string_bytes text) ≡ slice_range self.now from to) }
     {
-        let text = self.text.as_str();
-        let rest = &text[byte_of(text, self.count, from)..];
-        let copied = byte_of(rest, self.count - from, to - from);
-        String::from_str(alloc, &rest[..copied])
+        String::from_str(alloc, self.part(from, to))
+    }
+
+    /// Adds the characters from one column to another to a text.
+    pub fn push(&self, from: usize, to: usize, text: &mut String) -> Result<(), AllocError>
+        requires ordered { from ≤ to }
+        requires within { to ≤ length self.now }
+        ensures { OnOk result (chars (string_bytes text.new)
+            ≡ chars (string_bytes text.old) ++ slice_range self.now from to) }
+    {
+        text.push_str(self.part(from, to))?;
+        Ok(())
     }
 
     /// Puts a text in before the character at a column.

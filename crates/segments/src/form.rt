@@ -3,7 +3,8 @@ ghost use Rattle.std.specs.FinMap as finite;
 ghost use Rattle.std.specs.FinSet as set;
 ghost use Rattle.text_model.specs.Splices.{changed};
 ghost use Rattle.text_model.specs.TagBits.{slot_count};
-ghost use Rattle.segments.specs.Columns.{after_removal, after_text, joined, line_before, line_behind, toggled_more, with_toggle};
+ghost use Rattle.segments.specs.Columns.{after_removal, after_text, joined, line_before, line_behind, toggled_more};
+ghost use Rattle.segments.specs.Columns.{with_toggle};
 ghost use Rattle.segments.specs.Forms.{content, is_plain};
 
 use crate::characters::Characters;

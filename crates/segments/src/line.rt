@@ -1,10 +1,14 @@
-ghost use Rattle.std.specs.Prelude.{◌≡◌, ℕ, ◌+◌, ◌<◌, ◌≤◌, Bool, false, length, map, take, slice_get, slice_range, Some, IfSome, IfOk, IfErr, OnOk, OnErr, chars, string_bytes, option_map};
+ghost use Rattle.std.specs.Prelude.{◌≡◌, ℕ, ◌+◌, ◌++◌, ◌<◌, ◌≤◌, Bool, false, length, map, take, slice_get};
+ghost use Rattle.std.specs.Prelude.{slice_range, Some, IfSome, IfOk, IfErr, OnOk, OnErr, chars, string_bytes};
+ghost use Rattle.std.specs.Prelude.{option_map};
 ghost use Rattle.std.specs.FinMap as finite;
 ghost use Rattle.text_model.specs.declared.places.MarkNo.{MarkNo};
 ghost use Rattle.text_model.specs.MarkOrder.{marks_at, next_mark, previous_mark};
 ghost use Rattle.text_model.specs.Splices.{changed};
 ghost use Rattle.text_model.specs.TagBits.{slot_count};
-ghost use Rattle.segments.specs.Columns.{after_removal, after_text, characters, joined, line_before, line_behind, line_count, next_toggle, plain_line, previous_toggle, tags_before, toggled_more, toggles, with_toggle};
+ghost use Rattle.segments.specs.Columns.{after_removal, after_text, characters, joined, line_before, line_behind};
+ghost use Rattle.segments.specs.Columns.{line_count, next_toggle, plain_line, previous_toggle, tags_before};
+ghost use Rattle.segments.specs.Columns.{toggled_more, toggles, with_toggle};
 ghost use Rattle.toggle_sums.specs.Toggles.{parity};
 
 use crate::characters::Characters;
@@ -34,7 +38,12 @@ impl Model for Line {
 
     ghost Value = { LineContent };
 
-    ghost coded = { Prim.hlevel (codes, place.the_row.coded, set.code {R = nat_cmp} coded_ℕ, finite.code {R = nat_cmp} coded_ℕ place.the_row.coded) };
+    ghost coded = { Prim.hlevel (
+      codes,
+      place.the_row.coded,
+      set.code {R = nat_cmp} coded_ℕ,
+      finite.code {R = nat_cmp} coded_ℕ place.the_row.coded,
+    ) };
 
     ghost view = { λ a. content a.form };
 }
@@ -197,6 +206,19 @@ impl Line {
         match &self.form {
             Form::Plain(text) => text.copy(self.alloc, from, to),
             Form::Rich(line) => line.copy_text(from, to),
+        }
+    }
+
+    /// Adds the characters from one column to another to a text.
+    pub fn push_text(&self, from: usize, to: usize, text: &mut String) -> Result<(), AllocError>
+        requires ordered { from ≤ to }
+        requires within { to ≤ length self.now.columns }
+        ensures { OnOk result (chars (string_bytes text.new)
+            ≡ chars (string_bytes text.old) ++ slice_range (characters self.now.columns) from to) }
+    {
+        match &self.form {
+            Form::Plain(characters) => characters.push(from, to, text),
+            Form::Rich(line) => line.push_text(from, to, text),
         }
     }
 

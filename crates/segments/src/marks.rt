@@ -1,4 +1,5 @@
-ghost use Rattle.std.specs.Prelude.{◌≡◌, ℕ, ◌+◌, ◌-◌, ◌<◌, ◌≤◌, ◌^◌, T, List, length, map, take, drop, vec_len, slice_get, nat_le, nat_lt, OnOk, OnErr, IfOk};
+ghost use Rattle.std.specs.Prelude.{◌≡◌, ℕ, ◌+◌, ◌-◌, ◌<◌, ◌≤◌, ◌^◌, T, List, length, map, take, drop, vec_len};
+ghost use Rattle.std.specs.Prelude.{slice_get, nat_le, nat_lt, OnOk, OnErr, IfOk};
 ghost use Rattle.std.specs.List.{All, filter};
 ghost use Rattle.std.specs.FinMap as finite;
 ghost use Rattle.text_model.specs.declared.places.Place.{Place};

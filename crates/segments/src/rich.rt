@@ -1,10 +1,14 @@
-ghost use Rattle.std.specs.Prelude.{◌≡◌, ℕ, ◌+◌, ◌<◌, ◌≤◌, Bool, false, true, length, map, take, slice_get, slice_range, Some, IfSome, IfOk, IfErr, OnOk, OnErr, chars, string_bytes, option_map};
+ghost use Rattle.std.specs.Prelude.{◌≡◌, ℕ, ◌+◌, ◌++◌, ◌<◌, ◌≤◌, Bool, false, true, length, map, take, slice_get};
+ghost use Rattle.std.specs.Prelude.{slice_range, Some, IfSome, IfOk, IfErr, OnOk, OnErr, chars, string_bytes};
+ghost use Rattle.std.specs.Prelude.{option_map};
 ghost use Rattle.std.specs.FinMap as finite;
 ghost use Rattle.text_model.specs.declared.places.MarkNo.{MarkNo};
 ghost use Rattle.text_model.specs.MarkOrder.{marks_at, next_mark, previous_mark};
 ghost use Rattle.text_model.specs.Splices.{changed};
 ghost use Rattle.text_model.specs.TagBits.{slot_count};
-ghost use Rattle.segments.specs.Columns.{after_removal, after_text, characters, joined, line_before, line_behind, line_count, next_toggle, plain_line, previous_toggle, tags_before, toggled_more, toggles, with_toggle};
+ghost use Rattle.segments.specs.Columns.{after_removal, after_text, characters, joined, line_before, line_behind};
+ghost use Rattle.segments.specs.Columns.{line_count, next_toggle, plain_line, previous_toggle, tags_before};
+ghost use Rattle.segments.specs.Columns.{toggled_more, toggles, with_toggle};
 ghost use Rattle.toggle_sums.specs.Toggles.{parity};
 
 use crate::characters::Characters;
@@ -21,8 +25,8 @@ use std::marker::Model;
 use text_model::{MarkNo, Place, TagSet, TagSlot, WORDS};
 use toggle_sums::Sums;
 
-/// A line of text with room for toggles and marks: its characters, the slots that are toggled before each of them, and the marks in it, whose places
-/// are columns. A place behind the last character is a mark's alone.
+/// A line of text with room for toggles and marks: its characters, the slots that are toggled before each of them, and
+/// the marks in it, whose places are columns. A place behind the last character is a mark's alone.
 #[derive(Drop)]
 pub struct RichLine {
     alloc: Global,
@@ -45,7 +49,12 @@ impl Model for RichLine {
 
     ghost Value = { LineContent };
 
-    ghost coded = { Prim.hlevel (codes, place.the_row.coded, set.code {R = nat_cmp} coded_ℕ, finite.code {R = nat_cmp} coded_ℕ place.the_row.coded) };
+    ghost coded = { Prim.hlevel (
+      codes,
+      place.the_row.coded,
+      set.code {R = nat_cmp} coded_ℕ,
+      finite.code {R = nat_cmp} coded_ℕ place.the_row.coded,
+    ) };
 
     ghost view = { λ a. record { columns = columns_from 0 a.text a.toggles.items; marks = marks_of a.marks.items } };
 
@@ -201,6 +210,16 @@ impl RichLine {
         ensures { IfOk result (λ text. chars (string_bytes text) ≡ slice_range (characters self.now.columns) from to) }
     {
         self.text.copy(self.alloc, from, to)
+    }
+
+    /// Adds the characters from one column to another to a text.
+    pub fn push_text(&self, from: usize, to: usize, text: &mut String) -> Result<(), AllocError>
+        requires ordered { from ≤ to }
+        requires within { to ≤ length self.now.columns }
+        ensures { OnOk result (chars (string_bytes text.new)
+            ≡ chars (string_bytes text.old) ++ slice_range (characters self.now.columns) from to) }
+    {
+        self.text.push(from, to, text)
     }
 
     /// A copy of the line.

@@ -1,10 +1,12 @@
-ghost use Rattle.std.specs.Prelude.{◌≡◌, ℕ, ◌+◌, ◌<◌, ◌≤◌, ◌^◌, ◌==◌, ⊤, true, false, length, map, take, drop, vec_len, Option, Some, None, option_map, IfSome, OnOk, OnErr, ◌-◌, if◌then◌else◌, [], ◌++◌};
+ghost use Rattle.std.specs.Prelude.{◌≡◌, ℕ, ◌+◌, ◌<◌, ◌≤◌, ◌^◌, ◌==◌, ⊤, true, false, length, map, take, drop, vec_len};
+ghost use Rattle.std.specs.Prelude.{Option, Some, None, option_map, IfSome, OnOk, OnErr, ◌-◌, if◌then◌else◌, [], ◌++◌};
 ghost use Rattle.std.specs.List.{All};
 ghost use Rattle.std.specs.FinSet as set;
 ghost use Rattle.text_model.specs.SlotSets.{differing};
 ghost use Rattle.text_model.specs.Splices.{removed};
 ghost use Rattle.text_model.specs.TagBits.{slot_count};
-ghost use Rattle.segments.specs.Entries.{CanMoveBack, CanMoveOn, LieIn, entries_in, flipped, moved_back, moved_on, next_entry, odd_of, previous_entry, slots_cleared, toggled_at, without_span};
+ghost use Rattle.segments.specs.Entries.{CanMoveBack, CanMoveOn, LieIn, entries_in, flipped, moved_back, moved_on};
+ghost use Rattle.segments.specs.Entries.{next_entry, odd_of, previous_entry, slots_cleared, toggled_at, without_span};
 
 use std::alloc::AllocError;
 use text_model::{TagSet, TagSlot};

@@ -1,5 +1,6 @@
 -- The tags at the front of a table.
-use Rattle.std.proofs.Common.{◌≡◌, ℕ, suc, true, false, Some, List, [], ◌∷◌, map, slice_get, refl, sym, ap, ◌∙◌, arith, if◌then◌else◌}
+use Rattle.std.proofs.Common.{◌≡◌, ℕ, suc, true, false, Some, List, [], ◌∷◌, map, slice_get, refl, sym, ap, ◌∙◌, arith}
+use Rattle.std.proofs.Common.{if◌then◌else◌}
 use Rattle.std.specs.Prelude.{◌+◌, ◌-◌, ◌==◌, find, bytes_eq, take}
 use Rattle.std.proofs.lemmas.Bool.Decides.{Decides-eqb}
 use Rattle.std.specs.List.{take-map}
@@ -18,10 +19,12 @@ number_zero number is =
     ] refl is
 
 -- where `sel` has slot 0, it stands there with number 0
-sel_stands : (es : List Named) → slot_of sel (map tag es) ≡ Some 0 → (at : ℕ) × (slice_get es at ≡ Some (record { name = sel; number = 0 }))
+sel_stands : (es : List Named) → slot_of sel (map tag es) ≡ Some 0 →
+    (at : ℕ) × (slice_get es at ≡ Some (record { name = sel; number = 0 }))
 sel_stands [] none = absurd (none-some 0 none)
 sel_stands (e ∷ es) is =
-    elim (bytes_eq sel e.name) as (λ b. bytes_eq sel e.name ≡ b → option_map (λ (t : Tag). t.slot) (if b then Some (tag e) else find (is_named sel) (map tag es)) ≡ Some 0
+    elim (bytes_eq sel e.name) as (λ b. bytes_eq sel e.name ≡ b →
+    option_map (λ (t : Tag). t.slot) (if b then Some (tag e) else find (is_named sel) (map tag es)) ≡ Some 0
     → (at : ℕ) × (slice_get (e ∷ es) at ≡ Some (record { name = sel; number = 0 }))) [
       | true ↦ λ same found.
           let name : sel ≡ e.name = (bytes_eq-Decides sel e.name).0 same in
@@ -30,7 +33,9 @@ sel_stands (e ∷ es) is =
       | false ↦ λ _ found. let rest = sel_stands es found in (suc rest.0, rest.1)
     ] refl is
 
-pub AreKept-front : (names : Names) (tags : Tags) (len : ℕ) → tags_kept names ≡ tags → slot_of sel (take len tags.tags) ≡ Some 0 → AreKept names → AreKept (record names { entries = take len names.entries })
+pub AreKept-front : (names : Names) (tags : Tags) (len : ℕ) → tags_kept names ≡ tags →
+    slot_of sel (take len tags.tags) ≡ Some 0 → AreKept names →
+    AreKept (record names { entries = take len names.entries })
 AreKept-front names tags len is there kept = record {
   some = kept.some;
   few = kept.few;
@@ -38,6 +43,8 @@ AreKept-front names tags len is there kept = record {
       (ap (slot_of sel) (sym (take-map tag len names.entries) ∙ ap (λ (ts : Tags). take len ts.tags) is) ∙ there);
 }
 
-pub tags_kept-front : (names : Names) (tags : Tags) (len : ℕ) → tags_kept names ≡ tags → tags_kept (record names { entries = take len names.entries }) ≡ record tags { tags = take len tags.tags }
+pub tags_kept-front : (names : Names) (tags : Tags) (len : ℕ) → tags_kept names ≡ tags →
+    tags_kept (record names { entries = take len names.entries }) ≡ record tags { tags = take len tags.tags }
 tags_kept-front names tags len is =
-    ap (λ ts. record { tags = ts; limit = names.limit - 1 }) (sym (take-map tag len names.entries)) ∙ ap (λ (ts : Tags). record ts { tags = take len ts.tags }) is
+    ap (λ ts. record { tags = ts; limit = names.limit - 1 }) (sym (take-map tag len names.entries))
+    ∙ ap (λ (ts : Tags). record ts { tags = take len ts.tags }) is

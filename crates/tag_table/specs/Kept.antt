@@ -1,5 +1,6 @@
 -- A table of tags as it is kept: a list of names with numbers. `sel` has the number 0.
-use Rattle.std.specs.Prelude.{◌≡◌, ℕ, ◌+◌, ◌-◌, ◌<◌, ◌≤◌, ◌==◌, nat_lt, Option, None, Some, Result, Ok, Err, List, map, length, position, slice_get, if◌then◌else◌}
+use Rattle.std.specs.Prelude.{◌≡◌, ℕ, ◌+◌, ◌-◌, ◌<◌, ◌≤◌, ◌==◌, nat_lt, Option, None, Some, Result, Ok, Err, List, map}
+use Rattle.std.specs.Prelude.{length, position, slice_get, if◌then◌else◌}
 use Rattle.name_list.specs.Names.{Named, Names}
 use Rattle.text_model.specs.LimitTable.{most_tags}
 use Rattle.tag_table.specs.declared.faults.NoSuchTag.{NoSuchTag}

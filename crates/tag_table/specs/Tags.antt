@@ -1,5 +1,6 @@
 -- The tags of a document in the order of their priority, each with the slot by which a store knows it.
-use Rattle.std.specs.Prelude.{◌≡◌, ◌≢◌, ℕ, ◌+◌, ◌<◌, ◌≤◌, Bool, Option, Some, List, map, length, find, bytes_eq, codes, slice_get, Contains}
+use Rattle.std.specs.Prelude.{◌≡◌, ◌≢◌, ℕ, ◌+◌, ◌<◌, ◌≤◌, Bool, Option, Some, List, map, length, find, bytes_eq, codes}
+use Rattle.std.specs.Prelude.{slice_get, Contains}
 use Rattle.std.specs.Option.{option_map}
 use Rattle.name_list.specs.Names.{AreApart}
 use Rattle.text_model.specs.LimitTable.{most_tags, most_widgets}
@@ -47,6 +48,7 @@ pub record AreTags (tags : Tags) : Type 0 where
   pub names_apart : AreApart (names_of tags.tags)
   pub slots_apart : AreApart (slots_of tags.tags)
   pub selection : slot_of sel tags.tags ≡ Some 0
-  pub others : (at slot : ℕ) → slice_get (slots_of tags.tags) at ≡ Some slot → slot ≢ 0 → (first_slot ≤ slot) × (slot < first_slot + tags.limit)
+  pub others : (at slot : ℕ) → slice_get (slots_of tags.tags) at ≡ Some slot → slot ≢ 0 →
+      (first_slot ≤ slot) × (slot < first_slot + tags.limit)
   pub room : length tags.tags ≤ tags.limit + 1
   pub limit : tags.limit ≤ most_tags

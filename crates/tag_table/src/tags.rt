@@ -1,4 +1,5 @@
-ghost use Rattle.std.specs.Prelude.{◌≡◌, ◌<◌, ◌≤◌, ◌↔◌, ◌∷◌, [], ◌++◌, length, take, slice_get, chars, string_bytes, None, Some, Ok, Err, IsNone, IfOk, IfErr, IfSome, OnErr};
+ghost use Rattle.std.specs.Prelude.{◌≡◌, ◌<◌, ◌≤◌, ◌↔◌, ◌∷◌, [], ◌++◌, length, take, slice_get, chars, string_bytes};
+ghost use Rattle.std.specs.Prelude.{None, Some, Ok, Err, IsNone, IfOk, IfErr, IfSome, OnErr};
 ghost use Rattle.std.specs.Option.{option_map};
 ghost use Rattle.tag_table.specs.Kept.{place_above, place_below, slot_of_number};
 ghost use Rattle.tag_table.specs.Priority.{raised, lowered, deleted};
@@ -14,8 +15,8 @@ use text_model::{Limits, TagSlot};
 
 const SEL: &str = "sel";
 
-// The slot of a tag by its number in the list: 0 stands for `sel`, of which each widget has one; the other tags take the
-// slots behind those.
+// The slot of a tag by its number in the list: 0 stands for `sel`, of which each widget has one; the other tags take
+// the slots behind those.
 fn slot_of_number(number: u16) -> TagSlot
     requires { number ≤ MOST_TAGS }
     ensures value { result.0 ≡ slot_of_number number }
@@ -50,7 +51,10 @@ impl Model for TagTable {
 impl TagTable {
     /// The tags of a new document: `sel` alone.
     pub fn new(alloc: Global, limits: &Limits) -> Result<TagTable, AllocError>
-        ensures { IfOk result (λ tags. tags ≡ record { tags = record { name = sel; slot = 0 } ∷ []; limit = limits.now.tags }) }
+        ensures { IfOk result (λ tags. tags ≡ record {
+          tags = record { name = sel; slot = 0 } ∷ [];
+          limit = limits.now.tags;
+        }) }
     {
         // Where one of the limits is read, all are known to be in their bounds.
         let _chars = limits.chars();
@@ -100,10 +104,14 @@ impl TagTable {
         ensures refused { IfOk result (λ made. IsNone made → self.new ≡ self.old) }
         ensures least { IfOk result (λ made. IfSome made (λ slot. IsLeastFree (slots_of self.old.tags) slot.0)) }
         ensures last { IfOk result (λ made. IfSome made (λ slot. self.new ≡
-            record self.old { tags = self.old.tags ++ record { name = chars (string_bytes name); slot = slot.0 } ∷ [] })) }
+            record self.old {
+              tags = self.old.tags ++ record { name = chars (string_bytes name); slot = slot.0 }
+                  ∷ [];
+            })) }
         ensures bound { IfOk result (λ made. IfSome made (λ slot. slot.0 < slot_count)) }
         // To take it out again gives back the tags before it.
-        ensures back { IfOk result (λ made. IfSome made (λ _. deleted (chars (string_bytes name)) self.new.tags ≡ self.old.tags)) }
+        ensures back { IfOk result (λ made. IfSome made (λ _. deleted (chars (string_bytes name)) self.new.tags
+            ≡ self.old.tags)) }
         ensures err { OnErr result (self.new ≡ self.old) }
     {
         let Some(number) = self.names.create(name)? else {
@@ -114,8 +122,10 @@ impl TagTable {
 
     /// Puts a tag just above another one, or highest. Against itself it stays where it is.
     pub fn raise(&mut self, name: &str, above: Option<&str>) -> Result<(), NoSuchTag>
-        ensures ok { IfOk result (λ _. raised (chars name.now) (option_map (λ other. chars other.now) above.entry) self.old.tags ≡ Ok self.new.tags) }
-        ensures fault { IfErr result (λ fault. raised (chars name.now) (option_map (λ other. chars other.now) above.entry) self.old.tags ≡ Err fault) }
+        ensures ok { IfOk result (λ _. raised (chars name.now) (option_map (λ other. chars other.now) above.entry)
+            self.old.tags ≡ Ok self.new.tags) }
+        ensures fault { IfErr result (λ fault.
+            raised (chars name.now) (option_map (λ other. chars other.now) above.entry) self.old.tags ≡ Err fault) }
         ensures err { OnErr result (self.new ≡ self.old) }
         ensures limit { self.new.limit ≡ self.old.limit }
     {
@@ -129,8 +139,10 @@ impl TagTable {
 
     /// Puts a tag just below another one, or lowest. Against itself it stays where it is.
     pub fn lower(&mut self, name: &str, below: Option<&str>) -> Result<(), NoSuchTag>
-        ensures ok { IfOk result (λ _. lowered (chars name.now) (option_map (λ other. chars other.now) below.entry) self.old.tags ≡ Ok self.new.tags) }
-        ensures fault { IfErr result (λ fault. lowered (chars name.now) (option_map (λ other. chars other.now) below.entry) self.old.tags ≡ Err fault) }
+        ensures ok { IfOk result (λ _. lowered (chars name.now) (option_map (λ other. chars other.now) below.entry)
+            self.old.tags ≡ Ok self.new.tags) }
+        ensures fault { IfErr result (λ fault.
+            lowered (chars name.now) (option_map (λ other. chars other.now) below.entry) self.old.tags ≡ Err fault) }
         ensures err { OnErr result (self.new ≡ self.old) }
         ensures limit { self.new.limit ≡ self.old.limit }
     {

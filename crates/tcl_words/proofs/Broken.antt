@@ -1,5 +1,6 @@
 -- Bytes at fault stay at fault, however they go on.
-use Rattle.std.proofs.Common.{◌≡◌, ℕ, ◌+◌, ◌/◌, ◌%◌, ◌<◌, ◌≤◌, ◌⊎◌, inl, inr, ⊎_elim, true, false, ltb, List, [], ◌∷◌, ◌++◌, Some, None, refl, sym, ap, ◌∙◌, arith}
+use Rattle.std.proofs.Common.{◌≡◌, ℕ, ◌+◌, ◌/◌, ◌%◌, ◌<◌, ◌≤◌, ◌⊎◌, inl, inr, ⊎_elim, true, false, ltb, List, [], ◌∷◌}
+use Rattle.std.proofs.Common.{◌++◌, Some, None, refl, sym, ap, ◌∙◌, arith}
 use Rattle.std.specs.Str.{StartsWithNoChar}
 use Rattle.std.specs.Str.Lossy.{utf8_error_len, second_byte_min, second_byte_max}
 use Rattle.std.specs.Int.{is_in_range}
@@ -11,11 +12,13 @@ err_one : (x : ℕ) → is_in_range 194 244 x ≡ true → utf8_error_len (x ∷
 unfolding utf8_error_len
 err_one x h = rw h refl
 
-err_two : (x y : ℕ) → is_in_range 194 244 x ≡ true → is_in_range (second_byte_min x) (second_byte_max x) y ≡ true → utf8_error_len (x ∷ y ∷ []) ≡ None
+err_two : (x y : ℕ) → is_in_range 194 244 x ≡ true → is_in_range (second_byte_min x) (second_byte_max x) y ≡ true →
+    utf8_error_len (x ∷ y ∷ []) ≡ None
 unfolding utf8_error_len
 err_two x y h k = rw (h, k) refl
 
-err_three : (x y z : ℕ) → is_in_range 194 244 x ≡ true → is_in_range (second_byte_min x) (second_byte_max x) y ≡ true → is_in_range 128 191 z ≡ true
+err_three : (x y z : ℕ) → is_in_range 194 244 x ≡ true → is_in_range (second_byte_min x) (second_byte_max x) y ≡ true →
+    is_in_range 128 191 z ≡ true
     → utf8_error_len (x ∷ y ∷ z ∷ []) ≡ None
 unfolding utf8_error_len
 err_three x y z h k l = rw (h, k, l) refl
@@ -27,7 +30,8 @@ err_nil = refl
 in_range : (low high x : ℕ) → low ≤ x → x ≤ high → is_in_range low high x ≡ true
 in_range low high x h k = grind (arith, nat_tests)
 
-second_in_range : (x y : ℕ) → (x ≡ 224 → 160 ≤ y) → (x ≡ 240 → 144 ≤ y) → (x ≡ 237 → y ≤ 159) → (x ≡ 244 → y ≤ 143) → 128 ≤ y → y ≤ 191
+second_in_range : (x y : ℕ) → (x ≡ 224 → 160 ≤ y) → (x ≡ 240 → 144 ≤ y) → (x ≡ 237 → y ≤ 159) → (x ≡ 244 → y ≤ 143) →
+    128 ≤ y → y ≤ 191
     → is_in_range (second_byte_min x) (second_byte_max x) y ≡ true
 second_in_range x y a b c d low high = grind (arith, nat_tests)
 
@@ -39,20 +43,24 @@ cut_one : (a : ℕ) (bytes : List ℕ) (b : ℕ) (t : List ℕ) → a ∷ [] ≡
 cut_one a [] b t h = err_nil
 cut_one a (x ∷ bytes) b t h = let short : [] ≡ bytes ++ b ∷ t = cc in absurd (too_long bytes b t short)
 
-cut_two : (a d : ℕ) (bytes : List ℕ) (b : ℕ) (t : List ℕ) → is_in_range 194 244 a ≡ true → a ∷ d ∷ [] ≡ bytes ++ b ∷ t → utf8_error_len bytes ≡ None
+cut_two : (a d : ℕ) (bytes : List ℕ) (b : ℕ) (t : List ℕ) → is_in_range 194 244 a ≡ true → a ∷ d ∷ [] ≡ bytes ++ b ∷ t →
+    utf8_error_len bytes ≡ None
 cut_two a d [] b t p h = err_nil
 cut_two a d (x ∷ []) b t p h = let e : a ≡ x = cc in ap (λ n. utf8_error_len (n ∷ [])) (sym e) ∙ err_one a p
 cut_two a d (x ∷ y ∷ bytes) b t p h = let short : [] ≡ bytes ++ b ∷ t = cc in absurd (too_long bytes b t short)
 
-cut_three : (a d f : ℕ) (bytes : List ℕ) (b : ℕ) (t : List ℕ) → is_in_range 194 244 a ≡ true → is_in_range (second_byte_min a) (second_byte_max a) d ≡ true
+cut_three : (a d f : ℕ) (bytes : List ℕ) (b : ℕ) (t : List ℕ) → is_in_range 194 244 a ≡ true →
+    is_in_range (second_byte_min a) (second_byte_max a) d ≡ true
     → a ∷ d ∷ f ∷ [] ≡ bytes ++ b ∷ t → utf8_error_len bytes ≡ None
 cut_three a d f [] b t p q h = err_nil
 cut_three a d f (x ∷ []) b t p q h = let e : a ≡ x = cc in ap (λ n. utf8_error_len (n ∷ [])) (sym e) ∙ err_one a p
 cut_three a d f (x ∷ y ∷ []) b t p q h =
     let e : x ∷ y ∷ [] ≡ a ∷ d ∷ [] = cc in ap utf8_error_len e ∙ err_two a d p q
-cut_three a d f (x ∷ y ∷ z ∷ bytes) b t p q h = let short : [] ≡ bytes ++ b ∷ t = cc in absurd (too_long bytes b t short)
+cut_three a d f (x ∷ y ∷ z ∷ bytes) b t p q h = let short : [] ≡ bytes ++ b ∷ t = cc in
+    absurd (too_long bytes b t short)
 
-cut_four : (a d f g : ℕ) (bytes : List ℕ) (b : ℕ) (t : List ℕ) → is_in_range 194 244 a ≡ true → is_in_range (second_byte_min a) (second_byte_max a) d ≡ true → is_in_range 128 191 f ≡ true
+cut_four : (a d f g : ℕ) (bytes : List ℕ) (b : ℕ) (t : List ℕ) → is_in_range 194 244 a ≡ true →
+    is_in_range (second_byte_min a) (second_byte_max a) d ≡ true → is_in_range 128 191 f ≡ true
     → a ∷ d ∷ f ∷ g ∷ [] ≡ bytes ++ b ∷ t → utf8_error_len bytes ≡ None
 cut_four a d f g [] b t p q r h = err_nil
 cut_four a d f g (x ∷ []) b t p q r h = let e : a ≡ x = cc in ap (λ n. utf8_error_len (n ∷ [])) (sym e) ∙ err_one a p
@@ -60,7 +68,8 @@ cut_four a d f g (x ∷ y ∷ []) b t p q r h =
     let e : x ∷ y ∷ [] ≡ a ∷ d ∷ [] = cc in ap utf8_error_len e ∙ err_two a d p q
 cut_four a d f g (x ∷ y ∷ z ∷ []) b t p q r h =
     let e : x ∷ y ∷ z ∷ [] ≡ a ∷ d ∷ f ∷ [] = cc in ap utf8_error_len e ∙ err_three a d f p q r
-cut_four a d f g (x ∷ y ∷ z ∷ w ∷ bytes) b t p q r h = let short : [] ≡ bytes ++ b ∷ t = cc in absurd (too_long bytes b t short)
+cut_four a d f g (x ∷ y ∷ z ∷ w ∷ bytes) b t p q r h = let short : [] ≡ bytes ++ b ∷ t = cc in
+    absurd (too_long bytes b t short)
 
 encode_one : (c : ℕ) → c < 128 → encode c ≡ c ∷ []
 unfolding encode
@@ -73,7 +82,8 @@ encode_two c h k =
     let two : ltb c 2048 ≡ true = grind (arith, nat_tests) in
     rw (one, two) refl
 
-pub encode_three : (c : ℕ) → 2048 ≤ c → c < 65536 → encode c ≡ (224 + c / 4096) ∷ (128 + (c / 64) % 64) ∷ (128 + c % 64) ∷ []
+pub encode_three : (c : ℕ) → 2048 ≤ c → c < 65536 → encode c
+    ≡ (224 + c / 4096) ∷ (128 + (c / 64) % 64) ∷ (128 + c % 64) ∷ []
 unfolding encode
 encode_three c h k =
     let one : ltb c 128 ≡ false = grind (arith, nat_tests) in
@@ -81,7 +91,8 @@ encode_three c h k =
     let three : ltb c 65536 ≡ true = grind (arith, nat_tests) in
     rw (one, two, three) refl
 
-pub encode_four : (c : ℕ) → 65536 ≤ c → encode c ≡ (240 + c / 262144) ∷ (128 + (c / 4096) % 64) ∷ (128 + (c / 64) % 64) ∷ (128 + c % 64) ∷ []
+pub encode_four : (c : ℕ) → 65536 ≤ c → encode c ≡ (240 + c / 262144) ∷ (128 + (c / 4096) % 64) ∷ (128 + (c / 64) % 64)
+    ∷ (128 + c % 64) ∷ []
 unfolding encode
 encode_four c h =
     let one : ltb c 128 ≡ false = grind (arith, nat_tests) in
@@ -89,30 +100,36 @@ encode_four c h =
     let three : ltb c 65536 ≡ false = grind (arith, nat_tests) in
     rw (one, two, three) refl
 
-cut_of_three : (c : ℕ) (bytes : List ℕ) (b : ℕ) (t : List ℕ) → 2048 ≤ c → c < 65536 → (c / 4096 ≡ 13 → (c / 64) % 64 ≤ 31) → encode c ≡ bytes ++ b ∷ t → utf8_error_len bytes ≡ None
+cut_of_three : (c : ℕ) (bytes : List ℕ) (b : ℕ) (t : List ℕ) → 2048 ≤ c → c < 65536 →
+    (c / 4096 ≡ 13 → (c / 64) % 64 ≤ 31) → encode c ≡ bytes ++ b ∷ t → utf8_error_len bytes ≡ None
 cut_of_three c bytes b t low high surrogate h =
     let x = 224 + c / 4096 in
     let y = 128 + (c / 64) % 64 in
     cut_three x y (128 + c % 64) bytes b t
     (in_range 194 244 x (omega arith) (omega arith))
-    (second_in_range x y (λ e. omega arith) (λ e. absurd (omega arith)) (λ e. let k = surrogate (omega arith) in omega arith) (λ e. absurd (omega arith)) (omega arith) (omega arith))
+    (second_in_range x y (λ e. omega arith) (λ e. absurd (omega arith)) (λ e. let k = surrogate (omega arith) in
+    omega arith) (λ e. absurd (omega arith)) (omega arith) (omega arith))
     (sym (encode_three c low high) ∙ h)
 
-cut_of_four : (c : ℕ) (bytes : List ℕ) (b : ℕ) (t : List ℕ) → 65536 ≤ c → c < 1114112 → encode c ≡ bytes ++ b ∷ t → utf8_error_len bytes ≡ None
+cut_of_four : (c : ℕ) (bytes : List ℕ) (b : ℕ) (t : List ℕ) → 65536 ≤ c → c < 1114112 → encode c ≡ bytes ++ b ∷ t →
+    utf8_error_len bytes ≡ None
 cut_of_four c bytes b t low high h =
     let x = 240 + c / 262144 in
     let y = 128 + (c / 4096) % 64 in
     let z = 128 + (c / 64) % 64 in
     cut_four x y z (128 + c % 64) bytes b t
     (in_range 194 244 x (omega arith) (omega arith))
-    (second_in_range x y (λ e. absurd (omega arith)) (λ e. omega arith) (λ e. absurd (omega arith)) (λ e. omega arith) (omega arith) (omega arith))
+    (second_in_range x y (λ e. absurd (omega arith)) (λ e. omega arith) (λ e. absurd (omega arith)) (λ e. omega arith)
+    (omega arith) (omega arith))
     (in_range 128 191 z (omega arith) (omega arith))
     (sym (encode_four c low) ∙ h)
 
-cut_of_two : (c : ℕ) (bytes : List ℕ) (b : ℕ) (t : List ℕ) → 128 ≤ c → c < 2048 → encode c ≡ bytes ++ b ∷ t → utf8_error_len bytes ≡ None
+cut_of_two : (c : ℕ) (bytes : List ℕ) (b : ℕ) (t : List ℕ) → 128 ≤ c → c < 2048 → encode c ≡ bytes ++ b ∷ t →
+    utf8_error_len bytes ≡ None
 cut_of_two c bytes b t low high h =
     let x = 192 + c / 64 in
-    cut_two x (128 + c % 64) bytes b t (in_range 194 244 x (omega arith) (omega arith)) (sym (encode_two c low high) ∙ h)
+    cut_two x (128 + c % 64) bytes b t (in_range 194 244 x (omega arith) (omega arith)) (sym (encode_two c low high)
+    ∙ h)
 
 not_surrogate : (c : ℕ) → (c < 55296) ⊎ ((57344 ≤ c) × (c < 1114112)) → c / 4096 ≡ 13 → (c / 64) % 64 ≤ 31
 not_surrogate c (inl h) e = omega arith
@@ -123,7 +140,8 @@ below_limit c (inl h) = omega arith
 below_limit c (inr h) = h.1
 
 -- a character that is cut is no fault
-cut_char : (c : ℕ) (bytes : List ℕ) (b : ℕ) (t : List ℕ) → IsScalar c → encode c ≡ bytes ++ b ∷ t → utf8_error_len bytes ≡ None
+cut_char : (c : ℕ) (bytes : List ℕ) (b : ℕ) (t : List ℕ) → IsScalar c → encode c ≡ bytes ++ b ∷ t →
+    utf8_error_len bytes ≡ None
 cut_char c bytes b t s h = ⊎_elim
     (λ high. ⊎_elim
     (λ three. ⊎_elim
@@ -148,7 +166,8 @@ either_goes_on (x ∷ xs) ys (z ∷ zs) ws h =
     (either_goes_on xs ys zs ws rest)
 
 -- Bytes that are at fault begin no character, however they go on.
-pub stays_broken : (bytes : List ℕ) (k : ℕ) → utf8_error_len bytes ≡ Some k → StartsWithNoChar bytes → (more : List ℕ) → StartsWithNoChar (bytes ++ more)
+pub stays_broken : (bytes : List ℕ) (k : ℕ) → utf8_error_len bytes ≡ Some k → StartsWithNoChar bytes → (more : List ℕ) →
+    StartsWithNoChar (bytes ++ more)
 stays_broken bytes k e h more c rest s split = ⊎_elim
     (λ l. h c l.0 s l.1)
     (λ r. let none = cut_char c bytes r.0 r.1 s r.2 in let no : Some k ≡ None = sym e ∙ none in cc)

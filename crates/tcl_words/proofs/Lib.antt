@@ -8,6 +8,7 @@ pub mod Scans
 pub mod Finding
 pub mod Splitting
 pub mod Plain
+pub mod PlainWords
 pub mod Writing
 pub mod ListStages
 pub mod ListWriting

@@ -1,12 +1,15 @@
 -- Steps of the loops that choose how an element is written, and write it.
-use Rattle.std.proofs.Common.{◌≡◌, ◌≢◌, ℕ, zero, suc, ◌+◌, ◌-◌, ◌<◌, ◌≤◌, ◌==◌, ◌||◌, Bool, true, false, cond, List, [], ◌∷◌, ◌++◌, length, drop, get_or, chars, encode_utf8, encode_utf8_all, refl, sym, ap, ◌∙◌, arith, append_assoc, append-nil, true≢false, length-append}
+use Rattle.std.proofs.Common.{◌≡◌, ◌≢◌, ℕ, zero, suc, ◌+◌, ◌-◌, ◌<◌, ◌≤◌, ◌==◌, ◌||◌, Bool, true, false, cond, List, []}
+use Rattle.std.proofs.Common.{◌∷◌, ◌++◌, length, drop, get_or, chars, encode_utf8, encode_utf8_all, refl, sym, ap, ◌∙◌}
+use Rattle.std.proofs.Common.{arith, append_assoc, append-nil, true≢false, length-append}
 use Rattle.std.proofs.lemmas.Bool.Decides.{nat_tests}
 use Rattle.std.proofs.lemmas.List.{drop_more, drop_all}
 use Rattle.std.proofs.lemmas.Str.{chars-nil, encodes-append, length-le-encodes}
 use lib.Utf8.{encode}
 use Rattle.tcl_words.specs.Characters.{begins_with}
 use Rattle.tcl_words.specs.ListGrowth.{pushed, Goes}
-use Rattle.tcl_words.specs.ListText.{is_white, is_special, has_special, needs_quotes, less, balances, white_letter, backslashed, with_backslashes, element_text, list_text, space_behind}
+use Rattle.tcl_words.specs.ListText.{is_white, is_special, has_special, needs_quotes, less, balances, white_letter}
+use Rattle.tcl_words.specs.ListText.{backslashed, with_backslashes, element_text, list_text, space_behind}
 
 -- the character that a loop is at
 here : (cs : List ℕ) (n c : ℕ) → (n < length cs) × (c ≡ get_or cs n c) → drop n cs ≡ c ∷ drop (n + 1) cs
@@ -14,20 +17,25 @@ here cs n c t = drop_more cs n c t.0 ∙ ap (λ d. d ∷ drop (n + 1) cs) (sym t
 
 -- characters to be written with backslashes
 
-special_on : (cs : List ℕ) (n c : ℕ) → (n < length cs) × (c ≡ get_or cs n c) → has_special (drop n cs) ≡ cond (is_white c || is_special c) true (has_special (drop (n + 1) cs))
+special_on : (cs : List ℕ) (n c : ℕ) → (n < length cs) × (c ≡ get_or cs n c) →
+    has_special (drop n cs) ≡ cond (is_white c || is_special c) true (has_special (drop (n + 1) cs))
 special_on cs n c t = ap has_special (here cs n c t)
 
-pub special_found : (cs : List ℕ) (n c : ℕ) (test : Bool) → (n < length cs) × (c ≡ get_or cs n c) → has_special (drop n cs) ≡ has_special cs → test ≡ (is_white c || is_special c) → test ≡ true
+pub special_found : (cs : List ℕ) (n c : ℕ) (test : Bool) → (n < length cs) × (c ≡ get_or cs n c) →
+    has_special (drop n cs) ≡ has_special cs → test ≡ (is_white c || is_special c) → test ≡ true
     → true ≡ has_special cs
 special_found cs n c test t before is found =
     sym (ap (λ b. cond b true (has_special (drop (n + 1) cs))) (sym is ∙ found)) ∙ sym (special_on cs n c t) ∙ before
 
-pub special_goes : (cs : List ℕ) (n m c : ℕ) (test : Bool) → (n < length cs) × (c ≡ get_or cs n c) → has_special (drop n cs) ≡ has_special cs → test ≡ (is_white c || is_special c) → test ≡ false
+pub special_goes : (cs : List ℕ) (n m c : ℕ) (test : Bool) → (n < length cs) × (c ≡ get_or cs n c) →
+    has_special (drop n cs) ≡ has_special cs → test ≡ (is_white c || is_special c) → test ≡ false
     → m ≡ n + 1 → has_special (drop m cs) ≡ has_special cs
 special_goes cs n m c test t before is none long =
-    ap (λ k. has_special (drop k cs)) long ∙ sym (ap (λ b. cond b true (has_special (drop (n + 1) cs))) (sym is ∙ none)) ∙ sym (special_on cs n c t) ∙ before
+    ap (λ k. has_special (drop k cs)) long ∙ sym (ap (λ b. cond b true (has_special (drop (n + 1) cs))) (sym is ∙ none))
+    ∙ sym (special_on cs n c t) ∙ before
 
-pub special_ends : (cs : List ℕ) (n : ℕ) → length cs ≤ n → has_special (drop n cs) ≡ has_special cs → false ≡ has_special cs
+pub special_ends : (cs : List ℕ) (n : ℕ) → length cs ≤ n → has_special (drop n cs) ≡ has_special cs →
+    false ≡ has_special cs
 special_ends cs n h before = sym (ap has_special (drop_all n cs h)) ∙ before
 
 -- braces
@@ -36,27 +44,36 @@ abbrev balance_step : ℕ → ℕ → (ℕ → Bool) → Bool
 balance_step c depth after =
     cond (c == 92) false (cond (c == 123) (after (suc depth)) (cond (c == 125) (less depth after) (after depth)))
 
-balance_on : (cs : List ℕ) (n c depth : ℕ) → (n < length cs) × (c ≡ get_or cs n c) → balances (drop n cs) depth ≡ balance_step c depth (balances (drop (n + 1) cs))
+balance_on : (cs : List ℕ) (n c depth : ℕ) → (n < length cs) × (c ≡ get_or cs n c) →
+    balances (drop n cs) depth ≡ balance_step c depth (balances (drop (n + 1) cs))
 balance_on cs n c depth t = ap (λ l. balances l depth) (here cs n c t)
 
-pub balance_backslash : (cs : List ℕ) (n c depth : ℕ) → (n < length cs) × (c ≡ get_or cs n c) → balances (drop n cs) depth ≡ balances cs 0 → c ≡ 92 → false ≡ balances cs 0
-balance_backslash cs n c depth t before is = ap (λ d. balance_step d depth (balances (drop (n + 1) cs))) (sym is) ∙ sym (balance_on cs n c depth t) ∙ before
+pub balance_backslash : (cs : List ℕ) (n c depth : ℕ) → (n < length cs) × (c ≡ get_or cs n c) →
+    balances (drop n cs) depth ≡ balances cs 0 → c ≡ 92 → false ≡ balances cs 0
+balance_backslash cs n c depth t before is =
+    ap (λ d. balance_step d depth (balances (drop (n + 1) cs))) (sym is) ∙ sym (balance_on cs n c depth t) ∙ before
 
-pub balance_opens : (cs : List ℕ) (n m c depth : ℕ) → (n < length cs) × (c ≡ get_or cs n c) → balances (drop n cs) depth ≡ balances cs 0 → c ≡ 123 → m ≡ n + 1 → balances (drop m cs) (depth + 1) ≡ balances cs 0
+pub balance_opens : (cs : List ℕ) (n m c depth : ℕ) → (n < length cs) × (c ≡ get_or cs n c) →
+    balances (drop n cs) depth ≡ balances cs 0 → c ≡ 123 → m ≡ n + 1 → balances (drop m cs) (depth + 1) ≡ balances cs 0
 balance_opens cs n m c depth t before is long =
     let e : depth + 1 ≡ suc depth = omega arith in
     ap (λ k. balances (drop k cs) (depth + 1)) long ∙ ap (balances (drop (n + 1) cs)) e
     ∙ ap (λ d. balance_step d depth (balances (drop (n + 1) cs))) (sym is) ∙ sym (balance_on cs n c depth t) ∙ before
 
-pub balance_low : (cs : List ℕ) (n c depth : ℕ) → (n < length cs) × (c ≡ get_or cs n c) → balances (drop n cs) depth ≡ balances cs 0 → c ≡ 125 → depth ≡ 0 → false ≡ balances cs 0
+pub balance_low : (cs : List ℕ) (n c depth : ℕ) → (n < length cs) × (c ≡ get_or cs n c) →
+    balances (drop n cs) depth ≡ balances cs 0 → c ≡ 125 → depth ≡ 0 → false ≡ balances cs 0
 balance_low cs n c depth t before is none =
-    ap (λ d. less d (balances (drop (n + 1) cs))) (sym none) ∙ ap (λ d. balance_step d depth (balances (drop (n + 1) cs))) (sym is) ∙ sym (balance_on cs n c depth t) ∙ before
+    ap (λ d. less d (balances (drop (n + 1) cs))) (sym none)
+    ∙ ap (λ d. balance_step d depth (balances (drop (n + 1) cs))) (sym is) ∙ sym (balance_on cs n c depth t)
+    ∙ before
 
 less_one : (depth : ℕ) (after : ℕ → Bool) → depth ≢ 0 → after (depth - 1) ≡ less depth after
 less_one zero after some = absurd (some refl)
 less_one (suc depth) after some = let e : suc depth - 1 ≡ depth = omega arith in ap after e
 
-pub balance_closes : (cs : List ℕ) (n m c depth : ℕ) → (n < length cs) × (c ≡ get_or cs n c) → balances (drop n cs) depth ≡ balances cs 0 → c ≡ 125 → depth ≢ 0 → m ≡ n + 1 → balances (drop m cs) (depth - 1) ≡ balances cs 0
+pub balance_closes : (cs : List ℕ) (n m c depth : ℕ) → (n < length cs) × (c ≡ get_or cs n c) →
+    balances (drop n cs) depth ≡ balances cs 0 → c ≡ 125 → depth ≢ 0 → m ≡ n + 1 →
+    balances (drop m cs) (depth - 1) ≡ balances cs 0
 balance_closes cs n m c depth t before is some long =
     ap (λ k. balances (drop k cs) (depth - 1)) long ∙ less_one depth (balances (drop (n + 1) cs)) some
     ∙ ap (λ d. balance_step d depth (balances (drop (n + 1) cs))) (sym is) ∙ sym (balance_on cs n c depth t) ∙ before
@@ -70,14 +87,18 @@ pass_all false true z p q r s h i j = absurd (true≢false i)
 pass_all false false true p q r s h i j = absurd (true≢false j)
 pass_all false false false p q r s h i j = refl
 
-pub balance_passes : (cs : List ℕ) (n m c depth : ℕ) → (n < length cs) × (c ≡ get_or cs n c) → balances (drop n cs) depth ≡ balances cs 0 → c ≢ 92 → c ≢ 123 → c ≢ 125 → m ≡ n + 1 → balances (drop m cs) depth ≡ balances cs 0
+pub balance_passes : (cs : List ℕ) (n m c depth : ℕ) → (n < length cs) × (c ≡ get_or cs n c) →
+    balances (drop n cs) depth ≡ balances cs 0 → c ≢ 92 → c ≢ 123 → c ≢ 125 → m ≡ n + 1 →
+    balances (drop m cs) depth ≡ balances cs 0
 balance_passes cs n m c depth t before p q r long =
     ap (λ k. balances (drop k cs) depth) long
-    ∙ sym (pass_all (c == 92) (c == 123) (c == 125) false (balances (drop (n + 1) cs) (suc depth)) (less depth (balances (drop (n + 1) cs))) (balances (drop (n + 1) cs) depth)
+    ∙ sym (pass_all (c == 92) (c == 123) (c == 125) false (balances (drop (n + 1) cs) (suc depth))
+    (less depth (balances (drop (n + 1) cs))) (balances (drop (n + 1) cs) depth)
     (no_test c 92 p) (no_test c 123 q) (no_test c 125 r))
     ∙ sym (balance_on cs n c depth t) ∙ before
 
-pub balance_ends : (cs : List ℕ) (n depth : ℕ) → length cs ≤ n → balances (drop n cs) depth ≡ balances cs 0 → (depth == 0) ≡ balances cs 0
+pub balance_ends : (cs : List ℕ) (n depth : ℕ) → length cs ≤ n → balances (drop n cs) depth ≡ balances cs 0 →
+    (depth == 0) ≡ balances cs 0
 balance_ends cs n depth h before = sym (ap (λ l. balances l depth) (drop_all n cs h)) ∙ before
 
 -- the front of an element
@@ -102,29 +123,36 @@ quotes_other [] some h = absurd (omega arith)
 quotes_other (c ∷ cs) some h = sym (ap (λ b. cond b true (has_special (c ∷ cs))) h)
 
 pub some_chars : (cs bytes : List ℕ) → encode_utf8_all cs ≡ bytes → (length bytes == 0) ≡ false → 0 < length cs
-some_chars [] bytes e h = let none : (length bytes == 0) ≡ true = ap (λ l. length l == 0) (sym e) in absurd (true≢false (sym none ∙ h))
+some_chars [] bytes e h = let none : (length bytes == 0) ≡ true = ap (λ l. length l == 0) (sym e) in
+    absurd (true≢false (sym none ∙ h))
 some_chars (c ∷ cs) bytes e h = omega arith
 
 -- backslashes
 
 back_on : (cs : List ℕ) (n c : ℕ) → (n < length cs) × (c ≡ get_or cs n c)
-    → backslashed (drop n cs) ≡ cond (is_white c || is_special c) (92 ∷ white_letter c ∷ backslashed (drop (n + 1) cs)) (c ∷ backslashed (drop (n + 1) cs))
+    → backslashed (drop n cs) ≡ cond (is_white c || is_special c) (92 ∷ white_letter c ∷ backslashed (drop (n + 1) cs))
+    (c ∷ backslashed (drop (n + 1) cs))
 back_on cs n c t = ap backslashed (here cs n c t)
 
-hash_is : (test : Bool) (c : ℕ) (cs : List ℕ) → (c == 35) ≡ test → cond test (92 ∷ c ∷ backslashed cs) (backslashed (c ∷ cs)) ≡ cond test (92 ∷ backslashed (c ∷ cs)) (backslashed (c ∷ cs))
-hash_is true c cs h = let e : c ≡ 35 = grind (arith, nat_tests) in ap (λ d. 92 ∷ d ∷ backslashed cs) e ∙ ap (λ d. 92 ∷ backslashed (d ∷ cs)) (sym e)
+hash_is : (test : Bool) (c : ℕ) (cs : List ℕ) → (c == 35) ≡ test →
+    cond test (92 ∷ c ∷ backslashed cs) (backslashed (c ∷ cs))
+    ≡ cond test (92 ∷ backslashed (c ∷ cs)) (backslashed (c ∷ cs))
+hash_is true c cs h = let e : c ≡ 35 = grind (arith, nat_tests) in
+    ap (λ d. 92 ∷ d ∷ backslashed cs) e ∙ ap (λ d. 92 ∷ backslashed (d ∷ cs)) (sym e)
 hash_is false c cs h = refl
 
 with_hash : (cs : List ℕ) → with_backslashes cs ≡ cond (begins_with 35 cs) (92 ∷ backslashed cs) (backslashed cs)
 with_hash [] = refl
 with_hash (c ∷ cs) = hash_is (c == 35) c cs refl
 
-pub back_hash : (cs text front : List ℕ) (test : Bool) → test ≡ begins_with 35 cs → test ≡ true → front ≡ [] → text ≡ front ++ encode_utf8 92 → text ++ encode_utf8_all (backslashed cs) ≡ encode_utf8_all (with_backslashes cs)
+pub back_hash : (cs text front : List ℕ) (test : Bool) → test ≡ begins_with 35 cs → test ≡ true → front ≡ [] →
+    text ≡ front ++ encode_utf8 92 → text ++ encode_utf8_all (backslashed cs) ≡ encode_utf8_all (with_backslashes cs)
 back_hash cs text front test is found none e =
     ap (λ l. l ++ encode_utf8_all (backslashed cs)) (e ∙ ap (λ l. l ++ encode_utf8 92) none)
     ∙ sym (ap encode_utf8_all (with_hash cs ∙ ap (λ b. cond b (92 ∷ backslashed cs) (backslashed cs)) (sym is ∙ found)))
 
-pub back_plain : (cs text : List ℕ) (test : Bool) → test ≡ begins_with 35 cs → test ≡ false → text ≡ [] → text ++ encode_utf8_all (backslashed cs) ≡ encode_utf8_all (with_backslashes cs)
+pub back_plain : (cs text : List ℕ) (test : Bool) → test ≡ begins_with 35 cs → test ≡ false → text ≡ [] →
+    text ++ encode_utf8_all (backslashed cs) ≡ encode_utf8_all (with_backslashes cs)
 back_plain cs text test is none e =
     ap (λ l. l ++ encode_utf8_all (backslashed cs)) e
     ∙ sym (ap encode_utf8_all (with_hash cs ∙ ap (λ b. cond b (92 ∷ backslashed cs) (backslashed cs)) (sym is ∙ none)))
@@ -132,7 +160,9 @@ back_plain cs text test is none e =
 abbrev pub IsBacked : List ℕ → ℕ → List ℕ → Type 0
 IsBacked cs n text = text ++ encode_utf8_all (backslashed (drop n cs)) ≡ encode_utf8_all (with_backslashes cs)
 
-pub back_special : (cs : List ℕ) (n m c : ℕ) (test : Bool) (text half more : List ℕ) → (n < length cs) × (c ≡ get_or cs n c) → IsBacked cs n text → test ≡ (is_white c || is_special c) → test ≡ true → m ≡ n + 1
+pub back_special : (cs : List ℕ) (n m c : ℕ) (test : Bool) (text half more : List ℕ) →
+    (n < length cs) × (c ≡ get_or cs n c) → IsBacked cs n text → test ≡ (is_white c || is_special c) → test ≡ true →
+    m ≡ n + 1
     → half ≡ text ++ encode_utf8 92 → more ≡ half ++ encode_utf8 (white_letter c) → IsBacked cs m more
 back_special cs n m c test text half more t before is found long e f =
     let rest = encode_utf8_all (backslashed (drop (n + 1) cs)) in
@@ -140,20 +170,27 @@ back_special cs n m c test text half more t before is found long e f =
     ∙ ap (λ l. l ++ rest) (f ∙ ap (λ l. l ++ encode_utf8 (white_letter c)) e)
     ∙ append_assoc (text ++ encode_utf8 92) (encode_utf8 (white_letter c)) rest
     ∙ append_assoc text (encode_utf8 92) (encode_utf8 (white_letter c) ++ rest)
-    ∙ sym (ap (λ l. text ++ encode_utf8_all l) (back_on cs n c t ∙ ap (λ b. cond b (92 ∷ white_letter c ∷ backslashed (drop (n + 1) cs)) (c ∷ backslashed (drop (n + 1) cs))) (sym is ∙ found)))
+    ∙ sym (ap (λ l. text ++ encode_utf8_all l) (back_on cs n c t
+    ∙ ap (λ b. cond b (92 ∷ white_letter c ∷ backslashed (drop (n + 1) cs)) (c ∷ backslashed (drop (n + 1) cs)))
+    (sym is ∙ found)))
     ∙ before
 
-pub back_other : (cs : List ℕ) (n m c : ℕ) (test : Bool) (text more : List ℕ) → (n < length cs) × (c ≡ get_or cs n c) → IsBacked cs n text → test ≡ (is_white c || is_special c) → test ≡ false → m ≡ n + 1
+pub back_other : (cs : List ℕ) (n m c : ℕ) (test : Bool) (text more : List ℕ) → (n < length cs) × (c ≡ get_or cs n c) →
+    IsBacked cs n text → test ≡ (is_white c || is_special c) → test ≡ false → m ≡ n + 1
     → more ≡ text ++ encode_utf8 c → IsBacked cs m more
 back_other cs n m c test text more t before is none long e =
     let rest = encode_utf8_all (backslashed (drop (n + 1) cs)) in
     ap (λ k. more ++ encode_utf8_all (backslashed (drop k cs))) long
     ∙ ap (λ l. l ++ rest) e ∙ append_assoc text (encode_utf8 c) rest
-    ∙ sym (ap (λ l. text ++ encode_utf8_all l) (back_on cs n c t ∙ ap (λ b. cond b (92 ∷ white_letter c ∷ backslashed (drop (n + 1) cs)) (c ∷ backslashed (drop (n + 1) cs))) (sym is ∙ none)))
+    ∙ sym (ap (λ l. text ++ encode_utf8_all l) (back_on cs n c t
+    ∙ ap (λ b. cond b (92 ∷ white_letter c ∷ backslashed (drop (n + 1) cs)) (c ∷ backslashed (drop (n + 1) cs)))
+    (sym is ∙ none)))
     ∙ before
 
-pub back_ends : (cs : List ℕ) (n : ℕ) (text : List ℕ) → length cs ≤ n → IsBacked cs n text → text ≡ encode_utf8_all (with_backslashes cs)
-back_ends cs n text h before = sym (append-nil text) ∙ ap (λ l. text ++ encode_utf8_all (backslashed l)) (sym (drop_all n cs h)) ∙ before
+pub back_ends : (cs : List ℕ) (n : ℕ) (text : List ℕ) → length cs ≤ n → IsBacked cs n text →
+    text ≡ encode_utf8_all (with_backslashes cs)
+back_ends cs n text h before =
+    sym (append-nil text) ∙ ap (λ l. text ++ encode_utf8_all (backslashed l)) (sym (drop_all n cs h)) ∙ before
 
 -- one element more
 
@@ -165,7 +202,8 @@ joined_some : (front text : List ℕ) → 0 < length front → joined front text
 joined_some [] text h = absurd (omega arith)
 joined_some (c ∷ front) text h = refl
 
-backslashed_some : (c : ℕ) (cs : List ℕ) (test : Bool) → 0 < length (cond test (92 ∷ white_letter c ∷ backslashed cs) (c ∷ backslashed cs))
+backslashed_some : (c : ℕ) (cs : List ℕ) (test : Bool) →
+    0 < length (cond test (92 ∷ white_letter c ∷ backslashed cs) (c ∷ backslashed cs))
 backslashed_some c cs true = omega arith
 backslashed_some c cs false = omega arith
 
@@ -178,16 +216,20 @@ escaped_some c cs = some_cond (c == 35) _ _ (omega arith) (backslashed_some c cs
 
 element_some : (cs : List ℕ) → 0 < length (element_text cs)
 element_some [] = omega arith
-element_some (c ∷ cs) = some_cond (needs_quotes (c ∷ cs)) _ _ (some_cond (balances (c ∷ cs) 0) _ _ (omega arith) (escaped_some c cs)) (omega arith)
+element_some (c ∷ cs) = some_cond (needs_quotes (c ∷ cs)) _ _
+    (some_cond (balances (c ∷ cs) 0) _ _ (omega arith) (escaped_some c cs)) (omega arith)
 
 list_some : (x : List ℕ) (xs : List (List ℕ)) → 0 < length (list_text (x ∷ xs))
 list_some x [] = element_some x
-list_some x (y ∷ xs) = let some = element_some x in omega (arith, length-append (element_text x) (32 ∷ list_text (y ∷ xs)))
+list_some x (y ∷ xs) = let some = element_some x in
+    omega (arith, length-append (element_text x) (32 ∷ list_text (y ∷ xs)))
 
-list_more : (x : List ℕ) (xs : List (List ℕ)) (y : List ℕ) → list_text ((x ∷ xs) ++ y ∷ []) ≡ list_text (x ∷ xs) ++ 32 ∷ element_text y
+list_more : (x : List ℕ) (xs : List (List ℕ)) (y : List ℕ) →
+    list_text ((x ∷ xs) ++ y ∷ []) ≡ list_text (x ∷ xs) ++ 32 ∷ element_text y
 list_more x [] y = refl
 list_more x (z ∷ xs) y =
-    ap (λ l. element_text x ++ 32 ∷ l) (list_more z xs y) ∙ sym (append_assoc (element_text x) (32 ∷ list_text (z ∷ xs)) (32 ∷ element_text y))
+    ap (λ l. element_text x ++ 32 ∷ l) (list_more z xs y)
+    ∙ sym (append_assoc (element_text x) (32 ∷ list_text (z ∷ xs)) (32 ∷ element_text y))
 
 some_bytes : (cs bytes : List ℕ) → encode_utf8_all cs ≡ bytes → 0 < length cs → (length bytes == 0) ≡ false
 some_bytes cs bytes e h = let long = ap length e in let more = length-le-encodes cs in grind (arith, nat_tests)
@@ -209,16 +251,19 @@ goes_on old new cs e (x ∷ xs) g =
 
 -- the three forms
 
-form_bare : (quoted balanced : Bool) (braced escaped bare : List ℕ) → quoted ≡ false → bare ≡ cond quoted (cond balanced braced escaped) bare
+form_bare : (quoted balanced : Bool) (braced escaped bare : List ℕ) → quoted ≡ false →
+    bare ≡ cond quoted (cond balanced braced escaped) bare
 form_bare true balanced braced escaped bare h = absurd (true≢false h)
 form_bare false balanced braced escaped bare h = refl
 
-form_braced : (quoted balanced : Bool) (braced escaped bare : List ℕ) → quoted ≡ true → balanced ≡ true → braced ≡ cond quoted (cond balanced braced escaped) bare
+form_braced : (quoted balanced : Bool) (braced escaped bare : List ℕ) → quoted ≡ true → balanced ≡ true →
+    braced ≡ cond quoted (cond balanced braced escaped) bare
 form_braced true true braced escaped bare h k = refl
 form_braced true false braced escaped bare h k = absurd (true≢false (sym k))
 form_braced false balanced braced escaped bare h k = absurd (true≢false (sym h))
 
-form_escaped : (quoted balanced : Bool) (braced escaped bare : List ℕ) → quoted ≡ true → balanced ≡ false → escaped ≡ cond quoted (cond balanced braced escaped) bare
+form_escaped : (quoted balanced : Bool) (braced escaped bare : List ℕ) → quoted ≡ true → balanced ≡ false →
+    escaped ≡ cond quoted (cond balanced braced escaped) bare
 form_escaped true true braced escaped bare h k = absurd (true≢false k)
 form_escaped true false braced escaped bare h k = refl
 form_escaped false balanced braced escaped bare h k = absurd (true≢false (sym h))
@@ -230,25 +275,31 @@ braced_parts : (front body : List ℕ) → ((front ++ 123 ∷ []) ++ body) ++ 12
 braced_parts front body =
     ap (λ l. l ++ 125 ∷ []) (append_assoc front (123 ∷ []) body) ∙ append_assoc front (123 ∷ body) (125 ∷ [])
 
-pub push_bare : (old new element cs : List ℕ) → encode_utf8_all cs ≡ element → needs_quotes cs ≡ false → new ≡ (((old ++ space_behind old) ++ []) ++ element) ++ []
+pub push_bare : (old new element cs : List ℕ) → encode_utf8_all cs ≡ element → needs_quotes cs ≡ false →
+    new ≡ (((old ++ space_behind old) ++ []) ++ element) ++ []
     → new ≡ pushed old cs
 push_bare old new element cs u h e =
     e ∙ plain_parts (old ++ space_behind old) element
     ∙ ap (λ l. (old ++ space_behind old) ++ l)
-    (sym u ∙ ap encode_utf8_all (form_bare (needs_quotes cs) (balances cs 0) (123 ∷ (cs ++ 125 ∷ [])) (with_backslashes cs) cs h))
+    (sym u ∙ ap encode_utf8_all (form_bare (needs_quotes cs) (balances cs 0) (123 ∷ (cs ++ 125 ∷ []))
+    (with_backslashes cs) cs h))
 
-pub push_braced : (old new element cs : List ℕ) → encode_utf8_all cs ≡ element → needs_quotes cs ≡ true → balances cs 0 ≡ true
+pub push_braced : (old new element cs : List ℕ) → encode_utf8_all cs ≡ element → needs_quotes cs ≡ true →
+    balances cs 0 ≡ true
     → new ≡ (((old ++ space_behind old) ++ 123 ∷ []) ++ element) ++ 125 ∷ [] → new ≡ pushed old cs
 unfolding encode
 push_braced old new element cs u h k e =
     e ∙ braced_parts (old ++ space_behind old) element
     ∙ ap (λ l. (old ++ space_behind old) ++ l)
     (ap (λ l. 123 ∷ (l ++ 125 ∷ [])) (sym u) ∙ ap (λ l. 123 ∷ l) (sym (encodes-append cs (125 ∷ [])))
-    ∙ ap encode_utf8_all (form_braced (needs_quotes cs) (balances cs 0) (123 ∷ (cs ++ 125 ∷ [])) (with_backslashes cs) cs h k))
+    ∙ ap encode_utf8_all (form_braced (needs_quotes cs) (balances cs 0) (123 ∷ (cs ++ 125 ∷ [])) (with_backslashes cs)
+    cs h k))
 
-pub push_escaped : (old new text cs : List ℕ) → text ≡ encode_utf8_all (with_backslashes cs) → needs_quotes cs ≡ true → balances cs 0 ≡ false
+pub push_escaped : (old new text cs : List ℕ) → text ≡ encode_utf8_all (with_backslashes cs) → needs_quotes cs ≡ true →
+    balances cs 0 ≡ false
     → new ≡ (((old ++ space_behind old) ++ []) ++ text) ++ [] → new ≡ pushed old cs
 push_escaped old new text cs u h k e =
     e ∙ plain_parts (old ++ space_behind old) text
     ∙ ap (λ l. (old ++ space_behind old) ++ l)
-    (u ∙ ap encode_utf8_all (form_escaped (needs_quotes cs) (balances cs 0) (123 ∷ (cs ++ 125 ∷ [])) (with_backslashes cs) cs h k))
+    (u ∙ ap encode_utf8_all (form_escaped (needs_quotes cs) (balances cs 0) (123 ∷ (cs ++ 125 ∷ []))
+    (with_backslashes cs) cs h k))

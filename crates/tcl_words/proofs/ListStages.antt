@@ -1,10 +1,15 @@
 -- What each stage of reading a list says of the list.
-use Rattle.std.proofs.Common.{◌≡◌, ℕ, zero, suc, ◌==◌, Bool, true, false, cond, Option, Some, None, List, [], ◌∷◌, refl, ap, ◌∙◌}
+use Rattle.std.proofs.Common.{◌≡◌, ℕ, zero, suc, ◌==◌, Bool, true, false, cond, Option, Some, None, List, [], ◌∷◌, refl}
+use Rattle.std.proofs.Common.{ap, ◌∙◌}
 use lib.Utf8.{scalar}
 use Rattle.tcl_words.specs.Escapes.{Escape, Gives, NoCharacter, Undecided, further, numeral, escape}
 use Rattle.tcl_words.specs.EscapeSteps.{escape_step}
-use Rattle.tcl_words.specs.ListText.{is_white, Spot, AtElement, InElement, InQuotes, InBraces, Closed, onto_element, end_element, escaped_element, element_rule, close_element, kept_element, braced_element, begin_element, list_rule, read_list}
-use Rattle.tcl_words.specs.ListSteps.{list_passes, list_keeps, list_closes, no_list, list_after, text_element, step_in_element, step_at_element, close_brace, step_in_braces, element_by, list_step, last_element_by, last_list_step}
+use Rattle.tcl_words.specs.ListText.{is_white, Spot, AtElement, InElement, InQuotes, InBraces, Closed, onto_element}
+use Rattle.tcl_words.specs.ListText.{end_element, escaped_element, element_rule, close_element, kept_element}
+use Rattle.tcl_words.specs.ListText.{braced_element, begin_element, list_rule, read_list}
+use Rattle.tcl_words.specs.ListSteps.{list_passes, list_keeps, list_closes, no_list, list_after, text_element}
+use Rattle.tcl_words.specs.ListSteps.{step_in_element, step_at_element, close_brace, step_in_braces, element_by}
+use Rattle.tcl_words.specs.ListSteps.{list_step, last_element_by, last_list_step}
 use Rattle.tcl_words.specs.Scanning.{onto_piece, given_onto, kept_onto, ended_before, written}
 use Rattle.tcl_words.specs.declared.escapes.EscapeStage.TheVariants.{Backslash, Letter, Digits, Gap}
 use Rattle.tcl_words.specs.declared.escapes.EscapeStep.{EscapeStep}
@@ -31,7 +36,8 @@ spot_of Quoted = InQuotes
 abbrev pub list_from : ListStage → List ℕ → Found
 list_from stages.Between cs = read_list cs 0 AtElement
 list_from (stages.Text word) cs = read_list cs 0 (spot_of word)
-list_from (stages.Escaped word stage) cs = escaped_element (λ n. read_list cs n (spot_of word)) (escape_from stage true cs)
+list_from (stages.Escaped word stage) cs =
+    escaped_element (λ n. read_list cs n (spot_of word)) (escape_from stage true cs)
 list_from (stages.Braced depth) cs = read_list cs 0 (InBraces depth)
 list_from (stages.BracedBackslash depth) cs = kept_element depth cs (read_list cs)
 list_from stages.Closed cs = read_list cs 0 Closed
@@ -59,39 +65,51 @@ abbrev pub list_does : ListStep → ℕ → (ListStage → Found) → Found
 list_does step c go = list_put step.output c (list_arrive step.next go)
 
 -- two ways by a test
-either_by : (test : Bool) (x y : Found) (s t : ListStep) (c : ℕ) (go : ListStage → Found) → x ≡ list_does s c go → y ≡ list_does t c go
+either_by : (test : Bool) (x y : Found) (s t : ListStep) (c : ℕ) (go : ListStage → Found) → x ≡ list_does s c go →
+    y ≡ list_does t c go
     → cond test x y ≡ list_does (cond test s t) c go
 either_by true x y s t c go h k = h
 either_by false x y s t c go h k = k
 
 list_text_step : (word : TextWord) (c : ℕ) (cs : List ℕ)
-    → element_rule c cs (λ n. read_list cs n (spot_of word)) ≡ list_does (text_element word c) c (λ stage. list_from stage cs)
-list_text_step word c cs = either_by (c == 92) _ _ (list_passes (stages.Escaped word Backslash)) (list_keeps (stages.Text word)) c _ refl refl
+    → element_rule c cs (λ n. read_list cs n (spot_of word))
+    ≡ list_does (text_element word c) c (λ stage. list_from stage cs)
+list_text_step word c cs =
+    either_by (c == 92) _ _ (list_passes (stages.Escaped word Backslash)) (list_keeps (stages.Text word)) c _ refl refl
 
-list_inside : (word : TextWord) (c : ℕ) (cs : List ℕ) → list_rule (spot_of word) c cs (read_list cs) ≡ list_does (step_in_element word c) c (λ stage. list_from stage cs)
-list_inside Bare c cs = either_by (is_white c) _ _ (list_closes stages.Between) (text_element Bare c) c _ refl (list_text_step Bare c cs)
-list_inside Quoted c cs = either_by (c == 34) _ _ (list_closes stages.Closed) (text_element Quoted c) c _ refl (list_text_step Quoted c cs)
+list_inside : (word : TextWord) (c : ℕ) (cs : List ℕ) → list_rule (spot_of word) c cs (read_list cs)
+    ≡ list_does (step_in_element word c) c (λ stage. list_from stage cs)
+list_inside Bare c cs =
+    either_by (is_white c) _ _ (list_closes stages.Between) (text_element Bare c) c _ refl (list_text_step Bare c cs)
+list_inside Quoted c cs =
+    either_by (c == 34) _ _ (list_closes stages.Closed) (text_element Quoted c) c _ refl (list_text_step Quoted c cs)
 
-list_close : (depth c : ℕ) (cs : List ℕ) → close_element depth c (read_list cs) ≡ list_does (close_brace depth) c (λ stage. list_from stage cs)
+list_close : (depth c : ℕ) (cs : List ℕ) → close_element depth c (read_list cs)
+    ≡ list_does (close_brace depth) c (λ stage. list_from stage cs)
 list_close zero c cs = refl
 list_close (suc depth) c cs = refl
 
-list_braced : (depth c : ℕ) (cs : List ℕ) → braced_element depth c cs (read_list cs) ≡ list_does (step_in_braces depth c) c (λ stage. list_from stage cs)
+list_braced : (depth c : ℕ) (cs : List ℕ) → braced_element depth c cs (read_list cs)
+    ≡ list_does (step_in_braces depth c) c (λ stage. list_from stage cs)
 list_braced depth c cs =
     either_by (c == 125) _ _ (close_brace depth) _ c _ (list_close depth c cs)
     (either_by (c == 123) _ _ (list_keeps (stages.Braced (suc depth))) _ c _ refl
-    (either_by (c == 92) _ _ (list_keeps (stages.BracedBackslash depth)) (list_keeps (stages.Braced depth)) c _ refl refl))
+    (either_by (c == 92) _ _ (list_keeps (stages.BracedBackslash depth)) (list_keeps (stages.Braced depth)) c _ refl
+    refl))
 
-list_begin : (c : ℕ) (cs : List ℕ) → begin_element c cs (read_list cs) ≡ list_does (step_at_element c) c (λ stage. list_from stage cs)
+list_begin : (c : ℕ) (cs : List ℕ) → begin_element c cs (read_list cs)
+    ≡ list_does (step_at_element c) c (λ stage. list_from stage cs)
 list_begin c cs =
     either_by (is_white c) _ _ (list_passes stages.Between) _ c _ refl
     (either_by (c == 123) _ _ (list_passes (stages.Braced 0)) _ c _ refl
-    (either_by (c == 34) _ _ (list_passes (stages.Text Quoted)) (text_element Bare c) c _ refl (list_text_step Bare c cs)))
+    (either_by (c == 34) _ _ (list_passes (stages.Text Quoted)) (text_element Bare c) c _ refl
+    (list_text_step Bare c cs)))
 
 -- escapes in elements
 
 further_element : (c : ℕ) (cs : List ℕ) (spot : Spot) (escape : Escape)
-    → escaped_element (λ n. read_list (c ∷ cs) n spot) (further escape) ≡ escaped_element (λ n. read_list cs n spot) escape
+    → escaped_element (λ n. read_list (c ∷ cs) n spot) (further escape)
+    ≡ escaped_element (λ n. read_list cs n spot) escape
 unfolding read_list
 further_element c cs spot (Gives d n) = refl
 further_element c cs spot NoCharacter = refl
@@ -108,28 +126,35 @@ inside_none : (word : TextWord) (c : ℕ) → (step_in_element word c).output.gi
 inside_none Bare c = none_if (is_white c) _ _ refl (text_none Bare c)
 inside_none Quoted c = none_if (c == 34) _ _ refl (text_none Quoted c)
 
-does_behind : (d : ℕ) (step : ListStep) (c : ℕ) (go : ListStage → Found) → step.output.given ≡ None → onto_element d (list_does step c go) ≡ list_does (list_after d step) c go
-does_behind d step c go h = ap (λ g. onto_element d (given_before g (kept_before step.output.kept c (ends_before step.output.ended (list_arrive step.next go))))) h
+does_behind : (d : ℕ) (step : ListStep) (c : ℕ) (go : ListStage → Found) → step.output.given ≡ None →
+    onto_element d (list_does step c go) ≡ list_does (list_after d step) c go
+does_behind d step c go h = ap (λ g.
+    onto_element d (given_before g (kept_before step.output.kept c
+    (ends_before step.output.ended (list_arrive step.next go))))) h
 
 abbrev element_in : TextWord → List ℕ → Escape → Found
 element_in word cs escape = escaped_element (λ n. read_list cs n (spot_of word)) escape
 
 list_by : (step : EscapeStep) (word : TextWord) (c : ℕ) (cs : List ℕ)
-    → element_in word (c ∷ cs) (escape_by step c (λ s. escape_from s true cs)) ≡ list_does (element_by word c step) c (λ stage. list_from stage cs)
+    → element_in word (c ∷ cs) (escape_by step c (λ s. escape_from s true cs))
+    ≡ list_does (element_by word c step) c (λ stage. list_from stage cs)
 unfolding read_list
 list_by (escape_steps.Goes stage) word c cs = further_element c cs (spot_of word) (escape_from stage true cs)
 list_by (escape_steps.Gives d) word c cs = refl
 list_by escape_steps.Keeps word c cs = refl
-list_by (escape_steps.Before d) word c cs = ap (onto_element d) (list_inside word c cs) ∙ does_behind d (step_in_element word c) c (λ stage. list_from stage cs) (inside_none word c)
+list_by (escape_steps.Before d) word c cs = ap (onto_element d) (list_inside word c cs)
+    ∙ does_behind d (step_in_element word c) c (λ stage. list_from stage cs) (inside_none word c)
 list_by escape_steps.NoCharacter word c cs = refl
 
 -- what is found from a character on, by its step
-pub list-step : (stage : ListStage) (c : ℕ) (cs : List ℕ) → list_from stage (c ∷ cs) ≡ list_does (list_step stage c) c (λ next. list_from next cs)
+pub list-step : (stage : ListStage) (c : ℕ) (cs : List ℕ) →
+    list_from stage (c ∷ cs) ≡ list_does (list_step stage c) c (λ next. list_from next cs)
 unfolding read_list
 list-step stages.Between c cs = list_begin c cs
 list-step (stages.Text Bare) c cs = list_inside Bare c cs
 list-step (stages.Text Quoted) c cs = list_inside Quoted c cs
-list-step (stages.Escaped word stage) c cs = ap (element_in word (c ∷ cs)) (escape-step stage true c cs) ∙ list_by (escape_step stage c) word c cs
+list-step (stages.Escaped word stage) c cs =
+    ap (element_in word (c ∷ cs)) (escape-step stage true c cs) ∙ list_by (escape_step stage c) word c cs
 list-step (stages.Braced depth) c cs = list_braced depth c cs
 list-step (stages.BracedBackslash depth) c cs = refl
 list-step stages.Closed c cs = either_by (is_white c) _ _ (list_passes stages.Between) no_list c _ refl refl
@@ -140,17 +165,21 @@ abbrev pub list_end : ListNext → Found
 list_end (Go stage) = Some []
 list_end Bad = None
 
-valued_element : (test : Bool) (value : ℕ) → escaped_element (λ n. Some ([] ∷ [])) (cond test (Gives value 0) NoCharacter)
-    ≡ list_put (last_element_by Bare (cond test (Some value) None)).output 0 (list_end (last_element_by Bare (cond test (Some value) None)).next)
+valued_element : (test : Bool) (value : ℕ) →
+    escaped_element (λ n. Some ([] ∷ [])) (cond test (Gives value 0) NoCharacter)
+    ≡ list_put (last_element_by Bare (cond test (Some value) None)).output 0
+    (list_end (last_element_by Bare (cond test (Some value) None)).next)
 valued_element true value = refl
 valued_element false value = refl
 
 quoted_element_end : (test : Bool) (value : ℕ) → escaped_element (λ n. None) (cond test (Gives value 0) NoCharacter)
-    ≡ list_put (last_element_by Quoted (cond test (Some value) None)).output 0 (list_end (last_element_by Quoted (cond test (Some value) None)).next)
+    ≡ list_put (last_element_by Quoted (cond test (Some value) None)).output 0
+    (list_end (last_element_by Quoted (cond test (Some value) None)).next)
 quoted_element_end true value = refl
 quoted_element_end false value = refl
 
-pub list-end : (stage : ListStage) → list_from stage [] ≡ list_put (last_list_step stage).output 0 (list_end (last_list_step stage).next)
+pub list-end : (stage : ListStage) → list_from stage []
+    ≡ list_put (last_list_step stage).output 0 (list_end (last_list_step stage).next)
 unfolding read_list numeral
 list-end stages.Between = refl
 list-end (stages.Text Bare) = refl
@@ -191,7 +220,8 @@ put_some output c xs =
     ∙ ap (given_before output.given) (kept_some output.kept c (ended_before output.ended xs))
     ∙ given_some output.given (kept_onto output.kept c (ended_before output.ended xs))
 
-none_by : (given : Option ℕ) (kept ended : Bool) (c : ℕ) → given_before given (kept_before kept c (ends_before ended None)) ≡ None
+none_by : (given : Option ℕ) (kept ended : Bool) (c : ℕ) →
+    given_before given (kept_before kept c (ends_before ended None)) ≡ None
 none_by None true true c = refl
 none_by None true false c = refl
 none_by None false true c = refl

@@ -1,11 +1,14 @@
 -- Steps of the loop that reads a list's elements.
-use Rattle.std.proofs.Common.{◌≡◌, ℕ, zero, suc, ◌≤◌, ◌==◌, Bool, true, false, cond, Some, None, List, [], ◌∷◌, ◌++◌, map, length, take, drop, chars, String, string_bytes, encode_utf8, encode_utf8_all, refl, sym, ap, ◌∙◌, arith, subst, append_assoc, append-nil, true≢false}
+use Rattle.std.proofs.Common.{◌≡◌, ℕ, zero, suc, ◌≤◌, ◌==◌, Bool, true, false, cond, Some, None, List, [], ◌∷◌, ◌++◌}
+use Rattle.std.proofs.Common.{map, length, take, drop, chars, String, string_bytes, encode_utf8, encode_utf8_all, refl}
+use Rattle.std.proofs.Common.{sym, ap, ◌∙◌, arith, subst, append_assoc, append-nil, true≢false}
 use Rattle.std.specs.Bool.{⊤}
 use Rattle.std.proofs.lemmas.Bool.Decides.{nat_tests}
 use Rattle.std.proofs.lemmas.Str.{chars-nil}
 use Rattle.tcl_words.specs.EscapeSteps.{escape_step}
 use Rattle.tcl_words.specs.ListText.{is_white, AtElement, onto_element, read_list, ReadsList}
-use Rattle.tcl_words.specs.ListSteps.{list_keeps, text_element, step_in_element, close_brace, element_by, list_step, last_list_step, open_braces, script_stage}
+use Rattle.tcl_words.specs.ListSteps.{list_keeps, text_element, step_in_element, close_brace, element_by, list_step}
+use Rattle.tcl_words.specs.ListSteps.{last_list_step, open_braces, script_stage}
 use Rattle.tcl_words.specs.Runs.{is_bare, is_quoted, is_braced, is_plain}
 use Rattle.tcl_words.specs.Scanning.{word_with, words_after, word_after}
 use Rattle.tcl_words.specs.Unread.{texts_of}
@@ -21,7 +24,8 @@ use Rattle.tcl_words.specs.declared.list_steps.ListNext.TheVariants.{Go, Bad}
 use Rattle.tcl_words.specs.declared.list_steps.ListStep.{ListStep}
 use Rattle.tcl_words.proofs.Plain.{AllPlain, RunOf}
 use Rattle.tcl_words.proofs.Writing.{prefixed, spelled, prefixed_onto, prefixed_nil, written_more}
-use Rattle.tcl_words.proofs.ListStages.{Found, list_from, list_put, list_arrive, list_does, list_end, list-step, list-end, put_some, put_none, onto_some}
+use Rattle.tcl_words.proofs.ListStages.{Found, list_from, list_put, list_arrive, list_does, list_end, list-step}
+use Rattle.tcl_words.proofs.ListStages.{list-end, put_some, put_none, onto_some}
 use Rattle.tcl_words.proofs.Splitting.{texts_are}
 
 -- no more braces are open than characters were read
@@ -30,7 +34,8 @@ abbrev IsDeep : ℕ → ListNext → Type 0
 IsDeep depth (Go stage) = open_braces stage ≤ suc depth
 IsDeep depth Bad = ⊤
 
-deep_if : (depth : ℕ) (test : Bool) (s t : ListStep) → IsDeep depth s.next → IsDeep depth t.next → IsDeep depth (cond test s t).next
+deep_if : (depth : ℕ) (test : Bool) (s t : ListStep) → IsDeep depth s.next → IsDeep depth t.next →
+    IsDeep depth (cond test s t).next
 deep_if depth true s t h k = h
 deep_if depth false s t h k = k
 
@@ -54,16 +59,20 @@ deep_by depth word c escape_steps.NoCharacter = tt
 
 deep_step : (stage : ListStage) (c : ℕ) → IsDeep (open_braces stage) (list_step stage c).next
 deep_step stages.Between c =
-    deep_if 0 (is_white c) _ _ (omega arith) (deep_if 0 (c == 123) _ _ (omega arith) (deep_if 0 (c == 34) _ _ (omega arith) (deep_text 0 Bare c)))
+    deep_if 0 (is_white c) _ _ (omega arith)
+    (deep_if 0 (c == 123) _ _ (omega arith) (deep_if 0 (c == 34) _ _ (omega arith) (deep_text 0 Bare c)))
 deep_step (stages.Text word) c = deep_inside 0 word c
 deep_step (stages.Escaped word stage) c = deep_by 0 word c (escape_step stage c)
 deep_step (stages.Braced depth) c =
-    deep_if depth (c == 125) _ _ (deep_close depth) (deep_if depth (c == 123) _ _ (omega arith) (deep_if depth (c == 92) _ _ (omega arith) (omega arith)))
+    deep_if depth (c == 125) _ _ (deep_close depth)
+    (deep_if depth (c == 123) _ _ (omega arith) (deep_if depth (c == 92) _ _ (omega arith) (omega arith)))
 deep_step (stages.BracedBackslash depth) c = omega arith
 deep_step stages.Closed c = deep_if 0 (is_white c) _ _ (omega arith) tt
 
-pub list_depth : (stage next : ListStage) (step : ListStep) (c : ℕ) → step.next ≡ Go next → step ≡ list_step stage c → open_braces next ≤ suc (open_braces stage)
-list_depth stage next step c goes does = subst (IsDeep (open_braces stage)) (sym (ap (λ (s : ListStep). s.next) does) ∙ goes) (deep_step stage c)
+pub list_depth : (stage next : ListStage) (step : ListStep) (c : ℕ) → step.next ≡ Go next → step ≡ list_step stage c →
+    open_braces next ≤ suc (open_braces stage)
+list_depth stage next step c goes does =
+    subst (IsDeep (open_braces stage)) (sym (ap (λ (s : ListStep). s.next) does) ∙ goes) (deep_step stage c)
 
 -- runs
 
@@ -80,12 +89,16 @@ not_taken : (test : Bool) (s t : ListStep) → test ≡ false → cond test s t 
 not_taken true s t h = absurd (true≢false h)
 not_taken false s t h = refl
 
-plain_element : (stage : ListStage) (c : ℕ) → is_plain (script_stage stage) c ≡ true → list_step stage c ≡ list_keeps stage
+plain_element : (stage : ListStage) (c : ℕ) → is_plain (script_stage stage) c ≡ true →
+    list_step stage c ≡ list_keeps stage
 plain_element stages.Between c h = absurd (true≢false (sym h))
-plain_element (stages.Text Bare) c h = let k = bare_other c h in not_taken (is_white c) _ _ k.0 ∙ not_taken (c == 92) _ _ k.1
-plain_element (stages.Text Quoted) c h = let k = quoted_other c h in not_taken (c == 34) _ _ k.0 ∙ not_taken (c == 92) _ _ k.1
+plain_element (stages.Text Bare) c h = let k = bare_other c h in
+    not_taken (is_white c) _ _ k.0 ∙ not_taken (c == 92) _ _ k.1
+plain_element (stages.Text Quoted) c h = let k = quoted_other c h in
+    not_taken (c == 34) _ _ k.0 ∙ not_taken (c == 92) _ _ k.1
 plain_element (stages.Escaped word stage) c h = absurd (true≢false (sym h))
-plain_element (stages.Braced depth) c h = let k = braced_other c h in not_taken (c == 125) _ _ k.0 ∙ not_taken (c == 123) _ _ k.1 ∙ not_taken (c == 92) _ _ k.2
+plain_element (stages.Braced depth) c h = let k = braced_other c h in
+    not_taken (c == 125) _ _ k.0 ∙ not_taken (c == 123) _ _ k.1 ∙ not_taken (c == 92) _ _ k.2
 plain_element (stages.BracedBackslash depth) c h = absurd (true≢false (sym h))
 plain_element stages.Closed c h = absurd (true≢false (sym h))
 
@@ -100,14 +113,17 @@ behind words word None = None
 behind words word (Some xs) = Some (words ++ prefixed word xs)
 
 behind_onto : (c : ℕ) (words : List (List ℕ)) (word : List ℕ) (found : Found)
-    → behind words word (spelled_found (onto_element c found)) ≡ behind words (word ++ encode_utf8 c) (spelled_found found)
+    → behind words word (spelled_found (onto_element c found))
+    ≡ behind words (word ++ encode_utf8 c) (spelled_found found)
 behind_onto c words word None = refl
 behind_onto c words word (Some xs) =
-    ap (λ f. behind words word (spelled_found f)) (onto_some c xs) ∙ ap (λ l. Some (words ++ l)) (prefixed_onto c word xs)
+    ap (λ f. behind words word (spelled_found f)) (onto_some c xs)
+    ∙ ap (λ l. Some (words ++ l)) (prefixed_onto c word xs)
 
 behind_put : (output : Output) (c : ℕ) (words : List (List ℕ)) (word : List ℕ) (found : Found)
     → behind words word (spelled_found (list_put output c found))
-    ≡ behind (words_after output.ended (word_with output c word) words) (word_after output.ended (word_with output c word)) (spelled_found found)
+    ≡ behind (words_after output.ended (word_with output c word) words)
+    (word_after output.ended (word_with output c word)) (spelled_found found)
 behind_put output c words word None = ap (λ f. behind words word (spelled_found f)) (put_none output c)
 behind_put output c words word (Some xs) =
     ap (λ f. behind words word (spelled_found f)) (put_some output c xs) ∙ ap Some (written_more output c word words xs)
@@ -120,44 +136,61 @@ behind_nothing : (found : Found) → behind [] [] found ≡ found
 behind_nothing None = refl
 behind_nothing (Some xs) = ap Some (prefixed_nil xs)
 
-pub reading_starts : (cs : List ℕ) (words : List (List ℕ)) (word : List ℕ) → words ≡ [] → word ≡ [] → IsReading cs cs stages.Between words word
+pub reading_starts : (cs : List ℕ) (words : List (List ℕ)) (word : List ℕ) → words ≡ [] → word ≡ [] →
+    IsReading cs cs stages.Between words word
 reading_starts cs words word none empty = record {
-  found = sym (ap (λ ws. behind ws word (spelled_found (read_list cs 0 AtElement))) none ∙ ap (λ w. behind [] w (spelled_found (read_list cs 0 AtElement))) empty
+  found = sym (ap (λ ws. behind ws word (spelled_found (read_list cs 0 AtElement))) none
+      ∙ ap (λ w. behind [] w (spelled_found (read_list cs 0 AtElement))) empty
       ∙ behind_nothing (spelled_found (read_list cs 0 AtElement)));
 }
 
-run_read : (stage : ListStage) (run rest : List ℕ) (words : List (List ℕ)) (word : List ℕ) → AllPlain (script_stage stage) run
-    → behind words word (spelled_found (list_from stage (run ++ rest))) ≡ behind words (word ++ encode_utf8_all run) (spelled_found (list_from stage rest))
-run_read stage [] rest words word h = ap (λ l. behind words l (spelled_found (list_from stage rest))) (sym (append-nil word))
+run_read : (stage : ListStage) (run rest : List ℕ) (words : List (List ℕ)) (word : List ℕ) →
+    AllPlain (script_stage stage) run
+    → behind words word (spelled_found (list_from stage (run ++ rest)))
+    ≡ behind words (word ++ encode_utf8_all run) (spelled_found (list_from stage rest))
+run_read stage [] rest words word h =
+    ap (λ l. behind words l (spelled_found (list_from stage rest))) (sym (append-nil word))
 run_read stage (c ∷ run) rest words word h =
     ap (λ f. behind words word (spelled_found f)) (list-step stage c (run ++ rest))
-    ∙ ap (λ (s : ListStep). behind words word (spelled_found (list_does s c (λ next. list_from next (run ++ rest))))) (plain_element stage c h.0)
-    ∙ behind_onto c words word (list_from stage (run ++ rest)) ∙ run_read stage run rest words (word ++ encode_utf8 c) h.1
-    ∙ ap (λ l. behind words l (spelled_found (list_from stage rest))) (append_assoc word (encode_utf8 c) (encode_utf8_all run))
+    ∙ ap (λ (s : ListStep). behind words word (spelled_found (list_does s c (λ next. list_from next (run ++ rest)))))
+    (plain_element stage c h.0)
+    ∙ behind_onto c words word (list_from stage (run ++ rest))
+    ∙ run_read stage run rest words (word ++ encode_utf8 c) h.1
+    ∙ ap (λ l. behind words l (spelled_found (list_from stage rest)))
+    (append_assoc word (encode_utf8 c) (encode_utf8_all run))
 
-pub reading_runs : (cs : List ℕ) (bytes : List ℕ) (n : ℕ) (stage : ListStage) (words : List (List ℕ)) (word more : List ℕ) → IsReading cs (chars bytes) stage words word
-    → RunOf (script_stage stage) bytes n → more ≡ word ++ take n bytes → IsReading cs (chars (drop n bytes)) stage words more
+pub reading_runs : (cs : List ℕ) (bytes : List ℕ) (n : ℕ) (stage : ListStage) (words : List (List ℕ))
+    (word more : List ℕ) → IsReading cs (chars bytes) stage words word
+    → RunOf (script_stage stage) bytes n → more ≡ word ++ take n bytes →
+    IsReading cs (chars (drop n bytes)) stage words more
 reading_runs cs bytes n stage words word more w r e = record {
   found = w.found ∙ ap (λ l. behind words word (spelled_found (list_from stage l))) r.split
       ∙ run_read stage r.run (chars (drop n bytes)) words word r.plain
-      ∙ ap (λ l. behind words l (spelled_found (list_from stage (chars (drop n bytes))))) (ap (λ l. word ++ l) (sym r.spelled) ∙ sym e);
+      ∙ ap (λ l. behind words l (spelled_found (list_from stage (chars (drop n bytes)))))
+      (ap (λ l. word ++ l) (sym r.spelled) ∙ sym e);
 }
 
-found_more : (cs now later : List ℕ) (stage : ListStage) (words more : List (List ℕ)) (word rest : List ℕ) (step : ListStep) (c : ℕ) → IsReading cs now stage words word
+found_more : (cs now later : List ℕ) (stage : ListStage) (words more : List (List ℕ)) (word rest : List ℕ)
+    (step : ListStep) (c : ℕ) → IsReading cs now stage words word
     → now ≡ c ∷ later → step ≡ list_step stage c
-    → more ≡ words_after step.output.ended (word_with step.output c word) words → rest ≡ word_after step.output.ended (word_with step.output c word)
-    → spelled_found (read_list cs 0 AtElement) ≡ behind more rest (spelled_found (list_arrive step.next (λ next. list_from next later)))
+    → more ≡ words_after step.output.ended (word_with step.output c word) words →
+    rest ≡ word_after step.output.ended (word_with step.output c word)
+    → spelled_found (read_list cs 0 AtElement)
+    ≡ behind more rest (spelled_found (list_arrive step.next (λ next. list_from next later)))
 found_more cs now later stage words more word rest step c w here does e f =
     w.found ∙ ap (λ l. behind words word (spelled_found (list_from stage l))) here
     ∙ ap (λ l. behind words word (spelled_found l)) (list-step stage c later)
     ∙ ap (λ (s : ListStep). behind words word (spelled_found (list_does s c (λ next. list_from next later)))) (sym does)
     ∙ behind_put step.output c words word (list_arrive step.next (λ next. list_from next later))
-    ∙ ap (λ l. behind l (word_after step.output.ended (word_with step.output c word)) (spelled_found (list_arrive step.next (λ next. list_from next later)))) (sym e)
+    ∙ ap (λ l. behind l (word_after step.output.ended (word_with step.output c word))
+    (spelled_found (list_arrive step.next (λ next. list_from next later)))) (sym e)
     ∙ ap (λ l. behind more l (spelled_found (list_arrive step.next (λ next. list_from next later)))) (sym f)
 
-pub reading_goes : (cs now later : List ℕ) (stage next : ListStage) (words more : List (List ℕ)) (word rest : List ℕ) (step : ListStep) (c : ℕ) → IsReading cs now stage words word
+pub reading_goes : (cs now later : List ℕ) (stage next : ListStage) (words more : List (List ℕ)) (word rest : List ℕ)
+    (step : ListStep) (c : ℕ) → IsReading cs now stage words word
     → now ≡ c ∷ later → step ≡ list_step stage c → step.next ≡ Go next
-    → more ≡ words_after step.output.ended (word_with step.output c word) words → rest ≡ word_after step.output.ended (word_with step.output c word)
+    → more ≡ words_after step.output.ended (word_with step.output c word) words →
+    rest ≡ word_after step.output.ended (word_with step.output c word)
     → IsReading cs later next more rest
 reading_goes cs now later stage next words more word rest step c w here does goes e f = record {
   found = found_more cs now later stage words more word rest step c w here does e f
@@ -171,19 +204,25 @@ none_found (Some xs) h = cc
 no_list_of : (cs : List ℕ) → read_list cs 0 AtElement ≡ None → (xs : List (List ℕ)) → ¬ ReadsList cs xs
 no_list_of cs none xs r = let no = sym none ∙ r in cc
 
-pub reading_fails : (cs now later : List ℕ) (stage : ListStage) (words more : List (List ℕ)) (word rest : List ℕ) (step : ListStep) (c : ℕ) → IsReading cs now stage words word
+pub reading_fails : (cs now later : List ℕ) (stage : ListStage) (words more : List (List ℕ)) (word rest : List ℕ)
+    (step : ListStep) (c : ℕ) → IsReading cs now stage words word
     → now ≡ c ∷ later → step ≡ list_step stage c → step.next ≡ Bad
-    → more ≡ words_after step.output.ended (word_with step.output c word) words → rest ≡ word_after step.output.ended (word_with step.output c word)
+    → more ≡ words_after step.output.ended (word_with step.output c word) words →
+    rest ≡ word_after step.output.ended (word_with step.output c word)
     → (xs : List (List ℕ)) → ¬ ReadsList cs xs
 reading_fails cs now later stage words more word rest step c w here does bad e f =
-    no_list_of cs (none_found (read_list cs 0 AtElement) (found_more cs now later stage words more word rest step c w here does e f
+    no_list_of cs (none_found (read_list cs 0 AtElement)
+    (found_more cs now later stage words more word rest step c w here does e f
     ∙ ap (λ s. behind more rest (spelled_found (list_arrive s (λ n. list_from n later)))) bad))
 
 -- the end of the text
 
-found_at_end : (cs bytes : List ℕ) (stage : ListStage) (words : List (List ℕ)) (word : List ℕ) (step : ListStep) → IsReading cs (chars bytes) stage words word
+found_at_end : (cs bytes : List ℕ) (stage : ListStage) (words : List (List ℕ)) (word : List ℕ) (step : ListStep) →
+    IsReading cs (chars bytes) stage words word
     → length bytes ≡ 0 → step ≡ last_list_step stage
-    → spelled_found (read_list cs 0 AtElement) ≡ behind (words_after step.output.ended (word_with step.output 0 word) words) (word_after step.output.ended (word_with step.output 0 word)) (spelled_found (list_end step.next))
+    → spelled_found (read_list cs 0 AtElement)
+    ≡ behind (words_after step.output.ended (word_with step.output 0 word) words)
+    (word_after step.output.ended (word_with step.output 0 word)) (spelled_found (list_end step.next))
 found_at_end cs [] stage words word step w h does =
     w.found ∙ ap (λ l. behind words word (spelled_found (list_from stage l))) chars-nil
     ∙ ap (λ l. behind words word (spelled_found l)) (list-end stage)
@@ -191,25 +230,32 @@ found_at_end cs [] stage words word step w h does =
     ∙ behind_put step.output 0 words word (list_end step.next)
 found_at_end cs (b ∷ bytes) stage words word step w h does = absurd (omega arith)
 
-texts_of_found : {Z : Type 0} (found : Found) (strings : List (String Z)) → spelled_found found ≡ Some (map (λ s. string_bytes s) strings) → found ≡ Some (texts_of strings)
+texts_of_found : {Z : Type 0} (found : Found) (strings : List (String Z)) →
+    spelled_found found ≡ Some (map (λ s. string_bytes s) strings) → found ≡ Some (texts_of strings)
 texts_of_found None strings h = cc
 texts_of_found (Some xs) strings h =
-    let same : map (λ s. string_bytes s) strings ≡ map encode_utf8_all xs = cc in ap Some (sym (texts_are strings xs same))
+    let same : map (λ s. string_bytes s) strings ≡ map encode_utf8_all xs = cc in
+    ap Some (sym (texts_are strings xs same))
 
-pub reading_ends : {Z : Type 0} (cs bytes : List ℕ) (stage next : ListStage) (words : List (List ℕ)) (word : List ℕ) (step : ListStep) (strings : List (String Z)) → IsReading cs (chars bytes) stage words word
+pub reading_ends : {Z : Type 0} (cs bytes : List ℕ) (stage next : ListStage) (words : List (List ℕ)) (word : List ℕ)
+    (step : ListStep) (strings : List (String Z)) → IsReading cs (chars bytes) stage words word
     → length bytes ≡ 0 → step ≡ last_list_step stage → step.next ≡ Go next
     → map (λ s. string_bytes s) strings ≡ words_after step.output.ended (word_with step.output 0 word) words
     → ReadsList cs (texts_of strings)
 reading_ends cs bytes stage next words word step strings w h does goes e =
     texts_of_found (read_list cs 0 AtElement) strings (found_at_end cs bytes stage words word step w h does
-    ∙ ap (λ s. behind (words_after step.output.ended (word_with step.output 0 word) words) (word_after step.output.ended (word_with step.output 0 word)) (spelled_found (list_end s))) goes
+    ∙ ap (λ s. behind (words_after step.output.ended (word_with step.output 0 word) words)
+    (word_after step.output.ended (word_with step.output 0 word)) (spelled_found (list_end s))) goes
     ∙ ap Some (append-nil (words_after step.output.ended (word_with step.output 0 word) words) ∙ sym e))
 
-pub reading_ends_badly : (cs bytes : List ℕ) (stage : ListStage) (words : List (List ℕ)) (word : List ℕ) (step : ListStep) → IsReading cs (chars bytes) stage words word
+pub reading_ends_badly : (cs bytes : List ℕ) (stage : ListStage) (words : List (List ℕ)) (word : List ℕ)
+    (step : ListStep) → IsReading cs (chars bytes) stage words word
     → length bytes ≡ 0 → step ≡ last_list_step stage → step.next ≡ Bad → (xs : List (List ℕ)) → ¬ ReadsList cs xs
 reading_ends_badly cs bytes stage words word step w h does bad =
     no_list_of cs (none_found (read_list cs 0 AtElement) (found_at_end cs bytes stage words word step w h does
-    ∙ ap (λ s. behind (words_after step.output.ended (word_with step.output 0 word) words) (word_after step.output.ended (word_with step.output 0 word)) (spelled_found (list_end s))) bad))
+    ∙ ap (λ s. behind (words_after step.output.ended (word_with step.output 0 word) words)
+    (word_after step.output.ended (word_with step.output 0 word)) (spelled_found (list_end s))) bad))
 
-pub reading_same : (cs rest : List ℕ) (stage : ListStage) (words more : List (List ℕ)) (word : List ℕ) → IsReading cs rest stage words word → more ≡ words → IsReading cs rest stage more word
+pub reading_same : (cs rest : List ℕ) (stage : ListStage) (words more : List (List ℕ)) (word : List ℕ) →
+    IsReading cs rest stage words word → more ≡ words → IsReading cs rest stage more word
 reading_same cs rest stage words more word w same = subst (λ l. IsReading cs rest stage l word) (sym same) w

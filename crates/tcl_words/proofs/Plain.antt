@@ -1,14 +1,19 @@
 -- Runs of characters that go onto a word as they are.
-use Rattle.std.proofs.Common.{◌≡◌, ℕ, zero, suc, ◌+◌, ◌-◌, ◌<◌, ◌≤◌, ⊎_elim, Bool, true, false, cond, ◌||◌, ◌==◌, IsUtf8, IsCharBoundary, List, [], ◌∷◌, ◌++◌, length, take, drop, get_or, chars, encode_utf8, encode_utf8_all, refl, sym, ap, ◌∙◌, arith, subst, true≢false, length-take, length-drop, take-append-drop}
+use Rattle.std.proofs.Common.{◌≡◌, ℕ, zero, suc, ◌+◌, ◌-◌, ◌<◌, ◌≤◌, ⊎_elim, Bool, true, false, cond, ◌||◌, ◌==◌}
+use Rattle.std.proofs.Common.{IsUtf8, IsCharBoundary, List, [], ◌∷◌, ◌++◌, length, take, drop, get_or, chars}
+use Rattle.std.proofs.Common.{encode_utf8, encode_utf8_all, refl, sym, ap, ◌∙◌, arith, subst, true≢false, length-take}
+use Rattle.std.proofs.Common.{length-drop, take-append-drop}
 use Rattle.std.specs.Bool.{⊤}
 use Rattle.std.specs.Prelude.{slice_range}
 use Rattle.std.specs.Char.{len_utf8}
 use Rattle.std.proofs.lemmas.Bool.Decides.{nat_tests, leb_tells}
 use Rattle.std.proofs.lemmas.List.{drop-drop, drop_more, get_or-drop}
 use Rattle.std.proofs.Math.Seq.{drop-append_seam}
-use Rattle.std.proofs.lemmas.Str.{IsCharBoundary-past_char, encode_ascii, length-encode, len_utf8_bounds, encodes-chars, chars-append, IsUtf8-take, IsCharBoundary-end, IsCharBoundary-before_ascii}
+use Rattle.std.proofs.lemmas.Str.{IsCharBoundary-past_char, encode_ascii, length-encode, len_utf8_bounds, encodes-chars}
+use Rattle.std.proofs.lemmas.Str.{chars-append, IsUtf8-take, IsCharBoundary-end, IsCharBoundary-before_ascii}
 use Rattle.tcl_words.specs.Characters.{is_end, is_blank}
-use Rattle.tcl_words.specs.Runs.{is_ordinary, is_bare, is_quoted, is_braced, is_plain, begins_word, begins_command, begun, IsSeam}
+use Rattle.tcl_words.specs.Runs.{is_ordinary, is_bare, is_quoted, is_braced, is_plain, begins_word, begins_command}
+use Rattle.tcl_words.specs.Runs.{begun, IsSeam}
 use Rattle.tcl_words.specs.declared.runs.Seam.TheVariants as seams
 use Rattle.tcl_words.specs.Steps.{keeps, closes, text_step, step_of, depth_of}
 use Rattle.tcl_words.specs.Scanning.{later, scan_next, scanned}
@@ -25,16 +30,19 @@ use Rattle.tcl_words.proofs.Spelling.{below_or, later-later, later-zero}
 
 -- an ordinary character keeps the stage
 
-plain_if : (test plain : Bool) (s t : Step) (stage : Stage) → cond test false plain ≡ true → (plain ≡ true → t ≡ keeps stage) → cond test s t ≡ keeps stage
+plain_if : (test plain : Bool) (s t : Step) (stage : Stage) → cond test false plain ≡ true →
+    (plain ≡ true → t ≡ keeps stage) → cond test s t ≡ keeps stage
 plain_if true plain s t stage h k = absurd (true≢false (sym h))
 plain_if false plain s t stage h k = k h
 
 plain_text : (word : TextWord) (c : ℕ) → is_ordinary c ≡ true → text_step word c ≡ keeps (stages.Text word)
-plain_text word c h = plain_if (c == 91) _ _ _ _ h (λ i. plain_if (c == 36) _ _ _ _ i (λ j. plain_if (c == 92) _ _ _ _ j (λ k. refl)))
+plain_text word c h =
+    plain_if (c == 91) _ _ _ _ h (λ i. plain_if (c == 36) _ _ _ _ i (λ j. plain_if (c == 92) _ _ _ _ j (λ k. refl)))
 
 pub plain_step : (stage : Stage) (c : ℕ) → is_plain stage c ≡ true → step_of stage c ≡ keeps stage
 plain_step (stages.Text Bare) c h =
-    plain_if (is_end c) _ _ _ _ h (λ i. plain_if (is_blank c) _ _ _ _ i (λ j. plain_if (c == 92) _ _ _ _ j (λ k. plain_text Bare c k)))
+    plain_if (is_end c) _ _ _ _ h (λ i. plain_if (is_blank c) _ _ _ _ i (λ j.
+    plain_if (c == 92) _ _ _ _ j (λ k. plain_text Bare c k)))
 plain_step (stages.Text Quoted) c h = plain_if (c == 34) _ _ _ _ h (λ i. plain_text Quoted c i)
 plain_step (stages.Braced depth) c h =
     plain_if (c == 125) _ _ _ _ h (λ i. plain_if (c == 123) _ _ _ _ i (λ j. plain_if (c == 92) _ _ _ _ j (λ k. refl)))
@@ -59,20 +67,24 @@ abbrev pub AllPlain : Stage → List ℕ → Type 0
 AllPlain stage [] = ⊤
 AllPlain stage (c ∷ cs) = (is_plain stage c ≡ true) × AllPlain stage cs
 
-pub all_plain : (m : ℕ) (xs : List ℕ) (stage : Stage) → ((k : ℕ) → k < m → is_plain stage (get_or xs k 0) ≡ true) → AllPlain stage (take m xs)
+pub all_plain : (m : ℕ) (xs : List ℕ) (stage : Stage) → ((k : ℕ) → k < m → is_plain stage (get_or xs k 0) ≡ true) →
+    AllPlain stage (take m xs)
 all_plain zero xs stage h = tt
 all_plain (suc m) [] stage h = tt
 all_plain (suc m) (x ∷ xs) stage h = (h 0 (omega arith), all_plain m xs stage (λ k p. h (suc k) (omega arith)))
 
 -- a scan passes a run
-scan_run : (run rest : List ℕ) (stage : Stage) → AllPlain stage run → scanned (run ++ rest) stage ≡ later (length run) (scanned rest stage)
+scan_run : (run rest : List ℕ) (stage : Stage) → AllPlain stage run →
+    scanned (run ++ rest) stage ≡ later (length run) (scanned rest stage)
 scan_run [] rest stage h = sym (later-zero (scanned rest stage))
 scan_run (c ∷ run) rest stage h =
-    scanned-cons c (run ++ rest) stage ∙ ap (λ (s : Step). scan_next s.next (scanned (run ++ rest))) (plain_step stage c h.0)
+    scanned-cons c (run ++ rest) stage ∙ ap (λ (s : Step). scan_next s.next (scanned (run ++ rest)))
+    (plain_step stage c h.0)
     ∙ ap (later 1) (scan_run run rest stage h.1) ∙ later-later 1 (length run) (scanned rest stage)
     ∙ ap (λ n. later n (scanned rest stage)) (let e : 1 + length run ≡ suc (length run) = omega arith in e)
 
-scan_passes : (bytes : List ℕ) (i n : ℕ) (stage : Stage) → n ≤ length (drop i bytes) → ((k : ℕ) → k < n → is_plain stage (get_or (drop i bytes) k 0) ≡ true)
+scan_passes : (bytes : List ℕ) (i n : ℕ) (stage : Stage) → n ≤ length (drop i bytes) →
+    ((k : ℕ) → k < n → is_plain stage (get_or (drop i bytes) k 0) ≡ true)
     → scanned (drop i bytes) stage ≡ later n (scanned (drop (i + n) bytes) stage)
 scan_passes bytes i n stage long plain =
     let all : length (take n (drop i bytes)) ≡ n = omega (arith, length-take n (drop i bytes)) in
@@ -82,7 +94,8 @@ scan_passes bytes i n stage long plain =
     ∙ ap (λ l. later n (scanned l stage)) (drop-drop n i bytes)
 
 -- the same of a slice of the bytes from i on
-pub scan_skips : (bytes slice : List ℕ) (i n : ℕ) (stage : Stage) → slice ≡ drop i bytes → n ≤ length slice → ((k : ℕ) → k < n → is_plain stage (get_or slice k 0) ≡ true)
+pub scan_skips : (bytes slice : List ℕ) (i n : ℕ) (stage : Stage) → slice ≡ drop i bytes → n ≤ length slice →
+    ((k : ℕ) → k < n → is_plain stage (get_or slice k 0) ≡ true)
     → (scanned (drop i bytes) stage ≡ later n (scanned (drop (i + n) bytes) stage)) × (n ≤ length (drop i bytes))
 scan_skips bytes slice i n stage same long plain =
     let all : n ≤ length (drop i bytes) = omega (arith, ap length same) in
@@ -124,14 +137,16 @@ high_plain (stages.BracedGap depth) b c h k = k
 high_plain (stages.Behind closing) b c h k = k
 high_plain (stages.BehindBackslash closing) b c h k = k
 
-plain_first : (stage : Stage) (bs : List ℕ) (c : ℕ) → 0 < length bs → AllPlain stage bs → 128 ≤ c → is_plain stage c ≡ true
+plain_first : (stage : Stage) (bs : List ℕ) (c : ℕ) → 0 < length bs → AllPlain stage bs → 128 ≤ c →
+    is_plain stage c ≡ true
 plain_first stage [] c some h high = absurd (omega arith)
 plain_first stage (b ∷ bs) c some h high = high_plain stage b c high h.0
 
 plain_char : (stage : Stage) (c : ℕ) → AllPlain stage (encode_utf8 c) → is_plain stage c ≡ true
 plain_char stage c h = ⊎_elim
     (λ low. (subst (AllPlain stage) (encode_ascii c low) h).0)
-    (λ high. plain_first stage (encode_utf8 c) c (let bounds = len_utf8_bounds c in omega (arith, length-encode c)) h high)
+    (λ high. plain_first stage (encode_utf8 c) c (let bounds = len_utf8_bounds c in
+    omega (arith, length-encode c)) h high)
     (below_or c)
 
 plain_chars : (stage : Stage) (cs : List ℕ) → AllPlain stage (encode_utf8_all cs) → AllPlain stage cs
@@ -141,7 +156,8 @@ plain_chars stage (c ∷ cs) h =
     (plain_char stage c k.0, plain_chars stage cs k.1)
 
 -- A run of a text ends between characters.
-pub run_boundary : (bytes : List ℕ) (n : ℕ) → IsUtf8 bytes → 0 < n → n ≤ length bytes → (0 < n → n < length bytes → get_or bytes n 0 < 128) → IsCharBoundary bytes n
+pub run_boundary : (bytes : List ℕ) (n : ℕ) → IsUtf8 bytes → 0 < n → n ≤ length bytes →
+    (0 < n → n < length bytes → get_or bytes n 0 < 128) → IsCharBoundary bytes n
 run_boundary bytes n u some within end = ⊎_elim
     (λ all. let same : length bytes ≡ n = omega arith in subst (IsCharBoundary bytes) same (IsCharBoundary-end bytes))
     (λ less. IsCharBoundary-before_ascii bytes n less.1 (end some less.1))
@@ -154,23 +170,27 @@ pub record RunOf (stage : Stage) (bytes : List ℕ) (n : ℕ) : Type 0 where
   pub spelled : take n bytes ≡ encode_utf8_all run
   pub split : chars bytes ≡ run ++ chars (drop n bytes)
 
-pub run_of : (stage : Stage) (bytes : List ℕ) (n : ℕ) → IsUtf8 bytes → IsCharBoundary bytes n → ((k : ℕ) → k < n → is_plain stage (get_or bytes k 0) ≡ true) → RunOf stage bytes n
+pub run_of : (stage : Stage) (bytes : List ℕ) (n : ℕ) → IsUtf8 bytes → IsCharBoundary bytes n →
+    ((k : ℕ) → k < n → is_plain stage (get_or bytes k 0) ≡ true) → RunOf stage bytes n
 run_of stage bytes n u b plain =
     let front = IsUtf8-take bytes n u b in
     let same = encodes-chars (take n bytes) front in
     record {
       run = chars (take n bytes);
-      plain = plain_chars stage (chars (take n bytes)) (subst (AllPlain stage) (sym same) (all_plain n bytes stage plain));
+      plain =
+          plain_chars stage (chars (take n bytes)) (subst (AllPlain stage) (sym same) (all_plain n bytes stage plain));
       spelled = sym same;
       split = ap chars (sym (take-append-drop n bytes)) ∙ chars-append (take n bytes) (drop n bytes) front;
     }
 
 -- a run at the front of a text, by its bytes
-pub run_at : (stage : Stage) (rest slice : List ℕ) (n : ℕ) → slice ≡ rest → IsUtf8 rest → 0 < n → n ≤ length slice → ((k : ℕ) → k < n → is_plain stage (get_or slice k 0) ≡ true)
+pub run_at : (stage : Stage) (rest slice : List ℕ) (n : ℕ) → slice ≡ rest → IsUtf8 rest → 0 < n → n ≤ length slice →
+    ((k : ℕ) → k < n → is_plain stage (get_or slice k 0) ≡ true)
     → (0 < n → n < length slice → get_or slice n 0 < 128) → IsCharBoundary rest n × RunOf stage rest n
 run_at stage rest slice n same u some within plain end =
     let long = ap length same in
-    let boundary = run_boundary rest n u some (omega arith) (λ p q. let low = end p (omega arith) in omega (arith, ap (λ l. get_or l n 0) same)) in
+    let boundary = run_boundary rest n u some (omega arith) (λ p q. let low = end p (omega arith) in
+    omega (arith, ap (λ l. get_or l n 0) same)) in
     (boundary, run_of stage rest n u boundary (λ k p. ap (λ l. is_plain stage (get_or l k 0)) (sym same) ∙ plain k p))
 
 -- the front of a slice
@@ -178,12 +198,16 @@ pub front_range : (n : ℕ) (xs : List ℕ) → slice_range xs 0 n ≡ take n xs
 front_range n xs = let e : n - 0 ≡ n = omega arith in rw e refl
 
 -- a text after its first character
-pub char_boundary : (rest after : List ℕ) (c n : ℕ) → IsUtf8 rest → rest ≡ encode_utf8 c ++ after → n ≡ len_utf8 c → IsCharBoundary rest n
+pub char_boundary : (rest after : List ℕ) (c n : ℕ) → IsUtf8 rest → rest ≡ encode_utf8 c ++ after → n ≡ len_utf8 c →
+    IsCharBoundary rest n
 char_boundary rest after c n u split long =
-    let e : 0 + len_utf8 c ≡ n = omega arith in subst (IsCharBoundary rest) e (IsCharBoundary-past_char rest after 0 c (omega arith) u split)
+    let e : 0 + len_utf8 c ≡ n = omega arith in
+    subst (IsCharBoundary rest) e (IsCharBoundary-past_char rest after 0 c (omega arith) u split)
 
-pub after_char : (rest after : List ℕ) (c n : ℕ) → rest ≡ encode_utf8 c ++ after → n ≡ length (encode_utf8 c) → drop n rest ≡ after
-after_char rest after c n split long = ap (drop n) split ∙ ap (λ m. drop m (encode_utf8 c ++ after)) long ∙ drop-append_seam (encode_utf8 c) after
+pub after_char : (rest after : List ℕ) (c n : ℕ) → rest ≡ encode_utf8 c ++ after → n ≡ length (encode_utf8 c) →
+    drop n rest ≡ after
+after_char rest after c n split long =
+    ap (drop n) split ∙ ap (λ m. drop m (encode_utf8 c ++ after)) long ∙ drop-append_seam (encode_utf8 c) after
 
 pub none_left : (xs : List ℕ) (test : Bool) → test ≡ (length xs == 0) → test ≡ true → length xs ≡ 0
 none_left xs test h k = grind (arith, nat_tests)
@@ -194,10 +218,10 @@ kept_false : (test plain : Bool) → cond test false plain ≡ true → (test �
 kept_false true plain h = absurd (true≢false (sym h))
 kept_false false plain h = (refl, h)
 
-by_false : (A : Type 0) (test : Bool) (s t : A) → test ≡ false → cond test s t ≡ t
+pub by_false : (A : Type 0) (test : Bool) (s t : A) → test ≡ false → cond test s t ≡ t
 by_false A test s t h = ap (λ b. cond b s t) h
 
-by_true : (A : Type 0) (test : Bool) (s t : A) → test ≡ true → cond test s t ≡ s
+pub by_true : (A : Type 0) (test : Bool) (s t : A) → test ≡ true → cond test s t ≡ s
 by_true A test s t h = ap (λ b. cond b s t) h
 
 word_begins : (c : ℕ) → begins_word c ≡ true → step_of stages.BeforeWord c ≡ step_of (stages.Text Bare) c
@@ -207,9 +231,11 @@ word_begins c h =
     let end = kept_false (is_end c) _ quote.1 in
     let blank = kept_false (is_blank c) _ end.1 in
     let slash = kept_false (c == 92) _ blank.1 in
-    by_false Step (is_end c) _ _ end.0 ∙ by_false Step (is_blank c) _ _ blank.0 ∙ by_false Step (c == 92) _ _ slash.0 ∙ by_false Step (c == 123) _ _ brace.0
+    by_false Step (is_end c) _ _ end.0 ∙ by_false Step (is_blank c) _ _ blank.0 ∙ by_false Step (c == 92) _ _ slash.0
+    ∙ by_false Step (c == 123) _ _ brace.0
     ∙ by_false Step (c == 34) _ _ quote.0
-    ∙ sym (by_false Step (is_end c) _ _ end.0 ∙ by_false Step (is_blank c) _ _ blank.0 ∙ by_false Step (c == 92) _ _ slash.0)
+    ∙ sym (by_false Step (is_end c) _ _ end.0 ∙ by_false Step (is_blank c) _ _ blank.0
+    ∙ by_false Step (c == 92) _ _ slash.0)
 
 either_false : (a b : Bool) → a ≡ false → b ≡ false → a || b ≡ false
 either_false a b h k = ap (λ x. x || b) h ∙ k
@@ -223,15 +249,18 @@ command_begins c h =
     let end = kept_false (is_end c) _ quote.1 in
     let blank = kept_false (is_blank c) _ end.1 in
     let slash = kept_false (c == 92) _ blank.1 in
-    by_false Step (is_end c || is_blank c) _ _ (either_false (is_end c) (is_blank c) end.0 blank.0) ∙ by_false Step (c == 92) _ _ slash.0
+    by_false Step (is_end c || is_blank c) _ _ (either_false (is_end c) (is_blank c) end.0 blank.0)
+    ∙ by_false Step (c == 92) _ _ slash.0
     ∙ by_false Step (c == 35) _ _ hash.0 ∙ word_begins c word
 
 pub begun_step : (stage : Stage) (c : ℕ) → step_of stage c ≡ step_of (begun stage c) c
 begun_step stages.BeforeCommand c =
-    elim (begins_command c) as (λ b. begins_command c ≡ b → step_of stages.BeforeCommand c ≡ step_of (cond b (stages.Text Bare) stages.BeforeCommand) c)
+    elim (begins_command c) as (λ b. begins_command c ≡ b →
+    step_of stages.BeforeCommand c ≡ step_of (cond b (stages.Text Bare) stages.BeforeCommand) c)
     [ true ↦ λ is. command_begins c is | false ↦ λ isn't. refl ] refl
 begun_step stages.BeforeWord c =
-    elim (begins_word c) as (λ b. begins_word c ≡ b → step_of stages.BeforeWord c ≡ step_of (cond b (stages.Text Bare) stages.BeforeWord) c)
+    elim (begins_word c) as (λ b. begins_word c ≡ b → step_of stages.BeforeWord c
+    ≡ step_of (cond b (stages.Text Bare) stages.BeforeWord) c)
     [ true ↦ λ is. word_begins c is | false ↦ λ isn't. refl ] refl
 begun_step stages.CommandBackslash c = refl
 begun_step stages.Comment c = refl
@@ -281,12 +310,14 @@ here_step : (stage here : Stage) (c d : ℕ) → here ≡ begun stage c → c �
 here_step stage here c d is same = begun_step stage d ∙ ap (λ s. step_of s d) (ap (begun stage) (sym same) ∙ sym is)
 
 -- a scan goes on from there
-pub scan_begun : (bytes : List ℕ) (i : ℕ) (stage here : Stage) (c : ℕ) → i < length bytes → here ≡ begun stage c → c ≡ get_or bytes i 0
+pub scan_begun : (bytes : List ℕ) (i : ℕ) (stage here : Stage) (c : ℕ) → i < length bytes → here ≡ begun stage c →
+    c ≡ get_or bytes i 0
     → scanned (drop i bytes) stage ≡ scanned (drop i bytes) here
 scan_begun bytes i stage here c h is same =
     let split = drop_more bytes i 0 h in
     ap (λ l. scanned l stage) split ∙ scanned-cons (get_or bytes i 0) (drop (i + 1) bytes) stage
-    ∙ ap (λ (s : Step). scan_next s.next (scanned (drop (i + 1) bytes))) (here_step stage here c (get_or bytes i 0) is same)
+    ∙ ap (λ (s : Step). scan_next s.next (scanned (drop (i + 1) bytes)))
+    (here_step stage here c (get_or bytes i 0) is same)
     ∙ sym (scanned-cons (get_or bytes i 0) (drop (i + 1) bytes) here) ∙ sym (ap (λ l. scanned l here) split)
 
 -- a character whose first byte begins a bare word does so too
@@ -299,7 +330,8 @@ high_command c h = grind (arith, nat_tests)
 
 high_step : (stage : Stage) (b c : ℕ) → 128 ≤ c → step_of stage c ≡ step_of (begun stage b) c
 high_step stages.BeforeCommand b c h =
-    elim (begins_command b) as (λ x. step_of stages.BeforeCommand c ≡ step_of (cond x (stages.Text Bare) stages.BeforeCommand) c)
+    elim (begins_command b) as (λ x. step_of stages.BeforeCommand c
+    ≡ step_of (cond x (stages.Text Bare) stages.BeforeCommand) c)
     [ true ↦ command_begins c (high_command c h) | false ↦ refl ]
 high_step stages.BeforeWord b c h =
     elim (begins_word b) as (λ x. step_of stages.BeforeWord c ≡ step_of (cond x (stages.Text Bare) stages.BeforeWord) c)
@@ -321,7 +353,8 @@ high_step (stages.BracedGap depth) b c h = refl
 high_step (stages.Behind closing) b c h = refl
 high_step (stages.BehindBackslash closing) b c h = refl
 
-pub char_step : (stage here : Stage) (b c : ℕ) (more : List ℕ) → here ≡ begun stage b → b ≡ get_or (encode_utf8 c ++ more) 0 0 → step_of stage c ≡ step_of here c
+pub char_step : (stage here : Stage) (b c : ℕ) (more : List ℕ) → here ≡ begun stage b →
+    b ≡ get_or (encode_utf8 c ++ more) 0 0 → step_of stage c ≡ step_of here c
 char_step stage here b c more is first = ⊎_elim
     (λ low. here_step stage here b c is (first ∙ ap (λ l. get_or (l ++ more) 0 0) (encode_ascii c low)))
     (λ high. high_step stage b c high ∙ ap (λ s. step_of s c) (sym is))
@@ -329,7 +362,8 @@ char_step stage here b c more is first = ⊎_elim
 
 -- what ends a bare word
 
-pub blank_step : (c : ℕ) → is_blank c ≡ true → is_end c ≡ false → step_of (stages.Text Bare) c ≡ closes (Go stages.BeforeWord)
+pub blank_step : (c : ℕ) → is_blank c ≡ true → is_end c ≡ false →
+    step_of (stages.Text Bare) c ≡ closes (Go stages.BeforeWord)
 blank_step c blank end = by_false Step (is_end c) _ _ end ∙ by_true Step (is_blank c) _ _ blank
 
 pub end_step : (c : ℕ) → is_end c ≡ true → step_of (stages.Text Bare) c ≡ closes End
@@ -345,24 +379,32 @@ seam_next bytes slice i n next same long plain ends =
     let within : i + n < length bytes = omega (arith, ap length same, length-drop i bytes) in
     let split = drop_more bytes (i + n) 0 within in
     let there : get_or slice n 0 ≡ get_or bytes (i + n) 0 = ap (λ l. get_or l n 0) same ∙ get_or-drop i bytes n 0 in
-    skips.0 ∙ ap (later n) (ap (λ l. scanned l (stages.Text Bare)) split ∙ scanned-cons (get_or bytes (i + n) 0) (drop (i + n + 1) bytes) (stages.Text Bare)
-    ∙ ap (λ (s : Step). scan_next s.next (scanned (drop (i + n + 1) bytes))) (ap (step_of (stages.Text Bare)) (sym there) ∙ ends))
+    skips.0 ∙ ap (later n) (ap (λ l. scanned l (stages.Text Bare)) split
+    ∙ scanned-cons (get_or bytes (i + n) 0) (drop (i + n + 1) bytes) (stages.Text Bare)
+    ∙ ap (λ (s : Step). scan_next s.next (scanned (drop (i + n + 1) bytes)))
+    (ap (step_of (stages.Text Bare)) (sym there) ∙ ends))
 
 -- the same from a stage that the word begins in
-pub seam_passes : (bytes slice : List ℕ) (i n : ℕ) (stage here : Stage) (c : ℕ) → i < length bytes → here ≡ begun stage c → c ≡ get_or bytes i 0
-    → slice ≡ drop i bytes → ((k : ℕ) → k < n → is_plain here (get_or slice k 0) ≡ true) → IsSeam here slice n seams.Blank
+pub seam_passes : (bytes slice : List ℕ) (i n : ℕ) (stage here : Stage) (c : ℕ) → i < length bytes →
+    here ≡ begun stage c → c ≡ get_or bytes i 0
+    → slice ≡ drop i bytes → ((k : ℕ) → k < n → is_plain here (get_or slice k 0) ≡ true) →
+    IsSeam here slice n seams.Blank
     → scanned (drop i bytes) stage ≡ later (n + 1) (scanned (drop (i + (n + 1)) bytes) stages.BeforeWord)
 seam_passes bytes slice i n stage here c less is first same plain seam =
     scan_begun bytes i stage here c less is first ∙ ap (scanned (drop i bytes)) seam.0
-    ∙ seam_next bytes slice i n (Go stages.BeforeWord) same seam.2 (λ k p. ap (λ s. is_plain s (get_or slice k 0)) (sym seam.0) ∙ plain k p)
+    ∙ seam_next bytes slice i n (Go stages.BeforeWord) same seam.2 (λ k p.
+    ap (λ s. is_plain s (get_or slice k 0)) (sym seam.0) ∙ plain k p)
     (blank_step (get_or slice n 0) seam.3 seam.4)
     ∙ later-later n 1 (scanned (drop (i + n + 1) bytes) stages.BeforeWord)
-    ∙ ap (λ m. later (n + 1) (scanned (drop m bytes) stages.BeforeWord)) (let e : i + n + 1 ≡ i + (n + 1) = omega arith in e)
+    ∙ ap (λ m. later (n + 1) (scanned (drop m bytes) stages.BeforeWord)) (let e : i + n + 1
+    ≡ i + (n + 1) = omega arith in e)
 
-pub seam_ends : (bytes slice : List ℕ) (i n : ℕ) (stage here : Stage) (c : ℕ) → i < length bytes → here ≡ begun stage c → c ≡ get_or bytes i 0
+pub seam_ends : (bytes slice : List ℕ) (i n : ℕ) (stage here : Stage) (c : ℕ) → i < length bytes →
+    here ≡ begun stage c → c ≡ get_or bytes i 0
     → slice ≡ drop i bytes → ((k : ℕ) → k < n → is_plain here (get_or slice k 0) ≡ true) → IsSeam here slice n seams.End
     → scanned (drop i bytes) stage ≡ EndsAt (n + 1)
 seam_ends bytes slice i n stage here c less is first same plain seam =
     scan_begun bytes i stage here c less is first ∙ ap (scanned (drop i bytes)) seam.0
-    ∙ seam_next bytes slice i n End same seam.2 (λ k p. ap (λ s. is_plain s (get_or slice k 0)) (sym seam.0) ∙ plain k p)
+    ∙ seam_next bytes slice i n End same seam.2 (λ k p. ap (λ s. is_plain s (get_or slice k 0)) (sym seam.0)
+    ∙ plain k p)
     (end_step (get_or slice n 0) seam.3)

@@ -1,5 +1,7 @@
 -- Characters and their bytes in UTF-8.
-use Rattle.std.proofs.Common.{◌≡◌, ℕ, suc, ◌+◌, ◌<◌, ◌≤◌, ◌⊎◌, inl, inr, ⊎_elim, Bool, true, false, cond, ◌==◌, ◌||◌, ◌&&◌, ltb, List, [], ◌∷◌, ◌++◌, length, take, encode_utf8, encode_utf8_all, refl, sym, ap, ◌∙◌, arith, append_assoc, append-nil, add_assoc, true≢false, length-append, one-add}
+use Rattle.std.proofs.Common.{◌≡◌, ℕ, suc, ◌+◌, ◌<◌, ◌≤◌, ◌⊎◌, inl, inr, ⊎_elim, Bool, true, false, cond, ◌==◌, ◌||◌}
+use Rattle.std.proofs.Common.{◌&&◌, ltb, List, [], ◌∷◌, ◌++◌, length, take, encode_utf8, encode_utf8_all, refl, sym, ap}
+use Rattle.std.proofs.Common.{◌∙◌, arith, append_assoc, append-nil, add_assoc, true≢false, length-append, one-add}
 use Rattle.std.specs.Bool.{⊤}
 use Rattle.std.specs.Char.{is_digit}
 use Rattle.std.specs.Str.{all_scalars, StartsWithNoChar}
@@ -46,7 +48,8 @@ scalars_split (c ∷ xs) ys h =
 
 -- no character is spelled by nothing
 pub encode_some : (c : ℕ) (rest : List ℕ) → 0 < length (encode_utf8 c ++ rest)
-encode_some c rest = let bounds = len_utf8_bounds c in omega (arith, length-append (encode_utf8 c) rest, length-encode c)
+encode_some c rest = let bounds = len_utf8_bounds c in
+    omega (arith, length-append (encode_utf8 c) rest, length-encode c)
 
 pub encode_not_nil : (c : ℕ) (rest : List ℕ) → encode_utf8 c ++ rest ≡ [] → ⊥
 encode_not_nil c rest h = let some = encode_some c rest in let none = ap length h in omega arith
@@ -58,12 +61,14 @@ GoesOn cs r ds t = (more : List ℕ) × (ds ≡ cs ++ more) × (r ≡ encode_utf
 goes_on_cons : (c d : ℕ) (cs ds r t : List ℕ) → c ≡ d → GoesOn cs r ds t → GoesOn (c ∷ cs) r (d ∷ ds) t
 goes_on_cons c d cs ds r t e g = (g.0, ap (λ x. x ∷ ds) (sym e) ∙ ap (λ l. c ∷ l) g.1, g.2)
 
-pub one_goes_on : (cs ds r t : List ℕ) → encode_utf8_all cs ++ r ≡ encode_utf8_all ds ++ t → GoesOn cs r ds t ⊎ GoesOn ds t cs r
+pub one_goes_on : (cs ds r t : List ℕ) → encode_utf8_all cs ++ r ≡ encode_utf8_all ds ++ t →
+    GoesOn cs r ds t ⊎ GoesOn ds t cs r
 one_goes_on [] ds r t h = inl (ds, refl, h)
 one_goes_on (c ∷ cs) [] r t h = inr (c ∷ cs, refl, sym h)
 one_goes_on (c ∷ cs) (d ∷ ds) r t h =
     let same = encode_same c d (encode_utf8_all cs ++ r) (encode_utf8_all ds ++ t)
-    (sym (append_assoc (encode_utf8 c) (encode_utf8_all cs) r) ∙ h ∙ append_assoc (encode_utf8 d) (encode_utf8_all ds) t) in
+    (sym (append_assoc (encode_utf8 c) (encode_utf8_all cs) r) ∙ h
+    ∙ append_assoc (encode_utf8 d) (encode_utf8_all ds) t) in
     ⊎_elim (λ g. inl (goes_on_cons c d cs ds r t same.0 g)) (λ g. inr (goes_on_cons d c ds cs t r (sym same.0) g))
     (one_goes_on cs ds r t same.1)
 
@@ -71,7 +76,8 @@ one_goes_on (c ∷ cs) (d ∷ ds) r t h =
 pub no_char_nil : (more t : List ℕ) → all_scalars more ≡ true → StartsWithNoChar (encode_utf8_all more ++ t) → more ≡ []
 no_char_nil [] t s h = refl
 no_char_nil (c ∷ more) t s h =
-    absurd (h c (encode_utf8_all more ++ t) (both (scalar c) (all_scalars more) s).0 (append_assoc (encode_utf8 c) (encode_utf8_all more) t))
+    absurd (h c (encode_utf8_all more ++ t) (both (scalar c) (all_scalars more) s).0
+    (append_assoc (encode_utf8 c) (encode_utf8_all more) t))
 
 -- numbers that are not ASCII
 abbrev AllHigh : List ℕ → Type 0
@@ -87,7 +93,10 @@ unfolding encode
 encode_high c h =
     let no : ltb c 128 ≡ false = grind (arith, nat_tests) in
     rw no (cond_high (ltb c 2048) _ _ (omega arith, (omega arith, tt))
-    (cond_high (ltb c 65536) _ _ (omega arith, (omega arith, (omega arith, tt))) (omega arith, (omega arith, (omega arith, (omega arith, tt))))))
+    (cond_high (ltb c 65536) _ _ (omega arith, (omega arith, (omega arith, tt))) (
+      omega arith,
+      (omega arith, (omega arith, (omega arith, tt))),
+    )))
 
 pub below_or : (c : ℕ) → (c < 128) ⊎ (128 ≤ c)
 below_or c = ⊎_elim (λ h. inr h.1) (λ h. inl h.1) (leb_tells 128 c)
@@ -108,7 +117,8 @@ settles (stages.AfterDollar word) = Go (stages.Text word)
 settles (stages.AfterColon word) = Go (stages.Text word)
 settles (stages.Escaped word Backslash) = Go (stages.Text word)
 settles (stages.Escaped word (Letter letter more)) = Go (stages.Text word)
-settles (stages.Escaped word (Digits radix value more)) = cond (scalar value) (Go (stages.Text word)) (Refuse BadCharacterCode)
+settles (stages.Escaped word (Digits radix value more)) =
+    cond (scalar value) (Go (stages.Text word)) (Refuse BadCharacterCode)
 settles (stages.Escaped word Gap) = Go (stages.Text word)
 settles stages.AfterOpening = Go (stages.Braced 0)
 settles stages.AfterStar = Go (stages.Braced 0)
@@ -149,28 +159,37 @@ no_digit c radix h k = grind (arith, nat_tests)
 
 high_text : (word : TextWord) (c : ℕ) → 128 ≤ c → (text_step word c).next ≡ Go (stages.Text word)
 high_text word c h =
-    skip_if (c == 91) _ _ _ (other c 91 h (omega arith)) (skip_if (c == 36) _ _ _ (other c 36 h (omega arith)) (skip_if (c == 92) _ _ _ (other c 92 h (omega arith)) refl))
+    skip_if (c == 91) _ _ _ (other c 91 h (omega arith))
+    (skip_if (c == 36) _ _ _ (other c 36 h (omega arith))
+    (skip_if (c == 92) _ _ _ (other c 92 h (omega arith)) refl))
 
 high_inside : (word : TextWord) (c : ℕ) → 128 ≤ c → (inside_step word c).next ≡ Go (stages.Text word)
 high_inside Bare c h =
-    skip_if (is_end c) _ _ _ (no_end c h) (skip_if (is_blank c) _ _ _ (no_blank c h) (skip_if (c == 92) _ _ _ (other c 92 h (omega arith)) (high_text Bare c h)))
+    skip_if (is_end c) _ _ _ (no_end c h) (skip_if (is_blank c) _ _ _ (no_blank c h)
+    (skip_if (c == 92) _ _ _ (other c 92 h (omega arith)) (high_text Bare c h)))
 high_inside Quoted c h = skip_if (c == 34) _ _ _ (other c 34 h (omega arith)) (high_text Quoted c h)
 
 high_word : (c : ℕ) → 128 ≤ c → (word_step c).next ≡ Go (stages.Text Bare)
 high_word c h =
-    skip_if (is_end c) _ _ _ (no_end c h) (skip_if (is_blank c) _ _ _ (no_blank c h) (skip_if (c == 92) _ _ _ (other c 92 h (omega arith))
-    (skip_if (c == 123) _ _ _ (other c 123 h (omega arith)) (skip_if (c == 34) _ _ _ (other c 34 h (omega arith)) (high_text Bare c h)))))
+    skip_if (is_end c) _ _ _ (no_end c h) (skip_if (is_blank c) _ _ _ (no_blank c h)
+    (skip_if (c == 92) _ _ _ (other c 92 h (omega arith))
+    (skip_if (c == 123) _ _ _ (other c 123 h (omega arith))
+    (skip_if (c == 34) _ _ _ (other c 34 h (omega arith)) (high_text Bare c h)))))
 
 high_braced : (depth c : ℕ) → 128 ≤ c → (braced_step depth c).next ≡ Go (stages.Braced depth)
 high_braced depth c h =
-    skip_if (c == 125) _ _ _ (other c 125 h (omega arith)) (skip_if (c == 123) _ _ _ (other c 123 h (omega arith)) (skip_if (c == 92) _ _ _ (other c 92 h (omega arith)) refl))
+    skip_if (c == 125) _ _ _ (other c 125 h (omega arith))
+    (skip_if (c == 123) _ _ _ (other c 123 h (omega arith))
+    (skip_if (c == 92) _ _ _ (other c 92 h (omega arith)) refl))
 
-skip_escape : (word : TextWord) (c : ℕ) (test : Bool) (s t : EscapeStep) (next : Next) → test ≡ false → (step_by word c t).next ≡ next → (step_by word c (cond test s t)).next ≡ next
+skip_escape : (word : TextWord) (c : ℕ) (test : Bool) (s t : EscapeStep) (next : Next) → test ≡ false →
+    (step_by word c t).next ≡ next → (step_by word c (cond test s t)).next ≡ next
 skip_escape word c true s t next h k = absurd (true≢false h)
 skip_escape word c false s t next h k = k
 
 before_next : (test : Bool) (word : TextWord) (value c : ℕ) → (inside_step word c).next ≡ Go (stages.Text word)
-    → (step_by word c (cond test (escape_steps.Before value) escape_steps.NoCharacter)).next ≡ cond test (Go (stages.Text word)) (Refuse BadCharacterCode)
+    → (step_by word c (cond test (escape_steps.Before value) escape_steps.NoCharacter)).next
+    ≡ cond test (Go (stages.Text word)) (Refuse BadCharacterCode)
 before_next true word value c h = h
 before_next false word value c h = refl
 
@@ -182,28 +201,41 @@ base_low : (radix : Radix) → base_of radix ≤ 16
 base_low Octal = omega arith
 base_low Hexadecimal = omega arith
 
-high_escape : (word : TextWord) (stage : EscapeStage) (c : ℕ) → 128 ≤ c → (step_by word c (escape_step stage c)).next ≡ settles (stages.Escaped word stage)
+high_escape : (word : TextWord) (stage : EscapeStage) (c : ℕ) → 128 ≤ c →
+    (step_by word c (escape_step stage c)).next ≡ settles (stages.Escaped word stage)
 high_escape word Backslash c h =
-    skip_escape word c (is_digit c 8) _ _ _ (no_digit c 8 h (omega arith)) (skip_escape word c (c == 120) _ _ _ (other c 120 h (omega arith))
-    (skip_escape word c (c == 117) _ _ _ (other c 117 h (omega arith)) (skip_escape word c (c == 85) _ _ _ (other c 85 h (omega arith))
-    (skip_escape word c (c == 10) _ _ _ (other c 10 h (omega arith)) (skip_escape word c (is_letter c) _ _ _ (no_letter c h) refl)))))
-high_escape word (Letter letter more) c h = skip_escape word c (is_digit c 16) _ _ _ (no_digit c 16 h (omega arith)) (high_inside word c h)
+    skip_escape word c (is_digit c 8) _ _ _ (no_digit c 8 h (omega arith))
+    (skip_escape word c (c == 120) _ _ _ (other c 120 h (omega arith))
+    (skip_escape word c (c == 117) _ _ _ (other c 117 h (omega arith))
+    (skip_escape word c (c == 85) _ _ _ (other c 85 h (omega arith))
+    (skip_escape word c (c == 10) _ _ _ (other c 10 h (omega arith))
+    (skip_escape word c (is_letter c) _ _ _ (no_letter c h) refl)))))
+high_escape word (Letter letter more) c h =
+    skip_escape word c (is_digit c 16) _ _ _ (no_digit c 16 h (omega arith)) (high_inside word c h)
 high_escape word (Digits radix value more) c h =
-    skip_escape word c (joins (base_of radix) (limit_of radix) value c) _ _ _ (no_joining (is_digit c (base_of radix)) _ (no_digit c (base_of radix) h (base_low radix)))
+    skip_escape word c (joins (base_of radix) (limit_of radix) value c) _ _ _
+    (no_joining (is_digit c (base_of radix)) _ (no_digit c (base_of radix) h (base_low radix)))
     (before_next (scalar value) word value c (high_inside word c h))
 high_escape word Gap c h = skip_escape word c (is_gap c) _ _ _ (no_gap c h) (high_inside word c h)
 
 high_step : (stage : Stage) (c : ℕ) → 128 ≤ c → (step_of stage c).next ≡ settles stage
 high_step stages.BeforeCommand c h =
-    skip_if (is_end c || is_blank c) _ _ _ (no_separator c h) (skip_if (c == 92) _ _ _ (other c 92 h (omega arith)) (skip_if (c == 35) _ _ _ (other c 35 h (omega arith)) (high_word c h)))
-high_step stages.CommandBackslash c h = skip_if (c == 10) _ _ _ (other c 10 h (omega arith)) (high_escape Bare Backslash c h)
-high_step stages.Comment c h = skip_if (c == 10) _ _ _ (other c 10 h (omega arith)) (skip_if (c == 92) _ _ _ (other c 92 h (omega arith)) refl)
+    skip_if (is_end c || is_blank c) _ _ _ (no_separator c h)
+    (skip_if (c == 92) _ _ _ (other c 92 h (omega arith))
+    (skip_if (c == 35) _ _ _ (other c 35 h (omega arith)) (high_word c h)))
+high_step stages.CommandBackslash c h =
+    skip_if (c == 10) _ _ _ (other c 10 h (omega arith)) (high_escape Bare Backslash c h)
+high_step stages.Comment c h =
+    skip_if (c == 10) _ _ _ (other c 10 h (omega arith)) (skip_if (c == 92) _ _ _ (other c 92 h (omega arith)) refl)
 high_step stages.CommentBackslash c h = refl
 high_step stages.BeforeWord c h = high_word c h
-high_step stages.WordBackslash c h = skip_if (c == 10) _ _ _ (other c 10 h (omega arith)) (high_escape Bare Backslash c h)
-high_step stages.BareBackslash c h = skip_if (c == 10) _ _ _ (other c 10 h (omega arith)) (high_escape Bare Backslash c h)
+high_step stages.WordBackslash c h =
+    skip_if (c == 10) _ _ _ (other c 10 h (omega arith)) (high_escape Bare Backslash c h)
+high_step stages.BareBackslash c h =
+    skip_if (c == 10) _ _ _ (other c 10 h (omega arith)) (high_escape Bare Backslash c h)
 high_step (stages.Text word) c h = high_inside word c h
-high_step (stages.AfterDollar word) c h = skip_if (begins_name c) _ _ _ (no_name c h) (skip_if (c == 58) _ _ _ (other c 58 h (omega arith)) (high_inside word c h))
+high_step (stages.AfterDollar word) c h = skip_if (begins_name c) _ _ _ (no_name c h)
+    (skip_if (c == 58) _ _ _ (other c 58 h (omega arith)) (high_inside word c h))
 high_step (stages.AfterColon word) c h = skip_if (c == 58) _ _ _ (other c 58 h (omega arith)) (high_inside word c h)
 high_step (stages.Escaped word stage) c h = high_escape word stage c h
 high_step stages.AfterOpening c h = skip_if (c == 42) _ _ _ (other c 42 h (omega arith)) (high_braced 0 c h)
@@ -212,7 +244,8 @@ high_step (stages.Braced depth) c h = high_braced depth c h
 high_step (stages.BracedBackslash depth) c h = skip_if (c == 10) _ _ _ (other c 10 h (omega arith)) refl
 high_step (stages.BracedGap depth) c h = skip_if (is_gap c) _ _ _ (no_gap c h) (high_braced depth c h)
 high_step (stages.Behind closing) c h =
-    skip_if (is_end c) _ _ _ (no_end c h) (skip_if (is_blank c) _ _ _ (no_blank c h) (skip_if (c == 92) _ _ _ (other c 92 h (omega arith)) refl))
+    skip_if (is_end c) _ _ _ (no_end c h) (skip_if (is_blank c) _ _ _ (no_blank c h)
+    (skip_if (c == 92) _ _ _ (other c 92 h (omega arith)) refl))
 high_step (stages.BehindBackslash closing) c h = skip_if (c == 10) _ _ _ (other c 10 h (omega arith)) refl
 
 -- such a byte leads on to where it leads from
@@ -260,7 +293,8 @@ later-zero (EndsAt k) = let e : 0 + k ≡ k = omega arith in ap EndsAt e
 later-zero (Refused fault) = refl
 later-zero (Reaches stage) = refl
 
-high_more : (bs rest : List ℕ) (stage : Stage) → AllHigh bs → settles stage ≡ Go stage → scanned (bs ++ rest) stage ≡ later (length bs) (scanned rest stage)
+high_more : (bs rest : List ℕ) (stage : Stage) → AllHigh bs → settles stage ≡ Go stage →
+    scanned (bs ++ rest) stage ≡ later (length bs) (scanned rest stage)
 high_more [] rest stage h k = sym (later-zero (scanned rest stage))
 high_more (b ∷ bs) rest stage h k =
     scanned-cons b (bs ++ rest) stage ∙ ap (λ next. scan_next next (scanned (bs ++ rest))) (high_step stage b h.0 ∙ k)
@@ -281,7 +315,8 @@ high_by (Go stage) b bs rest h k =
 high_by End b bs rest h k = absurd k
 high_by (Refuse fault) b bs rest h k = refl
 
-high_some : (bs rest : List ℕ) (stage : Stage) → 0 < length bs → AllHigh bs → scanned (bs ++ rest) stage ≡ wide_next (length bs) (settles stage) (scanned rest)
+high_some : (bs rest : List ℕ) (stage : Stage) → 0 < length bs → AllHigh bs →
+    scanned (bs ++ rest) stage ≡ wide_next (length bs) (settles stage) (scanned rest)
 high_some [] rest stage some h = absurd (omega arith)
 high_some (b ∷ bs) rest stage some h =
     scanned-cons b (bs ++ rest) stage ∙ ap (λ next. scan_next next (scanned (bs ++ rest))) (high_step stage b h.0)
@@ -293,13 +328,15 @@ wide_one End after = refl
 wide_one (Refuse fault) after = refl
 
 -- a scan of a character's bytes
-scan_char : (c : ℕ) (rest : List ℕ) (stage : Stage) → scanned (encode_utf8 c ++ rest) stage ≡ wide_next (length (encode_utf8 c)) (step_of stage c).next (scanned rest)
+scan_char : (c : ℕ) (rest : List ℕ) (stage : Stage) → scanned (encode_utf8 c ++ rest) stage
+    ≡ wide_next (length (encode_utf8 c)) (step_of stage c).next (scanned rest)
 scan_char c rest stage = ⊎_elim
     (λ low. let one = encode_ascii c low in
     ap (λ l. scanned (l ++ rest) stage) one ∙ scanned-cons c rest stage ∙ wide_one (step_of stage c).next (scanned rest)
     ∙ ap (λ l. wide_next (length l) (step_of stage c).next (scanned rest)) (sym one))
     (λ high.
-    high_some (encode_utf8 c) rest stage (let bounds = len_utf8_bounds c in omega (arith, length-encode c)) (encode_high c high)
+    high_some (encode_utf8 c) rest stage (let bounds = len_utf8_bounds c in
+    omega (arith, length-encode c)) (encode_high c high)
     ∙ ap (λ next. wide_next (length (encode_utf8 c)) next (scanned rest)) (sym (high_step stage c high)))
     (below_or c)
 
@@ -309,14 +346,17 @@ widened (EndsAt n) cs = EndsAt (length (encode_utf8_all (take n cs)))
 widened (Refused fault) cs = Refused fault
 widened (Reaches stage) cs = Reaches stage
 
-wide_later : (c : ℕ) (cs : List ℕ) (scan : Scan) → later (length (encode_utf8 c)) (widened scan cs) ≡ widened (later 1 scan) (c ∷ cs)
+wide_later : (c : ℕ) (cs : List ℕ) (scan : Scan) → later (length (encode_utf8 c)) (widened scan cs)
+    ≡ widened (later 1 scan) (c ∷ cs)
 wide_later c cs (EndsAt n) =
     rw (one-add n) (ap EndsAt (sym (length-append (encode_utf8 c) (encode_utf8_all (take n cs)))))
 wide_later c cs (Refused fault) = refl
 wide_later c cs (Reaches stage) = refl
 
-wide_step : (next : Next) (c : ℕ) (cs : List ℕ) → ((stage : Stage) → scanned (encode_utf8_all cs) stage ≡ widened (scanned cs stage) cs)
-    → wide_next (length (encode_utf8 c)) next (scanned (encode_utf8_all cs)) ≡ widened (scan_next next (scanned cs)) (c ∷ cs)
+wide_step : (next : Next) (c : ℕ) (cs : List ℕ) →
+    ((stage : Stage) → scanned (encode_utf8_all cs) stage ≡ widened (scanned cs stage) cs)
+    → wide_next (length (encode_utf8 c)) next (scanned (encode_utf8_all cs))
+    ≡ widened (scan_next next (scanned cs)) (c ∷ cs)
 wide_step (Go stage) c cs rest = ap (later (length (encode_utf8 c))) (rest stage) ∙ wide_later c cs (scanned cs stage)
 wide_step End c cs rest = ap EndsAt (ap length (sym (append-nil (encode_utf8 c))))
 wide_step (Refuse fault) c cs rest = refl
@@ -351,5 +391,6 @@ no_high_head (b ∷ bs) rest some h e = let same : 128 ≡ b = cc in omega arith
 pub broken_byte : StartsWithNoChar (128 ∷ [])
 broken_byte c rest s e = ⊎_elim
     (λ low. let one = e ∙ ap (λ l. l ++ rest) (encode_ascii c low) in let same : 128 ≡ c = cc in omega arith)
-    (λ high. no_high_head (encode_utf8 c) rest (let bounds = len_utf8_bounds c in omega (arith, length-encode c)) (high_head c high) e)
+    (λ high. no_high_head (encode_utf8 c) rest (let bounds = len_utf8_bounds c in
+    omega (arith, length-encode c)) (high_head c high) e)
     (below_or c)

@@ -1,13 +1,17 @@
 -- What a scan says of the grammar, whatever follows the characters.
-use Rattle.std.proofs.Common.{◌≡◌, ◌≢◌, ℕ, zero, suc, ◌<◌, ◌≤◌, ◌==◌, Bool, true, false, cond, ◌||◌, Option, Some, None, List, [], ◌∷◌, ◌++◌, length, take, refl, sym, ap, ◌∙◌, arith, one-add}
+use Rattle.std.proofs.Common.{◌≡◌, ◌≢◌, ℕ, zero, suc, ◌<◌, ◌≤◌, ◌==◌, Bool, true, false, cond, ◌||◌, Option, Some, None}
+use Rattle.std.proofs.Common.{List, [], ◌∷◌, ◌++◌, length, take, refl, sym, ap, ◌∙◌, arith, one-add}
 use Rattle.std.specs.Bool.{⊤}
 use lib.Utf8.{scalar}
 use Rattle.tcl_words.specs.Characters.{is_end, is_blank, begins_name}
 use Rattle.tcl_words.specs.Escapes.{Gives, NoCharacter, numeral}
 use Rattle.tcl_words.specs.EscapeSteps.{is_gap, escape_step, last_given}
-use Rattle.tcl_words.specs.ScriptGrammar.{Ending, Ends, Breaks, Continues, First, Command, Nothing, Fault, Open, onto_word, end_word, escaped, read}
-use Rattle.tcl_words.specs.Steps.{after, fault_behind, text_step, inside_step, word_step, close_step, braced_step, step_by, step_of, last_in_text, last_by, last_step, depth_of}
-use Rattle.tcl_words.specs.Scanning.{later, scan_next, scanned, onto_piece, given_onto, kept_onto, ended_before, written, words_next, pieces_from}
+use Rattle.tcl_words.specs.ScriptGrammar.{Ending, Ends, Breaks, Continues, First, Command, Nothing, Fault, Open}
+use Rattle.tcl_words.specs.ScriptGrammar.{onto_word, end_word, escaped, read}
+use Rattle.tcl_words.specs.Steps.{after, fault_behind, text_step, inside_step, word_step, close_step, braced_step}
+use Rattle.tcl_words.specs.Steps.{step_by, step_of, last_in_text, last_by, last_step, depth_of}
+use Rattle.tcl_words.specs.Scanning.{later, scan_next, scanned, onto_piece, given_onto, kept_onto, ended_before}
+use Rattle.tcl_words.specs.Scanning.{written, words_next, pieces_from}
 use Rattle.tcl_words.specs.declared.fault.ScriptFault.{ScriptFault}
 use Rattle.tcl_words.specs.declared.fault.ScriptFault.TheVariants.{MissingQuote, NotUtf8, Memory}
 use Rattle.tcl_words.specs.declared.escapes.EscapeStage.{EscapeStage}
@@ -38,7 +42,8 @@ IsSound depth (Go stage) = depth_of stage ≤ suc depth
 IsSound depth End = ⊤
 IsSound depth (Refuse fault) = IsMet fault
 
-sound_if : (depth : ℕ) (test : Bool) (s t : Step) → IsSound depth s.next → IsSound depth t.next → IsSound depth (cond test s t).next
+sound_if : (depth : ℕ) (test : Bool) (s t : Step) → IsSound depth s.next → IsSound depth t.next →
+    IsSound depth (cond test s t).next
 sound_if depth true s t h k = h
 sound_if depth false s t h k = k
 
@@ -49,17 +54,21 @@ met_behind Expansion = ((λ e. cc), (λ e. cc))
 
 sound_text : (depth : ℕ) (word : TextWord) (c : ℕ) → IsSound depth (text_step word c).next
 sound_text depth word c =
-    sound_if depth (c == 91) _ _ ((λ e. cc), (λ e. cc)) (sound_if depth (c == 36) _ _ (omega arith) (sound_if depth (c == 92) _ _ (omega arith) (omega arith)))
+    sound_if depth (c == 91) _ _ ((λ e. cc), (λ e. cc))
+    (sound_if depth (c == 36) _ _ (omega arith) (sound_if depth (c == 92) _ _ (omega arith) (omega arith)))
 
 sound_inside : (depth : ℕ) (word : TextWord) (c : ℕ) → IsSound depth (inside_step word c).next
 sound_inside depth Bare c =
-    sound_if depth (is_end c) _ _ tt (sound_if depth (is_blank c) _ _ (omega arith) (sound_if depth (c == 92) _ _ (omega arith) (sound_text depth Bare c)))
+    sound_if depth (is_end c) _ _ tt (sound_if depth (is_blank c) _ _ (omega arith)
+    (sound_if depth (c == 92) _ _ (omega arith) (sound_text depth Bare c)))
 sound_inside depth Quoted c = sound_if depth (c == 34) _ _ (omega arith) (sound_text depth Quoted c)
 
 sound_word : (depth c : ℕ) → IsSound depth (word_step c).next
 sound_word depth c =
-    sound_if depth (is_end c) _ _ tt (sound_if depth (is_blank c) _ _ (omega arith) (sound_if depth (c == 92) _ _ (omega arith)
-    (sound_if depth (c == 123) _ _ (omega arith) (sound_if depth (c == 34) _ _ (omega arith) (sound_text depth Bare c)))))
+    sound_if depth (is_end c) _ _ tt (sound_if depth (is_blank c) _ _ (omega arith)
+    (sound_if depth (c == 92) _ _ (omega arith)
+    (sound_if depth (c == 123) _ _ (omega arith)
+    (sound_if depth (c == 34) _ _ (omega arith) (sound_text depth Bare c)))))
 
 sound_close : (depth : ℕ) → IsSound depth (close_step depth).next
 sound_close zero = omega arith
@@ -67,7 +76,8 @@ sound_close (suc depth) = omega arith
 
 sound_braced : (depth c : ℕ) → IsSound depth (braced_step depth c).next
 sound_braced depth c =
-    sound_if depth (c == 125) _ _ (sound_close depth) (sound_if depth (c == 123) _ _ (omega arith) (sound_if depth (c == 92) _ _ (omega arith) (omega arith)))
+    sound_if depth (c == 125) _ _ (sound_close depth)
+    (sound_if depth (c == 123) _ _ (omega arith) (sound_if depth (c == 92) _ _ (omega arith) (omega arith)))
 
 sound_by : (depth : ℕ) (word : TextWord) (c : ℕ) (step : EscapeStep) → IsSound depth (step_by word c step).next
 sound_by depth word c (escape_steps.Goes stage) = omega arith
@@ -78,16 +88,20 @@ sound_by depth word c escape_steps.NoCharacter = ((λ e. cc), (λ e. cc))
 
 pub sound_step : (stage : Stage) (c : ℕ) → IsSound (depth_of stage) (step_of stage c).next
 sound_step stages.BeforeCommand c =
-    sound_if 0 (is_end c || is_blank c) _ _ (omega arith) (sound_if 0 (c == 92) _ _ (omega arith) (sound_if 0 (c == 35) _ _ (omega arith) (sound_word 0 c)))
-sound_step stages.CommandBackslash c = sound_if 0 (c == 10) _ _ (omega arith) (sound_by 0 Bare c (escape_step Backslash c))
-sound_step stages.Comment c = sound_if 0 (c == 10) _ _ (omega arith) (sound_if 0 (c == 92) _ _ (omega arith) (omega arith))
+    sound_if 0 (is_end c || is_blank c) _ _ (omega arith)
+    (sound_if 0 (c == 92) _ _ (omega arith) (sound_if 0 (c == 35) _ _ (omega arith) (sound_word 0 c)))
+sound_step stages.CommandBackslash c =
+    sound_if 0 (c == 10) _ _ (omega arith) (sound_by 0 Bare c (escape_step Backslash c))
+sound_step stages.Comment c =
+    sound_if 0 (c == 10) _ _ (omega arith) (sound_if 0 (c == 92) _ _ (omega arith) (omega arith))
 sound_step stages.CommentBackslash c = omega arith
 sound_step stages.BeforeWord c = sound_word 0 c
 sound_step stages.WordBackslash c = sound_if 0 (c == 10) _ _ (omega arith) (sound_by 0 Bare c (escape_step Backslash c))
 sound_step stages.BareBackslash c = sound_if 0 (c == 10) _ _ (omega arith) (sound_by 0 Bare c (escape_step Backslash c))
 sound_step (stages.Text word) c = sound_inside 0 word c
 sound_step (stages.AfterDollar word) c =
-    sound_if 0 (begins_name c) _ _ ((λ e. cc), (λ e. cc)) (sound_if 0 (c == 58) _ _ (omega arith) (sound_inside 0 word c))
+    sound_if 0 (begins_name c) _ _ ((λ e. cc), (λ e. cc))
+    (sound_if 0 (c == 58) _ _ (omega arith) (sound_inside 0 word c))
 sound_step (stages.AfterColon word) c = sound_if 0 (c == 58) _ _ ((λ e. cc), (λ e. cc)) (sound_inside 0 word c)
 sound_step (stages.Escaped word stage) c = sound_by 0 word c (escape_step stage c)
 sound_step stages.AfterOpening c = sound_if 0 (c == 42) _ _ (omega arith) (sound_braced 0 c)
@@ -96,7 +110,8 @@ sound_step (stages.Braced depth) c = sound_braced depth c
 sound_step (stages.BracedBackslash depth) c = sound_if depth (c == 10) _ _ (omega arith) (omega arith)
 sound_step (stages.BracedGap depth) c = sound_if depth (is_gap c) _ _ (omega arith) (sound_braced depth c)
 sound_step (stages.Behind closing) c =
-    sound_if 0 (is_end c) _ _ tt (sound_if 0 (is_blank c) _ _ (omega arith) (sound_if 0 (c == 92) _ _ (omega arith) (met_behind closing)))
+    sound_if 0 (is_end c) _ _ tt (sound_if 0 (is_blank c) _ _ (omega arith)
+    (sound_if 0 (c == 92) _ _ (omega arith) (met_behind closing)))
 sound_step (stages.BehindBackslash closing) c = sound_if 0 (c == 10) _ _ (omega arith) (met_behind closing)
 
 -- the end of the script
@@ -142,7 +157,8 @@ kept_on kept c found = cond kept (onto_word c found) found
 abbrev put_by : Option ℕ → Bool → Bool → ℕ → First → First
 put_by given kept ended c found = onto_given given (kept_on kept c (cond ended (end_word found) found))
 
-fault_by : (given : Option ℕ) (kept ended : Bool) (c : ℕ) (fault : ScriptFault) → put_by given kept ended c (Fault fault) ≡ Fault fault
+fault_by : (given : Option ℕ) (kept ended : Bool) (c : ℕ) (fault : ScriptFault) →
+    put_by given kept ended c (Fault fault) ≡ Fault fault
 fault_by None true true c fault = refl
 fault_by None true false c fault = refl
 fault_by None false true c fault = refl
@@ -175,23 +191,28 @@ nothing_by (Some d) true false c = refl
 nothing_by (Some d) false true c = refl
 nothing_by (Some d) false false c = refl
 
-onto_command : (c : ℕ) (words : List (List ℕ)) (rest : List ℕ) → onto_word c (Command words rest) ≡ Command (onto_piece c words) rest
+onto_command : (c : ℕ) (words : List (List ℕ)) (rest : List ℕ) →
+    onto_word c (Command words rest) ≡ Command (onto_piece c words) rest
 onto_command c [] rest = refl
 onto_command c (word ∷ words) rest = refl
 
-end_command : (ended : Bool) (words : List (List ℕ)) (rest : List ℕ) → cond ended (end_word (Command words rest)) (Command words rest) ≡ Command (ended_before ended words) rest
+end_command : (ended : Bool) (words : List (List ℕ)) (rest : List ℕ) →
+    cond ended (end_word (Command words rest)) (Command words rest) ≡ Command (ended_before ended words) rest
 end_command true words rest = refl
 end_command false words rest = refl
 
-kept_command : (kept : Bool) (c : ℕ) (words : List (List ℕ)) (rest : List ℕ) → kept_on kept c (Command words rest) ≡ Command (kept_onto kept c words) rest
+kept_command : (kept : Bool) (c : ℕ) (words : List (List ℕ)) (rest : List ℕ) →
+    kept_on kept c (Command words rest) ≡ Command (kept_onto kept c words) rest
 kept_command true c words rest = onto_command c words rest
 kept_command false c words rest = refl
 
-given_command : (given : Option ℕ) (words : List (List ℕ)) (rest : List ℕ) → onto_given given (Command words rest) ≡ Command (given_onto given words) rest
+given_command : (given : Option ℕ) (words : List (List ℕ)) (rest : List ℕ) →
+    onto_given given (Command words rest) ≡ Command (given_onto given words) rest
 given_command None words rest = refl
 given_command (Some c) words rest = onto_command c words rest
 
-pub put_command : (output : Output) (c : ℕ) (words : List (List ℕ)) (rest : List ℕ) → put output c (Command words rest) ≡ Command (written output c words) rest
+pub put_command : (output : Output) (c : ℕ) (words : List (List ℕ)) (rest : List ℕ) →
+    put output c (Command words rest) ≡ Command (written output c words) rest
 put_command output c words rest =
     ap (λ found. onto_given output.given (kept_on output.kept c found)) (end_command output.ended words rest)
     ∙ ap (onto_given output.given) (kept_command output.kept c (ended_before output.ended words) rest)
@@ -203,7 +224,8 @@ at_last (Go stage) words = Nothing
 at_last End words = Command words []
 at_last (Refuse fault) words = Fault fault
 
-put_at_last : (next : Next) (output : Output) (c : ℕ) (words : List (List ℕ)) → put output c (at_last next words) ≡ at_last next (written output c words)
+put_at_last : (next : Next) (output : Output) (c : ℕ) (words : List (List ℕ)) →
+    put output c (at_last next words) ≡ at_last next (written output c words)
 put_at_last (Go stage) output c words = nothing_by output.given output.kept output.ended c
 put_at_last End output c words = put_command output c words []
 put_at_last (Refuse fault) output c words = put_fault output c fault
@@ -212,13 +234,15 @@ put_at_last (Refuse fault) output c words = put_fault output c fault
 
 valued_bare : (test : Bool) (value : ℕ)
     → escaped Ends (λ n. Command ([] ∷ []) []) (cond test (Gives value 0) NoCharacter)
-    ≡ at_last (last_by Bare (cond test (Some value) None)).next (written (last_by Bare (cond test (Some value) None)).output 0 [])
+    ≡ at_last (last_by Bare (cond test (Some value) None)).next
+    (written (last_by Bare (cond test (Some value) None)).output 0 [])
 valued_bare true value = refl
 valued_bare false value = refl
 
 valued_quoted : (test : Bool) (value : ℕ)
     → escaped Ends (λ n. Fault MissingQuote) (cond test (Gives value 0) NoCharacter)
-    ≡ at_last (last_by Quoted (cond test (Some value) None)).next (written (last_by Quoted (cond test (Some value) None)).output 0 [])
+    ≡ at_last (last_by Quoted (cond test (Some value) None)).next
+    (written (last_by Quoted (cond test (Some value) None)).output 0 [])
 valued_quoted true value = refl
 valued_quoted false value = refl
 
@@ -265,7 +289,8 @@ from_ends (stages.BehindBackslash closing) = (refl, refl, refl)
 abbrev pub Verdict : Scan → Stage → List ℕ → Type 0
 Verdict (EndsAt n) stage cs = (n ≤ length cs) × (0 < n)
     × ((e : Ending) (tail : List ℕ) → from stage e (take n cs ++ tail) ≡ Command (pieces_from (take n cs) stage) tail)
-Verdict (Refused fault) stage cs = IsMet fault × ((e : Ending) (tail : List ℕ) → from stage e (cs ++ tail) ≡ Fault fault)
+Verdict (Refused fault) stage cs =
+    IsMet fault × ((e : Ending) (tail : List ℕ) → from stage e (cs ++ tail) ≡ Fault fault)
 Verdict (Reaches last) stage cs = (from stage Continues cs ≡ Open) × (from stage Breaks cs ≡ Fault NotUtf8)
     × (from stage Ends cs ≡ at_last (last_step last).next (pieces_from cs stage))
 
@@ -278,7 +303,8 @@ verdict_go stage next output c cs goes pieces (EndsAt n) v = let long = v.0 in
       omega arith,
       omega arith,
       λ e tail.
-          goes e (take n cs ++ tail) ∙ ap (put output c) (v.2 e tail) ∙ put_command output c (pieces_from (take n cs) next) tail
+          goes e (take n cs ++ tail) ∙ ap (put output c) (v.2 e tail)
+          ∙ put_command output c (pieces_from (take n cs) next) tail
           ∙ ap (λ words. Command words tail) (sym (pieces (take n cs))),
     )
 verdict_go stage next output c cs goes pieces (Refused fault) v =
@@ -290,7 +316,8 @@ verdict_go stage next output c cs goes pieces (Reaches last) v = (
       ∙ ap (at_last (last_step last).next) (sym (pieces cs)),
 )
 
-verdict_step : (stage : Stage) (depth : ℕ) (output : Output) (next : Next) (c : ℕ) (cs : List ℕ) (after : Stage → Scan) → IsSound depth next
+verdict_step : (stage : Stage) (depth : ℕ) (output : Output) (next : Next) (c : ℕ) (cs : List ℕ) (after : Stage →
+    Scan) → IsSound depth next
     → ((e : Ending) (xs : List ℕ) → from stage e (c ∷ xs) ≡ put output c (arrive next (λ s. from s e xs) xs))
     → ((xs : List ℕ) → pieces_from (c ∷ xs) stage ≡ written output c (words_next next (pieces_from xs)))
     → ((s : Stage) → Verdict (after s) s cs) → Verdict (scan_next next after) stage (c ∷ cs)
@@ -308,7 +335,8 @@ pub scanned-nil : (stage : Stage) → scanned [] stage ≡ Reaches stage
 unfolding scanned
 scanned-nil stage = refl
 
-pub scanned-cons : (c : ℕ) (cs : List ℕ) (stage : Stage) → scanned (c ∷ cs) stage ≡ scan_next (step_of stage c).next (scanned cs)
+pub scanned-cons : (c : ℕ) (cs : List ℕ) (stage : Stage) →
+    scanned (c ∷ cs) stage ≡ scan_next (step_of stage c).next (scanned cs)
 unfolding scanned
 scanned-cons c cs stage = refl
 
@@ -317,12 +345,14 @@ unfolding pieces_from
 pieces-nil stage = refl
 
 pub pieces-cons : (c : ℕ) (cs : List ℕ) (stage : Stage)
-    → pieces_from (c ∷ cs) stage ≡ written (step_of stage c).output c (words_next (step_of stage c).next (pieces_from cs))
+    → pieces_from (c ∷ cs) stage ≡ written (step_of stage c).output c
+    (words_next (step_of stage c).next (pieces_from cs))
 unfolding pieces_from
 pieces-cons c cs stage = refl
 
 pub verdict : (cs : List ℕ) (stage : Stage) → Verdict (scanned cs stage) stage cs
 verdict [] stage = rw (scanned-nil stage) (from_ends stage)
 verdict (c ∷ cs) stage = rw (scanned-cons c cs stage)
-    (verdict_step stage (depth_of stage) (step_of stage c).output (step_of stage c).next c cs (scanned cs) (sound_step stage c)
+    (verdict_step stage (depth_of stage) (step_of stage c).output (step_of stage c).next c cs (scanned cs)
+    (sound_step stage c)
     (λ e xs. from-step stage e c xs) (λ xs. pieces-cons c xs stage) (λ next. verdict cs next))

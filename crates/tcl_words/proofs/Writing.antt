@@ -1,12 +1,16 @@
 -- Steps of the loop that writes the words of a command.
-use Rattle.std.proofs.Common.{◌≡◌, ◌+◌, ◌<◌, ℕ, get_or, IsUtf8, IsCharBoundary, ◌⊎◌, inl, inr, Bool, true, false, Option, Some, None, List, [], ◌∷◌, ◌++◌, map, length, take, drop, chars, encode_utf8, encode_utf8_all, refl, sym, ap, ◌∙◌, arith, subst, append_assoc, append-nil}
-use Rattle.std.proofs.lemmas.Str.{chars-nil, chars-append, chars-IsAscii, encodes-chars, IsUtf8-from_ascii, IsCharBoundary-after_ascii}
+use Rattle.std.proofs.Common.{◌≡◌, ◌+◌, ◌<◌, ℕ, get_or, IsUtf8, IsCharBoundary, ◌⊎◌, inl, inr, Bool, true, false}
+use Rattle.std.proofs.Common.{Option, Some, None, List, [], ◌∷◌, ◌++◌, map, length, take, drop, chars, encode_utf8}
+use Rattle.std.proofs.Common.{encode_utf8_all, refl, sym, ap, ◌∙◌, arith, subst, append_assoc, append-nil}
+use Rattle.std.proofs.lemmas.Str.{chars-nil, chars-append, chars-IsAscii, encodes-chars, IsUtf8-from_ascii}
+use Rattle.std.proofs.lemmas.Str.{IsCharBoundary-after_ascii}
 use Rattle.std.proofs.lemmas.Str.Ascii.{IsAscii-cons, IsAscii-nil}
 use Rattle.std.proofs.lemmas.Bool.Decides.{nat_tests}
 use Rattle.std.proofs.lemmas.List.{drop_more}
 use Rattle.tcl_words.specs.Characters.{is_end, is_blank}
 use Rattle.tcl_words.specs.Steps.{step_of, last_step, closes, word_end}
-use Rattle.tcl_words.specs.Scanning.{onto_piece, given_onto, kept_onto, ended_before, written, words_next, pieces_from, given_bytes, kept_bytes, word_with, words_after, word_after}
+use Rattle.tcl_words.specs.Scanning.{onto_piece, given_onto, kept_onto, ended_before, written, words_next, pieces_from}
+use Rattle.tcl_words.specs.Scanning.{given_bytes, kept_bytes, word_with, words_after, word_after}
 use Rattle.tcl_words.specs.declared.fault.ScriptFault.{ScriptFault}
 use Rattle.tcl_words.specs.declared.stage.Stage.{Stage}
 use Rattle.tcl_words.specs.declared.stage.Stage.TheVariants.{BeforeCommand, BeforeWord, Text}
@@ -29,15 +33,19 @@ prefixed bytes (word ∷ words) = (bytes ++ word) ∷ words
 abbrev pub spelled : List (List ℕ) → List (List ℕ)
 spelled words = map encode_utf8_all words
 
-pub prefixed_onto : (c : ℕ) (bytes : List ℕ) (words : List (List ℕ)) → prefixed bytes (spelled (onto_piece c words)) ≡ prefixed (bytes ++ encode_utf8 c) (spelled words)
+pub prefixed_onto : (c : ℕ) (bytes : List ℕ) (words : List (List ℕ)) →
+    prefixed bytes (spelled (onto_piece c words)) ≡ prefixed (bytes ++ encode_utf8 c) (spelled words)
 prefixed_onto c bytes [] = refl
-prefixed_onto c bytes (word ∷ words) = ap (λ l. l ∷ spelled words) (sym (append_assoc bytes (encode_utf8 c) (encode_utf8_all word)))
+prefixed_onto c bytes (word ∷ words) =
+    ap (λ l. l ∷ spelled words) (sym (append_assoc bytes (encode_utf8 c) (encode_utf8_all word)))
 
-prefixed_given : (given : Option ℕ) (bytes : List ℕ) (words : List (List ℕ)) → prefixed bytes (spelled (given_onto given words)) ≡ prefixed (bytes ++ given_bytes given) (spelled words)
+prefixed_given : (given : Option ℕ) (bytes : List ℕ) (words : List (List ℕ)) →
+    prefixed bytes (spelled (given_onto given words)) ≡ prefixed (bytes ++ given_bytes given) (spelled words)
 prefixed_given None bytes words = ap (λ l. prefixed l (spelled words)) (sym (append-nil bytes))
 prefixed_given (Some c) bytes words = prefixed_onto c bytes words
 
-prefixed_kept : (kept : Bool) (c : ℕ) (bytes : List ℕ) (words : List (List ℕ)) → prefixed bytes (spelled (kept_onto kept c words)) ≡ prefixed (bytes ++ kept_bytes kept c) (spelled words)
+prefixed_kept : (kept : Bool) (c : ℕ) (bytes : List ℕ) (words : List (List ℕ)) →
+    prefixed bytes (spelled (kept_onto kept c words)) ≡ prefixed (bytes ++ kept_bytes kept c) (spelled words)
 prefixed_kept true c bytes words = prefixed_onto c bytes words
 prefixed_kept false c bytes words = ap (λ l. prefixed l (spelled words)) (sym (append-nil bytes))
 
@@ -46,7 +54,8 @@ prefixed_nil [] = refl
 prefixed_nil (word ∷ words) = refl
 
 prefixed_ended : (ended : Bool) (word : List ℕ) (words others : List (List ℕ))
-    → words ++ prefixed word (spelled (ended_before ended others)) ≡ words_after ended word words ++ prefixed (word_after ended word) (spelled others)
+    → words ++ prefixed word (spelled (ended_before ended others))
+    ≡ words_after ended word words ++ prefixed (word_after ended word) (spelled others)
 prefixed_ended true word words others =
     ap (λ l. words ++ l ∷ spelled others) (append-nil word) ∙ sym (append_assoc words (word ∷ []) (spelled others))
     ∙ ap (λ l. (words ++ word ∷ []) ++ l) (sym (prefixed_nil (spelled others)))
@@ -55,7 +64,8 @@ prefixed_ended false word words others = refl
 -- what a character adds is written
 pub written_more : (output : Output) (c : ℕ) (word : List ℕ) (words others : List (List ℕ))
     → words ++ prefixed word (spelled (written output c others))
-    ≡ words_after output.ended (word_with output c word) words ++ prefixed (word_after output.ended (word_with output c word)) (spelled others)
+    ≡ words_after output.ended (word_with output c word) words
+    ++ prefixed (word_after output.ended (word_with output c word)) (spelled others)
 written_more output c word words others =
     ap (λ l. words ++ l) (prefixed_given output.given word (kept_onto output.kept c (ended_before output.ended others))
     ∙ prefixed_kept output.kept c (word ++ given_bytes output.given) (ended_before output.ended others))
@@ -65,46 +75,59 @@ written_more output c word words others =
 pub record IsWritten (cs rest : List ℕ) (stage : Stage) (words : List (List ℕ)) (word : List ℕ) : Type 0 where
   pub pieces : spelled (pieces_from cs BeforeCommand) ≡ words ++ prefixed word (spelled (pieces_from rest stage))
 
-pub writing_starts : (cs : List ℕ) (words : List (List ℕ)) (word : List ℕ) → words ≡ [] → word ≡ [] → IsWritten cs cs BeforeCommand words word
+pub writing_starts : (cs : List ℕ) (words : List (List ℕ)) (word : List ℕ) → words ≡ [] → word ≡ [] →
+    IsWritten cs cs BeforeCommand words word
 writing_starts cs words word none empty = record {
-  pieces = sym (ap (λ l. l ++ prefixed word (spelled (pieces_from cs BeforeCommand))) none ∙ ap (λ l. prefixed l (spelled (pieces_from cs BeforeCommand))) empty
+  pieces = sym (ap (λ l. l ++ prefixed word (spelled (pieces_from cs BeforeCommand))) none
+      ∙ ap (λ l. prefixed l (spelled (pieces_from cs BeforeCommand))) empty
       ∙ prefixed_nil (spelled (pieces_from cs BeforeCommand)));
 }
 
 -- a run is written
-run_written : (stage : Stage) (run rest : List ℕ) (word : List ℕ) → AllPlain stage run
-    → prefixed word (spelled (pieces_from (run ++ rest) stage)) ≡ prefixed (word ++ encode_utf8_all run) (spelled (pieces_from rest stage))
+pub run_written : (stage : Stage) (run rest : List ℕ) (word : List ℕ) → AllPlain stage run
+    → prefixed word (spelled (pieces_from (run ++ rest) stage))
+    ≡ prefixed (word ++ encode_utf8_all run) (spelled (pieces_from rest stage))
 run_written stage [] rest word h = ap (λ l. prefixed l (spelled (pieces_from rest stage))) (sym (append-nil word))
 run_written stage (c ∷ run) rest word h =
     ap (λ l. prefixed word (spelled l)) (pieces-cons c (run ++ rest) stage)
-    ∙ ap (λ (s : Step). prefixed word (spelled (written s.output c (words_next s.next (pieces_from (run ++ rest)))))) (plain_step stage c h.0)
+    ∙ ap (λ (s : Step). prefixed word (spelled (written s.output c (words_next s.next (pieces_from (run ++ rest))))))
+    (plain_step stage c h.0)
     ∙ prefixed_onto c word (pieces_from (run ++ rest) stage) ∙ run_written stage run rest (word ++ encode_utf8 c) h.1
     ∙ ap (λ l. prefixed l (spelled (pieces_from rest stage))) (append_assoc word (encode_utf8 c) (encode_utf8_all run))
 
-pub writing_runs : (cs : List ℕ) (bytes : List ℕ) (n : ℕ) (stage : Stage) (words : List (List ℕ)) (word more : List ℕ) → IsWritten cs (chars bytes) stage words word
+pub writing_runs : (cs : List ℕ) (bytes : List ℕ) (n : ℕ) (stage : Stage) (words : List (List ℕ)) (word more : List ℕ) →
+    IsWritten cs (chars bytes) stage words word
     → RunOf stage bytes n → more ≡ word ++ take n bytes → IsWritten cs (chars (drop n bytes)) stage words more
 writing_runs cs bytes n stage words word more w r e = record {
   pieces = w.pieces ∙ ap (λ l. words ++ prefixed word (spelled (pieces_from l stage))) r.split
       ∙ ap (λ l. words ++ l) (run_written stage r.run (chars (drop n bytes)) word r.plain)
-      ∙ ap (λ l. words ++ prefixed l (spelled (pieces_from (chars (drop n bytes)) stage))) (ap (λ l. word ++ l) (sym r.spelled) ∙ sym e);
+      ∙ ap (λ l. words ++ prefixed l (spelled (pieces_from (chars (drop n bytes)) stage)))
+      (ap (λ l. word ++ l) (sym r.spelled) ∙ sym e);
 }
 
 -- the pieces after one more character
-pieces_more : (cs now later : List ℕ) (stage : Stage) (words more : List (List ℕ)) (word rest : List ℕ) (step : Step) (c : ℕ) → IsWritten cs now stage words word
+pieces_more : (cs now later : List ℕ) (stage : Stage) (words more : List (List ℕ)) (word rest : List ℕ) (step : Step)
+    (c : ℕ) → IsWritten cs now stage words word
     → now ≡ c ∷ later → step ≡ step_of stage c
-    → more ≡ words_after step.output.ended (word_with step.output c word) words → rest ≡ word_after step.output.ended (word_with step.output c word)
-    → spelled (pieces_from cs BeforeCommand) ≡ more ++ prefixed rest (spelled (words_next step.next (pieces_from later)))
+    → more ≡ words_after step.output.ended (word_with step.output c word) words →
+    rest ≡ word_after step.output.ended (word_with step.output c word)
+    → spelled (pieces_from cs BeforeCommand) ≡ more
+    ++ prefixed rest (spelled (words_next step.next (pieces_from later)))
 pieces_more cs now later stage words more word rest step c w here does e f =
     w.pieces ∙ ap (λ l. words ++ prefixed word (spelled (pieces_from l stage))) here
     ∙ ap (λ l. words ++ prefixed word (spelled l)) (pieces-cons c later stage)
-    ∙ ap (λ (s : Step). words ++ prefixed word (spelled (written s.output c (words_next s.next (pieces_from later))))) (sym does)
+    ∙ ap (λ (s : Step). words ++ prefixed word (spelled (written s.output c (words_next s.next (pieces_from later)))))
+    (sym does)
     ∙ written_more step.output c word words (words_next step.next (pieces_from later))
-    ∙ ap (λ l. l ++ prefixed (word_after step.output.ended (word_with step.output c word)) (spelled (words_next step.next (pieces_from later)))) (sym e)
+    ∙ ap (λ l. l ++ prefixed (word_after step.output.ended (word_with step.output c word))
+    (spelled (words_next step.next (pieces_from later)))) (sym e)
     ∙ ap (λ l. more ++ prefixed l (spelled (words_next step.next (pieces_from later)))) (sym f)
 
-pub writing_goes : (cs now later : List ℕ) (stage next : Stage) (words more : List (List ℕ)) (word rest : List ℕ) (step : Step) (c : ℕ) → IsWritten cs now stage words word
+pub writing_goes : (cs now later : List ℕ) (stage next : Stage) (words more : List (List ℕ)) (word rest : List ℕ)
+    (step : Step) (c : ℕ) → IsWritten cs now stage words word
     → now ≡ c ∷ later → step ≡ step_of stage c → step.next ≡ Go next
-    → more ≡ words_after step.output.ended (word_with step.output c word) words → rest ≡ word_after step.output.ended (word_with step.output c word)
+    → more ≡ words_after step.output.ended (word_with step.output c word) words →
+    rest ≡ word_after step.output.ended (word_with step.output c word)
     → IsWritten cs later next more rest
 writing_goes cs now later stage next words more word rest step c w here does goes e f = record {
   pieces = pieces_more cs now later stage words more word rest step c w here does e f
@@ -126,16 +149,19 @@ no_more (Go stage) after h = absurd h
 no_more End after h = refl
 no_more (Refuse fault) after h = refl
 
-pub writing_stops : (cs now later : List ℕ) (stage : Stage) (words more : List (List ℕ)) (word rest : List ℕ) (step : Step) (c : ℕ) → IsWritten cs now stage words word
+pub writing_stops : (cs now later : List ℕ) (stage : Stage) (words more : List (List ℕ)) (word rest : List ℕ)
+    (step : Step) (c : ℕ) → IsWritten cs now stage words word
     → now ≡ c ∷ later → step ≡ step_of stage c → IsLast step.next
-    → more ≡ words_after step.output.ended (word_with step.output c word) words → rest ≡ word_after step.output.ended (word_with step.output c word)
+    → more ≡ words_after step.output.ended (word_with step.output c word) words →
+    rest ≡ word_after step.output.ended (word_with step.output c word)
     → more ≡ spelled (pieces_from cs BeforeCommand)
 writing_stops cs now later stage words more word rest step c w here does last e f =
     sym (pieces_more cs now later stage words more word rest step c w here does e f
     ∙ ap (λ l. more ++ prefixed rest (spelled l)) (no_more step.next (pieces_from later) last) ∙ append-nil more)
 
 -- the end of the text
-pub writing_ends : (cs bytes : List ℕ) (stage : Stage) (words more : List (List ℕ)) (word : List ℕ) (step : Step) → IsWritten cs (chars bytes) stage words word
+pub writing_ends : (cs bytes : List ℕ) (stage : Stage) (words more : List (List ℕ)) (word : List ℕ) (step : Step) →
+    IsWritten cs (chars bytes) stage words word
     → length bytes ≡ 0 → step ≡ last_step stage
     → more ≡ words_after step.output.ended (word_with step.output 0 word) words
     → more ≡ spelled (pieces_from cs BeforeCommand)
@@ -147,7 +173,8 @@ writing_ends cs [] stage words more word step w h does e =
 writing_ends cs (b ∷ bytes) stage words more word step w h does e = absurd (omega arith)
 
 -- A bare word that is to begin may be taken as begun.
-pieces_begun : (cs bytes : List ℕ) (stage here : Stage) (b : ℕ) → encode_utf8_all cs ≡ bytes → 0 < length bytes → here ≡ begun stage b → b ≡ get_or bytes 0 0
+pub pieces_begun : (cs bytes : List ℕ) (stage here : Stage) (b : ℕ) → encode_utf8_all cs ≡ bytes → 0 < length bytes →
+    here ≡ begun stage b → b ≡ get_or bytes 0 0
     → pieces_from cs stage ≡ pieces_from cs here
 pieces_begun [] bytes stage here b split some is first = absurd (omega (arith, ap length split))
 pieces_begun (c ∷ cs) bytes stage here b split some is first =
@@ -156,24 +183,28 @@ pieces_begun (c ∷ cs) bytes stage here b split some is first =
     (char_step stage here b c (encode_utf8_all cs) is (first ∙ ap (λ l. get_or l 0 0) (sym split)))
     ∙ sym (pieces-cons c cs here)
 
-pub writing_begun : (cs bytes slice : List ℕ) (stage here : Stage) (b : ℕ) (words : List (List ℕ)) (word : List ℕ) → IsWritten cs (chars bytes) stage words word → IsUtf8 bytes
-    → slice ≡ bytes → 0 < length bytes → here ≡ begun stage b → b ≡ get_or slice 0 0 → IsWritten cs (chars bytes) here words word
+pub writing_begun : (cs bytes slice : List ℕ) (stage here : Stage) (b : ℕ) (words : List (List ℕ)) (word : List ℕ) →
+    IsWritten cs (chars bytes) stage words word → IsUtf8 bytes
+    → slice ≡ bytes → 0 < length bytes → here ≡ begun stage b → b ≡ get_or slice 0 0 →
+    IsWritten cs (chars bytes) here words word
 writing_begun cs bytes slice stage here b words word w u same some is first = record {
   pieces = w.pieces ∙ ap (λ l. words ++ prefixed word (spelled l))
-      (pieces_begun (chars bytes) bytes stage here b (encodes-chars bytes u) some is (first ∙ ap (λ l. get_or l 0 0) same));
+      (pieces_begun (chars bytes) bytes stage here b (encodes-chars bytes u) some is (first
+      ∙ ap (λ l. get_or l 0 0) same));
 }
 
 -- A bare word that is all of a run, and what ends it.
 
-ascii_cons : (c : ℕ) (rest : List ℕ) → c < 128 → chars (c ∷ rest) ≡ c ∷ chars rest
+pub ascii_cons : (c : ℕ) (rest : List ℕ) → c < 128 → chars (c ∷ rest) ≡ c ∷ chars rest
 ascii_cons c rest low =
     let ascii = IsAscii-cons c [] low IsAscii-nil in
-    chars-append (c ∷ []) rest (IsUtf8-from_ascii (c ∷ []) ascii) ∙ ap (λ l. l ++ chars rest) (chars-IsAscii (c ∷ []) ascii)
+    chars-append (c ∷ []) rest (IsUtf8-from_ascii (c ∷ []) ascii)
+    ∙ ap (λ l. l ++ chars rest) (chars-IsAscii (c ∷ []) ascii)
 
-low_blank : (c : ℕ) → is_blank c ≡ true → c < 128
+pub low_blank : (c : ℕ) → is_blank c ≡ true → c < 128
 low_blank c h = grind (arith, nat_tests)
 
-low_end : (c : ℕ) → is_end c ≡ true → c < 128
+pub low_end : (c : ℕ) → is_end c ≡ true → c < 128
 low_end c h = grind (arith, nat_tests)
 
 no_letters : (word : List ℕ) → length word ≡ 0 → word ≡ []
@@ -185,19 +216,24 @@ record Reached (cs bytes : List ℕ) (n : ℕ) (words : List (List ℕ)) (c : �
   pub written : IsWritten cs (chars (drop n bytes)) (Text Bare) words (take n bytes)
   pub split : chars (drop n bytes) ≡ c ∷ chars (drop (n + 1) bytes)
 
-reaches : (cs bytes : List ℕ) (n : ℕ) (here : Stage) (words : List (List ℕ)) (word : List ℕ) → IsWritten cs (chars bytes) here words word → length word ≡ 0 → RunOf here bytes n
+reaches : (cs bytes : List ℕ) (n : ℕ) (here : Stage) (words : List (List ℕ)) (word : List ℕ) →
+    IsWritten cs (chars bytes) here words word → length word ≡ 0 → RunOf here bytes n
     → here ≡ Text Bare → n < length bytes → get_or bytes n 0 < 128 → Reached cs bytes n words (get_or bytes n 0)
 reaches cs bytes n here words word w empty run is within low = record {
   written = subst (λ s. IsWritten cs (chars (drop n bytes)) s words (take n bytes)) is
-      (writing_runs cs bytes n here words word (take n bytes) w run (sym (ap (λ l. l ++ take n bytes) (no_letters word empty))));
+      (writing_runs cs bytes n here words word (take n bytes) w run
+      (sym (ap (λ l. l ++ take n bytes) (no_letters word empty))));
   split = ap chars (drop_more bytes n 0 within) ∙ ascii_cons (get_or bytes n 0) (drop (n + 1) bytes) low;
 }
 
-whole_word : (word : List ℕ) (words more : List (List ℕ)) (c : ℕ) → more ≡ words ++ word ∷ [] → more ≡ words_after true (word_with word_end c word) words
+whole_word : (word : List ℕ) (words more : List (List ℕ)) (c : ℕ) → more ≡ words ++ word ∷ [] →
+    more ≡ words_after true (word_with word_end c word) words
 whole_word word words more c h = h ∙ ap (λ l. words ++ l ∷ []) (sym (append-nil (word ++ []) ∙ append-nil word))
 
-pub writing_passes : (cs bytes slice : List ℕ) (n : ℕ) (here : Stage) (words more : List (List ℕ)) (word rest : List ℕ) → IsWritten cs (chars bytes) here words word → length word ≡ 0
-    → RunOf here bytes n → slice ≡ bytes → IsSeam here slice n seams.Blank → more ≡ words ++ take n bytes ∷ [] → rest ≡ word
+pub writing_passes : (cs bytes slice : List ℕ) (n : ℕ) (here : Stage) (words more : List (List ℕ)) (word rest : List ℕ)
+    → IsWritten cs (chars bytes) here words word → length word ≡ 0
+    → RunOf here bytes n → slice ≡ bytes → IsSeam here slice n seams.Blank → more ≡ words ++ take n bytes ∷ [] →
+    rest ≡ word
     → IsWritten cs (chars (drop (n + 1) bytes)) BeforeWord more rest
 writing_passes cs bytes slice n here words more word rest w empty run same seam new left =
     let there = ap (λ l. get_or l n 0) same in
@@ -205,10 +241,13 @@ writing_passes cs bytes slice n here words more word rest w empty run same seam 
     let end = ap is_end (sym there) ∙ seam.4 in
     let within : n < length bytes = subst (λ l. n < length l) same seam.2 in
     let at = reaches cs bytes n here words word w empty run seam.0 within (low_blank (get_or bytes n 0) blank) in
-    writing_goes cs (chars (drop n bytes)) (chars (drop (n + 1) bytes)) (Text Bare) BeforeWord words more (take n bytes) rest (closes (Go BeforeWord)) (get_or bytes n 0)
-    at.written at.split (sym (blank_step (get_or bytes n 0) blank end)) refl (whole_word (take n bytes) words more (get_or bytes n 0) new) (left ∙ no_letters word empty)
+    writing_goes cs (chars (drop n bytes)) (chars (drop (n + 1) bytes)) (Text Bare) BeforeWord words more (take n bytes)
+    rest (closes (Go BeforeWord)) (get_or bytes n 0)
+    at.written at.split (sym (blank_step (get_or bytes n 0) blank end)) refl
+    (whole_word (take n bytes) words more (get_or bytes n 0) new) (left ∙ no_letters word empty)
 
-pub writing_closes : (cs bytes slice : List ℕ) (n : ℕ) (here : Stage) (words more : List (List ℕ)) (word : List ℕ) → IsWritten cs (chars bytes) here words word → length word ≡ 0
+pub writing_closes : (cs bytes slice : List ℕ) (n : ℕ) (here : Stage) (words more : List (List ℕ)) (word : List ℕ) →
+    IsWritten cs (chars bytes) here words word → length word ≡ 0
     → RunOf here bytes n → slice ≡ bytes → IsSeam here slice n seams.End → more ≡ words ++ take n bytes ∷ []
     → more ≡ spelled (pieces_from cs BeforeCommand)
 writing_closes cs bytes slice n here words more word w empty run same seam new =
@@ -216,13 +255,18 @@ writing_closes cs bytes slice n here words more word w empty run same seam new =
     let end = ap is_end (sym there) ∙ seam.3 in
     let within : n < length bytes = subst (λ l. n < length l) same seam.2 in
     let at = reaches cs bytes n here words word w empty run seam.0 within (low_end (get_or bytes n 0) end) in
-    writing_stops cs (chars (drop n bytes)) (chars (drop (n + 1) bytes)) (Text Bare) words more (take n bytes) [] (closes End) (get_or bytes n 0)
-    at.written at.split (sym (end_step (get_or bytes n 0) end)) tt (whole_word (take n bytes) words more (get_or bytes n 0) new) refl
+    writing_stops cs (chars (drop n bytes)) (chars (drop (n + 1) bytes)) (Text Bare) words more (take n bytes) []
+    (closes End) (get_or bytes n 0)
+    at.written at.split (sym (end_step (get_or bytes n 0) end)) tt
+    (whole_word (take n bytes) words more (get_or bytes n 0) new) refl
 
-pub seam_boundary : (bytes slice : List ℕ) (n : ℕ) (here : Stage) → slice ≡ bytes → IsUtf8 bytes → IsSeam here slice n seams.Blank → IsCharBoundary bytes (n + 1)
+pub seam_boundary : (bytes slice : List ℕ) (n : ℕ) (here : Stage) → slice ≡ bytes → IsUtf8 bytes →
+    IsSeam here slice n seams.Blank → IsCharBoundary bytes (n + 1)
 seam_boundary bytes slice n here same u seam =
     let within : n < length bytes = subst (λ l. n < length l) same seam.2 in
-    IsCharBoundary-after_ascii bytes n u within (low_blank (get_or bytes n 0) (ap is_blank (sym (ap (λ l. get_or l n 0) same)) ∙ seam.3))
+    IsCharBoundary-after_ascii bytes n u within
+    (low_blank (get_or bytes n 0) (ap is_blank (sym (ap (λ l. get_or l n 0) same)) ∙ seam.3))
 
-pub writing_same : (cs rest : List ℕ) (stage : Stage) (words more : List (List ℕ)) (word : List ℕ) → IsWritten cs rest stage words word → more ≡ words → IsWritten cs rest stage more word
+pub writing_same : (cs rest : List ℕ) (stage : Stage) (words more : List (List ℕ)) (word : List ℕ) →
+    IsWritten cs rest stage words word → more ≡ words → IsWritten cs rest stage more word
 writing_same cs rest stage words more word w same = subst (λ l. IsWritten cs rest stage l word) (sym same) w

@@ -30,7 +30,8 @@ unfoldable pub numeral : ℕ → ℕ → Bool → List ℕ → ℕ → ℕ → E
 numeral base limit ends cs zero value = valued value
 numeral base limit ends [] (suc more) value = if ends then valued value else Undecided
 numeral base limit ends (c ∷ cs) (suc more) value =
-    if joins base limit value c then further (numeral base limit ends cs more (value * base + digit_value c)) else valued value
+    if joins base limit value c then further (numeral base limit ends cs more (value * base + digit_value c))
+    else valued value
 
 -- Behind the letter: a hexadecimal digit and at most so many more give their value, at most 10FFFF; without
 -- digits it is the letter.

@@ -5,6 +5,7 @@ pub mod Escapes
 pub mod ListGrowth
 pub mod ListSteps
 pub mod ListText
+pub mod PlainWords
 pub mod Progression
 pub mod Runs
 pub mod Scanning

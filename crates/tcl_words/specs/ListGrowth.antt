@@ -8,4 +8,5 @@ pushed bytes element = (bytes ++ space_behind bytes) ++ encode_utf8_all (element
 
 -- the bytes of a list's text become those with some elements more
 abbrev pub Goes : List ℕ → List ℕ → List (List ℕ) → Type 0
-Goes old new more = (list : List (List ℕ)) → old ≡ encode_utf8_all (list_text list) → new ≡ encode_utf8_all (list_text (list ++ more))
+Goes old new more =
+    (list : List (List ℕ)) → old ≡ encode_utf8_all (list_text list) → new ≡ encode_utf8_all (list_text (list ++ more))

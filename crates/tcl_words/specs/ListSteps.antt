@@ -11,7 +11,8 @@ use Rattle.tcl_words.specs.declared.stage.TextWord.TheVariants.{Bare, Quoted}
 use Rattle.tcl_words.specs.declared.stage.Stage.{Stage}
 use Rattle.tcl_words.specs.declared.stage.Stage.TheVariants as script
 use Rattle.tcl_words.specs.declared.list_steps.ListStage.{ListStage}
-use Rattle.tcl_words.specs.declared.list_steps.ListStage.TheVariants.{Between, Text, Escaped, Braced, BracedBackslash, Closed}
+use Rattle.tcl_words.specs.declared.list_steps.ListStage.TheVariants.{Between, Text, Escaped, Braced, BracedBackslash}
+use Rattle.tcl_words.specs.declared.list_steps.ListStage.TheVariants.{Closed}
 use Rattle.tcl_words.specs.declared.list_steps.ListNext.TheVariants.{Go, Bad}
 use Rattle.tcl_words.specs.declared.list_steps.ListStep.{ListStep}
 

@@ -1,5 +1,6 @@
 -- Lists as text (Tcl(n); list(n), lindex(n)).
-use Rattle.std.specs.Prelude.{◌≡◌, ℕ, zero, suc, Bool, true, false, ◌||◌, ◌==◌, if◌then◌else◌, List, [], ◌∷◌, ◌++◌, length, Option, Some, None}
+use Rattle.std.specs.Prelude.{◌≡◌, ℕ, zero, suc, Bool, true, false, ◌||◌, ◌==◌, if◌then◌else◌, List, [], ◌∷◌, ◌++◌}
+use Rattle.std.specs.Prelude.{length, Option, Some, None}
 use Rattle.tcl_words.specs.Escapes.{Escape, Gives, NoCharacter, Undecided, escape}
 
 -- a space, tab, newline, carriage return, vertical tab or form feed
@@ -156,7 +157,8 @@ list_rule InQuotes c cs go = quoted_element c cs go
 list_rule (InBraces depth) c cs go = braced_element depth c cs go
 list_rule Closed c cs go = if is_white c then go 0 AtElement else None
 
--- the elements that the characters spell, after so many that were read already, at a spot; None where they spell no list
+-- the elements that the characters spell, after so many that were read already, at a spot; None where they spell no
+-- list
 unfoldable pub read_list : List ℕ → ℕ → Spot → Option (List (List ℕ))
 read_list [] n spot = at_list_end spot
 read_list (c ∷ cs) (suc n) spot = read_list cs n spot

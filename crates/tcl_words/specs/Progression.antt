@@ -1,7 +1,8 @@
 -- How far the bytes not yet given were read, and what they hold next.
-use Rattle.std.specs.Prelude.{◌≡◌, ◌≢◌, ℕ, ◌<◌, ◌≤◌, Bool, true, false, Option, Some, None, Result, Ok, Err, List, length, take, drop, IsUtf8, chars}
+use Rattle.std.specs.Prelude.{◌≡◌, ◌≢◌, ℕ, ◌<◌, ◌≤◌, Bool, true, false, Option, Some, None, Result, Ok, Err, List}
+use Rattle.std.specs.Prelude.{length, take, drop, IsUtf8, chars}
 use Rattle.tcl_words.specs.Scanning.{scanned, pieces_from}
-use Rattle.tcl_words.specs.Unread.{IsNextCommand, HasNoCommand, HasFault}
+use Rattle.tcl_words.specs.Unread.{Unread, IsNextCommand, HasNoCommand, HasFault}
 use Rattle.tcl_words.specs.declared.fault.ScriptFault.{ScriptFault}
 use Rattle.tcl_words.specs.declared.fault.ScriptFault.TheVariants.{Memory, NotUtf8}
 use Rattle.tcl_words.specs.declared.encoding.TextStop.{TextStop}
@@ -32,6 +33,13 @@ pub record IsCommandOf (finished : Bool) (rest : List ℕ) (len : ℕ) : Type 0 
   pub is : IsNextCommand finished (drop len rest) words (take len rest)
   pub written : pieces_from (chars (take len rest)) BeforeCommand ≡ words
   pub text : IsUtf8 (take len rest)
+
+-- the next command has these words and so many bytes
+pub record IsFound (unread : Unread) (words : List (List ℕ)) (len : ℕ) : Type 0 where
+  pub no_fault : unread.fault ≡ None
+  pub is : IsCommandOf unread.finished unread.rest len
+  pub same : words ≡ is.words
+  pub some : 0 < length words
 
 -- what the bytes hold next
 abbrev pub IsNext : Bool → List ℕ → Result (Option ℕ) ScriptFault → Type 0

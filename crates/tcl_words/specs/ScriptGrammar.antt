@@ -1,10 +1,13 @@
 -- Which bytes are which commands, or which script fault (Tcl(n)).
-use Rattle.std.specs.Prelude.{◌≡◌, ℕ, zero, suc, ◌<◌, Bool, true, false, if◌then◌else◌, ◌||◌, ◌&&◌, ◌==◌, ◌⊎◌, List, [], ◌∷◌, ◌++◌, length, Option, Some, None, encode_utf8_all, ⊤}
+use Rattle.std.specs.Prelude.{◌≡◌, ℕ, zero, suc, ◌<◌, Bool, true, false, if◌then◌else◌, ◌||◌, ◌&&◌, ◌==◌, ◌⊎◌, List, []}
+use Rattle.std.specs.Prelude.{◌∷◌, ◌++◌, length, Option, Some, None, encode_utf8_all, ⊤}
 use Rattle.std.specs.Str.{all_scalars, StartsWithNoChar}
 use Rattle.tcl_words.specs.Characters.{is_end, is_blank, is_joint, is_expansion, names_variable}
 use Rattle.tcl_words.specs.Escapes.{Escape, Gives, NoCharacter, Undecided, escape, gap}
 use Rattle.tcl_words.specs.declared.fault.ScriptFault.{ScriptFault}
-use Rattle.tcl_words.specs.declared.fault.ScriptFault.TheVariants.{MissingBrace, MissingQuote, ExtraAfterBrace, ExtraAfterQuote, Substitution, NotUtf8, BadCharacterCode}
+use Rattle.tcl_words.specs.declared.fault.ScriptFault.TheVariants.{MissingBrace, MissingQuote, ExtraAfterBrace}
+use Rattle.tcl_words.specs.declared.fault.ScriptFault.TheVariants.{ExtraAfterQuote, Substitution, NotUtf8}
+use Rattle.tcl_words.specs.declared.fault.ScriptFault.TheVariants.{BadCharacterCode}
 
 -- What follows the characters at hand: nothing, bytes that aren't UTF-8, or anything at all.
 pub data Ending : Type 0 where
@@ -204,7 +207,8 @@ HoldsNothing bytes = (characters : List ℕ) × Spells bytes characters × (firs
 
 -- the bytes are a command of these words, whole: its newline or semicolon is the last of them
 abbrev pub IsWholeCommand : List (List ℕ) → List ℕ → Type 0
-IsWholeCommand words bytes = (characters : List ℕ) × Spells bytes characters × (first Continues characters ≡ Command words [])
+IsWholeCommand words bytes =
+    (characters : List ℕ) × Spells bytes characters × (first Continues characters ≡ Command words [])
 
 -- the bytes are a command of these words, which the end of the script ends
 abbrev pub IsLastCommand : List (List ℕ) → List ℕ → Type 0
@@ -219,7 +223,8 @@ abbrev pub ReadsScript : List ℕ → List (List (List ℕ)) → Option ScriptFa
 ReadsScript bytes [] None = HoldsNothing bytes
 ReadsScript bytes [] (Some fault) = MeetsFault bytes fault
 ReadsScript bytes (words ∷ commands) fault =
-    (used : List ℕ) × (rest : List ℕ) × (bytes ≡ used ++ rest) × IsCommandBefore rest words used × ReadsScript rest commands fault
+    (used : List ℕ) × (rest : List ℕ) × (bytes ≡ used ++ rest) × IsCommandBefore rest words used
+    × ReadsScript rest commands fault
 
 -- no command is whole in the bytes
 abbrev pub HoldsNoWhole : List ℕ → Type 0
@@ -234,4 +239,5 @@ abbrev pub ReadsFront : List ℕ → List (List (List ℕ)) → Option ScriptFau
 ReadsFront bytes [] None = ⊤
 ReadsFront bytes [] (Some fault) = HoldsFault bytes fault
 ReadsFront bytes (words ∷ commands) fault =
-    (used : List ℕ) × (rest : List ℕ) × (bytes ≡ used ++ rest) × IsWholeCommand words used × ReadsFront rest commands fault
+    (used : List ℕ) × (rest : List ℕ) × (bytes ≡ used ++ rest) × IsWholeCommand words used
+    × ReadsFront rest commands fault

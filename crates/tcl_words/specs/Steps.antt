@@ -3,7 +3,8 @@ use Rattle.std.specs.Prelude.{ℕ, zero, suc, true, false, ◌||◌, ◌==◌, i
 use Rattle.tcl_words.specs.Characters.{is_end, is_blank, begins_name}
 use Rattle.tcl_words.specs.EscapeSteps.{is_gap, escape_step, last_given}
 use Rattle.tcl_words.specs.declared.fault.ScriptFault.{ScriptFault}
-use Rattle.tcl_words.specs.declared.fault.ScriptFault.TheVariants.{MissingBrace, MissingQuote, ExtraAfterBrace, ExtraAfterQuote, Substitution, BadCharacterCode}
+use Rattle.tcl_words.specs.declared.fault.ScriptFault.TheVariants.{MissingBrace, MissingQuote, ExtraAfterBrace}
+use Rattle.tcl_words.specs.declared.fault.ScriptFault.TheVariants.{ExtraAfterQuote, Substitution, BadCharacterCode}
 use Rattle.tcl_words.specs.declared.escapes.EscapeStage.TheVariants.{Backslash}
 use Rattle.tcl_words.specs.declared.escapes.EscapeStep.{EscapeStep}
 use Rattle.tcl_words.specs.declared.escapes.EscapeStep.TheVariants as escape
@@ -12,7 +13,11 @@ use Rattle.tcl_words.specs.declared.stage.TextWord.TheVariants.{Bare, Quoted}
 use Rattle.tcl_words.specs.declared.stage.Closing.{Closing}
 use Rattle.tcl_words.specs.declared.stage.Closing.TheVariants.{Brace, Quote, Expansion}
 use Rattle.tcl_words.specs.declared.stage.Stage.{Stage}
-use Rattle.tcl_words.specs.declared.stage.Stage.TheVariants.{BeforeCommand, CommandBackslash, Comment, CommentBackslash, BeforeWord, WordBackslash, BareBackslash, Text, AfterDollar, AfterColon, Escaped, AfterOpening, AfterStar, Braced, BracedBackslash, BracedGap, Behind, BehindBackslash}
+use Rattle.tcl_words.specs.declared.stage.Stage.TheVariants.{BeforeCommand, CommandBackslash, Comment, CommentBackslash}
+use Rattle.tcl_words.specs.declared.stage.Stage.TheVariants.{BeforeWord, WordBackslash, BareBackslash, Text}
+use Rattle.tcl_words.specs.declared.stage.Stage.TheVariants.{AfterDollar, AfterColon, Escaped, AfterOpening, AfterStar}
+use Rattle.tcl_words.specs.declared.stage.Stage.TheVariants.{Braced, BracedBackslash, BracedGap, Behind}
+use Rattle.tcl_words.specs.declared.stage.Stage.TheVariants.{BehindBackslash}
 use Rattle.tcl_words.specs.declared.stage.Next.{Next}
 use Rattle.tcl_words.specs.declared.stage.Next.TheVariants.{Go, End, Refuse}
 use Rattle.tcl_words.specs.declared.stage.Output.{Output}

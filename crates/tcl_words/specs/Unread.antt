@@ -1,7 +1,9 @@
 -- What a splitter has still to give.
-use Rattle.std.specs.Prelude.{◌≡◌, ℕ, Bool, true, false, List, [], ◌++◌, map, Option, Some, None, chars, string_bytes, String}
+use Rattle.std.specs.Prelude.{◌≡◌, ℕ, Bool, true, false, List, [], ◌++◌, map, Option, Some, None, chars, string_bytes}
+use Rattle.std.specs.Prelude.{String}
 use Rattle.tcl_words.specs.declared.fault.ScriptFault.{ScriptFault}
-use Rattle.tcl_words.specs.ScriptGrammar.{IsWholeCommand, IsCommandBefore, HoldsNothing, HoldsNoWhole, HoldsFault, MeetsFault}
+use Rattle.tcl_words.specs.ScriptGrammar.{IsWholeCommand, IsCommandBefore, HoldsNothing, HoldsNoWhole, HoldsFault}
+use Rattle.tcl_words.specs.ScriptGrammar.{MeetsFault}
 
 -- the bytes that aren't given as commands yet, whether the script ends with them, and the fault that stopped it
 pub record Unread : Type 0 where

@@ -1,7 +1,8 @@
 //! What a backslash and the characters behind it give, one character after the other.
 
 ghost use Rattle.std.specs.Prelude.{◌≡◌, ◌<◌, ◌≤◌};
-ghost use Rattle.tcl_words.specs.EscapeSteps.{is_gap, base_of, limit_of, joined, given, before, digit_step, letter_step, backslash_step, gap_step, escape_step, last_given};
+ghost use Rattle.tcl_words.specs.EscapeSteps.{is_gap, base_of, limit_of, joined, given, before, digit_step};
+ghost use Rattle.tcl_words.specs.EscapeSteps.{letter_step, backslash_step, gap_step, escape_step, last_given};
 
 /// What an escape's digits are digits of.
 #[derive(Clone, Copy)]

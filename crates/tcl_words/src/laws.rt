@@ -13,13 +13,15 @@ pub fn one_reading()
 
 /// Each script has a reading.
 pub fn some_reading()
-    ensures { (bytes : List ℕ) → (commands : List (List (List ℕ))) × (fault : Option ScriptFault) × ReadsScript bytes commands fault }
+    ensures { (bytes : List ℕ) → (commands : List (List (List ℕ))) × (fault : Option ScriptFault)
+        × ReadsScript bytes commands fault }
 {}
 
 /// A command that is whole at the front of the bytes is the same in every continuation, and the rest after it is read
 /// by itself.
 pub fn whole_stays()
-    ensures { (words : List (List ℕ)) (used more : List ℕ) (commands : List (List (List ℕ))) (fault : Option ScriptFault) →
+    ensures { (words : List (List ℕ)) (used more : List ℕ) (commands : List (List (List ℕ)))
+        (fault : Option ScriptFault) →
         IsWholeCommand words used → ReadsScript (used ++ more) commands fault →
         (others : List (List (List ℕ))) × (commands ≡ words ∷ others) × ReadsScript more others fault }
 {}
@@ -30,7 +32,8 @@ pub fn front_stays()
     ensures commands { (front more : List ℕ) (commands all : List (List (List ℕ))) (fault : Option ScriptFault) →
         ReadsFront front commands None → ReadsScript (front ++ more) all fault →
         (others : List (List (List ℕ))) × (all ≡ commands ++ others) }
-    ensures fault { (front more : List ℕ) (commands all : List (List (List ℕ))) (met : ScriptFault) (fault : Option ScriptFault) →
+    ensures fault { (front more : List ℕ) (commands all : List (List (List ℕ))) (met : ScriptFault)
+        (fault : Option ScriptFault) →
         ReadsFront front commands (Some met) → ReadsScript (front ++ more) all fault →
         (all ≡ commands) × (fault ≡ Some met) }
 {}

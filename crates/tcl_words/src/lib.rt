@@ -9,6 +9,7 @@ mod list_steps;
 mod list_writing;
 mod lists;
 mod pieces;
+mod plain_words;
 mod progress;
 mod runs;
 mod scanner;

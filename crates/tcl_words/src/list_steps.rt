@@ -1,7 +1,9 @@
 //! What each character of a list's text does.
 
 ghost use Rattle.std.specs.Prelude.{◌≡◌, ◌+◌, ◌≤◌};
-ghost use Rattle.tcl_words.specs.ListSteps.{list_passes, list_keeps, list_closes, no_list, list_after, text_element, step_in_element, step_at_element, step_in_braces, element_by, list_step, last_in_element, last_element_by, last_list_step, open_braces};
+ghost use Rattle.tcl_words.specs.ListSteps.{list_passes, list_keeps, list_closes, no_list, list_after, text_element};
+ghost use Rattle.tcl_words.specs.ListSteps.{step_in_element, step_at_element, step_in_braces, element_by, list_step};
+ghost use Rattle.tcl_words.specs.ListSteps.{last_in_element, last_element_by, last_list_step, open_braces};
 ghost use Rattle.tcl_words.specs.ListText.{is_white};
 
 use crate::escapes::{EscapeStage, EscapeStep};

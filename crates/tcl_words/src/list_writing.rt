@@ -1,9 +1,11 @@
 //! Elements written into the text of a list.
 
-ghost use Rattle.std.specs.Prelude.{◌≡◌, ◌||◌, ◌++◌, ◌∷◌, [], List, ℕ, IfOk, OnOk, OnErr, chars, string_bytes, encode_utf8_all};
+ghost use Rattle.std.specs.Prelude.{◌≡◌, ◌||◌, ◌++◌, ◌∷◌, [], List, ℕ, IfOk, OnOk, OnErr, chars, string_bytes};
+ghost use Rattle.std.specs.Prelude.{encode_utf8_all};
 ghost use Rattle.tcl_words.specs.Characters.{begins_with};
 ghost use Rattle.tcl_words.specs.ListGrowth.{Goes, pushed};
-ghost use Rattle.tcl_words.specs.ListText.{is_white, is_special, has_special, needs_quotes, balances, white_letter, with_backslashes, space_behind};
+ghost use Rattle.tcl_words.specs.ListText.{is_white, is_special, has_special, needs_quotes, balances, white_letter};
+ghost use Rattle.tcl_words.specs.ListText.{with_backslashes, space_behind};
 
 use crate::list_steps::is_white;
 use crate::pieces::first_char;
@@ -116,7 +118,9 @@ fn push_parts(
     element: &str,
     closing: &str,
 ) -> Result<(), AllocError>
-    ensures ok { OnOk result (string_bytes list.new ≡ (((string_bytes list.old ++ space_behind (string_bytes list.old)) ++ opening.now) ++ element.now) ++ closing.now) }
+    ensures ok { OnOk result (string_bytes list.new
+        ≡ (((string_bytes list.old ++ space_behind (string_bytes list.old)) ++ opening.now) ++ element.now)
+        ++ closing.now) }
     ensures err { OnErr result (string_bytes list.new ≡ string_bytes list.old) }
 {
     let space = if list.is_empty() { "" } else { " " };

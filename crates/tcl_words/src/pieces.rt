@@ -1,4 +1,5 @@
-ghost use Rattle.std.specs.Prelude.{◌≡◌, ◌<◌, [], ◌∷◌, ◌++◌, ℕ, List, IfOk, OnOk, map, chars, length, ◌≤◌, string_bytes, string_capacity, encode_utf8, encode_utf8_all};
+ghost use Rattle.std.specs.Prelude.{◌≡◌, ◌<◌, [], ◌∷◌, ◌++◌, ℕ, List, IfOk, OnOk, map, chars, length, ◌≤◌};
+ghost use Rattle.std.specs.Prelude.{string_bytes, string_capacity, encode_utf8, encode_utf8_all};
 ghost use Rattle.tcl_words.specs.Scanning.{pieces_from, word_with, words_after, word_after};
 ghost use Rattle.tcl_words.specs.declared.stage.Stage.TheVariants.{BeforeCommand};
 
@@ -66,7 +67,8 @@ impl Writer {
         ensures word { OnOk result (string_bytes self.new.word
             ≡ word_after output.ended (word_with output c (string_bytes self.old.word))) }
         ensures words { OnOk result (map (λ word. string_bytes word) self.new.words.items
-            ≡ words_after output.ended (word_with output c (string_bytes self.old.word)) (map (λ word. string_bytes word) self.old.words.items)) }
+            ≡ words_after output.ended (word_with output c (string_bytes self.old.word))
+            (map (λ word. string_bytes word) self.old.words.items)) }
     {
         self.make_room()?;
         if let Some(given) = output.given {
@@ -94,7 +96,8 @@ pub fn first_char(text: &str) -> char
 
 /// The words of a command's text.
 pub fn words_of(alloc: Global, text: &str) -> Result<Vec<String>, AllocError>
-    ensures { IfOk result (λ words. map (λ word. string_bytes word) words.items ≡ map encode_utf8_all (pieces_from (chars text.now) BeforeCommand)) }
+    ensures { IfOk result (λ words. map (λ word. string_bytes word) words.items
+        ≡ map encode_utf8_all (pieces_from (chars text.now) BeforeCommand)) }
 {
     let mut writer = Writer::new(alloc, text.len());
     let mut stage = Stage::BeforeCommand;

@@ -30,6 +30,16 @@ impl Progress {
         }
     }
 
+    /// Reads on through the text at the front.
+    pub fn read_text(&mut self, rest: &[u8])
+        requires { IsProgress rest.now self.old }
+        ensures progress { IsProgress rest.now self.new }
+    {
+        if self.valid < rest.len() {
+            self.valid += text_front(&rest[self.valid..]).len;
+        }
+    }
+
     /// Reads on to the end of the next command, and says how many bytes it has; `None` if there is none.
     pub fn find_command(
         &mut self,

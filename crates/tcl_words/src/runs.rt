@@ -11,10 +11,11 @@ use crate::steps::{is_blank, is_end};
 fn is_bare(byte: u8) -> bool
     ensures { result ≡ is_bare byte }
 {
-    !matches!(
-        byte,
-        b'\n' | b';' | b' ' | b'\t' | b'\r' | 0x0b | 0x0c | b'[' | b'$' | b'\\'
-    )
+    byte > b'\\'
+        || !matches!(
+            byte,
+            b'\n' | b';' | b' ' | b'\t' | b'\r' | 0x0b | 0x0c | b'[' | b'$' | b'\\'
+        )
 }
 
 // Whether the byte begins a bare word that goes on as one, where a word may begin.
@@ -59,7 +60,8 @@ fn bare_run(bytes: &[u8]) -> usize
     bytes.len()
 }
 
-fn quoted_run(bytes: &[u8]) -> usize
+/// How many bytes at the front are ordinary ones of a quoted word.
+pub fn quoted_run(bytes: &[u8]) -> usize
     ensures within { result ≤ length bytes.now }
     ensures plain { (k : ℕ) → k < result → is_quoted (slice_index bytes.now k) ≡ true }
     ensures longest { result < length bytes.now → is_quoted (slice_index bytes.now result) ≡ false }
@@ -73,7 +75,8 @@ fn quoted_run(bytes: &[u8]) -> usize
     bytes.len()
 }
 
-fn braced_run(bytes: &[u8]) -> usize
+/// The same of a braced word.
+pub fn braced_run(bytes: &[u8]) -> usize
     ensures within { result ≤ length bytes.now }
     ensures plain { (k : ℕ) → k < result → is_braced (slice_index bytes.now k) ≡ true }
     ensures longest { result < length bytes.now → is_braced (slice_index bytes.now result) ≡ false }

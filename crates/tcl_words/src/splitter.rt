@@ -1,9 +1,11 @@
-ghost use Rattle.std.specs.Prelude.{◌≡◌, ◌≢◌, ◌<◌, ◌≤◌, List, ℕ, length, take, drop, IsUtf8, vec_len, ◌+◌, true, false, IfOk, IfErr, OnOk, OnErr, IsSome, IsOk, IfSome, IfNone};
-ghost use Rattle.tcl_words.specs.Progression.{IsCommandOf};
+ghost use Rattle.std.specs.Prelude.{◌≡◌, ◌≢◌, ◌<◌, ◌≤◌, List, ℕ, length, take, drop, IsUtf8, vec_len, ◌+◌, true, false};
+ghost use Rattle.std.specs.Prelude.{IfOk, IfErr, OnOk, OnErr, IsSome, IsOk, IfSome, IfNone};
+ghost use Rattle.tcl_words.specs.Progression.{IsCommandOf, IsFound};
 ghost use Rattle.tcl_words.specs.Unread.{nothing_fed, fed, TakesCommand, HasNoCommand, HasNoFault, StopsAt, texts_of};
 
 use crate::fault::ScriptFault;
 use crate::pieces::words_of;
+use crate::plain_words::{PlainCommand, plain_command};
 use crate::progress::Progress;
 use std::alloc::{AllocError, Global};
 use std::marker::Model;
@@ -35,12 +37,16 @@ impl Model for Splitter {
 
     ghost view = { λ s. record { rest = drop s.given s.script.items; finished = s.finished; fault = s.fault } };
 
-    ghost invariant = { λ s. (s.given ≤ vec_len s.script) × (s.fault ≢ Some Memory) × IsProgress (drop s.given s.script.items) s.progress };
+    ghost invariant = { λ s. (s.given ≤ vec_len s.script) × (s.fault ≢ Some Memory)
+        × IsProgress (drop s.given s.script.items) s.progress };
 }
 
 impl Splitter {
     // Room for so many bytes isn't given back.
     const ROOM: usize = 16_384;
+
+    // So many bytes don't wait for the next piece.
+    const MANY: usize = 1_048_576;
 
     /// A splitter of a script of which nothing has come. It takes no memory.
     pub fn new(alloc: Global) -> Self
@@ -109,9 +115,20 @@ impl Splitter {
             (self.new ≡ self.old) × (self.old.fault ≡ None) × ¬ HasNoCommand self.old.finished self.old.rest }
         ensures again { IfSome self.old.fault (λ fault. result ≡ Err fault) }
     {
+        let is_refused = match self.plain_command() {
+            Ok(Some(plain)) => {
+                self.pass(plain.len);
+                return Ok(Some(plain.words));
+            }
+            Ok(None) => false,
+            Err(_) => true,
+        };
         let Some(len) = self.find_command()? else {
             return Ok(None);
         };
+        if is_refused {
+            return Err(ScriptFault::Memory);
+        }
         let words = words_of(*self.script.allocator(), self.front(len))?;
         self.pass(len);
         Ok(Some(words))
@@ -145,6 +162,21 @@ impl Splitter {
         unsafe { str::from_utf8_unchecked(&rest[..len]) }
     }
 
+    // The next command, if nothing of it was read and it is of words that stand in it as they are.
+    fn plain_command(&mut self) -> Result<Option<PlainCommand>, AllocError>
+        ensures same { self.new ≡ self.old }
+        ensures found { IfOk result (λ found. IfSome found (λ plain.
+            IsFound self.old (texts_of plain.words.items) plain.len)) }
+    {
+        let rest = &self.script[self.given..];
+        if self.fault.is_some() || self.progress.seen > 0 {
+            return Ok(None);
+        }
+        self.progress.read_text(rest);
+        let text = unsafe { str::from_utf8_unchecked(&rest[..self.progress.valid]) };
+        plain_command(*self.script.allocator(), text)
+    }
+
     // How many bytes the next command has, if there is one. A fault is kept.
     fn find_command(&mut self) -> Result<Option<usize>, ScriptFault>
         ensures found { IfOk result (λ found. IfSome found (λ len. IsCommandOf self.old.finished self.old.rest len)) }
@@ -166,14 +198,27 @@ impl Splitter {
         found
     }
 
-    // Leaves the next so many bytes behind.
-    fn pass(&mut self, len: usize)
+    // Gives the next so many bytes.
+    fn give(&mut self, len: usize)
         requires within { len ≤ length self.old.rest }
         requires text { IsUtf8 (take len self.old.rest) }
         ensures { self.new ≡ record self.old { rest = drop len self.old.rest } }
     {
         self.given += len;
         self.progress = Progress::starting(self.progress.valid.saturating_sub(len));
+    }
+
+    // Leaves the next so many bytes behind. Many go at once, so that no long command stands here while it is carried
+    // out.
+    fn pass(&mut self, len: usize)
+        requires within { len ≤ length self.old.rest }
+        requires text { IsUtf8 (take len self.old.rest) }
+        ensures { self.new ≡ record self.old { rest = drop len self.old.rest } }
+    {
+        self.give(len);
+        if self.given > Splitter::MANY {
+            self.leave_given();
+        }
     }
 }
 

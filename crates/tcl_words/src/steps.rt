@@ -2,7 +2,10 @@
 
 ghost use Rattle.std.specs.Prelude.{◌≡◌, ◌<◌, ◌+◌, ◌≤◌};
 ghost use Rattle.tcl_words.specs.Characters.{is_end, is_blank, begins_name};
-ghost use Rattle.tcl_words.specs.Steps.{fault_behind, text_step, bare_step, quoted_step, word_step, command_step, comment_step, braced_step, kept_step, behind_step, inside_step, dollar_step, colon_step, step_by, joint_step, opening_step, star_step, gap_in_braces, behind_joint, step_of, last_in_text, last_by, last_step, depth_of};
+ghost use Rattle.tcl_words.specs.Steps.{fault_behind, text_step, bare_step, quoted_step, word_step, command_step};
+ghost use Rattle.tcl_words.specs.Steps.{comment_step, braced_step, kept_step, behind_step, inside_step, dollar_step};
+ghost use Rattle.tcl_words.specs.Steps.{colon_step, step_by, joint_step, opening_step, star_step, gap_in_braces};
+ghost use Rattle.tcl_words.specs.Steps.{behind_joint, step_of, last_in_text, last_by, last_step, depth_of};
 
 use crate::escapes::{EscapeStage, EscapeStep, is_gap};
 use crate::fault::ScriptFault;

@@ -1,8 +1,10 @@
 -- A cursor goes through the parts of a text.
-use Rattle.std.proofs.Common.{◌≡◌, ℕ, ◌+◌, ◌-◌, ◌<◌, ◌≤◌, List, [], ◌∷◌, ◌++◌, Option, Some, None, map, length, take, drop, refl, sym, ap, ap₂, ◌∙◌, arith, subst, append_assoc, length-append, length-drop}
+use Rattle.std.proofs.Common.{◌≡◌, ℕ, ◌+◌, ◌-◌, ◌<◌, ◌≤◌, List, [], ◌∷◌, ◌++◌, Option, Some, None, map, length, take}
+use Rattle.std.proofs.Common.{drop, refl, sym, ap, ap₂, ◌∙◌, arith, subst, append_assoc, length-append, length-drop}
 use Rattle.std.specs.Prelude.{slice_range, sum_by}
 use Rattle.std.specs.List.{All}
-use Rattle.std.proofs.lemmas.List.{append-nil, map-append, length-map, length-take-le, drop-drop, drop-append-le, take-append-le, take-append-drop, take_all, take_at, drop_at, nil_from_length}
+use Rattle.std.proofs.lemmas.List.{append-nil, map-append, length-map, length-take-le, drop-drop, drop-append-le}
+use Rattle.std.proofs.lemmas.List.{take-append-le, take-append-drop, take_all, take_at, drop_at, nil_from_length}
 use Rattle.std.proofs.lemmas.List.Elements.{All-push, All-head, All-tail, All-pop, All-same, All-weaker}
 use Rattle.std.proofs.lemmas.List.Sums.{sum_by-append, sum_by-cons}
 use Rattle.std.proofs.Math.Seq.{take-add}
@@ -13,100 +15,134 @@ use Rattle.text_model.specs.Splices.{inserted, removed}
 use Rattle.text_model.proofs.SpliceLaws.{take-removed, drop-removed}
 use Rattle.text_cursor.specs.declared.cursors.Cursor.{Cursor}
 use Rattle.text_cursor.specs.declared.cursors.Part.{Part}
-use Rattle.text_cursor.specs.Cursors.{cells_between, part_cells, front_cells, behind_cells, source_len, parts_len, cursor_cells, PartFits, IsCursor, Moves, Takes, Puts}
+use Rattle.text_cursor.specs.Cursors.{cells_between, part_cells, front_cells, behind_cells, source_len, parts_len}
+use Rattle.text_cursor.specs.Cursors.{cursor_cells, PartFits, IsCursor, Moves, Takes, Puts}
 
-slice-length : {A : Type 0} (from to : ℕ) (xs : List A) → from ≤ to → to ≤ length xs → length (slice_range xs from to) ≡ to - from
-slice-length from to xs ordered within = length-take-le (to - from) (drop from xs) (let h = length-drop from xs in omega (arith, h))
+slice-length : {A : Type 0} (from to : ℕ) (xs : List A) → from ≤ to → to ≤ length xs →
+    length (slice_range xs from to) ≡ to - from
+slice-length from to xs ordered within =
+    length-take-le (to - from) (drop from xs) (let h = length-drop from xs in omega (arith, h))
 
-slice-join : {A : Type 0} (from middle to : ℕ) (xs : List A) → from ≤ middle → middle ≤ to → slice_range xs from middle ++ slice_range xs middle to ≡ slice_range xs from to
+slice-join : {A : Type 0} (from middle to : ℕ) (xs : List A) → from ≤ middle → middle ≤ to →
+    slice_range xs from middle ++ slice_range xs middle to ≡ slice_range xs from to
 slice-join from middle to xs above below =
     ap (λ ys. take (middle - from) (drop from xs) ++ take (to - middle) ys)
-    (ap (λ n. drop n xs) (let e : middle ≡ from + (middle - from) = omega arith in e) ∙ sym (drop-drop (middle - from) from xs))
+    (ap (λ n. drop n xs) (let e : middle ≡ from + (middle - from) = omega arith in e)
+    ∙ sym (drop-drop (middle - from) from xs))
     ∙ sym (take-add (middle - from) (to - middle) (drop from xs))
     ∙ ap (λ n. take n (drop from xs)) (let e : middle - from + (to - middle) ≡ to - from = omega arith in e)
 
-slice-more : (from to : ℕ) (xs ys : List ℕ) → from ≤ to → to ≤ length xs → slice_range (xs ++ ys) from to ≡ slice_range xs from to
+slice-more : (from to : ℕ) (xs ys : List ℕ) → from ≤ to → to ≤ length xs →
+    slice_range (xs ++ ys) from to ≡ slice_range xs from to
 slice-more from to xs ys ordered within =
     ap (take (to - from)) (drop-append-le from xs ys (omega arith))
     ∙ take-append-le (to - from) (drop from xs) ys (let h = length-drop from xs in omega (arith, h))
 
 slice-last : (xs ys : List ℕ) → slice_range (xs ++ ys) (length xs) (length xs + length ys) ≡ ys
 slice-last xs ys =
-    ap₂ take (let e : length xs + length ys - length xs ≡ length ys = omega arith in e) (drop_at xs ys (length xs) refl) ∙ take_all (length ys) ys (omega arith)
+    ap₂ take (let e : length xs + length ys - length xs ≡ length ys = omega arith in e) (drop_at xs ys (length xs) refl)
+    ∙ take_all (length ys) ys (omega arith)
 
 -- the number of cells of a part
-between-length : (slots : Option Slots) (old : List Cell) (new : List ℕ) (from to : ℕ) → from ≤ to → to ≤ source_len slots (length old) (length new) → length (cells_between slots old new from to) ≡ to - from
+between-length : (slots : Option Slots) (old : List Cell) (new : List ℕ) (from to : ℕ) → from ≤ to →
+    to ≤ source_len slots (length old) (length new) → length (cells_between slots old new from to) ≡ to - from
 between-length None old new from to ordered within = slice-length from to old ordered within
-between-length (Some slots) old new from to ordered within = length-map (slice_range new from to) _ ∙ slice-length from to new ordered within
+between-length (Some slots) old new from to ordered within =
+    length-map (slice_range new from to) _ ∙ slice-length from to new ordered within
 
-pub part-length : (old : List Cell) (new : List ℕ) (part : Part) → PartFits (length old) (length new) part → length (part_cells old new part) ≡ part.to - part.from
-part-length old new part fits = between-length part.slots old new part.from part.to (let h = fits.some in omega (arith, h)) fits.within
+pub part-length : (old : List Cell) (new : List ℕ) (part : Part) → PartFits (length old) (length new) part →
+    length (part_cells old new part) ≡ part.to - part.from
+part-length old new part fits =
+    between-length part.slots old new part.from part.to (let h = fits.some in omega (arith, h)) fits.within
 
 -- a part in two
-between-join : (slots : Option Slots) (old : List Cell) (new : List ℕ) (from middle to : ℕ) → from ≤ middle → middle ≤ to
-    → cells_between slots old new from middle ++ cells_between slots old new middle to ≡ cells_between slots old new from to
+between-join : (slots : Option Slots) (old : List Cell) (new : List ℕ) (from middle to : ℕ) → from ≤ middle →
+    middle ≤ to
+    → cells_between slots old new from middle ++ cells_between slots old new middle to
+    ≡ cells_between slots old new from to
 between-join None old new from middle to above below = slice-join from middle to old above below
 between-join (Some slots) old new from middle to above below =
     let cell = λ (character : ℕ). let made : Cell = record { character = character; tags = slots } in made in
-    sym (map-append cell (slice_range new from middle) (slice_range new middle to)) ∙ ap (map cell) (slice-join from middle to new above below)
+    sym (map-append cell (slice_range new from middle) (slice_range new middle to))
+    ∙ ap (map cell) (slice-join from middle to new above below)
 
 pub part-join : (old : List Cell) (new : List ℕ) (part : Part) (middle : ℕ) → part.from ≤ middle → middle ≤ part.to
-    → part_cells old new (record part { to = middle }) ++ part_cells old new (record part { from = middle }) ≡ part_cells old new part
+    → part_cells old new (record part { to = middle }) ++ part_cells old new (record part { from = middle })
+    ≡ part_cells old new part
 part-join old new part middle above below = between-join part.slots old new part.from middle part.to above below
 
 -- one part more
-pub front-push : (old : List Cell) (new : List ℕ) (parts : List Part) (part : Part) → front_cells old new (parts ++ part ∷ []) ≡ front_cells old new parts ++ part_cells old new part
+pub front-push : (old : List Cell) (new : List ℕ) (parts : List Part) (part : Part) →
+    front_cells old new (parts ++ part ∷ []) ≡ front_cells old new parts ++ part_cells old new part
 front-push old new [] part = append-nil (part_cells old new part)
 front-push old new (first ∷ parts) part =
-    ap (λ cells. part_cells old new first ++ cells) (front-push old new parts part) ∙ sym (append_assoc (part_cells old new first) (front_cells old new parts) (part_cells old new part))
+    ap (λ cells. part_cells old new first ++ cells) (front-push old new parts part)
+    ∙ sym (append_assoc (part_cells old new first) (front_cells old new parts) (part_cells old new part))
 
-pub behind-push : (old : List Cell) (new : List ℕ) (parts : List Part) (part : Part) → behind_cells old new (parts ++ part ∷ []) ≡ part_cells old new part ++ behind_cells old new parts
+pub behind-push : (old : List Cell) (new : List ℕ) (parts : List Part) (part : Part) →
+    behind_cells old new (parts ++ part ∷ []) ≡ part_cells old new part ++ behind_cells old new parts
 behind-push old new [] part = sym (append-nil (part_cells old new part))
 behind-push old new (first ∷ parts) part =
-    ap (λ cells. cells ++ part_cells old new first) (behind-push old new parts part) ∙ append_assoc (part_cells old new part) (behind_cells old new parts) (part_cells old new first)
+    ap (λ cells. cells ++ part_cells old new first) (behind-push old new parts part)
+    ∙ append_assoc (part_cells old new part) (behind_cells old new parts) (part_cells old new first)
 
-pub len-push : (parts : List Part) (part : Part) → parts_len (parts ++ part ∷ []) ≡ parts_len parts + (part.to - part.from)
+pub len-push : (parts : List Part) (part : Part) → parts_len (parts ++ part ∷ [])
+    ≡ parts_len parts + (part.to - part.from)
 len-push parts part =
     let count = λ (p : Part). p.to - p.from in
-    sum_by-append count parts (part ∷ []) ∙ (let one = sum_by-cons count part [] in let none : sum_by count [] ≡ 0 = refl in omega (arith, one, none))
+    sum_by-append count parts (part ∷ []) ∙ (let one = sum_by-cons count part [] in
+    let none : sum_by count [] ≡ 0 = refl in omega (arith, one, none))
 
 -- ---- the part before the place goes behind it, or the other way round
 
 cells-over : (old : List Cell) (new : List ℕ) (front behind : List Part) (part : Part)
-    → front_cells old new (front ++ part ∷ []) ++ behind_cells old new behind ≡ front_cells old new front ++ behind_cells old new (behind ++ part ∷ [])
+    → front_cells old new (front ++ part ∷ []) ++ behind_cells old new behind
+    ≡ front_cells old new front ++ behind_cells old new (behind ++ part ∷ [])
 cells-over old new front behind part =
     ap (λ cells. cells ++ behind_cells old new behind) (front-push old new front part)
     ∙ append_assoc (front_cells old new front) (part_cells old new part) (behind_cells old new behind)
     ∙ ap (λ cells. front_cells old new front ++ cells) (sym (behind-push old new behind part))
 
-cells-in : (old : List Cell) (new : List ℕ) (front behind : List Part) (part : Part) (middle : ℕ) → part.from ≤ middle → middle ≤ part.to
-    → front_cells old new (front ++ record part { to = middle } ∷ []) ++ behind_cells old new (behind ++ record part { from = middle } ∷ [])
+cells-in : (old : List Cell) (new : List ℕ) (front behind : List Part) (part : Part) (middle : ℕ) → part.from ≤ middle →
+    middle ≤ part.to
+    → front_cells old new (front ++ record part { to = middle } ∷ [])
+    ++ behind_cells old new (behind ++ record part { from = middle } ∷ [])
     ≡ front_cells old new front ++ behind_cells old new (behind ++ part ∷ [])
 cells-in old new front behind part middle above below =
     cells-over old new front (behind ++ record part { from = middle } ∷ []) (record part { to = middle })
     ∙ ap (λ cells. front_cells old new front ++ cells)
     (behind-push old new (behind ++ record part { from = middle } ∷ []) (record part { to = middle })
-    ∙ ap (λ cells. part_cells old new (record part { to = middle }) ++ cells) (behind-push old new behind (record part { from = middle }))
-    ∙ sym (append_assoc (part_cells old new (record part { to = middle })) (part_cells old new (record part { from = middle })) (behind_cells old new behind))
+    ∙ ap (λ cells. part_cells old new (record part { to = middle }) ++ cells)
+    (behind-push old new behind (record part { from = middle }))
+    ∙ sym (append_assoc (part_cells old new (record part { to = middle }))
+    (part_cells old new (record part { from = middle })) (behind_cells old new behind))
     ∙ ap (λ cells. cells ++ behind_cells old new behind) (part-join old new part middle above below)
     ∙ sym (behind-push old new behind part))
 
-popped : (P : Part → Type 0) (all rest : List Part) (part : Part) → all ≡ rest ++ part ∷ [] → All P all → All P rest × P part
+popped : (P : Part → Type 0) (all rest : List Part) (part : Part) → all ≡ rest ++ part ∷ [] → All P all →
+    All P rest × P part
 popped P all rest part is fit = All-pop P all rest (Some part) is fit
 
-pub moves-back : (before now : Cursor) (part : Part) → IsCursor before → before.front.items ≡ now.front.items ++ part ∷ [] → now.behind.items ≡ before.behind.items ++ part ∷ []
-    → now.fresh.items ≡ before.fresh.items → now.old_len ≡ before.old_len → now.len ≡ before.len → now.at ≡ before.at - (part.to - part.from) → Moves before now
+pub moves-back : (before now : Cursor) (part : Part) → IsCursor before →
+    before.front.items ≡ now.front.items ++ part ∷ [] → now.behind.items ≡ before.behind.items ++ part ∷ []
+    → now.fresh.items ≡ before.fresh.items → now.old_len ≡ before.old_len → now.len ≡ before.len →
+    now.at ≡ before.at - (part.to - part.from) → Moves before now
 moves-back before now part is front behind fresh old_len len at =
     let P = PartFits before.old_len (length before.fresh.items) in
     let parts = popped P before.front.items now.front.items part front is.front in
-    let fits_same : PartFits now.old_len (length now.fresh.items) ≡ P = ap₂ (λ n xs. PartFits n (length xs)) old_len fresh in
-    let front_len : parts_len before.front.items ≡ parts_len now.front.items + (part.to - part.from) = ap parts_len front ∙ len-push now.front.items part in
-    let behind_len : parts_len now.behind.items ≡ parts_len before.behind.items + (part.to - part.from) = ap parts_len behind ∙ len-push before.behind.items part in
+    let fits_same : PartFits now.old_len (length now.fresh.items)
+    ≡ P = ap₂ (λ n xs. PartFits n (length xs)) old_len fresh in
+    let front_len : parts_len before.front.items ≡ parts_len now.front.items
+    + (part.to - part.from) = ap parts_len front ∙ len-push now.front.items part in
+    let behind_len : parts_len now.behind.items ≡ parts_len before.behind.items
+    + (part.to - part.from) = ap parts_len behind ∙ len-push before.behind.items part in
     let place = is.place in let whole = is.whole in
     record {
       is = record {
         front = subst (λ (Q : Part → Type 0). All Q now.front.items) (sym fits_same) parts.0;
-        behind = subst (λ (Q : Part → Type 0). All Q now.behind.items) (sym fits_same) (All-same P now.behind.items (before.behind.items ++ part ∷ []) behind (All-push P before.behind.items part is.behind parts.1));
+        behind = subst (λ (Q : Part → Type 0). All Q now.behind.items) (sym fits_same)
+            (All-same P now.behind.items (before.behind.items ++ part ∷ []) behind
+            (All-push P before.behind.items part is.behind parts.1));
         place = omega (arith, front_len, place, at);
         whole = omega (arith, front_len, behind_len, place, whole, at, len);
       };
@@ -115,21 +151,29 @@ moves-back before now part is front behind fresh old_len len at =
       cells = λ old.
           ap₂ (λ new parts. front_cells old new now.front.items ++ behind_cells old new parts) fresh behind
           ∙ sym (cells-over old before.fresh.items now.front.items before.behind.items part)
-          ∙ ap (λ parts. front_cells old before.fresh.items parts ++ behind_cells old before.fresh.items before.behind.items) (sym front);
+          ∙ ap (λ parts. front_cells old before.fresh.items parts
+          ++ behind_cells old before.fresh.items before.behind.items) (sym front);
     }
 
-pub moves-over : (before now : Cursor) (part : Part) → IsCursor before → before.behind.items ≡ now.behind.items ++ part ∷ [] → now.front.items ≡ before.front.items ++ part ∷ []
-    → now.fresh.items ≡ before.fresh.items → now.old_len ≡ before.old_len → now.len ≡ before.len → now.at ≡ before.at + (part.to - part.from) → Moves before now
+pub moves-over : (before now : Cursor) (part : Part) → IsCursor before →
+    before.behind.items ≡ now.behind.items ++ part ∷ [] → now.front.items ≡ before.front.items ++ part ∷ []
+    → now.fresh.items ≡ before.fresh.items → now.old_len ≡ before.old_len → now.len ≡ before.len →
+    now.at ≡ before.at + (part.to - part.from) → Moves before now
 moves-over before now part is behind front fresh old_len len at =
     let P = PartFits before.old_len (length before.fresh.items) in
     let parts = popped P before.behind.items now.behind.items part behind is.behind in
-    let fits_same : PartFits now.old_len (length now.fresh.items) ≡ P = ap₂ (λ n xs. PartFits n (length xs)) old_len fresh in
-    let front_len : parts_len now.front.items ≡ parts_len before.front.items + (part.to - part.from) = ap parts_len front ∙ len-push before.front.items part in
-    let behind_len : parts_len before.behind.items ≡ parts_len now.behind.items + (part.to - part.from) = ap parts_len behind ∙ len-push now.behind.items part in
+    let fits_same : PartFits now.old_len (length now.fresh.items)
+    ≡ P = ap₂ (λ n xs. PartFits n (length xs)) old_len fresh in
+    let front_len : parts_len now.front.items ≡ parts_len before.front.items
+    + (part.to - part.from) = ap parts_len front ∙ len-push before.front.items part in
+    let behind_len : parts_len before.behind.items ≡ parts_len now.behind.items
+    + (part.to - part.from) = ap parts_len behind ∙ len-push now.behind.items part in
     let place = is.place in let whole = is.whole in
     record {
       is = record {
-        front = subst (λ (Q : Part → Type 0). All Q now.front.items) (sym fits_same) (All-same P now.front.items (before.front.items ++ part ∷ []) front (All-push P before.front.items part is.front parts.1));
+        front = subst (λ (Q : Part → Type 0). All Q now.front.items) (sym fits_same)
+            (All-same P now.front.items (before.front.items ++ part ∷ []) front
+            (All-push P before.front.items part is.front parts.1));
         behind = subst (λ (Q : Part → Type 0). All Q now.behind.items) (sym fits_same) parts.0;
         place = omega (arith, front_len, place, at);
         whole = omega (arith, behind_len, whole, at, len);
@@ -139,27 +183,39 @@ moves-over before now part is behind front fresh old_len len at =
       cells = λ old.
           ap₂ (λ new parts. front_cells old new parts ++ behind_cells old new now.behind.items) fresh front
           ∙ cells-over old before.fresh.items before.front.items now.behind.items part
-          ∙ ap (λ parts. front_cells old before.fresh.items before.front.items ++ behind_cells old before.fresh.items parts) (sym behind);
+          ∙ ap (λ parts. front_cells old before.fresh.items before.front.items
+          ++ behind_cells old before.fresh.items parts) (sym behind);
     }
 
-pub moves-in : (before now : Cursor) (part : Part) (rest : List Part) (most : ℕ) → IsCursor before → before.behind.items ≡ rest ++ part ∷ [] → 0 < most → most < part.to - part.from
-    → now.behind.items ≡ rest ++ record part { from = part.from + most } ∷ [] → now.front.items ≡ before.front.items ++ record part { to = part.from + most } ∷ []
-    → now.fresh.items ≡ before.fresh.items → now.old_len ≡ before.old_len → now.len ≡ before.len → now.at ≡ before.at + most → Moves before now
+pub moves-in : (before now : Cursor) (part : Part) (rest : List Part) (most : ℕ) → IsCursor before →
+    before.behind.items ≡ rest ++ part ∷ [] → 0 < most → most < part.to - part.from
+    → now.behind.items ≡ rest ++ record part { from = part.from + most } ∷ [] →
+    now.front.items ≡ before.front.items ++ record part { to = part.from + most } ∷ []
+    → now.fresh.items ≡ before.fresh.items → now.old_len ≡ before.old_len → now.len ≡ before.len →
+    now.at ≡ before.at + most → Moves before now
 moves-in before now part rest most is behind some short behind_is front_is fresh old_len len at =
     let P = PartFits before.old_len (length before.fresh.items) in
     let parts = popped P before.behind.items rest part behind is.behind in
     let fits = parts.1 in let within = fits.within in
-    let first : Part = record part { to = part.from + most } in let last : Part = record part { from = part.from + most } in
-    let fits_same : PartFits now.old_len (length now.fresh.items) ≡ P = ap₂ (λ n xs. PartFits n (length xs)) old_len fresh in
-    let front_len : parts_len now.front.items ≡ parts_len before.front.items + (part.from + most - part.from) = ap parts_len front_is ∙ len-push before.front.items first in
-    let old_behind : parts_len before.behind.items ≡ parts_len rest + (part.to - part.from) = ap parts_len behind ∙ len-push rest part in
-    let behind_len : parts_len now.behind.items ≡ parts_len rest + (part.to - (part.from + most)) = ap parts_len behind_is ∙ len-push rest last in
+    let first : Part = record part { to = part.from + most } in
+    let last : Part = record part { from = part.from + most } in
+    let fits_same : PartFits now.old_len (length now.fresh.items)
+    ≡ P = ap₂ (λ n xs. PartFits n (length xs)) old_len fresh in
+    let front_len : parts_len now.front.items ≡ parts_len before.front.items
+    + (part.from + most - part.from) = ap parts_len front_is ∙ len-push before.front.items first in
+    let old_behind : parts_len before.behind.items ≡ parts_len rest + (part.to - part.from) = ap parts_len behind
+    ∙ len-push rest part in
+    let behind_len : parts_len now.behind.items ≡ parts_len rest
+    + (part.to - (part.from + most)) = ap parts_len behind_is ∙ len-push rest last in
     let place = is.place in let whole = is.whole in
     record {
       is = record {
-        front = subst (λ (Q : Part → Type 0). All Q now.front.items) (sym fits_same) (All-same P now.front.items (before.front.items ++ first ∷ []) front_is
-            (All-push P before.front.items first is.front (record { some = omega (arith, some); within = omega (arith, short, within) })));
-        behind = subst (λ (Q : Part → Type 0). All Q now.behind.items) (sym fits_same) (All-same P now.behind.items (rest ++ last ∷ []) behind_is
+        front = subst (λ (Q : Part → Type 0). All Q now.front.items) (sym fits_same)
+            (All-same P now.front.items (before.front.items ++ first ∷ []) front_is
+            (All-push P before.front.items first is.front
+            (record { some = omega (arith, some); within = omega (arith, short, within) })));
+        behind = subst (λ (Q : Part → Type 0). All Q now.behind.items) (sym fits_same)
+            (All-same P now.behind.items (rest ++ last ∷ []) behind_is
             (All-push P rest last parts.0 (record { some = omega (arith, short); within = within })));
         place = omega (arith, front_len, place, at);
         whole = omega (arith, old_behind, behind_len, whole, at, len, short);
@@ -168,14 +224,18 @@ moves-in before now part rest most is behind some short behind_is front_is fresh
       len = len;
       cells = λ old.
           ap₂ (λ new parts. front_cells old new parts ++ behind_cells old new now.behind.items) fresh front_is
-          ∙ ap (λ parts. front_cells old before.fresh.items (before.front.items ++ first ∷ []) ++ behind_cells old before.fresh.items parts) behind_is
-          ∙ cells-in old before.fresh.items before.front.items rest part (part.from + most) (omega arith) (omega (arith, short))
-          ∙ ap (λ parts. front_cells old before.fresh.items before.front.items ++ behind_cells old before.fresh.items parts) (sym behind);
+          ∙ ap (λ parts. front_cells old before.fresh.items (before.front.items ++ first ∷ [])
+          ++ behind_cells old before.fresh.items parts) behind_is
+          ∙ cells-in old before.fresh.items before.front.items rest part (part.from + most) (omega arith)
+          (omega (arith, short))
+          ∙ ap (λ parts. front_cells old before.fresh.items before.front.items
+          ++ behind_cells old before.fresh.items parts) (sym behind);
     }
 
 -- ---- how long the parts are
 
-pub front-length : (old : List Cell) (new : List ℕ) (parts : List Part) → All (PartFits (length old) (length new)) parts → length (front_cells old new parts) ≡ parts_len parts
+pub front-length : (old : List Cell) (new : List ℕ) (parts : List Part) →
+    All (PartFits (length old) (length new)) parts → length (front_cells old new parts) ≡ parts_len parts
 front-length old new [] fit = refl
 front-length old new (part ∷ parts) fit =
     length-append (part_cells old new part) (front_cells old new parts)
@@ -183,7 +243,8 @@ front-length old new (part ∷ parts) fit =
     (front-length old new parts (All-tail (PartFits (length old) (length new)) part parts fit))
     ∙ sym (sum_by-cons (λ (p : Part). p.to - p.from) part parts)
 
-pub behind-length : (old : List Cell) (new : List ℕ) (parts : List Part) → All (PartFits (length old) (length new)) parts → length (behind_cells old new parts) ≡ parts_len parts
+pub behind-length : (old : List Cell) (new : List ℕ) (parts : List Part) →
+    All (PartFits (length old) (length new)) parts → length (behind_cells old new parts) ≡ parts_len parts
 behind-length old new [] fit = refl
 behind-length old new (part ∷ parts) fit =
     let one = part-length old new part (All-head (PartFits (length old) (length new)) part parts fit) in
@@ -196,33 +257,45 @@ behind-length old new (part ∷ parts) fit =
 abbrev pub Fit : Cursor → List Cell → List Part → Type 0
 Fit cursor old parts = All (PartFits (length old) (length cursor.fresh.items)) parts
 
-pub same-fit : (cursor : Cursor) (old : List Cell) (parts : List Part) → length old ≡ cursor.old_len → All (PartFits cursor.old_len (length cursor.fresh.items)) parts → Fit cursor old parts
+pub same-fit : (cursor : Cursor) (old : List Cell) (parts : List Part) → length old ≡ cursor.old_len →
+    All (PartFits cursor.old_len (length cursor.fresh.items)) parts → Fit cursor old parts
 same-fit cursor old parts long fit = subst (λ n. All (PartFits n (length cursor.fresh.items)) parts) (sym long) fit
 
-pub place-is : (cursor : Cursor) (old : List Cell) → IsCursor cursor → length old ≡ cursor.old_len → length (front_cells old cursor.fresh.items cursor.front.items) ≡ cursor.at
-place-is cursor old is long = front-length old cursor.fresh.items cursor.front.items (same-fit cursor old cursor.front.items long is.front) ∙ is.place
+pub place-is : (cursor : Cursor) (old : List Cell) → IsCursor cursor → length old ≡ cursor.old_len →
+    length (front_cells old cursor.fresh.items cursor.front.items) ≡ cursor.at
+place-is cursor old is long = front-length old cursor.fresh.items cursor.front.items
+    (same-fit cursor old cursor.front.items long is.front) ∙ is.place
 
-pub whole-is : (cursor : Cursor) (old : List Cell) → IsCursor cursor → length old ≡ cursor.old_len → length (cursor_cells old cursor) ≡ cursor.len
+pub whole-is : (cursor : Cursor) (old : List Cell) → IsCursor cursor → length old ≡ cursor.old_len →
+    length (cursor_cells old cursor) ≡ cursor.len
 whole-is cursor old is long =
-    length-append (front_cells old cursor.fresh.items cursor.front.items) (behind_cells old cursor.fresh.items cursor.behind.items)
-    ∙ ap₂ (λ m n. m + n) (place-is cursor old is long) (behind-length old cursor.fresh.items cursor.behind.items (same-fit cursor old cursor.behind.items long is.behind))
+    length-append (front_cells old cursor.fresh.items cursor.front.items)
+    (behind_cells old cursor.fresh.items cursor.behind.items)
+    ∙ ap₂ (λ m n. m + n) (place-is cursor old is long)
+    (behind-length old cursor.fresh.items cursor.behind.items
+    (same-fit cursor old cursor.behind.items long is.behind))
     ∙ is.whole
 
 -- ---- what is behind the place is taken out
 
 -- the rest of a list behind a front
-removed-behind : {A : Type 0} (xs ys zs : List A) (n m : ℕ) → length xs ≡ n → length ys ≡ m → xs ++ zs ≡ removed n (n + m) (xs ++ (ys ++ zs))
+removed-behind : {A : Type 0} (xs ys zs : List A) (n m : ℕ) → length xs ≡ n → length ys ≡ m →
+    xs ++ zs ≡ removed n (n + m) (xs ++ (ys ++ zs))
 removed-behind xs ys zs n m front_is part_is =
     ap₂ (λ a b. a ++ b) (sym (take_at xs (ys ++ zs) n front_is))
-    (sym (ap (drop (n + m)) (sym (append_assoc xs ys zs)) ∙ drop_at (xs ++ ys) zs (n + m) (length-append xs ys ∙ ap₂ (λ a b. a + b) front_is part_is)))
+    (sym (ap (drop (n + m)) (sym (append_assoc xs ys zs))
+    ∙ drop_at (xs ++ ys) zs (n + m) (length-append xs ys ∙ ap₂ (λ a b. a + b) front_is part_is)))
 
 removed-none : {A : Type 0} (n : ℕ) (xs : List A) (m : ℕ) → m ≡ 0 → xs ≡ removed n (n + m) xs
-removed-none n xs m none = sym (ap (λ k. take n xs ++ drop k xs) (let e : n + m ≡ n = omega (arith, none) in e) ∙ take-append-drop n xs)
+removed-none n xs m none =
+    sym (ap (λ k. take n xs ++ drop k xs) (let e : n + m ≡ n = omega (arith, none) in e) ∙ take-append-drop n xs)
 
-removed-twice : {A : Type 0} (at n m : ℕ) (xs : List A) → at ≤ length xs → removed at (at + m) (removed at (at + n) xs) ≡ removed at (at + (n + m)) xs
+removed-twice : {A : Type 0} (at n m : ℕ) (xs : List A) → at ≤ length xs →
+    removed at (at + m) (removed at (at + n) xs) ≡ removed at (at + (n + m)) xs
 removed-twice at n m xs within =
     ap₂ (λ a b. a ++ b) (take-removed at (at + n) xs at within (omega arith))
-    (drop-removed at (at + n) xs (at + m) within (omega arith) (omega arith) ∙ ap (λ k. drop k xs) (let e : at + m + (at + n - at) ≡ at + (n + m) = omega arith in e))
+    (drop-removed at (at + n) xs (at + m) within (omega arith) (omega arith)
+    ∙ ap (λ k. drop k xs) (let e : at + m + (at + n - at) ≡ at + (n + m) = omega arith in e))
 
 pub takes-none : (before : Cursor) → IsCursor before → Takes before before
 takes-none before is = record {
@@ -247,21 +320,30 @@ takes-both first before now is one two =
           two.cells old (long ∙ sym one.old_len)
           ∙ ap (λ n. removed n (n + (before.len - now.len)) (cursor_cells old before)) one.at
           ∙ ap (removed first.at (first.at + (before.len - now.len))) (one.cells old long)
-          ∙ removed-twice first.at (first.len - before.len) (before.len - now.len) (cursor_cells old first) (omega (arith, whole, sum))
-          ∙ ap (λ n. removed first.at (first.at + n) (cursor_cells old first)) (let e : first.len - before.len + (before.len - now.len) ≡ first.len - now.len = omega (arith, a, b) in e);
+          ∙ removed-twice first.at (first.len - before.len) (before.len - now.len) (cursor_cells old first)
+          (omega (arith, whole, sum))
+          ∙ ap (λ n. removed first.at (first.at + n) (cursor_cells old first))
+          (let e : first.len - before.len + (before.len - now.len) ≡ first.len - now.len = omega (arith, a, b) in
+          e);
     }
 
-pub takes-part : (before now : Cursor) (part : Part) → IsCursor before → before.behind.items ≡ now.behind.items ++ part ∷ [] → now.front.items ≡ before.front.items → now.fresh.items ≡ before.fresh.items
-    → now.old_len ≡ before.old_len → now.at ≡ before.at → now.len ≡ before.len - (part.to - part.from) → Takes before now
+pub takes-part : (before now : Cursor) (part : Part) → IsCursor before →
+    before.behind.items ≡ now.behind.items ++ part ∷ [] → now.front.items ≡ before.front.items →
+    now.fresh.items ≡ before.fresh.items
+    → now.old_len ≡ before.old_len → now.at ≡ before.at → now.len ≡ before.len - (part.to - part.from) →
+    Takes before now
 takes-part before now part is behind front fresh old_len at len =
     let P = PartFits before.old_len (length before.fresh.items) in
     let parts = popped P before.behind.items now.behind.items part behind is.behind in
-    let fits_same : PartFits now.old_len (length now.fresh.items) ≡ P = ap₂ (λ n xs. PartFits n (length xs)) old_len fresh in
-    let behind_len : parts_len before.behind.items ≡ parts_len now.behind.items + (part.to - part.from) = ap parts_len behind ∙ len-push now.behind.items part in
+    let fits_same : PartFits now.old_len (length now.fresh.items)
+    ≡ P = ap₂ (λ n xs. PartFits n (length xs)) old_len fresh in
+    let behind_len : parts_len before.behind.items ≡ parts_len now.behind.items
+    + (part.to - part.from) = ap parts_len behind ∙ len-push now.behind.items part in
     let whole = is.whole in
     record {
       is = record {
-        front = subst (λ (Q : Part → Type 0). All Q now.front.items) (sym fits_same) (All-same P now.front.items before.front.items front is.front);
+        front = subst (λ (Q : Part → Type 0). All Q now.front.items) (sym fits_same)
+            (All-same P now.front.items before.front.items front is.front);
         behind = subst (λ (Q : Part → Type 0). All Q now.behind.items) (sym fits_same) parts.0;
         place = ap parts_len front ∙ is.place ∙ sym at;
         whole = omega (arith, behind_len, whole, at, len);
@@ -272,27 +354,39 @@ takes-part before now part is behind front fresh old_len at len =
       cells = λ old long.
           let new = before.fresh.items in
           ap₂ (λ fs ps. front_cells old fs ps ++ behind_cells old fs now.behind.items) fresh front
-          ∙ removed-behind (front_cells old new before.front.items) (part_cells old new part) (behind_cells old new now.behind.items) before.at (before.len - now.len) (place-is before old is long)
-          (part-length old new part (subst (λ n. PartFits n (length new) part) (sym long) parts.1) ∙ omega (arith, behind_len, whole, len))
-          ∙ ap (λ cells. removed before.at (before.at + (before.len - now.len)) (front_cells old new before.front.items ++ cells)) (sym (behind-push old new now.behind.items part) ∙ ap (behind_cells old new) (sym behind));
+          ∙ removed-behind (front_cells old new before.front.items) (part_cells old new part)
+          (behind_cells old new now.behind.items) before.at (before.len - now.len) (place-is before old is long)
+          (part-length old new part (subst (λ n. PartFits n (length new) part) (sym long) parts.1)
+          ∙ omega (arith, behind_len, whole, len))
+          ∙ ap (λ cells. removed before.at (before.at + (before.len - now.len))
+          (front_cells old new before.front.items ++ cells)) (sym (behind-push old new now.behind.items part)
+          ∙ ap (behind_cells old new) (sym behind));
     }
 
-pub takes-some : (before now : Cursor) (part : Part) (rest : List Part) (most : ℕ) → IsCursor before → before.behind.items ≡ rest ++ part ∷ [] → most < part.to - part.from
-    → now.behind.items ≡ rest ++ record part { from = part.from + most } ∷ [] → now.front.items ≡ before.front.items → now.fresh.items ≡ before.fresh.items
+pub takes-some : (before now : Cursor) (part : Part) (rest : List Part) (most : ℕ) → IsCursor before →
+    before.behind.items ≡ rest ++ part ∷ [] → most < part.to - part.from
+    → now.behind.items ≡ rest ++ record part { from = part.from + most } ∷ [] → now.front.items ≡ before.front.items →
+    now.fresh.items ≡ before.fresh.items
     → now.old_len ≡ before.old_len → now.at ≡ before.at → now.len ≡ before.len - most → Takes before now
 takes-some before now part rest most is behind short behind_is front fresh old_len at len =
     let P = PartFits before.old_len (length before.fresh.items) in
     let parts = popped P before.behind.items rest part behind is.behind in
     let fits = parts.1 in let within = fits.within in
-    let first : Part = record part { to = part.from + most } in let last : Part = record part { from = part.from + most } in
-    let fits_same : PartFits now.old_len (length now.fresh.items) ≡ P = ap₂ (λ n xs. PartFits n (length xs)) old_len fresh in
-    let old_behind : parts_len before.behind.items ≡ parts_len rest + (part.to - part.from) = ap parts_len behind ∙ len-push rest part in
-    let behind_len : parts_len now.behind.items ≡ parts_len rest + (part.to - (part.from + most)) = ap parts_len behind_is ∙ len-push rest last in
+    let first : Part = record part { to = part.from + most } in
+    let last : Part = record part { from = part.from + most } in
+    let fits_same : PartFits now.old_len (length now.fresh.items)
+    ≡ P = ap₂ (λ n xs. PartFits n (length xs)) old_len fresh in
+    let old_behind : parts_len before.behind.items ≡ parts_len rest + (part.to - part.from) = ap parts_len behind
+    ∙ len-push rest part in
+    let behind_len : parts_len now.behind.items ≡ parts_len rest
+    + (part.to - (part.from + most)) = ap parts_len behind_is ∙ len-push rest last in
     let whole = is.whole in
     record {
       is = record {
-        front = subst (λ (Q : Part → Type 0). All Q now.front.items) (sym fits_same) (All-same P now.front.items before.front.items front is.front);
-        behind = subst (λ (Q : Part → Type 0). All Q now.behind.items) (sym fits_same) (All-same P now.behind.items (rest ++ last ∷ []) behind_is
+        front = subst (λ (Q : Part → Type 0). All Q now.front.items) (sym fits_same)
+            (All-same P now.front.items before.front.items front is.front);
+        behind = subst (λ (Q : Part → Type 0). All Q now.behind.items) (sym fits_same)
+            (All-same P now.behind.items (rest ++ last ∷ []) behind_is
             (All-push P rest last parts.0 (record { some = omega (arith, short); within = within })));
         place = ap parts_len front ∙ is.place ∙ sym at;
         whole = omega (arith, old_behind, behind_len, whole, at, len, short);
@@ -303,82 +397,116 @@ takes-some before now part rest most is behind short behind_is front fresh old_l
       cells = λ old long.
           let new = before.fresh.items in
           let source = source_len part.slots (length old) (length new) in
-          let inside : part.to ≤ source = subst (λ n. part.to ≤ source_len part.slots n (length new)) (sym long) within in
+          let inside : part.to ≤ source = subst (λ n. part.to
+          ≤ source_len part.slots n (length new)) (sym long) within in
           let gone : length (part_cells old new first) ≡ before.len - now.len =
-          between-length part.slots old new part.from (part.from + most) (omega arith) (omega (arith, short, inside)) ∙ omega (arith, whole, old_behind, len, short) in
+          between-length part.slots old new part.from (part.from + most) (omega arith) (omega (arith, short, inside))
+          ∙ omega (arith, whole, old_behind, len, short) in
           ap₂ (λ fs ps. front_cells old fs ps ++ behind_cells old fs now.behind.items) fresh front
-          ∙ ap (λ cells. front_cells old new before.front.items ++ cells) (ap (behind_cells old new) behind_is ∙ behind-push old new rest last)
-          ∙ removed-behind (front_cells old new before.front.items) (part_cells old new first) (part_cells old new last ++ behind_cells old new rest) before.at (before.len - now.len)
+          ∙ ap (λ cells. front_cells old new before.front.items ++ cells) (ap (behind_cells old new) behind_is
+          ∙ behind-push old new rest last)
+          ∙ removed-behind (front_cells old new before.front.items) (part_cells old new first)
+          (part_cells old new last ++ behind_cells old new rest) before.at (before.len - now.len)
           (place-is before old is long) gone
-          ∙ ap (λ cells. removed before.at (before.at + (before.len - now.len)) (front_cells old new before.front.items ++ cells))
+          ∙ ap (λ cells. removed before.at (before.at + (before.len - now.len))
+          (front_cells old new before.front.items ++ cells))
           (sym (append_assoc (part_cells old new first) (part_cells old new last) (behind_cells old new rest))
-          ∙ ap (λ cells. cells ++ behind_cells old new rest) (part-join old new part (part.from + most) (omega arith) (omega (arith, short)))
+          ∙ ap (λ cells. cells ++ behind_cells old new rest)
+          (part-join old new part (part.from + most) (omega arith) (omega (arith, short)))
           ∙ sym (behind-push old new rest part) ∙ ap (behind_cells old new) (sym behind));
     }
 
 -- ---- a text is put in
 
 -- more new characters change no part
-between-more : (slots : Option Slots) (old : List Cell) (new more : List ℕ) (from to : ℕ) → from ≤ to → to ≤ source_len slots (length old) (length new)
+between-more : (slots : Option Slots) (old : List Cell) (new more : List ℕ) (from to : ℕ) → from ≤ to →
+    to ≤ source_len slots (length old) (length new)
     → cells_between slots old (new ++ more) from to ≡ cells_between slots old new from to
 between-more None old new more from to ordered within = refl
-between-more (Some slots) old new more from to ordered within = ap (λ text. cells_of text slots) (slice-more from to new more ordered within)
+between-more (Some slots) old new more from to ordered within =
+    ap (λ text. cells_of text slots) (slice-more from to new more ordered within)
 
-front-more : (old : List Cell) (new more : List ℕ) (parts : List Part) → All (PartFits (length old) (length new)) parts → front_cells old (new ++ more) parts ≡ front_cells old new parts
+front-more : (old : List Cell) (new more : List ℕ) (parts : List Part) →
+    All (PartFits (length old) (length new)) parts → front_cells old (new ++ more) parts ≡ front_cells old new parts
 front-more old new more [] fit = refl
 front-more old new more (part ∷ parts) fit =
     let one = All-head (PartFits (length old) (length new)) part parts fit in let some = one.some in
     ap₂ (λ a b. a ++ b) (between-more part.slots old new more part.from part.to (omega (arith, some)) one.within)
     (front-more old new more parts (All-tail (PartFits (length old) (length new)) part parts fit))
 
-behind-more : (old : List Cell) (new more : List ℕ) (parts : List Part) → All (PartFits (length old) (length new)) parts → behind_cells old (new ++ more) parts ≡ behind_cells old new parts
+behind-more : (old : List Cell) (new more : List ℕ) (parts : List Part) →
+    All (PartFits (length old) (length new)) parts → behind_cells old (new ++ more) parts ≡ behind_cells old new parts
 behind-more old new more [] fit = refl
 behind-more old new more (part ∷ parts) fit =
     let one = All-head (PartFits (length old) (length new)) part parts fit in let some = one.some in
     ap₂ (λ a b. a ++ b) (behind-more old new more parts (All-tail (PartFits (length old) (length new)) part parts fit))
     (between-more part.slots old new more part.from part.to (omega (arith, some)) one.within)
 
-source-more : (slots : Option Slots) (old new more to : ℕ) → to ≤ source_len slots old new → to ≤ source_len slots old (new + more)
+source-more : (slots : Option Slots) (old new more to : ℕ) → to ≤ source_len slots old new →
+    to ≤ source_len slots old (new + more)
 source-more None old new more to within = within
 source-more (Some slots) old new more to within = omega (arith, within)
 
-fit-more : (old : ℕ) (new more : List ℕ) (parts : List Part) → All (PartFits old (length new)) parts → All (PartFits old (length (new ++ more))) parts
+fit-more : (old : ℕ) (new more : List ℕ) (parts : List Part) → All (PartFits old (length new)) parts →
+    All (PartFits old (length (new ++ more))) parts
 fit-more old new more parts fit =
     let Q = PartFits old (length (new ++ more)) in
     All-weaker (PartFits old (length new)) Q
-    (λ part fits. record { some = fits.some; within = subst (λ n. part.to ≤ source_len part.slots old n) (sym (length-append new more)) (source-more part.slots old (length new) (length more) part.to fits.within) }) parts fit
+    (λ part fits. record {
+      some = fits.some;
+      within = subst (λ n. part.to ≤ source_len part.slots old n) (sym (length-append new more))
+          (source-more part.slots old (length new) (length more) part.to fits.within);
+    }) parts fit
 
 put-in : {A : Type 0} (xs ys zs : List A) (n : ℕ) → length xs ≡ n → xs ++ ys ++ zs ≡ inserted n ys (xs ++ zs)
 put-in xs ys zs n is = ap₂ (λ a b. a ++ ys ++ b) (sym (take_at xs zs n is)) (sym (drop_at xs zs n is))
 
-pub puts-none : (text : List ℕ) (slots : Slots) (before : Cursor) → IsCursor before → length text ≡ 0 → Puts text slots before before
+pub puts-none : (text : List ℕ) (slots : Slots) (before : Cursor) → IsCursor before → length text ≡ 0 →
+    Puts text slots before before
 puts-none text slots before is none = record {
   is = is;
   old_len = refl;
   len = omega (arith, none);
   cells = λ old long.
-      sym (ap (λ (ts : List ℕ). inserted before.at (cells_of ts slots) (cursor_cells old before)) (nil_from_length text none)
-      ∙ ap (λ cells. cells ++ drop before.at (cursor_cells old before)) (append-nil (take before.at (cursor_cells old before)))
+      sym (ap (λ (ts : List ℕ). inserted before.at (cells_of ts slots) (cursor_cells old before))
+      (nil_from_length text none)
+      ∙ ap (λ cells. cells ++ drop before.at (cursor_cells old before))
+      (append-nil (take before.at (cursor_cells old before)))
       ∙ take-append-drop before.at (cursor_cells old before));
 }
 
-pub puts-some : (text : List ℕ) (slots : Slots) (before now : Cursor) → IsCursor before → 0 < length text → now.fresh.items ≡ before.fresh.items ++ text
-    → now.front.items ≡ before.front.items ++ record { from = length before.fresh.items; to = length now.fresh.items; slots = Some slots } ∷ []
-    → now.behind.items ≡ before.behind.items → now.old_len ≡ before.old_len → now.at ≡ before.at + length text → now.len ≡ before.len + length text → Puts text slots before now
+pub puts-some : (text : List ℕ) (slots : Slots) (before now : Cursor) → IsCursor before → 0 < length text →
+    now.fresh.items ≡ before.fresh.items ++ text
+    → now.front.items ≡ before.front.items ++ record {
+      from = length before.fresh.items;
+      to = length now.fresh.items;
+      slots = Some slots;
+    } ∷ []
+    → now.behind.items ≡ before.behind.items → now.old_len ≡ before.old_len → now.at ≡ before.at + length text →
+    now.len ≡ before.len + length text → Puts text slots before now
 puts-some text slots before now is some fresh front behind old_len at len =
     let new = before.fresh.items in
     let longer : length now.fresh.items ≡ length new + length text = ap length fresh ∙ length-append new text in
     let part : Part = record { from = length new; to = length now.fresh.items; slots = Some slots } in
     let P = PartFits before.old_len (length (new ++ text)) in
-    let fits_same : PartFits now.old_len (length now.fresh.items) ≡ P = ap₂ (λ n xs. PartFits n (length xs)) old_len fresh in
-    let fits : P part = record { some = omega (arith, longer, some); within = let h = length-append new text in omega (arith, longer, h) } in
-    let front_len : parts_len now.front.items ≡ parts_len before.front.items + (length now.fresh.items - length new) = ap parts_len front ∙ len-push before.front.items part in
+    let fits_same : PartFits now.old_len (length now.fresh.items)
+    ≡ P = ap₂ (λ n xs. PartFits n (length xs)) old_len fresh in
+    let fits : P part = record {
+      some = omega (arith, longer, some);
+      within = let h = length-append new text in
+          omega (arith, longer, h);
+    } in
+    let front_len : parts_len now.front.items ≡ parts_len before.front.items
+    + (length now.fresh.items - length new) = ap parts_len front ∙ len-push before.front.items part in
     let place = is.place in let whole = is.whole in
     record {
       is = record {
-        front = subst (λ (Q : Part → Type 0). All Q now.front.items) (sym fits_same) (All-same P now.front.items (before.front.items ++ part ∷ []) front
+        front = subst (λ (Q : Part → Type 0). All Q now.front.items) (sym fits_same)
+            (All-same P now.front.items (before.front.items ++ part ∷ []) front
             (All-push P before.front.items part (fit-more before.old_len new text before.front.items is.front) fits));
-        behind = subst (λ (Q : Part → Type 0). All Q now.behind.items) (sym fits_same) (All-same P now.behind.items before.behind.items behind (fit-more before.old_len new text before.behind.items is.behind));
+        behind = subst (λ (Q : Part → Type 0). All Q now.behind.items) (sym fits_same)
+            (All-same P now.behind.items before.behind.items behind
+            (fit-more before.old_len new text before.behind.items is.behind));
         place = omega (arith, front_len, place, at, longer);
         whole = let same = ap parts_len behind in omega (arith, same, whole, at, len);
       };
@@ -388,11 +516,13 @@ puts-some text slots before now is some fresh front behind old_len at len =
           let f = same-fit before old before.front.items long is.front in
           let b = same-fit before old before.behind.items long is.behind in
           ap₂ (λ fs ps. front_cells old fs ps ++ behind_cells old fs now.behind.items) fresh front
-          ∙ ap (λ ps. front_cells old (new ++ text) (before.front.items ++ part ∷ []) ++ behind_cells old (new ++ text) ps) behind
+          ∙ ap (λ ps. front_cells old (new ++ text) (before.front.items ++ part ∷ [])
+          ++ behind_cells old (new ++ text) ps) behind
           ∙ ap₂ (λ a c. a ++ c)
           (front-push old (new ++ text) before.front.items part
           ∙ ap₂ (λ a c. a ++ c) (front-more old new text before.front.items f)
           (ap (λ ts. cells_of ts slots) (ap (slice_range (new ++ text) (length new)) longer ∙ slice-last new text)))
           (behind-more old new text before.behind.items b)
-          ∙ put-in (front_cells old new before.front.items) (cells_of text slots) (behind_cells old new before.behind.items) before.at (place-is before old is long);
+          ∙ put-in (front_cells old new before.front.items) (cells_of text slots)
+          (behind_cells old new before.behind.items) before.at (place-is before old is long);
     }

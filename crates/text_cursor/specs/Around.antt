@@ -8,7 +8,8 @@ use Rattle.text_model.specs.Lines.{line_of, line_start}
 -- the slots that the cell before a place and the cell at another one share; none at the start
 abbrev pub slots_around : ℕ → ℕ → List Cell → Slots
 slots_around from to cells =
-    if from == 0 then set.empty else set.intersection (get_or (slot_sets cells) (from - 1) set.empty) (get_or (slot_sets cells) to set.empty)
+    if from == 0 then set.empty else set.intersection (get_or (slot_sets cells) (from - 1) set.empty)
+    (get_or (slot_sets cells) to set.empty)
 
 -- the slots that the cells on both sides of a place have; none at the start
 abbrev pub shared_slots : ℕ → List Cell → Slots

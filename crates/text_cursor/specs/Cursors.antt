@@ -1,5 +1,6 @@
 -- A text on the way from an old one: parts of that and texts that were put in, around a place.
-use Rattle.std.specs.Prelude.{◌≡◌, ℕ, ◌+◌, ◌-◌, ◌<◌, ◌≤◌, List, [], ◌∷◌, ◌++◌, length, slice_range, sum_by, get_or, Option, None, Some}
+use Rattle.std.specs.Prelude.{◌≡◌, ℕ, ◌+◌, ◌-◌, ◌<◌, ◌≤◌, List, [], ◌∷◌, ◌++◌, length, slice_range, sum_by, get_or}
+use Rattle.std.specs.Prelude.{Option, None, Some}
 use Rattle.std.specs.List.{All}
 use Rattle.text_model.specs.declared.cells.Cell.{Cell}
 use Rattle.std.specs.FinSet as set
@@ -29,7 +30,8 @@ behind_cells old new [] = []
 behind_cells old new (part ∷ parts) = behind_cells old new parts ++ part_cells old new part
 
 abbrev pub cursor_cells : List Cell → Cursor → List Cell
-cursor_cells old cursor = front_cells old cursor.fresh.items cursor.front.items ++ behind_cells old cursor.fresh.items cursor.behind.items
+cursor_cells old cursor =
+    front_cells old cursor.fresh.items cursor.front.items ++ behind_cells old cursor.fresh.items cursor.behind.items
 
 abbrev pub parts_len : List Part → ℕ
 parts_len parts = sum_by (λ (part : Part). part.to - part.from) parts
@@ -71,7 +73,8 @@ pub record Puts (text : List ℕ) (slots : Slots) (before now : Cursor) : Type 0
   pub is : IsCursor now
   pub old_len : now.old_len ≡ before.old_len
   pub len : now.len ≡ before.len + length text
-  pub cells : (old : List Cell) → length old ≡ before.old_len → cursor_cells old now ≡ inserted before.at (cells_of text slots) (cursor_cells old before)
+  pub cells : (old : List Cell) → length old ≡ before.old_len →
+      cursor_cells old now ≡ inserted before.at (cells_of text slots) (cursor_cells old before)
 
 -- the slots of a cell of the old text, or those of what was put in
 abbrev pub slots_in : Option Slots → List Cell → ℕ → Slots

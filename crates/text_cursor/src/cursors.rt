@@ -1,10 +1,11 @@
-//! A text on the way from an old one to what an edit makes of it, which no store holds yet: parts of the old text and texts
-//! that were put in, around a place.
+//! A text on the way from an old one to what an edit makes of it, which no store holds yet: parts of the old text and
+//! texts that were put in, around a place.
 
 ghost use Rattle.std.specs.Prelude.{◌≡◌, ℕ, ◌+◌, ◌-◌, ◌<◌, ◌≤◌, ◌^◌, ◌++◌, List, length, drop, chars, IfOk, OnOk};
 ghost use Rattle.text_model.specs.declared.cells.Cell.{Cell};
 ghost use Rattle.std.specs.List.{All};
-ghost use Rattle.text_cursor.specs.Cursors.{cursor_cells, behind_cells, parts_len, part_cells, source_len, slots_in, last_line, PartFits, IsCursor, Moves, Takes, Puts};
+ghost use Rattle.text_cursor.specs.Cursors.{cursor_cells, behind_cells, parts_len, part_cells, source_len, slots_in};
+ghost use Rattle.text_cursor.specs.Cursors.{last_line, PartFits, IsCursor, Moves, Takes, Puts};
 ghost use Rattle.text_cursor.specs.Around.{shared_slots};
 ghost use Rattle.text_model.specs.Content.{characters};
 ghost use Rattle.text_model.specs.Lines.{line_of, line_start};
@@ -21,8 +22,8 @@ struct Part {
     slots: Option<TagSet>,
 }
 
-/// A place in a text of so many characters, of which the old text had `old_len`: the parts before it and those behind it, the
-/// nearest part of each last.
+/// A place in a text of so many characters, of which the old text had `old_len`: the parts before it and those behind
+/// it, the nearest part of each last.
 #[derive(Drop)]
 pub struct Cursor {
     pub old_len: usize,
@@ -37,7 +38,8 @@ pub struct Cursor {
 fn whole(alloc: Global, len: usize, room: usize) -> Result<Vec<Part>, AllocError>
     ensures fit { IfOk result (λ parts. (new : ℕ) → All (PartFits len new) parts.items) }
     ensures len { IfOk result (λ parts. parts_len parts.items ≡ len) }
-    ensures cells { IfOk result (λ parts. (old : List Cell) (new : List ℕ) → length old ≡ len → behind_cells old new parts.items ≡ old) }
+    ensures cells { IfOk result (λ parts. (old : List Cell) (new : List ℕ) → length old ≡ len →
+        behind_cells old new parts.items ≡ old) }
 {
     let mut parts = Vec::with_capacity(alloc, room)?;
     if len == 0 {
@@ -268,7 +270,8 @@ fn next_line_in<S: TextStore>(store: &S, fresh: &[char], part: &Part) -> usize
 }
 
 impl Cursor {
-    /// The slots that the characters on both sides of the place share, in what a store's text became; none at the start.
+    /// The slots that the characters on both sides of the place share, in what a store's text became; none at the
+    /// start.
     pub fn shared<S: TextStore>(&self, store: &S) -> TagSet
         requires cursor { IsCursor self.now }
         requires old { self.now.old_len ≡ length (S.content store.now).cells }
@@ -309,7 +312,8 @@ impl Cursor {
     pub fn next<S: TextStore>(&self, store: &S) -> usize
         requires cursor { IsCursor self.now }
         requires old { self.now.old_len ≡ length (S.content store.now).cells }
-        ensures value { result ≡ line_start 1 (drop self.now.at (characters (cursor_cells (S.content store.now).cells self.now))) }
+        ensures value { result
+            ≡ line_start 1 (drop self.now.at (characters (cursor_cells (S.content store.now).cells self.now))) }
         ensures bound { self.now.at + result ≤ self.now.len }
     {
         let mut left = self.behind.len();

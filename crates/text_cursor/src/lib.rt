@@ -1,5 +1,5 @@
-//! A cursor over a text on the way from an old one: parts of the old text and texts that were put in, around a place. Between the
-//! steps of an edit it answers which slots both sides of the place share, and where lines begin.
+//! A cursor over a text on the way from an old one: parts of the old text and texts that were put in, around a place.
+//! Between the steps of an edit it answers which slots both sides of the place share, and where lines begin.
 #![tactic(auto)]
 
 mod cursors;

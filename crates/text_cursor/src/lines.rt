@@ -8,7 +8,8 @@ use text_model::TextStore;
 /// Where the line of an offset begins.
 pub fn line_at<S: TextStore>(store: &S, offset: usize) -> usize
     requires { offset ≤ length (S.content store.now).cells }
-    ensures { result ≡ line_start (line_of (characters (S.content store.now).cells) offset) (characters (S.content store.now).cells) }
+    ensures { result ≡ line_start (line_of (characters (S.content store.now).cells) offset)
+        (characters (S.content store.now).cells) }
 {
     store.line_start(store.line_of(offset))
 }

@@ -6,5 +6,6 @@ pub mod PositionLaws
 pub mod RangeLaws
 pub mod RangeRows
 pub mod RunLaws
+pub mod StartLaws
 pub mod ViewLaws
 pub mod WalkLaws

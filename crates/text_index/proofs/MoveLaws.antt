@@ -1,5 +1,6 @@
 -- What a move comes to, by the test that it takes.
-use Rattle.std.proofs.Common.{◌≡◌, ℕ, suc, ◌+◌, ◌-◌, ◌<◌, ◌≤◌, ◌==◌, Bool, true, false, List, length, take, drop, refl, sym, ap, ◌∙◌, arith, ne_eqb}
+use Rattle.std.proofs.Common.{◌≡◌, ℕ, suc, ◌+◌, ◌-◌, ◌<◌, ◌≤◌, ◌==◌, Bool, true, false, List, length, take, drop, refl}
+use Rattle.std.proofs.Common.{sym, ap, ◌∙◌, arith, ne_eqb}
 use Rattle.std.specs.Prelude.{slice_index, if◌then◌else◌}
 use Rattle.std.specs.List.{prefix_len, suffix_len}
 use Rattle.std.proofs.lemmas.Bool.Decides.{nat_tests, Decides-eqb}
@@ -9,22 +10,29 @@ use Rattle.text_index.proofs.ViewLaws.{line_of-within}
 
 -- ---- lines back
 
-back-to-end : (text : List ℕ) (count place line : ℕ) → line ≡ line_of text place - count → line ≡ lines text → lines_back count text place ≡ length text
+back-to-end : (text : List ℕ) (count place line : ℕ) → line ≡ line_of text place - count → line ≡ lines text →
+    lines_back count text place ≡ length text
 back-to-end text count place line is last =
-    ap (λ b. if b then length text else in_line (line_of text place - count) (column_of text place) text) ((Decides-eqb (line_of text place - count) (lines text)).1 (sym is ∙ last))
+    ap (λ b. if b then length text else in_line (line_of text place - count) (column_of text place) text)
+    ((Decides-eqb (line_of text place - count) (lines text)).1 (sym is ∙ last))
 
-pub back-to-last : (text : List ℕ) (count place from line end : ℕ) → from ≡ line_of text place → line ≡ from - count → line ≡ lines text → end ≡ length text → end ≡ lines_back count text place
-back-to-last text count place from line end from_is is last end_is = end_is ∙ sym (back-to-end text count place line (is ∙ ap (λ k. k - count) from_is) last)
+pub back-to-last : (text : List ℕ) (count place from line end : ℕ) → from ≡ line_of text place → line ≡ from - count →
+    line ≡ lines text → end ≡ length text → end ≡ lines_back count text place
+back-to-last text count place from line end from_is is last end_is =
+    end_is ∙ sym (back-to-end text count place line (is ∙ ap (λ k. k - count) from_is) last)
 
-pub back-within : (text : List ℕ) (count place from line : ℕ) → from ≡ line_of text place → line ≡ from - count → (line ≡ lines text → ⊥) → line < lines text
+pub back-within : (text : List ℕ) (count place from line : ℕ) → from ≡ line_of text place → line ≡ from - count →
+    (line ≡ lines text → ⊥) → line < lines text
 back-within text count place from line from_is is other = omega (arith, from_is, is, other, line_of-within text place)
 
-pub back-in-line : (text : List ℕ) (count place from line column found : ℕ) → from ≡ line_of text place → column ≡ column_of text place → line ≡ from - count → (line ≡ lines text → ⊥)
+pub back-in-line : (text : List ℕ) (count place from line column found : ℕ) → from ≡ line_of text place →
+    column ≡ column_of text place → line ≡ from - count → (line ≡ lines text → ⊥)
     → found ≡ in_line line column text → found ≡ lines_back count text place
 back-in-line text count place from line column found from_is column_is is other found_is =
     let there : line ≡ line_of text place - count = is ∙ ap (λ k. k - count) from_is in
     found_is ∙ ap (λ k. in_line k column text) there ∙ ap (λ k. in_line (line_of text place - count) k text) column_is
-    ∙ sym (ap (λ b. if b then length text else in_line (line_of text place - count) (column_of text place) text) (ne_eqb (line_of text place - count) (lines text) (λ same. other (there ∙ same))))
+    ∙ sym (ap (λ b. if b then length text else in_line (line_of text place - count) (column_of text place) text)
+    (ne_eqb (line_of text place - count) (lines text) (λ same. other (there ∙ same))))
 
 -- ---- words
 
@@ -37,39 +45,53 @@ inside text place value other = ap (λ b. if b then length text else value) (ne_
 pub stays : (text : List ℕ) (place value : ℕ) → place ≡ length text → place ≡ unless_end text place value
 stays text place value same = same ∙ sym (at-end text place value same)
 
-pub moves : (text : List ℕ) (place value found : ℕ) → (place ≡ length text → ⊥) → found ≡ value → found ≡ unless_end text place value
+pub moves : (text : List ℕ) (place value found : ℕ) → (place ≡ length text → ⊥) → found ≡ value →
+    found ≡ unless_end text place value
 moves text place value found other is = is ∙ sym (inside text place value other)
 
-pub front-of-word : (test : ℕ → Bool) (text : List ℕ) (place found : ℕ) (is : Bool) → is ≡ test (slice_index text place) → is ≡ true → found ≡ place - suffix_len test (take place text)
+pub front-of-word : (test : ℕ → Bool) (text : List ℕ) (place found : ℕ) (is : Bool) →
+    is ≡ test (slice_index text place) → is ≡ true → found ≡ place - suffix_len test (take place text)
     → found ≡ word_front test text place
 front-of-word test text place found is value met found_is =
     found_is ∙ sym (ap (λ b. if b then place - suffix_len test (take place text) else place) (sym value ∙ met))
 
-pub front-of-other : (test : ℕ → Bool) (text : List ℕ) (place : ℕ) (is : Bool) → is ≡ test (slice_index text place) → is ≡ false → place ≡ word_front test text place
-front-of-other test text place is value unmet = sym (ap (λ b. if b then place - suffix_len test (take place text) else place) (sym value ∙ unmet))
+pub front-of-other : (test : ℕ → Bool) (text : List ℕ) (place : ℕ) (is : Bool) → is ≡ test (slice_index text place) →
+    is ≡ false → place ≡ word_front test text place
+front-of-other test text place is value unmet =
+    sym (ap (λ b. if b then place - suffix_len test (take place text) else place) (sym value ∙ unmet))
 
 -- the end of a word, from a place that isn't the last
-behind : (test : ℕ → Bool) (text : List ℕ) (place found : ℕ) → 1 < length text - place → found ≡ word_behind test text place → found ≡ unless_end text place (word_end test text place)
+behind : (test : ℕ → Bool) (text : List ℕ) (place found : ℕ) → 1 < length text - place →
+    found ≡ word_behind test text place → found ≡ unless_end text place (word_end test text place)
 behind test text place found more is =
     moves text place (word_end test text place) found (λ same. omega (arith, same, more))
-    (is ∙ sym (ap (λ b. if b then place else word_behind test text place) (ne_eqb (suc place) (length text) (λ same. omega (arith, same, more)))))
+    (is ∙ sym (ap (λ b. if b then place else word_behind test text place)
+    (ne_eqb (suc place) (length text) (λ same. omega (arith, same, more)))))
 
-pub end-of-word : (test : ℕ → Bool) (text : List ℕ) (place found : ℕ) (is : Bool) → 1 < length text - place → is ≡ test (slice_index text place) → is ≡ true
+pub end-of-word : (test : ℕ → Bool) (text : List ℕ) (place found : ℕ) (is : Bool) → 1 < length text - place →
+    is ≡ test (slice_index text place) → is ≡ true
     → found ≡ place + prefix_len test (drop place text) → found ≡ unless_end text place (word_end test text place)
 end-of-word test text place found is more value met found_is =
-    behind test text place found more (found_is ∙ sym (ap (λ b. if b then place + prefix_len test (drop place text) else place + 1) (sym value ∙ met)))
+    behind test text place found more (found_is
+    ∙ sym (ap (λ b. if b then place + prefix_len test (drop place text) else place + 1) (sym value ∙ met)))
 
-pub end-of-other : (test : ℕ → Bool) (text : List ℕ) (place : ℕ) (is : Bool) → 1 < length text - place → is ≡ test (slice_index text place) → is ≡ false
+pub end-of-other : (test : ℕ → Bool) (text : List ℕ) (place : ℕ) (is : Bool) → 1 < length text - place →
+    is ≡ test (slice_index text place) → is ≡ false
     → place + 1 ≡ unless_end text place (word_end test text place)
 end-of-other test text place is more value unmet =
-    behind test text place (place + 1) more (sym (ap (λ b. if b then place + prefix_len test (drop place text) else place + 1) (sym value ∙ unmet)))
+    behind test text place (place + 1) more
+    (sym (ap (λ b. if b then place + prefix_len test (drop place text) else place + 1) (sym value ∙ unmet)))
 
 -- the last place stays, and so does the end
-pub end-of-last : (test : ℕ → Bool) (text : List ℕ) (place : ℕ) → place ≤ length text → length text - place ≤ 1 → place ≡ unless_end text place (word_end test text place)
+pub end-of-last : (test : ℕ → Bool) (text : List ℕ) (place : ℕ) → place ≤ length text → length text - place ≤ 1 →
+    place ≡ unless_end text place (word_end test text place)
 end-of-last test text place within few =
-    elim (place == length text) as (λ b. place == length text ≡ b → place ≡ unless_end text place (word_end test text place)) [
+    elim (place == length text) as (λ b. place == length text ≡ b →
+    place ≡ unless_end text place (word_end test text place)) [
       | true ↦ λ same. stays text place (word_end test text place) ((Decides-eqb place (length text)).0 same)
       | false ↦ λ other.
           let last : suc place ≡ length text = grind (arith, nat_tests) in
-          sym (ap (λ b. if b then length text else word_end test text place) other ∙ ap (λ b. if b then place else word_behind test text place) ((Decides-eqb (suc place) (length text)).1 last))
+          sym (ap (λ b. if b then length text else word_end test text place) other
+          ∙ ap (λ b. if b then place else word_behind test text place)
+          ((Decides-eqb (suc place) (length text)).1 last))
     ] refl

@@ -11,11 +11,14 @@ behind_dot text ascii zero = omega arith
 behind_dot text ascii (suc i) = ascii i
 
 -- numbers round a dot that are put behind a text
-pub chars-behind : (shown before after : List ℕ) (place line column : ℕ) → IsUtf8 before → after ≡ before ++ (decimal (1 + line) ++ 46 ∷ decimal column)
-    → IsAscii (decimal (1 + line)) → IsAscii (decimal column) → line ≡ line_of shown place → column ≡ column_of shown place
+pub chars-behind : (shown before after : List ℕ) (place line column : ℕ) → IsUtf8 before →
+    after ≡ before ++ (decimal (1 + line) ++ 46 ∷ decimal column)
+    → IsAscii (decimal (1 + line)) → IsAscii (decimal column) → line ≡ line_of shown place →
+    column ≡ column_of shown place
     → chars after ≡ chars before ++ position_text shown place
 chars-behind shown before after place line column is_text is ascii other line_is column_is =
     let numbers = decimal (1 + line) ++ 46 ∷ decimal column in
     ap chars is ∙ chars-append before numbers is_text
-    ∙ ap (λ xs. chars before ++ xs) (chars-IsAscii numbers (IsAscii-append (decimal (1 + line)) (46 ∷ decimal column) ascii (behind_dot (decimal column) other)))
+    ∙ ap (λ xs. chars before ++ xs) (chars-IsAscii numbers
+    (IsAscii-append (decimal (1 + line)) (46 ∷ decimal column) ascii (behind_dot (decimal column) other)))
     ∙ ap₂ (λ l c. chars before ++ (decimal (1 + l) ++ 46 ∷ decimal c)) line_is column_is

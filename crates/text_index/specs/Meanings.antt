@@ -10,7 +10,8 @@ use Rattle.text_index.specs.Values.{index_value}
 use Rattle.index_grammar.specs.declared.faults.IndexFault.{IndexFault}
 use Rattle.index_grammar.specs.declared.faults.IndexFault.TheVariants.{BadIndex}
 
--- numbers for the names of marks and of tags; where a view shows each mark, if it does, and which of its characters have each tag
+-- numbers for the names of marks and of tags; where a view shows each mark, if it does, and which of its characters
+-- have each tag
 pub record Meanings : Type 0 where
   pub marks : List ℕ → Option ℕ
   pub places : ℕ → Option ℕ

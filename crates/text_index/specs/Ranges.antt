@@ -1,6 +1,7 @@
--- The ranges of a tag (text(n), "tag ranges"): the maximal runs of characters that have it, told by flags that say of each
--- character whether it has the tag.
-use Rattle.std.specs.Prelude.{ℕ, zero, suc, ◌+◌, nat_le, nat_lt, Bool, true, false, not, ◌&&◌, List, [], ◌∷◌, filter, find, Option, None, Some}
+-- The ranges of a tag (text(n), "tag ranges"): the maximal runs of characters that have it, told by flags that say of
+-- each character whether it has the tag.
+use Rattle.std.specs.Prelude.{ℕ, zero, suc, ◌+◌, nat_le, nat_lt, Bool, true, false, not, ◌&&◌, List, [], ◌∷◌, filter}
+use Rattle.std.specs.Prelude.{find, Option, None, Some}
 use Rattle.std.specs.List.{prefix_len, last_or}
 use Rattle.text_model.specs.Changes.{flag_at}
 use Rattle.text_index.specs.declared.ranges.TagRange.{TagRange}
@@ -8,13 +9,14 @@ use Rattle.text_index.specs.declared.ranges.TagRange.{TagRange}
 abbrev pub is_set : Bool → Bool
 is_set flag = flag
 
--- the ranges of the flags from a place on, behind another flag: one begins at each flag that is set behind one that isn't,
--- and ends behind the last of that run
+-- the ranges of the flags from a place on, behind another flag: one begins at each flag that is set behind one that
+-- isn't, and ends behind the last of that run
 abbrev pub ranges_behind : Bool → ℕ → List Bool → List TagRange
 ranges_behind before at [] = []
 ranges_behind before at (false ∷ flags) = ranges_behind false (suc at) flags
 ranges_behind true at (true ∷ flags) = ranges_behind true (suc at) flags
-ranges_behind false at (true ∷ flags) = record { start = at; end = suc at + prefix_len is_set flags } ∷ ranges_behind true (suc at) flags
+ranges_behind false at (true ∷ flags) =
+    record { start = at; end = suc at + prefix_len is_set flags } ∷ ranges_behind true (suc at) flags
 
 -- the ranges, from first to last
 abbrev pub tag_ranges : List Bool → List TagRange

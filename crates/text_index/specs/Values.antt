@@ -1,6 +1,7 @@
--- The place that an index stands for (text(n), "INDICES"), counted from the start of the view's text. Lines of the text count
--- from 0 here, and those of an index from 1.
-use Rattle.std.specs.Prelude.{ℕ, zero, suc, ◌+◌, ◌-◌, ◌==◌, min, nat_lt, Bool, not, List, [], ◌∷◌, length, take, drop, slice_index, position, Option, None, Some, Result, Ok, Err, if◌then◌else◌}
+-- The place that an index stands for (text(n), "INDICES"), counted from the start of the view's text. Lines of the text
+-- count from 0 here, and those of an index from 1.
+use Rattle.std.specs.Prelude.{ℕ, zero, suc, ◌+◌, ◌-◌, ◌==◌, min, nat_lt, Bool, not, List, [], ◌∷◌, length, take, drop}
+use Rattle.std.specs.Prelude.{slice_index, position, Option, None, Some, Result, Ok, Err, if◌then◌else◌}
 use Rattle.std.specs.List.{prefix_len, suffix_len}
 use Rattle.text_model.specs.Lines.{lines, line_of, line_start}
 use Rattle.index_grammar.specs.declared.faults.IndexFault.{IndexFault}
@@ -44,7 +45,8 @@ unless_end text place value = if place == length text then length text else valu
 
 -- the same character so many lines on, or on the last line
 abbrev pub lines_on : ℕ → List ℕ → ℕ → ℕ
-lines_on count text place = unless_end text place (in_line (min (line_of text place + count) (lines text - 1)) (column_of text place) text)
+lines_on count text place =
+    unless_end text place (in_line (min (line_of text place + count) (lines text - 1)) (column_of text place) text)
 
 -- the same character so many lines back, or on the first line; the end is the first character of a line behind the last
 abbrev pub lines_back : ℕ → List ℕ → ℕ → ℕ
@@ -82,7 +84,8 @@ modified is_word text place modifier.WordEnd = unless_end text place (word_end i
 -- the modifiers from the first on
 abbrev pub modified_by : (ℕ → Bool) → List ℕ → List Modifier → ℕ → ℕ
 modified_by is_word text [] place = place
-modified_by is_word text (first ∷ modifiers) place = modified_by is_word text modifiers (modified is_word text place first)
+modified_by is_word text (first ∷ modifiers) place =
+    modified_by is_word text modifiers (modified is_word text place first)
 
 -- ---- bases, by where the view shows each mark, and which of its characters have the tag of a slot
 
@@ -91,7 +94,8 @@ abbrev pub first_tagged : List Bool → Option ℕ
 first_tagged flags = position (λ b. b) flags
 
 abbrev pub last_tagged : List Bool → Option ℕ
-last_tagged flags = if nat_lt (suffix_len not flags) (length flags) then Some (length flags - suffix_len not flags) else None
+last_tagged flags =
+    if nat_lt (suffix_len not flags) (length flags) then Some (length flags - suffix_len not flags) else None
 
 abbrev pub or_fault : IndexFault → Option ℕ → Result ℕ IndexFault
 or_fault fault None = Err fault
@@ -109,5 +113,7 @@ abbrev pub then_modified : (ℕ → Bool) → List ℕ → List Modifier → Res
 then_modified is_word text modifiers (Err fault) = Err fault
 then_modified is_word text modifiers (Ok place) = Ok (modified_by is_word text modifiers place)
 
-abbrev pub index_value : (ℕ → Bool) → (ℕ → Option ℕ) → (ℕ → List Bool) → List ℕ → Base → List Modifier → Result ℕ IndexFault
-index_value is_word marks flags text base modifiers = then_modified is_word text modifiers (base_value marks flags text base)
+abbrev pub index_value : (ℕ → Bool) → (ℕ → Option ℕ) → (ℕ → List Bool) → List ℕ → Base → List Modifier →
+    Result ℕ IndexFault
+index_value is_word marks flags text base modifiers =
+    then_modified is_word text modifiers (base_value marks flags text base)

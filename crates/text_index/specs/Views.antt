@@ -1,5 +1,6 @@
 -- The part of a text that a view shows: from one offset to another.
-use Rattle.std.specs.Prelude.{option_and_then, ◌≡◌, ℕ, ◌≤◌, nat_lt, nat_le, min, ◌-◌, Bool, ◌&&◌, List, slice_range, length, Option, None, Some, if◌then◌else◌}
+use Rattle.std.specs.Prelude.{option_and_then, ◌≡◌, ℕ, ◌≤◌, nat_lt, nat_le, min, ◌-◌, Bool, ◌&&◌, List, slice_range}
+use Rattle.std.specs.Prelude.{length, Option, None, Some, if◌then◌else◌}
 use Rattle.std.specs.FinMap as finite
 use Rattle.text_model.specs.Content.{Content, characters, flags}
 use Rattle.text_model.specs.Lines.{IsLineStart}
@@ -32,5 +33,6 @@ shared_place start end place =
 -- where it shows the mark of a number, if it does: the numbers below the first of the shared marks are widgets' own
 abbrev pub shown_mark : Content → ℕ → ℕ → ℕ → Option ℕ
 shown_mark content start end number =
-    option_and_then (λ place. if nat_lt number first_number then Some (own_place start end place) else shared_place start end place)
+    option_and_then (λ place. if nat_lt number first_number then Some (own_place start end place)
+    else shared_place start end place)
     (finite.get content.marks number)

@@ -1,5 +1,5 @@
-//! Indices of the text widget: the places that they stand for, and their printed form (text(n), "INDICES"). Which words are
-//! which indices is `index_grammar`, whose calls are passed on.
+//! Indices of the text widget: the places that they stand for, and their printed form (text(n), "INDICES"). Which words
+//! are which indices is `index_grammar`, whose calls are passed on.
 #![tactic(auto)]
 
 mod locating;

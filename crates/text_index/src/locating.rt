@@ -13,8 +13,8 @@ use text_model::TextStore;
 
 /// The place in a view that a word stands for, counted from the start of the view (text(n), "INDICES").
 ///
-/// "bad text index" where the word is no index, or names a mark that the view can't use; "no tagged characters" where no
-/// character of the view has the tag that it names.
+/// "bad text index" where the word is no index, or names a mark that the view can't use; "no tagged characters" where
+/// no character of the view has the tag that it names.
 pub fn locate<S: TextStore>(
     alloc: Global,
     word: &str,
@@ -25,7 +25,8 @@ pub fn locate<S: TextStore>(
     requires view { IsView (S.content view.now.store.now) view.now.s view.now.e }
     requires room { length (S.content view.now.store.now).cells < usize.MAX }
     ensures value { result ≢ Err Memory → result ≡ word_value is_word
-        (shown_meanings names.now.marks.now.marks names.now.tags.now.tags names.now.widget.0 (S.content view.now.store.now) view.now.s view.now.e)
+        (shown_meanings names.now.marks.now.marks names.now.tags.now.tags names.now.widget.0
+        (S.content view.now.store.now) view.now.s view.now.e)
         (shown (S.content view.now.store.now) view.now.s view.now.e) (chars word.now) }
     ensures within { IfOk result (λ place. view.now.s + place ≤ view.now.e) }
 {

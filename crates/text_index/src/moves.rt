@@ -28,7 +28,7 @@ pub fn back(place: usize, count: usize) -> usize
 }
 
 /// The newline of a line.
-pub fn newline_of<S: TextStore>(view: &View<'_, S>, line: usize) -> usize
+fn newline_of<S: TextStore>(view: &View<'_, S>, line: usize) -> usize
     requires view { IsView (S.content view.now.store.now) view.now.s view.now.e }
     requires known { line < lines (shown (S.content view.now.store.now) view.now.s view.now.e) }
     ensures value { result ≡ newline_of line (shown (S.content view.now.store.now) view.now.s view.now.e) }
@@ -38,7 +38,7 @@ pub fn newline_of<S: TextStore>(view: &View<'_, S>, line: usize) -> usize
 }
 
 /// A character of a line, or its newline where the line is shorter.
-pub fn in_line<S: TextStore>(view: &View<'_, S>, line: usize, character: usize) -> usize
+fn in_line<S: TextStore>(view: &View<'_, S>, line: usize, character: usize) -> usize
     requires view { IsView (S.content view.now.store.now) view.now.s view.now.e }
     requires known { line < lines (shown (S.content view.now.store.now) view.now.s view.now.e) }
     ensures value { result ≡ in_line line character (shown (S.content view.now.store.now) view.now.s view.now.e) }
@@ -55,8 +55,8 @@ pub fn line_and_column<S: TextStore>(view: &View<'_, S>, place: usize) -> (usize
     ensures line { result.0 ≡ line_of (shown (S.content view.now.store.now) view.now.s view.now.e) place }
     ensures column { result.1 ≡ column_of (shown (S.content view.now.store.now) view.now.s view.now.e) place }
 {
-    let line = view.line_of(place);
-    (line, place - view.line_start(line))
+    let (line, start) = view.line_at(place);
+    (line, place - start)
 }
 
 /// The same character so many lines on, or on the last line; its newline where that line is shorter. The end stays.
@@ -77,8 +77,8 @@ fn lines_on<S: TextStore>(view: &View<'_, S>, place: usize, count: usize) -> usi
     )
 }
 
-/// The same character so many lines back, or on the first line; its newline where that line is shorter. The end counts as
-/// the first character of a line behind the last.
+/// The same character so many lines back, or on the first line; its newline where that line is shorter. The end counts
+/// as the first character of a line behind the last.
 fn lines_back<S: TextStore>(view: &View<'_, S>, place: usize, count: usize) -> usize
     requires view { IsView (S.content view.now.store.now) view.now.s view.now.e }
     requires within { view.now.s + place ≤ view.now.e }
@@ -103,9 +103,11 @@ pub fn lines_by<S: TextStore>(
 ) -> usize
     requires view { IsView (S.content view.now.store.now) view.now.s view.now.e }
     requires within { view.now.s + place ≤ view.now.e }
-    ensures value { result ≡ lines_by direction count (shown (S.content view.now.store.now) view.now.s view.now.e) place }
+    ensures value { result ≡ lines_by direction count (shown (S.content view.now.store.now) view.now.s view.now.e)
+        place }
     ensures bound { view.now.s + result ≤ view.now.e }
 {
+    let view = &view.lined();
     match direction {
         Direction::Forward => lines_on(view, place, count),
         Direction::Back => lines_back(view, place, count),
@@ -116,7 +118,8 @@ pub fn lines_by<S: TextStore>(
 pub fn word_start<S: TextStore>(view: &View<'_, S>, place: usize) -> usize
     requires view { IsView (S.content view.now.store.now) view.now.s view.now.e }
     requires within { view.now.s + place ≤ view.now.e }
-    ensures value { result ≡ modified is_word (shown (S.content view.now.store.now) view.now.s view.now.e) place modifier.WordStart }
+    ensures value { result ≡ modified is_word (shown (S.content view.now.store.now) view.now.s view.now.e) place
+        modifier.WordStart }
     ensures bound { view.now.s + result ≤ view.now.e }
 {
     if place == view.len() || !is_word(view.char_at(place)) {
@@ -129,7 +132,8 @@ pub fn word_start<S: TextStore>(view: &View<'_, S>, place: usize) -> usize
 pub fn word_end<S: TextStore>(view: &View<'_, S>, place: usize) -> usize
     requires view { IsView (S.content view.now.store.now) view.now.s view.now.e }
     requires within { view.now.s + place ≤ view.now.e }
-    ensures value { result ≡ modified is_word (shown (S.content view.now.store.now) view.now.s view.now.e) place modifier.WordEnd }
+    ensures value { result ≡ modified is_word (shown (S.content view.now.store.now) view.now.s view.now.e) place
+        modifier.WordEnd }
     ensures bound { view.now.s + result ≤ view.now.e }
 {
     let left = view.len() - place;
@@ -146,7 +150,8 @@ pub fn word_end<S: TextStore>(view: &View<'_, S>, place: usize) -> usize
 fn run_begin<S: TextStore>(view: &View<'_, S>, place: usize) -> usize
     requires view { IsView (S.content view.now.store.now) view.now.s view.now.e }
     requires within { view.now.s + place ≤ view.now.e }
-    ensures value { result ≡ place - suffix_len is_word (take place (shown (S.content view.now.store.now) view.now.s view.now.e)) }
+    ensures value { result ≡ place - suffix_len is_word
+        (take place (shown (S.content view.now.store.now) view.now.s view.now.e)) }
     ensures bound { view.now.s + result ≤ view.now.e }
 {
     for passed in 0..place {
@@ -161,7 +166,8 @@ fn run_begin<S: TextStore>(view: &View<'_, S>, place: usize) -> usize
 fn run_end<S: TextStore>(view: &View<'_, S>, place: usize) -> usize
     requires view { IsView (S.content view.now.store.now) view.now.s view.now.e }
     requires within { view.now.s + place ≤ view.now.e }
-    ensures value { result ≡ place + prefix_len is_word (drop place (shown (S.content view.now.store.now) view.now.s view.now.e)) }
+    ensures value { result ≡ place + prefix_len is_word
+        (drop place (shown (S.content view.now.store.now) view.now.s view.now.e)) }
     ensures bound { view.now.s + result ≤ view.now.e }
 {
     for at in place..view.len() {
@@ -176,24 +182,26 @@ fn run_end<S: TextStore>(view: &View<'_, S>, place: usize) -> usize
 pub fn line_start<S: TextStore>(view: &View<'_, S>, place: usize) -> usize
     requires view { IsView (S.content view.now.store.now) view.now.s view.now.e }
     requires within { view.now.s + place ≤ view.now.e }
-    ensures value { result ≡ modified is_word (shown (S.content view.now.store.now) view.now.s view.now.e) place modifier.LineStart }
+    ensures value { result ≡ modified is_word (shown (S.content view.now.store.now) view.now.s view.now.e) place
+        modifier.LineStart }
     ensures bound { view.now.s + result ≤ view.now.e }
 {
     if place == view.len() {
         return place;
     }
-    view.line_start(view.line_of(place))
+    view.start_at(place)
 }
 
 /// The newline of a place's line. The end stays.
 pub fn line_end<S: TextStore>(view: &View<'_, S>, place: usize) -> usize
     requires view { IsView (S.content view.now.store.now) view.now.s view.now.e }
     requires within { view.now.s + place ≤ view.now.e }
-    ensures value { result ≡ modified is_word (shown (S.content view.now.store.now) view.now.s view.now.e) place modifier.LineEnd }
+    ensures value { result ≡ modified is_word (shown (S.content view.now.store.now) view.now.s view.now.e) place
+        modifier.LineEnd }
     ensures bound { view.now.s + result ≤ view.now.e }
 {
     if place == view.len() {
         return place;
     }
-    newline_of(view, view.line_of(place))
+    view.behind_at(place) - 1
 }

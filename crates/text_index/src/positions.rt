@@ -10,7 +10,8 @@ use text_model::TextStore;
 
 /// Appends two numbers round a dot, or nothing.
 fn push_numbers(text: &mut String, line: u128, character: usize) -> Result<(), AllocError>
-    ensures ok { OnOk result (string_bytes text.new ≡ string_bytes text.old ++ (decimal line ++ 46 ∷ decimal character)) }
+    ensures ok { OnOk result (string_bytes text.new ≡ string_bytes text.old
+        ++ (decimal line ++ 46 ∷ decimal character)) }
     ensures line { IsAscii (decimal line) }
     ensures character { IsAscii (decimal character) }
     ensures err { OnErr result (string_bytes text.new ≡ string_bytes text.old) }
@@ -26,8 +27,8 @@ fn push_numbers(text: &mut String, line: u128, character: usize) -> Result<(), A
     Ok(())
 }
 
-/// Appends a place of a view as `line.char`: the line from 1, and the character from 0. After want of memory the text is as
-/// before.
+/// Appends a place of a view as `line.char`: the line from 1, and the character from 0. After want of memory the text
+/// is as before.
 pub fn push_index<S: TextStore>(
     text: &mut String,
     view: &View<'_, S>,
@@ -36,7 +37,8 @@ pub fn push_index<S: TextStore>(
     requires view { IsView (S.content view.now.store.now) view.now.s view.now.e }
     requires within { view.now.s + place ≤ view.now.e }
     ensures ok { OnOk result (chars (string_bytes text.new)
-        ≡ chars (string_bytes text.old) ++ position_text (shown (S.content view.now.store.now) view.now.s view.now.e) place) }
+        ≡ chars (string_bytes text.old) ++ position_text (shown (S.content view.now.store.now) view.now.s view.now.e)
+        place) }
     ensures err { OnErr result (string_bytes text.new ≡ string_bytes text.old) }
 {
     let (line, character) = line_and_column(view, place);

@@ -8,8 +8,8 @@ ghost use Rattle.text_index.specs.Values.{first_tagged, last_tagged};
 use crate::views::View;
 use text_model::{TagSlot, TextStore};
 
-/// A range of a tag in a view (text(n), "tag ranges"): the place of its first character, and the place behind its last one.
-/// Places count from the start of the view; a range that begins before the view begins at its start.
+/// A range of a tag in a view (text(n), "tag ranges"): the place of its first character, and the place behind its last
+/// one. Places count from the start of the view; a range that begins before the view begins at its start.
 #[derive(Clone, Copy, Debug, PartialEq, Eq)]
 pub struct TagRange {
     pub start: usize,
@@ -31,7 +31,8 @@ fn change_behind<S: TextStore>(view: &View<'_, S>, slot: TagSlot, place: usize) 
     requires view { IsView (S.content view.now.store.now) view.now.s view.now.e }
     requires slot { slot.0 < slot_count }
     requires within { view.now.s + place < view.now.e }
-    ensures value { result ≡ next_change (shown_flags slot.0 (S.content view.now.store.now) view.now.s view.now.e) place }
+    ensures value { result ≡ next_change (shown_flags slot.0 (S.content view.now.store.now) view.now.s view.now.e)
+        place }
     ensures above { place < result }
     ensures bound { view.now.s + result ≤ view.now.e }
 {
@@ -45,7 +46,8 @@ fn change_before<S: TextStore>(view: &View<'_, S>, slot: TagSlot, place: usize) 
     requires slot { slot.0 < slot_count }
     requires some { 0 < place }
     requires within { view.now.s + place ≤ view.now.e }
-    ensures value { result ≡ previous_change (shown_flags slot.0 (S.content view.now.store.now) view.now.s view.now.e) place }
+    ensures value { result ≡ previous_change (shown_flags slot.0 (S.content view.now.store.now) view.now.s view.now.e)
+        place }
     ensures below { result < place }
 {
     let change = view.store.previous_change(view.s + place, slot);
@@ -57,9 +59,12 @@ fn behind_range<S: TextStore>(view: &View<'_, S>, slot: TagSlot, place: usize) -
     requires view { IsView (S.content view.now.store.now) view.now.s view.now.e }
     requires slot { slot.0 < slot_count }
     requires within { view.now.s + place ≤ view.now.e }
-    ensures passed { (k : ℕ) → place ≤ k → k < result → begins (shown_flags slot.0 (S.content view.now.store.now) view.now.s view.now.e) k ≡ false }
+    ensures passed { (k : ℕ) → place ≤ k → k < result →
+        begins (shown_flags slot.0 (S.content view.now.store.now) view.now.s view.now.e) k ≡ false }
     ensures here { flag_at (shown_flags slot.0 (S.content view.now.store.now) view.now.s view.now.e) result ≡ true
         → begins (shown_flags slot.0 (S.content view.now.store.now) view.now.s view.now.e) result ≡ true }
+    ensures past { place < result →
+        flag_at (shown_flags slot.0 (S.content view.now.store.now) view.now.s view.now.e) result ≡ false }
     ensures above { place ≤ result }
     ensures bound { view.now.s + result ≤ view.now.e }
 {
@@ -74,13 +79,21 @@ fn next_start<S: TextStore>(view: &View<'_, S>, slot: TagSlot, place: usize) -> 
     requires view { IsView (S.content view.now.store.now) view.now.s view.now.e }
     requires slot { slot.0 < slot_count }
     requires within { view.now.s + place ≤ view.now.e }
-    ensures passed { (k : ℕ) → place ≤ k → k < result → begins (shown_flags slot.0 (S.content view.now.store.now) view.now.s view.now.e) k ≡ false }
-    ensures here { view.now.s + result < view.now.e → begins (shown_flags slot.0 (S.content view.now.store.now) view.now.s view.now.e) result ≡ true }
+    ensures passed { (k : ℕ) → place ≤ k → k < result →
+        begins (shown_flags slot.0 (S.content view.now.store.now) view.now.s view.now.e) k ≡ false }
+    ensures here { view.now.s + result < view.now.e →
+        begins (shown_flags slot.0 (S.content view.now.store.now) view.now.s view.now.e) result ≡ true }
     ensures above { place ≤ result }
     ensures bound { view.now.s + result ≤ view.now.e }
 {
+    if place == view.len() {
+        return place;
+    }
+    if !is_tagged(view, slot, place) {
+        return change_behind(view, slot, place);
+    }
     let from = behind_range(view, slot, place);
-    if from == view.len() || is_tagged(view, slot, from) {
+    if from == place || from == view.len() {
         return from;
     }
     change_behind(view, slot, from)
@@ -91,8 +104,10 @@ fn behind_tagged<S: TextStore>(view: &View<'_, S>, slot: TagSlot, place: usize) 
     requires view { IsView (S.content view.now.store.now) view.now.s view.now.e }
     requires slot { slot.0 < slot_count }
     requires within { view.now.s + place ≤ view.now.e }
-    ensures passed { (k : ℕ) → result ≤ k → k < place → flag_at (shown_flags slot.0 (S.content view.now.store.now) view.now.s view.now.e) k ≡ false }
-    ensures here { 0 < result → flag_at (shown_flags slot.0 (S.content view.now.store.now) view.now.s view.now.e) (result - 1) ≡ true }
+    ensures passed { (k : ℕ) → result ≤ k → k < place →
+        flag_at (shown_flags slot.0 (S.content view.now.store.now) view.now.s view.now.e) k ≡ false }
+    ensures here { 0 < result → flag_at (shown_flags slot.0 (S.content view.now.store.now) view.now.s view.now.e)
+        (result - 1) ≡ true }
     ensures below { result ≤ place }
 {
     if place == 0 || is_tagged(view, slot, place - 1) {
@@ -108,7 +123,8 @@ pub fn next_range<S: TextStore>(view: &View<'_, S>, slot: TagSlot, place: usize)
     requires view { IsView (S.content view.now.store.now) view.now.s view.now.e }
     requires slot { slot.0 < slot_count }
     requires within { view.now.s + place ≤ view.now.e }
-    ensures value { result ≡ next_range (shown_flags slot.0 (S.content view.now.store.now) view.now.s view.now.e) place }
+    ensures value { result ≡ next_range (shown_flags slot.0 (S.content view.now.store.now) view.now.s view.now.e)
+        place }
     ensures later { ranges_from (shown_flags slot.0 (S.content view.now.store.now) view.now.s view.now.e) place
         ≡ and_later (shown_flags slot.0 (S.content view.now.store.now) view.now.s view.now.e) result }
     ensures behind { IfSome result (λ range. place ≤ range.start) }
@@ -123,7 +139,8 @@ pub fn next_range<S: TextStore>(view: &View<'_, S>, slot: TagSlot, place: usize)
     Some(TagRange { start, end })
 }
 
-/// The last range of a tag that begins before a place (text(n), "tag prevrange"); it may end behind it. It takes no memory.
+/// The last range of a tag that begins before a place (text(n), "tag prevrange"); it may end behind it. It takes no
+/// memory.
 pub fn previous_range<S: TextStore>(
     view: &View<'_, S>,
     slot: TagSlot,
@@ -132,7 +149,8 @@ pub fn previous_range<S: TextStore>(
     requires view { IsView (S.content view.now.store.now) view.now.s view.now.e }
     requires slot { slot.0 < slot_count }
     requires within { view.now.s + place ≤ view.now.e }
-    ensures value { result ≡ previous_range (shown_flags slot.0 (S.content view.now.store.now) view.now.s view.now.e) place }
+    ensures value { result ≡ previous_range (shown_flags slot.0 (S.content view.now.store.now) view.now.s view.now.e)
+        place }
     ensures before { IfSome result (λ range. range.start < place) }
     ensures some { IfSome result (λ range. range.start < range.end) }
     ensures bound { IfSome result (λ range. view.now.s + range.end ≤ view.now.e) }
@@ -142,6 +160,9 @@ pub fn previous_range<S: TextStore>(
         return None;
     }
     let start = change_before(view, slot, behind);
+    if behind < place {
+        return Some(TagRange { start, end: behind });
+    }
     let end = change_behind(view, slot, start);
     Some(TagRange { start, end })
 }

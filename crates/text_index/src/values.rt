@@ -1,18 +1,17 @@
-ghost use Rattle.std.specs.Prelude.{◌≡◌, ◌≤◌, ◌<◌, ◌+◌, IfOk, IfSome};
+ghost use Rattle.std.specs.Prelude.{◌≡◌, suc, ◌≤◌, ◌<◌, ◌+◌, None, Some, IfOk, IfSome};
 ghost use Rattle.text_index.specs.Views.{shown, shown_flags, shown_mark, IsView};
 ghost use Rattle.text_index.specs.Values.{line_value, base_value, modified, modified_by, index_value};
 ghost use Rattle.index_grammar.specs.Reading.{HasSlot};
 ghost use Rattle.text_index.specs.Words.{is_word};
 
-use crate::moves::{
-    back, forward, in_line, line_end, line_start, lines_by, newline_of, word_end, word_start,
-};
+use crate::moves::{back, forward, line_end, line_start, lines_by, word_end, word_start};
 use crate::ranges::{first_tagged, last_tagged};
 use crate::views::View;
 use index_grammar::{Base, Direction, Index, IndexFault, Modifier, Unit};
 use text_model::{Limits, MarkNo, TextStore};
 
-/// Where the view shows a mark: the widgets' own within its characters, and the shared ones only where they stand in it.
+/// Where the view shows a mark: the widgets' own within its characters, and the shared ones only where they stand in
+/// it.
 fn shown_mark<S: TextStore>(view: &View<'_, S>, number: MarkNo) -> Option<usize>
     requires view { IsView (S.content view.now.store.now) view.now.s view.now.e }
     ensures value { result ≡ shown_mark (S.content view.now.store.now) view.now.s view.now.e number.0 }
@@ -34,8 +33,37 @@ fn shown_mark<S: TextStore>(view: &View<'_, S>, number: MarkNo) -> Option<usize>
     }
 }
 
-/// The place of a line that counts from 1: the first place for line 0, and the end for a line behind the last. The newline
-/// of the line, where no character is named or the line is shorter.
+/// A character of a line, or its newline where the line is shorter; the end for a line behind the last.
+fn character_on<S: TextStore>(view: &View<'_, S>, line: usize, character: usize) -> usize
+    requires { IsView (S.content view.now.store.now) view.now.s view.now.e }
+    ensures value { result
+        ≡ line_value (suc line) (Some character) (shown (S.content view.now.store.now) view.now.s view.now.e) }
+    ensures bound { view.now.s + result ≤ view.now.e }
+{
+    let start = view.line_start(line);
+    if character == 0 {
+        return start;
+    }
+    match view.behind_line(line) {
+        None => start,
+        Some(behind) => start.saturating_add(character).min(behind - 1),
+    }
+}
+
+/// The newline of a line; the end for a line behind the last.
+fn newline_on<S: TextStore>(view: &View<'_, S>, line: usize) -> usize
+    requires { IsView (S.content view.now.store.now) view.now.s view.now.e }
+    ensures value { result ≡ line_value (suc line) None (shown (S.content view.now.store.now) view.now.s view.now.e) }
+    ensures bound { view.now.s + result ≤ view.now.e }
+{
+    match view.behind_line(line) {
+        None => view.len(),
+        Some(behind) => behind - 1,
+    }
+}
+
+/// The place of a line that counts from 1: the first place for line 0, and the end for a line behind the last. The
+/// newline of the line, where no character is named or the line is shorter.
 fn on_line<S: TextStore>(view: &View<'_, S>, line: usize, character: Option<usize>) -> usize
     requires view { IsView (S.content view.now.store.now) view.now.s view.now.e }
     ensures value { result ≡ line_value line character (shown (S.content view.now.store.now) view.now.s view.now.e) }
@@ -44,12 +72,9 @@ fn on_line<S: TextStore>(view: &View<'_, S>, line: usize, character: Option<usiz
     if line == 0 {
         return 0;
     }
-    if line > view.lines() {
-        return view.len();
-    }
     match character {
-        Some(character) => in_line(view, line - 1, character),
-        None => newline_of(view, line - 1),
+        None => newline_on(view, line - 1),
+        Some(character) => character_on(&view.lined(), line - 1, character),
     }
 }
 
@@ -80,7 +105,8 @@ fn base_value<S: TextStore>(view: &View<'_, S>, base: Base) -> Result<usize, Ind
 fn modified<S: TextStore>(view: &View<'_, S>, place: usize, modifier: Modifier) -> usize
     requires view { IsView (S.content view.now.store.now) view.now.s view.now.e }
     requires within { view.now.s + place ≤ view.now.e }
-    ensures value { result ≡ modified is_word (shown (S.content view.now.store.now) view.now.s view.now.e) place modifier }
+    ensures value { result ≡ modified is_word (shown (S.content view.now.store.now) view.now.s view.now.e) place
+        modifier }
     ensures within { view.now.s + result ≤ view.now.e }
 {
     match modifier {
@@ -115,7 +141,8 @@ pub fn resolve<S: TextStore>(index: &Index, view: &View<'_, S>) -> Result<usize,
 fn modified_by<S: TextStore>(view: &View<'_, S>, from: usize, modifiers: &[Modifier]) -> usize
     requires view { IsView (S.content view.now.store.now) view.now.s view.now.e }
     requires within { view.now.s + from ≤ view.now.e }
-    ensures value { result ≡ modified_by is_word (shown (S.content view.now.store.now) view.now.s view.now.e) modifiers.now from }
+    ensures value { result ≡ modified_by is_word (shown (S.content view.now.store.now) view.now.s view.now.e)
+        modifiers.now from }
     ensures within { view.now.s + result ≤ view.now.e }
 {
     let mut place = from;

@@ -1,4 +1,4 @@
-ghost use Rattle.std.specs.Prelude.{◌≡◌, ◌≤◌, ◌<◌, ◌+◌, ◌-◌, length, slice_index, IsTrue};
+ghost use Rattle.std.specs.Prelude.{◌≡◌, ℕ, suc, ◌≤◌, ◌<◌, ◌+◌, ◌-◌, None, Some, length, slice_index, IfSome, IsTrue};
 ghost use Rattle.text_model.specs.Content.{characters};
 ghost use Rattle.text_model.specs.Lines.{IsLineStart, lines, line_of, line_start};
 ghost use Rattle.text_index.specs.Views.{shown, IsView};
@@ -13,17 +13,66 @@ fn is_line_start<S: TextStore>(store: &S, offset: usize) -> bool
     offset <= store.len() && store.line_start(store.line_of(offset)) == offset
 }
 
+/// How many newlines stand before an offset; all of them for one behind the end.
+fn lines_before<S: TextStore>(store: &S, offset: usize) -> usize
+    ensures { result ≡ line_of (characters (S.content store.now).cells) offset }
+{
+    if offset == 0 {
+        0
+    } else if offset < store.len() {
+        store.line_of(offset)
+    } else {
+        store.lines()
+    }
+}
+
 /// The part of a text that a widget shows: whole lines, from the character at offset `s` to before the one at `e`.
-/// Places and lines of a view count from 0.
+/// Places and lines of a view count from 0. The number of its first line in the text may be known.
 #[derive(Drop)]
 pub struct View<'a, S: TextStore> {
     pub store: &'a S,
     pub s: usize,
     pub e: usize,
+    first_line: Option<usize>,
+    ghost told: { (line : ℕ) → first_line ≡ Some line → line ≡ line_of (characters (S.content store.now).cells) s },
 }
 
 impl<'a, S: TextStore> View<'a, S> {
-    /// Whether it shows whole lines of the store, as a view has to: both ends are begins of lines, or the end of the text.
+    /// From one offset to another. The store isn't asked for a line.
+    pub fn new(store: &'a S, s: usize, e: usize) -> View<'a, S>
+        ensures start { result.s ≡ s }
+        ensures end { result.e ≡ e }
+        ensures store { S.content result.store.now ≡ S.content store.now }
+    {
+        View {
+            store,
+            s,
+            e,
+            first_line: (s == 0).then_some(0),
+        }
+    }
+
+    /// The same view, for who tells the lines of several places: the store is asked for the first line now, and then no
+    /// more.
+    pub fn lined(&self) -> View<'a, S>
+        ensures start { result.s ≡ self.now.s }
+        ensures end { result.e ≡ self.now.e }
+        ensures store { S.content result.store.now ≡ S.content self.now.store.now }
+    {
+        let first_line = match self.first_line {
+            Some(line) => line,
+            None => lines_before(self.store, self.s),
+        };
+        View {
+            store: self.store,
+            s: self.s,
+            e: self.e,
+            first_line: Some(first_line),
+        }
+    }
+
+    /// Whether it shows whole lines of the store, as a view has to: both ends are begins of lines, or the end of the
+    /// text.
     pub fn shows_lines(&self) -> bool
         ensures yes { IsTrue result → IsView (S.content self.now.store.now) self.now.s self.now.e }
         ensures no { IsView (S.content self.now.store.now) self.now.s self.now.e → IsTrue result }
@@ -39,12 +88,23 @@ impl<'a, S: TextStore> View<'a, S> {
         self.e - self.s
     }
 
+    /// The number of its first line in the text.
+    fn first_line(&self) -> usize
+        requires { IsView (S.content self.now.store.now) self.now.s self.now.e }
+        ensures { result ≡ line_of (characters (S.content self.now.store.now).cells) self.now.s }
+    {
+        match self.first_line {
+            Some(line) => line,
+            None => self.store.line_of(self.s),
+        }
+    }
+
     /// How many lines it shows.
     pub fn lines(&self) -> usize
         requires { IsView (S.content self.now.store.now) self.now.s self.now.e }
         ensures { result ≡ lines (shown (S.content self.now.store.now) self.now.s self.now.e) }
     {
-        self.store.line_of(self.e) - self.store.line_of(self.s)
+        self.store.line_of(self.e) - self.first_line()
     }
 
     /// The line of a place.
@@ -53,17 +113,81 @@ impl<'a, S: TextStore> View<'a, S> {
         requires within { self.now.s + place ≤ self.now.e }
         ensures { result ≡ line_of (shown (S.content self.now.store.now) self.now.s self.now.e) place }
     {
-        self.store.line_of(self.s + place) - self.store.line_of(self.s)
+        self.store.line_of(self.s + place) - self.first_line()
     }
 
-    /// Where a line begins; the end for the line behind the last.
-    pub fn line_start(&self, line: usize) -> usize
+    /// The line of a place, and where it begins.
+    pub fn line_at(&self, place: usize) -> (usize, usize)
         requires view { IsView (S.content self.now.store.now) self.now.s self.now.e }
-        requires within { line ≤ lines (shown (S.content self.now.store.now) self.now.s self.now.e) }
+        requires within { self.now.s + place ≤ self.now.e }
+        ensures line { result.0 ≡ line_of (shown (S.content self.now.store.now) self.now.s self.now.e) place }
+        ensures start { result.1 ≡ line_start result.0 (shown (S.content self.now.store.now) self.now.s self.now.e) }
+        ensures before { result.1 ≤ place }
+    {
+        let number = self.store.line_of(self.s + place);
+        (
+            number - self.first_line(),
+            self.store.line_start(number) - self.s,
+        )
+    }
+
+    /// Where the line of a place begins.
+    pub fn start_at(&self, place: usize) -> usize
+        requires view { IsView (S.content self.now.store.now) self.now.s self.now.e }
+        requires within { self.now.s + place ≤ self.now.e }
+        ensures value { result ≡ line_start (line_of (shown (S.content self.now.store.now) self.now.s self.now.e) place)
+            (shown (S.content self.now.store.now) self.now.s self.now.e) }
+        ensures bound { self.now.s + result ≤ self.now.e }
+    {
+        self.store.line_start(self.store.line_of(self.s + place)) - self.s
+    }
+
+    /// Where the line behind that of a place begins.
+    pub fn behind_at(&self, place: usize) -> usize
+        requires view { IsView (S.content self.now.store.now) self.now.s self.now.e }
+        requires within { self.now.s + place < self.now.e }
+        ensures value { result ≡ line_start (line_of (shown (S.content self.now.store.now) self.now.s self.now.e) place
+            + 1)
+            (shown (S.content self.now.store.now) self.now.s self.now.e) }
+        ensures some { 0 < result }
+        ensures bound { self.now.s + result ≤ self.now.e }
+    {
+        self.store
+            .line_start(self.store.line_of(self.s + place) + 1)
+            - self.s
+    }
+
+    /// Where a line begins; the end for one behind the last.
+    pub fn line_start(&self, line: usize) -> usize
+        requires { IsView (S.content self.now.store.now) self.now.s self.now.e }
         ensures value { result ≡ line_start line (shown (S.content self.now.store.now) self.now.s self.now.e) }
         ensures bound { self.now.s + result ≤ self.now.e }
     {
-        self.store.line_start(self.store.line_of(self.s) + line) - self.s
+        let number = self.first_line().saturating_add(line);
+        if number >= self.store.lines() {
+            return self.e - self.s;
+        }
+        self.store.line_start(number).min(self.e) - self.s
+    }
+
+    /// Where the line behind a line begins, if the view has that line.
+    pub fn behind_line(&self, line: usize) -> Option<usize>
+        requires { IsView (S.content self.now.store.now) self.now.s self.now.e }
+        ensures none { result ≡ None → lines (shown (S.content self.now.store.now) self.now.s self.now.e) ≤ line }
+        ensures some { IfSome result (λ _. line < lines (shown (S.content self.now.store.now) self.now.s self.now.e)) }
+        ensures value { IfSome result (λ behind.
+            behind ≡ line_start (suc line) (shown (S.content self.now.store.now) self.now.s self.now.e)) }
+        ensures bound { IfSome result (λ behind. self.now.s + behind ≤ self.now.e) }
+    {
+        let number = self.first_line().saturating_add(line);
+        if number >= self.store.lines() {
+            return None;
+        }
+        let behind = self.store.line_start(number + 1);
+        if self.e < behind {
+            return None;
+        }
+        Some(behind - self.s)
     }
 
     /// The character at a place.

@@ -8,7 +8,8 @@ use Rattle.std.proofs.lemmas.List.Elements.{All-cons, All-nil}
 use Rattle.std.proofs.lemmas.List.{append-nil}
 use Rattle.std.proofs.lemmas.Str.{chars-append, chars_past_char, chars-encodes, chars-nil, IsUtf8-encode}
 
-pub chars-push : (bytes : List ℕ) (c : ℕ) → IsUtf8 bytes → IsScalar c → chars (bytes ++ encode_utf8 c) ≡ chars bytes ++ c ∷ []
+pub chars-push : (bytes : List ℕ) (c : ℕ) → IsUtf8 bytes → IsScalar c →
+    chars (bytes ++ encode_utf8 c) ≡ chars bytes ++ c ∷ []
 chars-push bytes c text scalar =
     chars-append bytes (encode_utf8 c) text
     ∙ ap (λ cs. chars bytes ++ cs)

@@ -1,5 +1,6 @@
 -- The lines of a text, which is a list of characters: each ends with its newline.
-use Rattle.std.specs.Prelude.{◌≡◌, ℕ, zero, suc, ◌+◌, ◌≤◌, Bool, List, [], ◌∷◌, ◌==◌, length, take, count_by, if◌then◌else◌}
+use Rattle.std.specs.Prelude.{◌≡◌, ℕ, zero, suc, ◌+◌, ◌≤◌, Bool, List, [], ◌∷◌, ◌==◌, length, take, count_by}
+use Rattle.std.specs.Prelude.{if◌then◌else◌}
 
 abbrev pub is_newline : ℕ → Bool
 is_newline character = character == 10

@@ -20,4 +20,5 @@ previous_mark at marks = reduce max (filter (λ offset. nat_lt offset at) (offse
 
 -- the marks that stand at an offset, in the order of their numbers
 abbrev pub marks_at : ℕ → Marks → List MarkNo
-marks_at at marks = map (λ entry. record { 0 = entry.0 }) (filter (λ (entry : ℕ × Place). entry.1.offset == at) (finite.entries marks))
+marks_at at marks =
+    map (λ entry. record { 0 = entry.0 }) (filter (λ (entry : ℕ × Place). entry.1.offset == at) (finite.entries marks))

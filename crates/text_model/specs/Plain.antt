@@ -1,5 +1,6 @@
 -- What a plain store contains.
-use Rattle.std.specs.Prelude.{ℕ, ◌+◌, ◌≤◌, ◌^◌, min, max, Bool, false, ◌==◌, nat_lt, nat_le, Option, None, Some, List, [], ◌∷◌, length, if◌then◌else◌}
+use Rattle.std.specs.Prelude.{ℕ, ◌+◌, ◌≤◌, ◌^◌, min, max, Bool, false, ◌==◌, nat_lt, nat_le, Option, None, Some, List}
+use Rattle.std.specs.Prelude.{[], ◌∷◌, length, if◌then◌else◌}
 use Rattle.std.specs.FinMap as finite
 use Rattle.text_model.specs.declared.cells.Cell.{Cell}
 use Rattle.text_model.specs.declared.places.Place.{Place}
@@ -44,4 +45,5 @@ with_next next at (Some place) = if nat_le at place.offset then Some (joined min
 
 abbrev pub with_previous : Option ℕ → ℕ → Option Place → Option ℕ
 with_previous previous at None = previous
-with_previous previous at (Some place) = if nat_lt place.offset at then Some (joined max previous place.offset) else previous
+with_previous previous at (Some place) =
+    if nat_lt place.offset at then Some (joined max previous place.offset) else previous

@@ -1,5 +1,6 @@
 -- What an insertion, a removal and a change do to a list, and the first two to a place in it.
-use Rattle.std.specs.Prelude.{ℕ, ◌+◌, ◌-◌, Bool, true, false, ◌||◌, ◌&&◌, ◌==◌, nat_lt, min, List, ◌++◌, map, take, drop, slice_range, if◌then◌else◌}
+use Rattle.std.specs.Prelude.{ℕ, ◌+◌, ◌-◌, Bool, true, false, ◌||◌, ◌&&◌, ◌==◌, nat_lt, min, List, ◌++◌, map, take}
+use Rattle.std.specs.Prelude.{drop, slice_range, if◌then◌else◌}
 use Rattle.text_model.specs.declared.places.Gravity.{Gravity}
 use Rattle.text_model.specs.declared.places.Gravity.TheVariants.{Left, Right}
 use Rattle.text_model.specs.declared.places.Place.{Place}

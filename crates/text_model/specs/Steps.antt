@@ -6,7 +6,8 @@ use Rattle.std.specs.FinMap as finite
 use Rattle.std.specs.List.{All}
 use Rattle.text_model.specs.declared.cells.Cell.{Cell}
 use Rattle.text_model.specs.declared.edits.Step.{Step}
-use Rattle.text_model.specs.declared.edits.Step.TheVariants.{Remove, Insert, SetTag, ClearTags, ClearSlot, PutMark, TakeMark}
+use Rattle.text_model.specs.declared.edits.Step.TheVariants.{Remove, Insert, SetTag, ClearTags, ClearSlot, PutMark}
+use Rattle.text_model.specs.declared.edits.Step.TheVariants.{TakeMark}
 use Rattle.text_model.specs.Content.{Content, Slots, map_marks}
 use Rattle.text_model.specs.Splices.{inserted, removed, changed, moved, drawn}
 use Rattle.text_model.specs.TagBits.{slot_count}
@@ -56,7 +57,8 @@ after_insertion at text slots content = record {
 abbrev pub after_step : Step → Content → Content
 after_step (Remove from to) content = after_removal from to content
 after_step (Insert at text slots) content = after_insertion at text slots content
-after_step (SetTag from to slot on) content = record content { cells = changed (with_slot slot.0 on) from to content.cells }
+after_step (SetTag from to slot on) content =
+    record content { cells = changed (with_slot slot.0 on) from to content.cells }
 after_step (ClearTags at) content = record content { cells = changed without_slots at (at + 1) content.cells }
 after_step (ClearSlot slot) content = record content { cells = map (with_slot slot.0 false) content.cells }
 after_step (PutMark number place) content = record content { marks = finite.insert content.marks number.0 place }

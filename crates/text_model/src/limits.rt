@@ -22,11 +22,29 @@ impl Model for Limits {
 
     ghost Value = { LimitTable };
 
-    ghost view = { λ a. record { chars = a.chars; tags = a.tags; marks = a.marks; widgets = a.widgets; reads = a.reads } };
+    ghost view = { λ a. record {
+      chars = a.chars;
+      tags = a.tags;
+      marks = a.marks;
+      widgets = a.widgets;
+      reads = a.reads;
+    } };
 
-    ghost invariant = { λ a. AreLimits (record { chars = a.chars; tags = a.tags; marks = a.marks; widgets = a.widgets; reads = a.reads }) };
+    ghost invariant = { λ a. AreLimits (record {
+      chars = a.chars;
+      tags = a.tags;
+      marks = a.marks;
+      widgets = a.widgets;
+      reads = a.reads;
+    }) };
 
-    ghost inverse = { λ v. record { chars = v.chars; tags = v.tags; marks = v.marks; widgets = v.widgets; reads = v.reads } };
+    ghost inverse = { λ v. record {
+      chars = v.chars;
+      tags = v.tags;
+      marks = v.marks;
+      widgets = v.widgets;
+      reads = v.reads;
+    } };
 }
 
 impl Limits {
@@ -46,8 +64,10 @@ impl Limits {
     /// widgets, and of reads of a script. `None` where there may be no character or a number is above its greatest;
     /// reads have no greatest number.
     pub fn new(chars: usize, tags: u16, marks: u16, widgets: u16, reads: u32) -> Option<Limits>
-        ensures known { IsSome result ↔ AreLimits (record { chars = chars; tags = tags; marks = marks; widgets = widgets; reads = reads }) }
-        ensures kept { IfSome result (λ limits. limits ≡ record { chars = chars; tags = tags; marks = marks; widgets = widgets; reads = reads }) }
+        ensures known { IsSome result
+            ↔ AreLimits (record { chars = chars; tags = tags; marks = marks; widgets = widgets; reads = reads }) }
+        ensures kept { IfSome result (λ limits. limits
+            ≡ record { chars = chars; tags = tags; marks = marks; widgets = widgets; reads = reads }) }
     {
         let fits = 0 < chars
             && chars <= Limits::MOST_CHARS

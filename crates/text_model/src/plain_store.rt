@@ -1,4 +1,5 @@
-ghost use Rattle.std.specs.Prelude.{◌≡◌, ◌+◌, ◌-◌, ◌++◌, ◌∷◌, [], ◌^◌, ◌<◌, ◌≤◌, ℕ, ⊤, map, vec_len, length, max, get_or, slice_get, OnOk, IfOk, None, Some, chars, string_bytes, option_map};
+ghost use Rattle.std.specs.Prelude.{◌≡◌, ◌+◌, ◌-◌, ◌++◌, ◌∷◌, [], ◌^◌, ◌<◌, ◌≤◌, ℕ, ⊤, map, vec_len, length, max};
+ghost use Rattle.std.specs.Prelude.{get_or, slice_get, OnOk, IfOk, None, Some, chars, string_bytes, option_map};
 ghost use Rattle.std.specs.List.{prefix_len, suffix_len};
 ghost use Rattle.text_model.specs.Changes.{is_alike};
 ghost use Rattle.text_model.specs.Content.{characters, flags};
@@ -169,7 +170,8 @@ fn put_place(
     number: MarkNo,
     place: Place,
 ) -> Result<(), AllocError>
-    ensures marks { OnOk result (plain_marks places.new.items ≡ finite.insert (plain_marks places.old.items) number.0 place) }
+    ensures marks { OnOk result (plain_marks places.new.items
+        ≡ finite.insert (plain_marks places.old.items) number.0 place) }
     ensures few { OnOk result (vec_len places.new ≤ max (vec_len places.old) (2 ^ 16)) }
 {
     let index = number.0 as usize;

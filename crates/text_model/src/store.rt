@@ -1,4 +1,5 @@
-ghost use Rattle.std.specs.Prelude.{◌≡◌, ◌-◌, ◌<◌, ◌≤◌, length, slice_range, slice_get, Some, IfOk, IfSome, chars, string_bytes};
+ghost use Rattle.std.specs.Prelude.{◌≡◌, ◌-◌, ◌<◌, ◌≤◌, length, slice_range, slice_get, Some, IfOk, IfSome, chars};
+ghost use Rattle.std.specs.Prelude.{string_bytes};
 ghost use Rattle.std.specs.FinMap as finite;
 ghost use Rattle.text_model.specs.Changes.{next_change, previous_change};
 ghost use Rattle.text_model.specs.Content.{Content, characters, flags, new_content, slot_sets};

@@ -12,14 +12,18 @@ use Rattle.tktext_c.specs.declared.ends.FeedEnd.{FeedEnd}
 use Rattle.tktext_c.specs.Calls.{Gives, Called, Calls, Fed, Feeds, Turns, Takes, status_after}
 use Rattle.tktext_c.specs.State.{State, state_of}
 
-pub feeds-held : (was is : Option Session) (old new : Session) (bytes : List ℕ) (ended : FeedEnd) → was ≡ Some old → is ≡ Some new
-    → Fed (state_of old) bytes (state_of new) ended → Feeds (option_map state_of was) bytes (option_map state_of is) ended
+pub feeds-held : (was is : Option Session) (old new : Session) (bytes : List ℕ) (ended : FeedEnd) → was ≡ Some old →
+    is ≡ Some new
+    → Fed (state_of old) bytes (state_of new) ended →
+    Feeds (option_map state_of was) bytes (option_map state_of is) ended
 feeds-held was is old new bytes ended before after fed =
     subst (λ w. Feeds (option_map state_of w) bytes (option_map state_of is) ended) (sym before)
     (subst (λ i. Feeds (Some (state_of old)) bytes (option_map state_of i) ended) (sym after) fed)
 
-pub calls-held : (was is : Option Session) (old new : Session) (lengths bytes : List ℕ) (ended : CallEnd) → was ≡ Some old → is ≡ Some new
-    → Called (state_of old) lengths bytes (state_of new) ended → Calls (option_map state_of was) lengths bytes (option_map state_of is) ended
+pub calls-held : (was is : Option Session) (old new : Session) (lengths bytes : List ℕ) (ended : CallEnd) →
+    was ≡ Some old → is ≡ Some new
+    → Called (state_of old) lengths bytes (state_of new) ended →
+    Calls (option_map state_of was) lengths bytes (option_map state_of is) ended
 calls-held was is old new lengths bytes ended before after called =
     subst (λ w. Calls (option_map state_of w) lengths bytes (option_map state_of is) ended) (sym before)
     (subst (λ i. Calls (Some (state_of old)) lengths bytes (option_map state_of i) ended) (sym after) called)
@@ -35,13 +39,16 @@ turns-after : (old : State) (script : Unread) (said : State) (words : List (List
     → TakesCommand old.script words script → Gives (record old { script = script }) words said given
     → Turns old (record said { status = status_after given said.status }) (turn.Command given)
 turns-after old script said words given.Answer takes gives =
-    subst (λ x. Turns old (record x { status = status_after given.Answer x.status }) (turn.Command given.Answer)) (sym gives.1)
+    subst (λ x. Turns old (record x { status = status_after given.Answer x.status }) (turn.Command given.Answer))
+    (sym gives.1)
     (words, takes, (gives.0, refl), refl)
 turns-after old script said words given.Fault takes gives =
-    subst (λ x. Turns old (record x { status = status_after given.Fault x.status }) (turn.Command given.Fault)) (sym gives.1)
+    subst (λ x. Turns old (record x { status = status_after given.Fault x.status }) (turn.Command given.Fault))
+    (sym gives.1)
     (words, takes, (gives.0, refl, ap (λ (x : State). x.world) (sym gives.1) ∙ gives.2), refl)
 turns-after old script said words given.Memory takes gives =
-    subst (λ x. Turns old (record x { status = status_after given.Memory x.status }) (turn.Command given.Memory)) (sym gives)
+    subst (λ x. Turns old (record x { status = status_after given.Memory x.status }) (turn.Command given.Memory))
+    (sym gives)
     (words, takes, refl, refl)
 
 -- the same, and noted in the status

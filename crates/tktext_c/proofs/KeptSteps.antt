@@ -25,10 +25,12 @@ word p = vstruct (vcons (ptr_val p) vnil)
 
 module _ {M : Type 1} {𝓤 : Ura M} {𝓛 : Logic 𝓤} {K : Type 0} {Γ : List (Item 𝓤)} {G : Goal 𝓤 𝓛.H} where
   pub held_some : K → (R : RattleType) (p : Ptr) (m : Option R.Denot) → IsSome m
-      → ((b o : ℕ) (x : R.Denot) → p ≡ block_ptr b o → m ≡ Some x → Seq K 𝓛 (‵ (box_owns frees R (block_ptr b o) x) ∷ Γ) G)
+      → ((b o : ℕ) (x : R.Denot) → p ≡ block_ptr b o → m ≡ Some x →
+      Seq K 𝓛 (‵ (box_owns frees R (block_ptr b o) x) ∷ Γ) G)
       → Seq K 𝓛 (‵ (held_session R p m) ∷ Γ) G
   held_some t R p None is k = absurd (true≢false (sym is))
-  held_some t R p (Some x) is k = in_a_block t p (λ q. box_owns frees R q x) (fst∗ 𝓤 (never 𝓤) (sem 𝓛 (frees (bare (lone R.mir)) null_ptr))) (λ b o e. k b o x e refl)
+  held_some t R p (Some x) is k = in_a_block t p (λ q. box_owns frees R q x)
+      (fst∗ 𝓤 (never 𝓤) (sem 𝓛 (frees (bare (lone R.mir)) null_ptr))) (λ b o e. k b o x e refl)
 
   pub kept_out : K → (d : kept.the_row.Denot) (vs : List Val)
       → (vs ≡ word d.at ∷ [] → Seq K 𝓛 (‵ (held_session session.the_row d.at d.session) ∷ Γ) G)
@@ -37,6 +39,11 @@ module _ {M : Type 1} {𝓤 : Ura M} {𝓛 : Logic 𝓤} {K : Type 0} {Γ : List
       k (subst (λ (ps : List Val). vs ≡ vstruct (of_list (ps ++ [])) ∷ []) ep ev))))
 
   pub kept_in : K → (p : Ptr) (m : Option Session)
-      → Step K 𝓛 (‵ (kept.the_row.own_val (record { at = p; session = m }) (word p ∷ [])) ∷ Γ) G (‵ (held_session session.the_row p m) ∷ Γ) G
-  kept_in t p m = step (λ s. nothing t $ feq_i t (List Val) (ptr_val p ∷ []) (ptr_val p ∷ []) refl $ fjoin t $ feq_i t (List Val) (word p ∷ []) (word p ∷ []) refl $ fjoin t $
-      fpack t (Valss (RawPtr ∷ [])) (within (shape kept.the_type) (p, tt) (word p ∷ [])) (ptr_val p ∷ [], tt) $ fjoin t $ s)
+      → Step K 𝓛 (‵ (kept.the_row.own_val (record { at = p; session = m }) (word p ∷ [])) ∷ Γ) G
+      (‵ (held_session session.the_row p m) ∷ Γ) G
+  kept_in t p m = step (λ s. nothing t $ feq_i t (List Val) (ptr_val p ∷ []) (ptr_val p ∷ []) refl $ fjoin t $ feq_i t
+      (List Val) (word p ∷ []) (word p ∷ []) refl $ fjoin t $
+      fpack t (Valss (RawPtr ∷ [])) (within (shape kept.the_type) (p, tt) (word p ∷ [])) (
+        ptr_val p ∷ [],
+        tt,
+      ) $ fjoin t $ s)

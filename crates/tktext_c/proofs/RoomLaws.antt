@@ -1,5 +1,6 @@
 -- Texts that are copied one behind the other.
-use Rattle.std.proofs.Common.{◌≡◌, ℕ, suc, zero, ◌+◌, ◌≤◌, min, arith, List, [], ◌∷◌, ◌++◌, length, take, drop, refl, sym, ap, ◌∙◌, append_assoc}
+use Rattle.std.proofs.Common.{◌≡◌, ℕ, suc, zero, ◌+◌, ◌≤◌, min, arith, List, [], ◌∷◌, ◌++◌, length, take, drop, refl}
+use Rattle.std.proofs.Common.{sym, ap, ◌∙◌, append_assoc}
 use Rattle.std.proofs.lemmas.List.{length-append}
 use Rattle.tktext_c.specs.Room.{over, Copied}
 
@@ -12,7 +13,8 @@ drop-nil zero = refl
 drop-nil (suc n) = refl
 
 -- a text that is copied behind another one
-pub over-then : (text more room : List ℕ) (k : ℕ) → k ≡ min (length text) (length room) → take k (over text room) ++ over more (drop k (over text room)) ≡ over (text ++ more) room
+pub over-then : (text more room : List ℕ) (k : ℕ) → k ≡ min (length text) (length room) →
+    take k (over text room) ++ over more (drop k (over text room)) ≡ over (text ++ more) room
 over-then [] more room zero is = ap (over more) (sym (over-none room))
 over-then [] more room (suc k) is = absurd (omega (arith, is))
 over-then (c ∷ text) more [] zero is = drop-nil (length more)
@@ -24,7 +26,8 @@ pub copied-none : (room : List ℕ) → Copied [] room 0 room
 copied-none room = record { count = refl; bytes = over-none room; long = refl }
 
 -- a text more is copied
-pub copied-more : (text more start room new : List ℕ) (total at later : ℕ) → Copied text start total room → length room ≤ 18446744073709551615
+pub copied-more : (text more start room new : List ℕ) (total at later : ℕ) → Copied text start total room →
+    length room ≤ 18446744073709551615
     → at ≡ min total (length room) → new ≡ take at room ++ over more (drop at room) → length new ≡ length room
     → later ≡ min (total + length more) 18446744073709551615 → Copied (text ++ more) start later new
 copied-more text more start room new total at later before most place copied same added =
@@ -37,8 +40,10 @@ copied-more text more start room new total at later before most place copied sam
     }
 
 pub grouped : (a b c d e : List ℕ) → (((([] ++ a) ++ b) ++ c) ++ d) ++ e ≡ (a ++ b) ++ ((c ++ d) ++ e)
-grouped a b c d e = append_assoc ((a ++ b) ++ c) d e ∙ append_assoc (a ++ b) c (d ++ e) ∙ ap (λ xs. (a ++ b) ++ xs) (sym (append_assoc c d e))
+grouped a b c d e = append_assoc ((a ++ b) ++ c) d e ∙ append_assoc (a ++ b) c (d ++ e)
+    ∙ ap (λ xs. (a ++ b) ++ xs) (sym (append_assoc c d e))
 
 -- the same of a text that is written otherwise
-pub copied-text : (text other start : List ℕ) (total : ℕ) (room : List ℕ) → text ≡ other → Copied text start total room → Copied other start total room
+pub copied-text : (text other start : List ℕ) (total : ℕ) (room : List ℕ) → text ≡ other →
+    Copied text start total room → Copied other start total room
 copied-text text other start total room same is = rw same at is

@@ -1,5 +1,6 @@
 -- Words that are read one after another.
-use Rattle.std.proofs.Common.{◌≡◌, ℕ, ◌+◌, ◌<◌, ◌≤◌, arith, List, [], ◌∷◌, ◌++◌, length, take, drop, refl, sym, ap, ◌∙◌, append_assoc}
+use Rattle.std.proofs.Common.{◌≡◌, ℕ, ◌+◌, ◌<◌, ◌≤◌, arith, List, [], ◌∷◌, ◌++◌, length, take, drop, refl, sym, ap, ◌∙◌}
+use Rattle.std.proofs.Common.{append_assoc}
 use Rattle.std.specs.Prelude.{chars, IsUtf8, String, string_bytes}
 use Rattle.std.proofs.lemmas.List.{length-drop, append-nil, map-append}
 use Rattle.tcl_words.specs.Unread.{texts_of}
@@ -31,17 +32,20 @@ reading-more lengths bytes left rest made n others is next fits text =
 -- a word that isn't text
 pub reading-broken : (lengths bytes left rest : List ℕ) (made : List (List ℕ)) (n : ℕ) (others : List ℕ)
     → Reading lengths bytes left rest made → left ≡ n ∷ others → ¬ IsUtf8 (take n rest) → ¬ AreTexts (cut lengths bytes)
-reading-broken lengths bytes left rest made n others is next broken = λ t. let at = rw next at is in broken (at.texts t).0
+reading-broken lengths bytes left rest made n others is next broken =
+    λ t. let at = rw next at is in broken (at.texts t).0
 
 -- a length that doesn't fit
 pub reading-short : (lengths bytes left rest : List ℕ) (made : List (List ℕ)) (n : ℕ) (others : List ℕ)
     → Reading lengths bytes left rest made → left ≡ n ∷ others → length rest < n → ¬ AreLengths lengths bytes
 reading-short lengths bytes left rest made n others is next short = λ are.
     let at = rw next at is in
-    let all : total lengths + length rest ≡ length bytes + (n + total others) = at.sums in omega (arith, all, are.1, short)
+    let all : total lengths + length rest ≡ length bytes + (n + total others) = at.sums in
+    omega (arith, all, are.1, short)
 
 -- none is left
-pub reading-end : (lengths bytes left rest : List ℕ) (made : List (List ℕ)) → Reading lengths bytes left rest made → left ≡ []
+pub reading-end : (lengths bytes left rest : List ℕ) (made : List (List ℕ)) → Reading lengths bytes left rest made →
+    left ≡ []
     → made ≡ words_at lengths bytes
 reading-end lengths bytes left rest made is none = let at = rw none at is in sym (at.whole ∙ append-nil made)
 
@@ -49,4 +53,5 @@ reading-end lengths bytes left rest made is none = let at = rw none at is in sym
 pub texts-more : {Z : Type 0} (words new : List (String Z)) (word : String Z) (bytes : List ℕ)
     → new ≡ words ++ word ∷ [] → string_bytes word ≡ bytes → texts_of new ≡ texts_of words ++ chars bytes ∷ []
 texts-more words new word bytes is bytes_are =
-    ap texts_of is ∙ map-append (λ w. chars (string_bytes w)) words (word ∷ []) ∙ ap (λ b. texts_of words ++ chars b ∷ []) bytes_are
+    ap texts_of is ∙ map-append (λ w. chars (string_bytes w)) words (word ∷ [])
+    ∙ ap (λ b. texts_of words ++ chars b ∷ []) bytes_are

@@ -1,10 +1,14 @@
 -- What the operations do to words, and so to the slots: zeros, one bit, and two lists of words bit by bit.
-use Rattle.std.proofs.Common.{◌≡◌, ◌≢◌, ℕ, zero, suc, ◌+◌, ◌*◌, ◌/◌, ◌%◌, ◌^◌, ◌<◌, ◌≤◌, max, Bool, true, false, ◌&&◌, ◌||◌, not, cond, nat_lt, nat_eq, ◌==◌, List, length, replicate, slice_index, slice_set, bit_and, bit_or, bit_xor, refl, sym, ap, ap₂, ◌∙◌, arith, w64, inl, inr, lt-ltb, mod-eq_of_lt, length-set, get_or-set_same, get_or-set_other}
+use Rattle.std.proofs.Common.{◌≡◌, ◌≢◌, ℕ, zero, suc, ◌+◌, ◌*◌, ◌/◌, ◌%◌, ◌^◌, ◌<◌, ◌≤◌, max, Bool, true, false, ◌&&◌}
+use Rattle.std.proofs.Common.{◌||◌, not, cond, nat_lt, nat_eq, ◌==◌, List, length, replicate, slice_index, slice_set}
+use Rattle.std.proofs.Common.{bit_and, bit_or, bit_xor, refl, sym, ap, ap₂, ◌∙◌, arith, w64, inl, inr, lt-ltb}
+use Rattle.std.proofs.Common.{mod-eq_of_lt, length-set, get_or-set_same, get_or-set_other}
 use Rattle.std.proofs.lemmas.Bool.{cases_eq}
 use Rattle.std.proofs.lemmas.Bool.Decides.{nat_tests}
 use Rattle.std.proofs.lemmas.List.{length-replicate}
 use Rattle.std.proofs.lemmas.Nat.{or_lt, xor_lt}
-use Rattle.std.proofs.lemmas.Nat.Bits.{bit_at-lt, bit_at-zero, bit_at_or, bit_at_xor, bit_at_set_same, bit_at_set_other, bit_at-pow_same, bit_at-pow_other, shr_and_one}
+use Rattle.std.proofs.lemmas.Nat.Bits.{bit_at-lt, bit_at-zero, bit_at_or, bit_at_xor, bit_at_set_same, bit_at_set_other}
+use Rattle.std.proofs.lemmas.Nat.Bits.{bit_at-pow_same, bit_at-pow_other, shr_and_one}
 use Rattle.std.proofs.Math.Pow.{pow-lt}
 use Rattle.std.specs.Cmp.{nat_cmp_total}
 use Rattle.std.specs.FinSet as set
@@ -39,11 +43,13 @@ slots_of-zeros count =
     let zeros = replicate count 0 in
     same_slots _ _ (λ q.
     contains-slots_below (64 * count) zeros q
-    ∙ not_one (bit_at (slice_index zeros (q / 64)) (q % 64)) (nat_lt q (64 * count)) (ap (λ w. bit_at w (q % 64)) (zeros_at count (q / 64)) ∙ bit_at-zero (q % 64))
+    ∙ not_one (bit_at (slice_index zeros (q / 64)) (q % 64)) (nat_lt q (64 * count))
+    (ap (λ w. bit_at w (q % 64)) (zeros_at count (q / 64)) ∙ bit_at-zero (q % 64))
     ∙ sym (set.contains-empty nat_cmp q))
 
 -- the test `(word >> i) & 1` finds the slot
-pub found_bit : (count : ℕ) (words : List ℕ) (k : ℕ) → k < 64 * count → nat_eq (bit_and (slice_index words (k / 64) / 2 ^ (k % 64)) 1) 1 ≡ set.contains (slots_of count words) k
+pub found_bit : (count : ℕ) (words : List ℕ) (k : ℕ) → k < 64 * count →
+    nat_eq (bit_and (slice_index words (k / 64) / 2 ^ (k % 64)) 1) 1 ≡ set.contains (slots_of count words) k
 found_bit count words k below =
     ap (λ t. nat_eq t 1) (shr_and_one (slice_index words (k / 64)) (k % 64))
     ∙ sym (contains-slots_below (64 * count) words k ∙ ap (λ b. b && has_bit words k) (lt-ltb k (64 * count) below))
@@ -54,14 +60,17 @@ pub record SoFar (f : ℕ → ℕ → ℕ) (first second words : List ℕ) (coun
   pub seen : (k : ℕ) → k < index → slice_index words k ≡ f (slice_index first k) (slice_index second k)
   pub rest : (k : ℕ) → index ≤ k → slice_index words k ≡ slice_index first k
 
-pub SoFar-more : (f : ℕ → ℕ → ℕ) (first second words : List ℕ) (count index : ℕ) → index < count → SoFar f first second words count index
-    → SoFar f first second (slice_set words index (f (slice_index words index) (slice_index second index))) count (index + 1)
+pub SoFar-more : (f : ℕ → ℕ → ℕ) (first second words : List ℕ) (count index : ℕ) → index < count →
+    SoFar f first second words count index
+    → SoFar f first second (slice_set words index (f (slice_index words index) (slice_index second index))) count
+    (index + 1)
 SoFar-more f first second words count index within so_far =
     let new = f (slice_index words index) (slice_index second index) in
     record {
       long = length-set words index new ∙ so_far.long;
       seen = λ k below. elim (cases_eq k index) [
-        | inl here ↦ rw (here, get_or-set_same words index new 0 (rw so_far.long within)) (ap (λ w. f w (slice_index second index)) (so_far.rest index (omega arith)))
+        | inl here ↦ rw (here, get_or-set_same words index new 0 (rw so_far.long within))
+            (ap (λ w. f w (slice_index second index)) (so_far.rest index (omega arith)))
         | inr elsewhere ↦ rw (get_or-set_other words index k new 0 elsewhere) (so_far.seen k (omega arith))
       ];
       rest = λ k above. rw (get_or-set_other words index k new 0 (omega arith)) (so_far.rest k (omega arith));
@@ -78,7 +87,8 @@ either_in_reach true a b = refl
 either_in_reach false a b = refl
 
 -- words that differ in some bits: those slots
-pub slots_of-differing : (count : ℕ) (a b c : List ℕ) → ((i : ℕ) → i < count → slice_index c i ≡ bit_xor (slice_index a i) (slice_index b i))
+pub slots_of-differing : (count : ℕ) (a b c : List ℕ) →
+    ((i : ℕ) → i < count → slice_index c i ≡ bit_xor (slice_index a i) (slice_index b i))
     → slots_of count c ≡ differing (slots_of count a) (slots_of count b)
 slots_of-differing count a b c words =
     let n = 64 * count in
@@ -87,9 +97,12 @@ slots_of-differing count a b c words =
     let y = slice_index b (q / 64) in
     let i = q % 64 in
     contains-slots_below n c q
-    ∙ in_reach n q (has_bit c q) (either (has_bit a q) (has_bit b q)) (λ below. ap (λ w. bit_at w i == 1) (words (q / 64) (omega arith)) ∙ ap (λ t. t == 1) (bit_at_xor x y i) ∙ one_of_both (bit_at x i) (bit_at y i) (bit_at-lt x i) (bit_at-lt y i))
+    ∙ in_reach n q (has_bit c q) (either (has_bit a q) (has_bit b q)) (λ below.
+    ap (λ w. bit_at w i == 1) (words (q / 64) (omega arith)) ∙ ap (λ t. t == 1) (bit_at_xor x y i)
+    ∙ one_of_both (bit_at x i) (bit_at y i) (bit_at-lt x i) (bit_at-lt y i))
     ∙ either_in_reach (nat_lt q n) (has_bit a q) (has_bit b q)
-    ∙ sym (contains-differing (slots_of count a) (slots_of count b) q ∙ ap₂ either (contains-slots_below n a q) (contains-slots_below n b q)))
+    ∙ sym (contains-differing (slots_of count a) (slots_of count b) q
+    ∙ ap₂ either (contains-slots_below n a q) (contains-slots_below n b q)))
 
 one_at_least : (x y : ℕ) → x < 2 → y < 2 → (max x y == 1) ≡ ((x == 1) || (y == 1))
 one_at_least x y small below = grind (arith, nat_tests)
@@ -99,7 +112,8 @@ or_in_reach true a b = refl
 or_in_reach false a b = refl
 
 -- the bits of both: the slots of both
-pub slots_of-joined : (count : ℕ) (a b c : List ℕ) → ((i : ℕ) → i < count → slice_index c i ≡ bit_or (slice_index a i) (slice_index b i))
+pub slots_of-joined : (count : ℕ) (a b c : List ℕ) →
+    ((i : ℕ) → i < count → slice_index c i ≡ bit_or (slice_index a i) (slice_index b i))
     → slots_of count c ≡ set.union (slots_of count a) (slots_of count b)
 slots_of-joined count a b c words =
     let n = 64 * count in
@@ -108,9 +122,12 @@ slots_of-joined count a b c words =
     let y = slice_index b (q / 64) in
     let i = q % 64 in
     contains-slots_below n c q
-    ∙ in_reach n q (has_bit c q) (has_bit a q || has_bit b q) (λ below. ap (λ w. bit_at w i == 1) (words (q / 64) (omega arith)) ∙ ap (λ t. t == 1) (bit_at_or x y i) ∙ one_at_least (bit_at x i) (bit_at y i) (bit_at-lt x i) (bit_at-lt y i))
+    ∙ in_reach n q (has_bit c q) (has_bit a q || has_bit b q) (λ below.
+    ap (λ w. bit_at w i == 1) (words (q / 64) (omega arith)) ∙ ap (λ t. t == 1) (bit_at_or x y i)
+    ∙ one_at_least (bit_at x i) (bit_at y i) (bit_at-lt x i) (bit_at-lt y i))
     ∙ or_in_reach (nat_lt q n) (has_bit a q) (has_bit b q)
-    ∙ sym (set.contains-union nat_cmp_total (slots_of count a) (slots_of count b) q ∙ ap₂ (λ s t. s || t) (contains-slots_below n a q) (contains-slots_below n b q)))
+    ∙ sym (set.contains-union nat_cmp_total (slots_of count a) (slots_of count b) q
+    ∙ ap₂ (λ s t. s || t) (contains-slots_below n a q) (contains-slots_below n b q)))
 
 -- ---- one bit
 -- the bit of a slot, as the code makes it, and the word with it
@@ -123,7 +140,8 @@ bit_of-pow k =
     let one : 1 * 2 ^ (k % 64) ≡ 2 ^ (k % 64) = omega arith in
     ap (λ n. n % 2 ^ 64) one ∙ mod-eq_of_lt small
 
-pub AreWords-with_word : (count : ℕ) (words : List ℕ) (k new : ℕ) → AreWords count words → new < 2 ^ 64 → AreWords count (with_word words k new)
+pub AreWords-with_word : (count : ℕ) (words : List ℕ) (k new : ℕ) → AreWords count words → new < 2 ^ 64 →
+    AreWords count (with_word words k new)
 AreWords-with_word count words k new are small =
     record {
       long = length-set words (k / 64) new ∙ are.long;
@@ -133,13 +151,17 @@ AreWords-with_word count words k new are small =
       ];
     }
 
-pub AreWords-xor : (count : ℕ) (words : List ℕ) (k : ℕ) → AreWords count words → k < 64 * count → AreWords count (with_word words k (bit_xor (slice_index words (k / 64)) (bit_of k)))
+pub AreWords-xor : (count : ℕ) (words : List ℕ) (k : ℕ) → AreWords count words → k < 64 * count →
+    AreWords count (with_word words k (bit_xor (slice_index words (k / 64)) (bit_of k)))
 AreWords-xor count words k are below =
-    AreWords-with_word count words k _ are (xor_lt 64 (slice_index words (k / 64)) (bit_of k) (are.each (k / 64) (omega arith)) (omega arith))
+    AreWords-with_word count words k _ are (xor_lt 64 (slice_index words (k / 64)) (bit_of k)
+    (are.each (k / 64) (omega arith)) (omega arith))
 
-pub AreWords-or : (count : ℕ) (words : List ℕ) (k : ℕ) → AreWords count words → k < 64 * count → AreWords count (with_word words k (bit_or (slice_index words (k / 64)) (bit_of k)))
+pub AreWords-or : (count : ℕ) (words : List ℕ) (k : ℕ) → AreWords count words → k < 64 * count →
+    AreWords count (with_word words k (bit_or (slice_index words (k / 64)) (bit_of k)))
 AreWords-or count words k are below =
-    AreWords-with_word count words k _ are (or_lt 64 (slice_index words (k / 64)) (bit_of k) (are.each (k / 64) (omega arith)) (omega arith))
+    AreWords-with_word count words k _ are (or_lt 64 (slice_index words (k / 64)) (bit_of k)
+    (are.each (k / 64) (omega arith)) (omega arith))
 
 flipped_one : (x : ℕ) → x < 2 → ((x + 1) % 2 == 1) ≡ not (x == 1)
 flipped_one x small = grind (arith, nat_tests)
@@ -147,7 +169,8 @@ flipped_one x small = grind (arith, nat_tests)
 unflipped : (x : ℕ) → x < 2 → (x + 0) % 2 ≡ x
 unflipped x small = omega arith
 
-flipped_in_reach : (n k q : ℕ) (b h : Bool) → k < n → (q ≡ k → b ≡ h) → (nat_lt q n && cond (q == k) (not b) h) ≡ either (nat_lt q n && h) (q == k || false)
+flipped_in_reach : (n k q : ℕ) (b h : Bool) → k < n → (q ≡ k → b ≡ h) →
+    (nat_lt q n && cond (q == k) (not b) h) ≡ either (nat_lt q n && h) (q == k || false)
 flipped_in_reach n k q true true within same = grind (arith, nat_tests)
 flipped_in_reach n k q true false within same = grind (arith, nat_tests)
 flipped_in_reach n k q false true within same = grind (arith, nat_tests)
@@ -158,26 +181,33 @@ set_in_reach n k q h within = grind (arith, nat_tests)
 
 -- to flip the bit of a slot toggles the slot
 pub slots_of-xor : (count : ℕ) (words : List ℕ) (k : ℕ) → AreWords count words → k < 64 * count
-    → slots_of count (with_word words k (bit_xor (slice_index words (k / 64)) (bit_of k))) ≡ differing (slots_of count words) (set.insert set.empty k)
+    → slots_of count (with_word words k (bit_xor (slice_index words (k / 64)) (bit_of k)))
+    ≡ differing (slots_of count words) (set.insert set.empty k)
 slots_of-xor count words k are below =
     let old = slice_index words (k / 64) in
     let i = k % 64 in
     let n = 64 * count in
     let new = bit_xor old (bit_of k) in
     let within : k / 64 < length words = rw are.long (omega arith) in
-    let same : bit_at new i ≡ (bit_at old i + 1) % 2 = bit_at_xor old (bit_of k) i ∙ ap (λ x. (bit_at old i + x) % 2) (ap (λ p. bit_at p i) (bit_of-pow k) ∙ bit_at-pow_same i) in
+    let same : bit_at new i ≡ (bit_at old i + 1) % 2 = bit_at_xor old (bit_of k) i
+    ∙ ap (λ x. (bit_at old i + x) % 2) (ap (λ p. bit_at p i) (bit_of-pow k) ∙ bit_at-pow_same i) in
     let other : (j : ℕ) → j < 64 → j ≢ i → bit_at new j ≡ bit_at old j =
-    λ j small elsewhere. bit_at_xor old (bit_of k) j ∙ ap (λ x. (bit_at old j + x) % 2) (ap (λ p. bit_at p j) (bit_of-pow k) ∙ bit_at-pow_other i j elsewhere) ∙ unflipped (bit_at old j) (bit_at-lt old j) in
+    λ j small elsewhere. bit_at_xor old (bit_of k) j
+    ∙ ap (λ x. (bit_at old j + x) % 2) (ap (λ p. bit_at p j) (bit_of-pow k) ∙ bit_at-pow_other i j elsewhere)
+    ∙ unflipped (bit_at old j) (bit_at-lt old j) in
     same_slots _ _ (λ q.
     contains-slots_below n (with_word words k new) q
-    ∙ ap (λ b. nat_lt q n && b) (has_bit-with_word words k new (not (has_bit words k)) within (ap (λ x. x == 1) same ∙ flipped_one (bit_at old i) (bit_at-lt old i)) other q)
+    ∙ ap (λ b. nat_lt q n && b) (has_bit-with_word words k new (not (has_bit words k)) within (ap (λ x. x == 1) same
+    ∙ flipped_one (bit_at old i) (bit_at-lt old i)) other q)
     ∙ flipped_in_reach n k q (has_bit words k) (has_bit words q) below (λ e. ap (has_bit words) (sym e))
     ∙ sym (contains-differing (slots_of count words) (set.insert set.empty k) q
-    ∙ ap₂ either (contains-slots_below n words q) (contains_inserted set.empty k q ∙ ap (λ b. q == k || b) (set.contains-empty nat_cmp q))))
+    ∙ ap₂ either (contains-slots_below n words q) (contains_inserted set.empty k q
+    ∙ ap (λ b. q == k || b) (set.contains-empty nat_cmp q))))
 
 -- to set the bit of a slot inserts the slot
 pub slots_of-or : (count : ℕ) (words : List ℕ) (k : ℕ) → AreWords count words → k < 64 * count
-    → slots_of count (with_word words k (bit_or (slice_index words (k / 64)) (bit_of k))) ≡ set.insert (slots_of count words) k
+    → slots_of count (with_word words k (bit_or (slice_index words (k / 64)) (bit_of k)))
+    ≡ set.insert (slots_of count words) k
 slots_of-or count words k are below =
     let old = slice_index words (k / 64) in
     let n = 64 * count in
@@ -186,12 +216,14 @@ slots_of-or count words k are below =
     let bit = bit_at_set_same w64 old (k % 64) (omega arith) in
     same_slots _ _ (λ q.
     contains-slots_below n (with_word words k new) q
-    ∙ ap (λ b. nat_lt q n && b) (has_bit-with_word words k new true within (ap (λ x. x == 1) bit) (λ i small other. bit_at_set_other w64 old (k % 64) (omega arith) i other) q)
+    ∙ ap (λ b. nat_lt q n && b) (has_bit-with_word words k new true within (ap (λ x. x == 1) bit) (λ i small other.
+    bit_at_set_other w64 old (k % 64) (omega arith) i other) q)
     ∙ set_in_reach n k q (has_bit words q) below
     ∙ sym (contains_inserted (slots_of count words) k q ∙ ap (λ b. q == k || b) (contains-slots_below n words q)))
 
 -- no bit is set where no slot is
-pub zeros_of-slots_of : (count : ℕ) (words : List ℕ) → AreWords count words → slots_of count words ≡ set.empty → words ≡ replicate count 0
+pub zeros_of-slots_of : (count : ℕ) (words : List ℕ) → AreWords count words → slots_of count words ≡ set.empty →
+    words ≡ replicate count 0
 zeros_of-slots_of count words are none =
     sym (words_of-slots_of count words are)
     ∙ ap (words_of count) (none ∙ sym (slots_of-zeros count))

@@ -11,7 +11,8 @@ use Rattle.toggle_sums.specs.Counts.{Count, no_text, plus}
 abbrev pub either : Bool → Bool → Bool
 either a b = (a && not b) || (b && not a)
 
-pub contains-differing : (s t : Slots) (q : ℕ) → set.contains (differing s t) q ≡ either (set.contains s q) (set.contains t q)
+pub contains-differing : (s t : Slots) (q : ℕ) → set.contains (differing s t) q
+    ≡ either (set.contains s q) (set.contains t q)
 contains-differing s t q =
     set.contains-union nat_cmp_total (set.difference s t) (set.difference t s) q
     ∙ ap₂ (λ a b. a || b) (set.contains-difference nat_cmp_total s t q) (set.contains-difference nat_cmp_total t s q)
@@ -67,11 +68,13 @@ differing-associative r s t =
 
 pub differing-commutative : (s t : Slots) → differing s t ≡ differing t s
 differing-commutative s t =
-    same_slots _ _ (λ q. contains-differing s t q ∙ either-commutative (set.contains s q) (set.contains t q) ∙ sym (contains-differing t s q))
+    same_slots _ _ (λ q. contains-differing s t q ∙ either-commutative (set.contains s q) (set.contains t q)
+    ∙ sym (contains-differing t s q))
 
 pub differing-empty : (s : Slots) → differing s set.empty ≡ s
 differing-empty s =
-    same_slots _ _ (λ q. contains-differing s set.empty q ∙ ap (λ a. either (set.contains s q) a) (set.contains-empty nat_cmp q) ∙ either-false (set.contains s q))
+    same_slots _ _ (λ q. contains-differing s set.empty q
+    ∙ ap (λ a. either (set.contains s q) a) (set.contains-empty nat_cmp q) ∙ either-false (set.contains s q))
 
 pub empty-differing : (s : Slots) → differing set.empty s ≡ s
 empty-differing s = differing-commutative set.empty s ∙ differing-empty s
@@ -82,15 +85,18 @@ union-associative r s t =
     set.contains-union nat_cmp_total (set.union r s) t q
     ∙ ap (λ a. a || set.contains t q) (set.contains-union nat_cmp_total r s q)
     ∙ or-associative (set.contains r q) (set.contains s q) (set.contains t q)
-    ∙ sym (set.contains-union nat_cmp_total r (set.union s t) q ∙ ap (λ a. set.contains r q || a) (set.contains-union nat_cmp_total s t q)))
+    ∙ sym (set.contains-union nat_cmp_total r (set.union s t) q
+    ∙ ap (λ a. set.contains r q || a) (set.contains-union nat_cmp_total s t q)))
 
 pub union-commutative : (s t : Slots) → set.union s t ≡ set.union t s
 union-commutative s t =
-    same_slots _ _ (λ q. set.contains-union nat_cmp_total s t q ∙ or-commutative (set.contains s q) (set.contains t q) ∙ sym (set.contains-union nat_cmp_total t s q))
+    same_slots _ _ (λ q. set.contains-union nat_cmp_total s t q ∙ or-commutative (set.contains s q) (set.contains t q)
+    ∙ sym (set.contains-union nat_cmp_total t s q))
 
 pub union-empty : (s : Slots) → set.union s set.empty ≡ s
 union-empty s =
-    same_slots _ _ (λ q. set.contains-union nat_cmp_total s set.empty q ∙ ap (λ a. set.contains s q || a) (set.contains-empty nat_cmp q) ∙ or-false (set.contains s q))
+    same_slots _ _ (λ q. set.contains-union nat_cmp_total s set.empty q
+    ∙ ap (λ a. set.contains s q || a) (set.contains-empty nat_cmp q) ∙ or-false (set.contains s q))
 
 pub empty-union : (s : Slots) → set.union set.empty s ≡ s
 empty-union s = union-commutative set.empty s ∙ union-empty s

@@ -17,7 +17,8 @@ pub trait Summary: Copy {
         requires { fits self.now other.now }
         ensures { result ≡ joined self.now other.now };
 
-    ghost associative: { (first second third : Self) → joined (joined first second) third ≡ joined first (joined second third) };
+    ghost associative: { (first second third : Self) → joined (joined first second) third
+        ≡ joined first (joined second third) };
 
     ghost zero_first: { (sum : Self) → joined nothing sum ≡ sum };
 

@@ -12,7 +12,8 @@ all-counted ls n is =
     let all : length ls ≤ n = omega (arith, is) in
     count-first n ls ∙ ap total (take_all n ls all)
 
-pub same-taken : {X Y : Type 0} (xs xs' : List X) (ys ys' : List Y) (k : ℕ) → length xs ≡ length ys → k < length ys → xs' ≡ remove xs k → ys' ≡ remove ys k → length xs' ≡ length ys'
+pub same-taken : {X Y : Type 0} (xs xs' : List X) (ys ys' : List Y) (k : ℕ) → length xs ≡ length ys → k < length ys →
+    xs' ≡ remove xs k → ys' ≡ remove ys k → length xs' ≡ length ys'
 same-taken xs xs' ys ys' k is within left right =
     let also : k < length xs = omega (arith, is, within) in
     omega (arith, is, length-remove xs k also, length-remove ys k within, ap length left, ap length right)

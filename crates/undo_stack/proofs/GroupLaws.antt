@@ -1,5 +1,6 @@
 -- What a row in groups is, as the row or the lengths change at an end, or the border between two groups moves.
-use Rattle.std.proofs.Common.{◌≡◌, take_all, ℕ, zero, suc, ◌+◌, ◌<◌, ◌≤◌, List, [], ◌∷◌, ◌++◌, length, take, drop, get_or, Some, refl, sym, ap, ap₂, ◌∙◌, arith, length-append, length-drop, length-take}
+use Rattle.std.proofs.Common.{◌≡◌, take_all, ℕ, zero, suc, ◌+◌, ◌<◌, ◌≤◌, List, [], ◌∷◌, ◌++◌, length, take, drop}
+use Rattle.std.proofs.Common.{get_or, Some, refl, sym, ap, ap₂, ◌∙◌, arith, length-append, length-drop, length-take}
 use Rattle.std.specs.Prelude.{sum, slice_get}
 use Rattle.std.proofs.lemmas.List.{drop-drop, take-append-le, drop-append-le, take-append-drop}
 use Rattle.std.proofs.lemmas.List.Sums.{sum_by-cons, sum_by-append}
@@ -15,13 +16,15 @@ pub sum-append : (ns ms : List ℕ) → sum (ns ++ ms) ≡ sum ns + sum ms
 sum-append ns ms = sum_by-append (λ x. x) ns ms
 
 pub sum-one : (ns : List ℕ) (n : ℕ) → sum (ns ++ n ∷ []) ≡ sum ns + n
-sum-one ns n = sum-append ns (n ∷ []) ∙ ap (λ k. sum ns + k) (let e : sum (n ∷ []) ≡ n = sum-cons n [] ∙ omega arith in e)
+sum-one ns n =
+    sum-append ns (n ∷ []) ∙ ap (λ k. sum ns + k) (let e : sum (n ∷ []) ≡ n = sum-cons n [] ∙ omega arith in e)
 
 pub length-grouped : {A : Type 0} (lengths : List ℕ) (xs : List A) → length (grouped lengths xs) ≡ length lengths
 length-grouped [] xs = refl
 length-grouped (n ∷ lengths) xs = ap suc (length-grouped lengths (drop n xs))
 
-pub take-grouped : {A : Type 0} (k : ℕ) (lengths : List ℕ) (xs : List A) → take k (grouped lengths xs) ≡ grouped (take k lengths) xs
+pub take-grouped : {A : Type 0} (k : ℕ) (lengths : List ℕ) (xs : List A) →
+    take k (grouped lengths xs) ≡ grouped (take k lengths) xs
 take-grouped zero lengths xs = refl
 take-grouped (suc k) [] xs = refl
 take-grouped (suc k) (n ∷ lengths) xs = ap (λ gs. take n xs ∷ gs) (take-grouped k lengths (drop n xs))
@@ -31,10 +34,12 @@ pub grouped-append : {A : Type 0} (lengths others : List ℕ) (xs : List A)
 grouped-append [] others xs = refl
 grouped-append (n ∷ lengths) others xs =
     ap (λ gs. take n xs ∷ gs) (grouped-append lengths others (drop n xs))
-    ∙ ap (λ ys. take n xs ∷ (grouped lengths (drop n xs) ++ grouped others ys)) (drop-drop (sum lengths) n xs ∙ ap (λ k. drop k xs) (sym (sum-cons n lengths)))
+    ∙ ap (λ ys. take n xs ∷ (grouped lengths (drop n xs) ++ grouped others ys)) (drop-drop (sum lengths) n xs
+    ∙ ap (λ k. drop k xs) (sym (sum-cons n lengths)))
 
 -- what stands behind the last group is no matter
-pub grouped-front : {A : Type 0} (lengths : List ℕ) (xs ys : List A) → sum lengths ≤ length xs → grouped lengths (xs ++ ys) ≡ grouped lengths xs
+pub grouped-front : {A : Type 0} (lengths : List ℕ) (xs ys : List A) → sum lengths ≤ length xs →
+    grouped lengths (xs ++ ys) ≡ grouped lengths xs
 grouped-front [] xs ys within = refl
 grouped-front (n ∷ lengths) xs ys within =
     let whole : n + sum lengths ≤ length xs = rw (sym (sum-cons n lengths)) within in
@@ -43,7 +48,8 @@ grouped-front (n ∷ lengths) xs ys within =
     ap₂ (λ g gs. g ∷ gs) (take-append-le n xs ys first)
     (ap (grouped lengths) (drop-append-le n xs ys first) ∙ grouped-front lengths (drop n xs) ys rest)
 
-pub grouped-take : {A : Type 0} (lengths : List ℕ) (count : ℕ) (xs : List A) → sum lengths ≡ count → count ≤ length xs → grouped lengths (take count xs) ≡ grouped lengths xs
+pub grouped-take : {A : Type 0} (lengths : List ℕ) (count : ℕ) (xs : List A) → sum lengths ≡ count → count ≤ length xs →
+    grouped lengths (take count xs) ≡ grouped lengths xs
 grouped-take lengths count xs is within =
     sym (ap (grouped lengths) (sym (take-append-drop count xs))
     ∙ grouped-front lengths (take count xs) (drop count xs) (rw (length-take count xs, is) (omega arith)))
@@ -54,7 +60,8 @@ pub grouped-new : {A : Type 0} (lengths : List ℕ) (xs : List A) (x : A) → su
 grouped-new lengths xs x is =
     grouped-append lengths (1 ∷ []) (xs ++ x ∷ [])
     ∙ ap₂ (λ gs ys. gs ++ grouped (1 ∷ []) ys) (grouped-front lengths xs (x ∷ []) (omega (arith, is)))
-    (drop-append-le (sum lengths) xs (x ∷ []) (omega (arith, is)) ∙ ap (λ ys. ys ++ x ∷ []) (drop_of_length-le xs (omega (arith, is))))
+    (drop-append-le (sum lengths) xs (x ∷ []) (omega (arith, is))
+    ∙ ap (λ ys. ys ++ x ∷ []) (drop_of_length-le xs (omega (arith, is))))
 
 onto_last-append : (action : Action) (groups : List (List Action)) (group : List Action)
     → onto_last action (groups ++ group ∷ []) ≡ groups ++ (group ++ action ∷ []) ∷ []
@@ -69,8 +76,10 @@ grouped-join front n xs x is =
     let ys = drop (sum front) xs in
     let count : length ys ≡ n = length-drop (sum front) xs ∙ omega (arith, is) in
     grouped-append front ((n + 1) ∷ []) (xs ++ x ∷ [])
-    ∙ ap₂ (λ gs zs. gs ++ take (n + 1) zs ∷ []) (grouped-front front xs (x ∷ []) (omega (arith, is))) (drop-append-le (sum front) xs (x ∷ []) (omega (arith, is)))
-    ∙ ap (λ g. grouped front xs ++ g ∷ []) (take_all (n + 1) (ys ++ x ∷ []) (rw (length-append ys (x ∷ []), count) (omega arith))
+    ∙ ap₂ (λ gs zs. gs ++ take (n + 1) zs ∷ []) (grouped-front front xs (x ∷ []) (omega (arith, is)))
+    (drop-append-le (sum front) xs (x ∷ []) (omega (arith, is)))
+    ∙ ap (λ g. grouped front xs ++ g ∷ []) (take_all (n + 1) (ys ++ x ∷ [])
+    (rw (length-append ys (x ∷ []), count) (omega arith))
     ∙ ap (λ g. g ++ x ∷ []) (sym (take_all n ys (omega (arith, count)))))
     ∙ sym (onto_last-append x (grouped front xs) (take n ys))
     ∙ ap (onto_last x) (sym (grouped-append front (n ∷ []) xs))
@@ -82,4 +91,5 @@ slice_get-grouped [] k xs within = absurd (omega arith)
 slice_get-grouped (n ∷ lengths) zero xs within = refl
 slice_get-grouped (n ∷ lengths) (suc k) xs within =
     slice_get-grouped lengths k (drop n xs) (omega arith)
-    ∙ ap (λ ys. Some (take (get_or lengths k 0) ys)) (drop-drop (sum (take k lengths)) n xs ∙ ap (λ j. drop j xs) (sym (sum-cons n (take k lengths))))
+    ∙ ap (λ ys. Some (take (get_or lengths k 0) ys)) (drop-drop (sum (take k lengths)) n xs
+    ∙ ap (λ j. drop j xs) (sym (sum-cons n (take k lengths))))

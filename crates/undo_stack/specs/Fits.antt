@@ -1,5 +1,6 @@
 -- When the groups of a history can be reverted and repeated in a text.
-use Rattle.std.specs.Prelude.{ℕ, ◌+◌, ◌<◌, ◌≤◌, nat_lt, nat_le, ◌&&◌, List, [], ◌∷◌, length, slice_range, bytes_eq, Option, None, Some, option_and_then, IsSome, if◌then◌else◌}
+use Rattle.std.specs.Prelude.{ℕ, ◌+◌, ◌<◌, ◌≤◌, nat_lt, nat_le, ◌&&◌, List, [], ◌∷◌, length, slice_range, bytes_eq}
+use Rattle.std.specs.Prelude.{Option, None, Some, option_and_then, IsSome, if◌then◌else◌}
 use Rattle.std.specs.List.{AllByRecursion}
 use Rattle.text_model.specs.Splices.{inserted, removed}
 use Rattle.undo_stack.specs.declared.actions.Action.{Action}
@@ -13,15 +14,18 @@ put_in limit at text all =
 -- A text is taken out where it stands, before the last newline.
 abbrev pub take_out : ℕ → List ℕ → List ℕ → Option (List ℕ)
 take_out at text all =
-    if nat_lt (at + length text) (length all) && bytes_eq (slice_range all at (at + length text)) text then Some (removed at (at + length text) all)
+    if nat_lt (at + length text) (length all) && bytes_eq (slice_range all at (at + length text)) text
+    then Some (removed at (at + length text) all)
     else None
 
 -- an action is made once more, or reverted; none where it can't be
 abbrev pub repeated : ℕ → Action → List ℕ → Option (List ℕ)
-repeated limit action all = if action.inserts then put_in limit action.at action.text all else take_out action.at action.text all
+repeated limit action all =
+    if action.inserts then put_in limit action.at action.text all else take_out action.at action.text all
 
 abbrev pub reverted : ℕ → Action → List ℕ → Option (List ℕ)
-reverted limit action all = if action.inserts then take_out action.at action.text all else put_in limit action.at action.text all
+reverted limit action all =
+    if action.inserts then take_out action.at action.text all else put_in limit action.at action.text all
 
 -- the actions of a group, the first first
 abbrev pub repeated_group : ℕ → List Action → List ℕ → Option (List ℕ)
@@ -36,12 +40,14 @@ reverted_group limit (action ∷ actions) all = option_and_then (reverted limit 
 -- the groups, the first first
 abbrev pub repeated_groups : ℕ → List (List Action) → List ℕ → Option (List ℕ)
 repeated_groups limit [] all = Some all
-repeated_groups limit (group ∷ groups) all = option_and_then (repeated_groups limit groups) (repeated_group limit group all)
+repeated_groups limit (group ∷ groups) all =
+    option_and_then (repeated_groups limit groups) (repeated_group limit group all)
 
 -- the groups, the last first
 abbrev pub reverted_groups : ℕ → List (List Action) → List ℕ → Option (List ℕ)
 reverted_groups limit [] all = Some all
-reverted_groups limit (group ∷ groups) all = option_and_then (reverted_group limit group) (reverted_groups limit groups all)
+reverted_groups limit (group ∷ groups) all =
+    option_and_then (reverted_group limit group) (reverted_groups limit groups all)
 
 -- The text is within the limit and no group is empty; the groups can be reverted in the text, the last first, and the
 -- undone ones repeated, the last undone first.

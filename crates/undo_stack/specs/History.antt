@@ -1,5 +1,6 @@
 -- What was done to a text, to be reverted and repeated (text(n), "THE UNDO MECHANISM").
-use Rattle.std.specs.Prelude.{ℕ, ◌-◌, ◌==◌, Bool, true, false, ◌&&◌, not, List, [], ◌∷◌, ◌++◌, length, take, drop, slice_get, Option, None, Some, ℤ, pos, negsuc, if◌then◌else◌}
+use Rattle.std.specs.Prelude.{ℕ, ◌-◌, ◌==◌, Bool, true, false, ◌&&◌, not, List, [], ◌∷◌, ◌++◌, length, take, drop}
+use Rattle.std.specs.Prelude.{slice_get, Option, None, Some, ℤ, pos, negsuc, if◌then◌else◌}
 use Rattle.undo_stack.specs.declared.actions.Action.{Action}
 use Rattle.undo_stack.specs.declared.actions.EditKind.{EditKind}
 use Rattle.undo_stack.specs.declared.actions.EditKind.TheVariants.{Insert, Delete, Replace}
@@ -55,7 +56,8 @@ newest most groups = if most == 0 then groups else drop (length groups - most) g
 -- last group.
 abbrev pub noted : EditKind → Action → Bool → ℕ → History → History
 noted kind action separators most history = record {
-  groups = newest most (joined (history.takes_more && not (separators && changes_kind kind history.last)) action history.groups);
+  groups = newest most (joined (history.takes_more && not (separators && changes_kind kind history.last)) action
+      history.groups);
   takes_more = true;
   last = Some kind;
   undone = [];

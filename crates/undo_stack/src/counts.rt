@@ -1,5 +1,6 @@
 ghost use Rattle.std.specs.Prelude.{◌≡◌};
-ghost use Rattle.undo_stack.specs.Modified.{unmodified, is_modified, counted_up, counted_down, counted_new, set_to, times};
+ghost use Rattle.undo_stack.specs.Modified.{unmodified, is_modified, counted_up, counted_down, counted_new, set_to};
+ghost use Rattle.undo_stack.specs.Modified.{times};
 
 use std::marker::Model;
 

@@ -3,7 +3,8 @@
 ghost use Rattle.std.specs.Prelude.{◌≡◌, ◌≤◌, ℕ, Bool, List, Some, length};
 ghost use Rattle.undo_stack.specs.declared.actions.Action.{Action};
 ghost use Rattle.undo_stack.specs.declared.actions.EditKind.{EditKind};
-ghost use Rattle.undo_stack.specs.History.{History, no_history, noted, separated, limited, next_undo, next_redo, after_undo, after_redo};
+ghost use Rattle.undo_stack.specs.History.{History, no_history, noted, separated, limited, next_undo, next_redo};
+ghost use Rattle.undo_stack.specs.History.{after_undo, after_redo};
 ghost use Rattle.undo_stack.specs.Fits.{repeated, repeated_group, reverted_group, FitsText};
 
 /// The actions of a group, made in order on a text that they fit, and then reverted from the last, give back the
@@ -24,7 +25,8 @@ pub fn rest_fits()
 
 /// Where a history fits a text, and an action is made on the text and noted, the history fits what that makes.
 pub fn note_fits()
-    ensures { (limit most : ℕ) (kind : EditKind) (action : Action) (separators : Bool) (history : History) (text found : List ℕ) →
+    ensures { (limit most : ℕ) (kind : EditKind) (action : Action) (separators : Bool) (history : History)
+        (text found : List ℕ) →
         FitsText limit text history → repeated limit action text ≡ Some found →
         FitsText limit found (noted kind action separators most history) }
 {}
@@ -39,7 +41,8 @@ pub fn undo_fits()
         FitsText limit found (after_undo group history) }
 {}
 
-/// Where a history fits a text, the group undone last can be made again in it, and then the history fits what that makes.
+/// Where a history fits a text, the group undone last can be made again in it, and then the history fits what that
+/// makes.
 pub fn redo_fits()
     ensures goes { (limit : ℕ) (history : History) (text : List ℕ) (group : List Action) →
         FitsText limit text history → next_redo history ≡ Some group →

@@ -1,6 +1,9 @@
-ghost use Rattle.std.specs.Prelude.{◌≡◌, ◌≢◌, ◌≤◌, ◌<◌, ◌+◌, [], true, false, pos, drop, OnOk, IsOk, IsSome, IfSome, IfErr, ◌↔◌, length};
-ghost use Rattle.undo_stack.specs.History.{no_history, changes_kind, joined, limit_of, newest, noted, separated, limited, next_undo, next_redo, after_undo, after_redo};
-ghost use Rattle.undo_stack.specs.Modified.{unmodified, is_modified, counted_up, counted_down, counted_new, times, set_to};
+ghost use Rattle.std.specs.Prelude.{◌≡◌, ◌≢◌, ◌≤◌, ◌<◌, ◌+◌, [], true, false, pos, drop, OnOk, IsOk, IsSome, IfSome};
+ghost use Rattle.std.specs.Prelude.{IfErr, ◌↔◌, length};
+ghost use Rattle.undo_stack.specs.History.{no_history, changes_kind, joined, limit_of, newest, noted, separated};
+ghost use Rattle.undo_stack.specs.History.{limited, next_undo, next_redo, after_undo, after_redo};
+ghost use Rattle.undo_stack.specs.Modified.{unmodified, is_modified, counted_up, counted_down, counted_new, times};
+ghost use Rattle.undo_stack.specs.Modified.{set_to};
 
 use crate::actions::{Action, EditKind};
 use crate::counts::ModifiedCount;
@@ -142,7 +145,8 @@ impl UndoStack {
     /// Moves the last group to those that are undone, and counts its actions as reverted.
     pub fn take_undo(&mut self) -> Result<(), HistoryFault>
         ensures some { IsOk result ↔ IsSome (next_undo self.old.history) }
-        ensures history { IfSome (next_undo self.old.history) (λ group. self.new.history ≡ after_undo group self.old.history) }
+        ensures history { IfSome (next_undo self.old.history) (λ group. self.new.history
+            ≡ after_undo group self.old.history) }
         ensures modified { IfSome (next_undo self.old.history) (λ group.
             self.new.modified ≡ times (length group) counted_down self.old.modified) }
         ensures most { self.new.most ≡ self.old.most }
@@ -164,7 +168,8 @@ impl UndoStack {
     /// Moves the group that was undone last back to the others, and counts its actions as made again.
     pub fn take_redo(&mut self) -> Result<(), HistoryFault>
         ensures some { IsOk result ↔ IsSome (next_redo self.old.history) }
-        ensures history { IfSome (next_redo self.old.history) (λ group. self.new.history ≡ after_redo group self.old.most self.old.history) }
+        ensures history { IfSome (next_redo self.old.history) (λ group. self.new.history
+            ≡ after_redo group self.old.most self.old.history) }
         ensures modified { IfSome (next_redo self.old.history) (λ group.
             self.new.modified ≡ times (length group) counted_up self.old.modified) }
         ensures most { self.new.most ≡ self.old.most }
@@ -199,7 +204,8 @@ impl UndoStack {
     fn begin_group(&mut self, action: Action)
         requires room { 0 < self.old.room }
         requires last { self.old.history.undone ≡ [] }
-        ensures history { self.new.history ≡ record self.old.history { groups = joined false action self.old.history.groups } }
+        ensures history { self.new.history
+            ≡ record self.old.history { groups = joined false action self.old.history.groups } }
         ensures modified { self.new.modified ≡ self.old.modified }
         ensures most { self.new.most ≡ self.old.most }
         ensures room { self.old.room ≤ self.new.room + 1 }
@@ -215,7 +221,8 @@ impl UndoStack {
         requires room { 0 < self.old.room }
         requires last { self.old.history.undone ≡ [] }
         requires takes { self.old.history.takes_more ≡ true }
-        ensures history { self.new.history ≡ record self.old.history { groups = joined true action self.old.history.groups } }
+        ensures history { self.new.history
+            ≡ record self.old.history { groups = joined true action self.old.history.groups } }
         ensures modified { self.new.modified ≡ self.old.modified }
         ensures most { self.new.most ≡ self.old.most }
         ensures room { self.old.room ≤ self.new.room + 1 }
@@ -291,9 +298,9 @@ impl UndoStack {
         self.cut();
     }
 
-    /// Notes an action that was made, of an edit of a kind. It counts in any case; with `undo` it is kept, and there has
-    /// to be room for it: the undone groups go, and it joins the last group, unless that is closed, or `separators` is
-    /// set and the edit before was of another kind.
+    /// Notes an action that was made, of an edit of a kind. It counts in any case; with `undo` it is kept, and there
+    /// has to be room for it: the undone groups go, and it joins the last group, unless that is closed, or `separators`
+    /// is set and the edit before was of another kind.
     pub fn note(&mut self, kind: EditKind, action: Action, undo: bool, separators: bool)
         requires { undo ≡ true → 0 < self.old.room }
         ensures kept { undo ≡ true → self.new.history ≡ noted kind action separators self.old.most self.old.history }

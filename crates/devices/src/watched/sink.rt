@@ -43,8 +43,8 @@ impl<T: Write> ByteSink for Watched<T> {
     }
 }
 
-/// How many of so many bytes a write took; `None` where it failed, which is exactly where the writer answers an error or
-/// takes none of some bytes.
+/// How many of so many bytes a write took; `None` where it failed, which is exactly where the writer answers an error
+/// or takes none of some bytes.
 fn taken(answer: io::Result<usize>, offered: usize) -> Option<usize>
     ensures { result ≡ bytes_taken offered answer }
 {

@@ -8,7 +8,12 @@ use std::io;
 use std::io::Read;
 
 impl<T: Read> ByteSource for Watched<T> {
-    ghost log = { λ w. record { reads = w.reads.count; ends = w.ends.count; bytes = w.passed.bytes; left = T.remaining w.inner } };
+    ghost log = { λ w. record {
+      reads = w.reads.count;
+      ends = w.ends.count;
+      bytes = w.passed.bytes;
+      left = T.remaining w.inner;
+    } };
 
     ghost is_failed = { λ w. w.failed };
 
@@ -19,8 +24,18 @@ impl<T: Read> ByteSource for Watched<T> {
     fn read(&mut self, buffer: &mut [u8]) -> usize
         ensures bound { result ≤ length buffer.new }
         ensures bytes { self.old.failed ≡ false → Reads
-            (record { reads = self.old.reads.count; ends = self.old.ends.count; bytes = self.old.passed.bytes; left = T.remaining self.old.inner })
-            (record { reads = self.new.reads.count; ends = self.new.ends.count; bytes = self.new.passed.bytes; left = T.remaining self.new.inner })
+            (record {
+              reads = self.old.reads.count;
+              ends = self.old.ends.count;
+              bytes = self.old.passed.bytes;
+              left = T.remaining self.old.inner;
+            })
+            (record {
+              reads = self.new.reads.count;
+              ends = self.new.ends.count;
+              bytes = self.new.passed.bytes;
+              left = T.remaining self.new.inner;
+            })
             result buffer.new self.new.failed }
         ensures flag { self.old.failed ≡ true → self.new.failed ≡ true }
         ensures counted { self.new.reads.count ≡ self.old.reads.count + 1 }

@@ -22,18 +22,24 @@ returns-then-count-most c =
 pub returns-in-None : goal.returns-in-None
 returns-in-None c =
     let tags = names_of c.args.tags.now.tags in
-    let step = listed-step tags c.args.pairs.now c.loop-place.place c.index-pairs-place.result c.loop-place-test.true c.index-pairs-place.is in
-    let listed = ap (λ names. length (with_names (with_names tags (all_names (take c.loop-place.place c.args.pairs.now))) names)) c.listed_names.ensures in
+    let step = listed-step tags c.args.pairs.now c.loop-place.place c.index-pairs-place.result c.loop-place-test.true
+    c.index-pairs-place.is in
+    let listed = ap (λ names.
+    length (with_names (with_names tags (all_names (take c.loop-place.place c.args.pairs.now))) names))
+    c.listed_names.ensures in
     let many : c.args.limits.now.tags + 1 < length (with_names tags (all_names c.args.pairs.now)) =
-    too_many_listed tags c.args.pairs.now (c.loop-place.place + 1) (c.args.limits.now.tags + 1) (omega (arith, c.in-None.ensures.many refl, c.tags.ensures, listed, ap length step)) in
+    too_many_listed tags c.args.pairs.now (c.loop-place.place + 1) (c.args.limits.now.tags + 1)
+    (omega (arith, c.in-None.ensures.many refl, c.tags.ensures, listed, ap length step)) in
     grind (arith, nat_tests, many)
 
 pub loop-place-preserved : goal.loop-place-preserved
 loop-place-preserved c =
     let tags = names_of c.args.tags.now.tags in
-    let step = listed-step tags c.args.pairs.now c.loop-place.place c.index-pairs-place.result c.loop-place-test.true c.index-pairs-place.is in (
+    let step = listed-step tags c.args.pairs.now c.loop-place.place c.index-pairs-place.result c.loop-place-test.true
+    c.index-pairs-place.is in (
       c.in-Some.ensures.few,
       c.in-Some.ensures.count
-          ∙ ap (λ names. length (with_names (with_names tags (all_names (take c.loop-place.place c.args.pairs.now))) names)) c.listed_names.ensures
+          ∙ ap (λ names. length (with_names (with_names tags (all_names (take c.loop-place.place c.args.pairs.now)))
+          names)) c.listed_names.ensures
           ∙ ap length step,
     )

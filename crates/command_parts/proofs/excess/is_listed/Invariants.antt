@@ -4,7 +4,8 @@ use Rattle.command_parts.specs.Words.{is_among}
 use Rattle.command_parts.proofs.excess.is_listed.Given as goal
 
 abbrev pub invariant-loop-left : goal.invariant-loop-left
-invariant-loop-left l = (l.left ≤ length l.pairs) × (is_among (chars l.name) (all_names l.pairs) ≡ is_among (chars l.name) (all_names (take l.left l.pairs)))
+invariant-loop-left l = (l.left ≤ length l.pairs)
+    × (is_among (chars l.name) (all_names l.pairs) ≡ is_among (chars l.name) (all_names (take l.left l.pairs)))
 
 abbrev pub decreases-loop-left : goal.decreases-loop-left
 decreases-loop-left l = l.left

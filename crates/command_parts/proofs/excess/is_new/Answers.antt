@@ -23,4 +23,5 @@ returns c =
     let name = chars c.args.name.now in let tags = c.args.tags.now.tags in
     ap not c.is_listed.ensures
     ∙ sym (new-listed name (names_of tags) (all_names c.args.before.now) (texts_of c.args.names.now)
-    (tag-known name tags c.find.result c.find.ensures.value ∙ sym c.is_some.ensures ∙ c.if-is_some.false) (sym c.is_repeated.ensures ∙ c.if-is_repeated.false))
+    (tag-known name tags c.find.result c.find.ensures.value ∙ sym c.is_some.ensures
+    ∙ c.if-is_some.false) (sym c.is_repeated.ensures ∙ c.if-is_repeated.false))

@@ -12,4 +12,5 @@ returns c =
     let second = string_bytes c.push_element-2.new.list in
     let new = string_bytes c.push_shared_names.new.list in
     goes_on old second new (literal "insert" ∷ literal "current" ∷ []) (names_of c.args.marks.now.marks)
-    (goes_on old first second (literal "insert" ∷ []) (literal "current" ∷ []) c.in_ok-push_element.ensures.list c.in_ok-push_element-2.ensures.list) c.in_ok-push_shared_names.ensures
+    (goes_on old first second (literal "insert" ∷ []) (literal "current" ∷ []) c.in_ok-push_element.ensures.list
+    c.in_ok-push_element-2.ensures.list) c.in_ok-push_shared_names.ensures

@@ -9,7 +9,8 @@ loop-range-init g c =
     let content = g.S.TextStore.content c.args.view.now.store.now in
     record {
       within = omega (arith, c.requires.view.ordered);
-      listed = listed-none (shown content c.args.view.now.s c.args.view.now.e) (shown_flags c.args.slot.0 content c.args.view.now.s c.args.view.now.e) (string_bytes c.args.list.now);
+      listed = listed-none (shown content c.args.view.now.s c.args.view.now.e)
+          (shown_flags c.args.slot.0 content c.args.view.now.s c.args.view.now.e) (string_bytes c.args.list.now);
     }
 
 pub loop-range-preserved : goal.loop-range-preserved
@@ -18,6 +19,8 @@ loop-range-preserved g c =
     let flags = shown_flags c.args.slot.0 content c.args.view.now.s c.args.view.now.e in
     record {
       within = c.in-Some.ensures.bound;
-      listed = listed-more (shown content c.args.view.now.s c.args.view.now.e) flags (string_bytes c.args.list.now) (string_bytes c.loop-range.list) (string_bytes c.push_range.new.list) c.loop-range.place c.in-Some.range c.loop-range.invariant.listed
+      listed = listed-more (shown content c.args.view.now.s c.args.view.now.e) flags (string_bytes c.args.list.now)
+          (string_bytes c.loop-range.list) (string_bytes c.push_range.new.list) c.loop-range.place c.in-Some.range
+          c.loop-range.invariant.listed
           c.in-Some.ensures.later c.in_ok-push_range.ensures;
     }

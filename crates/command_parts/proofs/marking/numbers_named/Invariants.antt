@@ -5,4 +5,5 @@ use Rattle.command_parts.specs.Marking.{numbers_named}
 use Rattle.command_parts.proofs.marking.numbers_named.Given as goal
 
 abbrev pub invariant-loop-name : goal.invariant-loop-name
-invariant-loop-name l = map (λ (number : MarkNo). number.0) l.numbers.items ≡ numbers_named l.marks.marks (texts_of (take l.name-index l.names))
+invariant-loop-name l = map (λ (number : MarkNo). number.0) l.numbers.items
+    ≡ numbers_named l.marks.marks (texts_of (take l.name-index l.names))

@@ -19,4 +19,6 @@ loop-name-preserved c =
     c.delete.ensures ∙ ap (λ (t : Tags). record t { tags = deleted name t.tags }) c.loop-name.invariant
     ∙ ap (λ tags. record old { tags = tags })
     (tags_left-more (texts_of (take at c.args.names.now)) name old.tags c.len-count.ensures.sound.names_apart
-    ∙ ap (λ names. tags_left names old.tags) (sym (texts-more c.args.names.now at c.name-item.result c.as_str.result.now c.loop-name-test.true c.name-item.is c.as_str.ensures.value)))
+    ∙ ap (λ names. tags_left names old.tags)
+    (sym (texts-more c.args.names.now at c.name-item.result c.as_str.result.now c.loop-name-test.true c.name-item.is
+    c.as_str.ensures.value)))

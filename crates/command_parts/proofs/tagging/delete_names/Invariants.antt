@@ -4,4 +4,5 @@ use Rattle.command_parts.specs.Tagging.{tags_left}
 use Rattle.command_parts.proofs.tagging.delete_names.Given as goal
 
 abbrev pub invariant-loop-name : goal.invariant-loop-name
-invariant-loop-name l = l.tags ≡ record l.fn.tags { tags = tags_left (texts_of (take l.name-index l.names)) l.fn.tags.tags }
+invariant-loop-name l =
+    l.tags ≡ record l.fn.tags { tags = tags_left (texts_of (take l.name-index l.names)) l.fn.tags.tags }

@@ -8,6 +8,7 @@ use Rattle.command_parts.proofs.tagging.deleted_slots.Given as goal
 
 abbrev pub invariant-loop-name : goal.invariant-loop-name
 invariant-loop-name l = record {
-  value : map (λ (slot : TagSlot). slot.0) l.slots.items ≡ slots_deleted l.tags.tags (texts_of (take l.name-index l.names));
+  value : map (λ (slot : TagSlot). slot.0) l.slots.items
+      ≡ slots_deleted l.tags.tags (texts_of (take l.name-index l.names));
   bound : All (λ (slot : TagSlot). slot.0 < slot_count) l.slots.items;
 }

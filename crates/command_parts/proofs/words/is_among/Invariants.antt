@@ -4,4 +4,5 @@ use Rattle.command_parts.specs.Words.{is_among}
 use Rattle.command_parts.proofs.words.is_among.Given as goal
 
 abbrev pub invariant-loop-other : goal.invariant-loop-other
-invariant-loop-other l = is_among (chars l.name) (texts_of l.names) ≡ is_among (chars l.name) (texts_of (drop l.other-index l.names))
+invariant-loop-other l =
+    is_among (chars l.name) (texts_of l.names) ≡ is_among (chars l.name) (texts_of (drop l.other-index l.names))

@@ -8,4 +8,5 @@ use Rattle.command_table.proofs.numbers.integer.Goals as goal
 pub returns : goal.returns
 returns c =
     c.ok_or.ensures.value
-    ∙ ap (λ found. ok_or found ExpectedInteger) (c.read_integer.ensures ∙ ap integer_of c.as_bytes.ensures.value ∙ integer_of-chars c.args.word.now c.utf8.word)
+    ∙ ap (λ found. ok_or found ExpectedInteger) (c.read_integer.ensures ∙ ap integer_of c.as_bytes.ensures.value
+    ∙ integer_of-chars c.args.word.now c.utf8.word)

@@ -7,5 +7,6 @@ abbrev pub invariant-loop-name : goal.invariant-loop-name
 invariant-loop-name l = record {
   few : l.count ≤ l.name-index;
   counted : length (filter (λ name. starts_with is_character name (chars l.word)) (lent l.names))
-      ≡ l.count + length (filter (λ name. starts_with is_character name (chars l.word)) (lent (drop l.name-index l.names)));
+      ≡ l.count + length (filter (λ name. starts_with is_character name (chars l.word))
+      (lent (drop l.name-index l.names)));
 }

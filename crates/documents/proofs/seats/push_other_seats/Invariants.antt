@@ -5,4 +5,5 @@ use Rattle.tcl_words.specs.ListGrowth.{Goes}
 use Rattle.documents.proofs.seats.push_other_seats.Given as goal
 
 abbrev pub invariant-loop-place : goal.invariant-loop-place
-invariant-loop-place l = Goes (string_bytes l.fn.list) (string_bytes l.list) (filter (λ other. not (is_same other (chars l.name))) (take l.place (names_of l.seats.entries)))
+invariant-loop-place l = Goes (string_bytes l.fn.list) (string_bytes l.list)
+    (filter (λ other. not (is_same other (chars l.name))) (take l.place (names_of l.seats.entries)))

@@ -11,7 +11,8 @@ loop-place-preserved-then-is_among c =
     let place = c.loop-place.place in
     let seats = c.loop-place.seats.entries in (
       ap (λ (s : Names). left_from names place s.entries) c.remove.ensures
-          ∙ left-removed seats names place (chars c.name.result.now) c.name.ensures (sym c.is_among.ensures ∙ c.if-is_among.true) ∙ c.loop-place.invariant.0,
+          ∙ left-removed seats names place (chars c.name.result.now) c.name.ensures (sym c.is_among.ensures
+          ∙ c.if-is_among.true) ∙ c.loop-place.invariant.0,
       ap (λ (s : Names). s.limit) c.remove.ensures ∙ c.loop-place.invariant.1,
     )
 
@@ -20,6 +21,7 @@ loop-place-preserved c =
     let names = texts_of c.args.names.now in
     let place = c.loop-place.place in
     let seats = c.loop-place.seats.entries in (
-      left-kept seats names place (chars c.name.result.now) c.name.ensures (sym c.is_among.ensures ∙ c.if-is_among.false) ∙ c.loop-place.invariant.0,
+      left-kept seats names place (chars c.name.result.now) c.name.ensures (sym c.is_among.ensures
+          ∙ c.if-is_among.false) ∙ c.loop-place.invariant.0,
       c.loop-place.invariant.1,
     )

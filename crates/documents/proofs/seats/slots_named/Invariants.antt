@@ -9,4 +9,5 @@ use Rattle.text_model.specs.declared.limits.TheConstants.Limits.{MOST_WIDGETS}
 
 abbrev pub invariant-loop-place : goal.invariant-loop-place
 invariant-loop-place l =
-    (map (λ (slot : TagSlot). slot.0) l.slots.items ≡ numbers_gone (texts_of l.names) (take l.place l.seats.entries)) × All (λ (slot : TagSlot). slot.0 < MOST_WIDGETS) l.slots.items
+    (map (λ (slot : TagSlot). slot.0) l.slots.items ≡ numbers_gone (texts_of l.names) (take l.place l.seats.entries))
+    × All (λ (slot : TagSlot). slot.0 < MOST_WIDGETS) l.slots.items

@@ -6,6 +6,12 @@ pub returns-clause-makes : goal.returns-clause-makes
 returns-clause-makes g c =
     let content = g.S.TextStore.content c.args.store.now in
     let counted = c.len.ensures in
-    put-in c.in_ok-draft.draft c.insert_pieces.new.self content c.args.anchors.now c.shared_around.result c.tags_at.result c.len.result c.args.at c.args.pieces.now c.in_ok-draft.ensures
-    (record { counted = sym c.len.ensures; within = omega (arith, c.requires.within, counted); after = behind-is c.args.at content.cells c.tags_at.result c.tags_at.ensures; around = sym c.shared_around.ensures })
+    put-in c.in_ok-draft.draft c.insert_pieces.new.self content c.args.anchors.now c.shared_around.result
+    c.tags_at-behind.result c.len.result c.args.at c.args.pieces.now c.in_ok-draft.ensures
+    (record {
+      counted = sym c.len.ensures;
+      within = omega (arith, c.requires.within, counted);
+      after = behind-is c.args.at content.cells c.tags_at-behind.result c.tags_at-behind.ensures;
+      around = sym (c.shared_around.ensures c.args.at c.tags_at-behind.ensures);
+    })
     c.in_ok-insert_pieces.ensures.makes

@@ -1,4 +1,5 @@
-use Rattle.edit_ops.proofs.AnchoredEditLaws.{deleted-anchored, redone-anchored, replaced-anchored, span-anchored, spans-anchored, texts-anchored, undone-anchored}
+use Rattle.edit_ops.proofs.AnchoredEditLaws.{deleted-anchored, redone-anchored, replaced-anchored, span-anchored}
+use Rattle.edit_ops.proofs.AnchoredEditLaws.{spans-anchored, texts-anchored, undone-anchored}
 use Rattle.edit_ops.proofs.AnchoredLaws.{anchored-stand}
 use Rattle.edit_ops.proofs.laws.anchors_stand_yet.Goals as goal
 

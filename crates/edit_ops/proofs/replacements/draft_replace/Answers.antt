@@ -8,27 +8,35 @@ use Rattle.undo_stack.specs.declared.actions.EditKind.TheVariants.{Replace}
 use Rattle.edit_ops.specs.Insertions.{total}
 use Rattle.edit_ops.specs.Removals.{clipped}
 use Rattle.edit_ops.specs.States.{Draft, state_of}
-use Rattle.edit_ops.proofs.ReplaceLaws.{between-removed, found-most, found-within, mark-fits, mark-put, mark-none, replaced-is}
+use Rattle.edit_ops.proofs.ReplaceLaws.{between-removed, found-most, found-within, mark-fits, mark-put, mark-none}
+use Rattle.edit_ops.proofs.ReplaceLaws.{replaced-is}
 use Rattle.edit_ops.proofs.replacements.draft_replace.Goals as goal
 use Rattle.edit_ops.proofs.replacements.draft_replace.Goals.{in-Some+in_ok-put_mark-in-Some, in-None}
 
 pub returns-clause-fits : goal.returns-clause-fits
 returns-clause-fits g c =
     let content = g.S.TextStore.content c.args.store.now in
-    let is = between-removed c.shared_around.result c.tags_at.result (c.len.result - (c.args.to - c.args.from)) c.args.from c.args.to content.cells _ c.in_ok-draft.ensures.cells c.requires.ordered c.requires.within
-    (ap (λ n. n - (c.args.to - c.args.from)) c.len.ensures) c.shared_around.ensures c.tags_at.ensures in
+    let is = between-removed c.shared_around.result c.tags_at-behind.result (c.len.result - (c.args.to - c.args.from))
+    c.args.from c.args.to content.cells _ c.in_ok-draft.ensures.cells c.requires.ordered c.requires.within
+    (ap (λ n. n - (c.args.to - c.args.from)) c.len.ensures) (c.shared_around.ensures c.args.to c.tags_at-behind.ensures)
+    c.tags_at-behind.ensures in
     let made = c.in_ok-insert_pieces.ensures.makes (record { undo = false; separators = false }) Replace
-    (state_of content c.args.anchors.now (record { history = no_history; modified = unmodified; most = 0 })) c.in_ok-draft.ensures.fits is in
-    let clip : c.clipped.result ≡ option_and_then (clipped c.args.from c.args.to (total c.args.pieces.now)) (finite.get content.marks c.args.mark.0) =
-    c.clipped.ensures ∙ found-most c.args.from c.args.to (total c.args.pieces.now) c.total_of.result c.mark_place.result c.ranges.to.fits c.total_of.ensures
+    (state_of content c.args.anchors.now (record { history = no_history; modified = unmodified; most = 0 }))
+    c.in_ok-draft.ensures.fits is in
+    let clip : c.clipped.result ≡ option_and_then (clipped c.args.from c.args.to (total c.args.pieces.now))
+    (finite.get content.marks c.args.mark.0) =
+    c.clipped.ensures ∙ found-most c.args.from c.args.to (total c.args.pieces.now) c.total_of.result c.mark_place.result
+    c.ranges.to.fits c.total_of.ensures
     ∙ ap (option_and_then (clipped c.args.from c.args.to (total c.args.pieces.now))) c.mark_place.ensures.value in
     elim c.match-clipped.branch [
       | in-Some+in_ok-put_mark-in-Some w ↦
-          let near = found-within c.args.from c.args.to (total c.args.pieces.now) (finite.get content.marks c.args.mark.0) w.in-Some.place (sym clip ∙ w.in-Some.is) in
+          let near = found-within c.args.from c.args.to (total c.args.pieces.now)
+          (finite.get content.marks c.args.mark.0) w.in-Some.place (sym clip ∙ w.in-Some.is) in
           let long = made.1 in
           let len = c.len.ensures in
           mark-fits c.insert_pieces.new.self c.match-clipped.draft content c.args.mark w.in-Some.place made.0
-          (omega (arith, near, long, len, c.requires.ordered, c.requires.within)) (w.draft-is ∙ w.in_ok-put_mark-in-Some.ensures)
+          (omega (arith, near, long, len, c.requires.ordered, c.requires.within)) (w.draft-is
+          ∙ w.in_ok-put_mark-in-Some.ensures)
       | in-None w ↦ subst (λ (d : Draft). Fits d.steps content) (sym w.draft-is) made.0
     ]
 
@@ -36,15 +44,23 @@ pub returns-clause-makes : goal.returns-clause-makes
 returns-clause-makes g c = λ recording log.
     let content = g.S.TextStore.content c.args.store.now in
     let state = state_of content c.args.anchors.now log in
-    let is = between-removed c.shared_around.result c.tags_at.result (c.len.result - (c.args.to - c.args.from)) c.args.from c.args.to content.cells _ c.in_ok-draft.ensures.cells c.requires.ordered c.requires.within
-    (ap (λ n. n - (c.args.to - c.args.from)) c.len.ensures) c.shared_around.ensures c.tags_at.ensures in
+    let is = between-removed c.shared_around.result c.tags_at-behind.result (c.len.result - (c.args.to - c.args.from))
+    c.args.from c.args.to content.cells _ c.in_ok-draft.ensures.cells c.requires.ordered c.requires.within
+    (ap (λ n. n - (c.args.to - c.args.from)) c.len.ensures) (c.shared_around.ensures c.args.to c.tags_at-behind.ensures)
+    c.tags_at-behind.ensures in
     let made = c.in_ok-insert_pieces.ensures.makes recording Replace state c.in_ok-draft.ensures.fits is in
-    let clip : c.clipped.result ≡ option_and_then (clipped c.args.from c.args.to (total c.args.pieces.now)) (finite.get content.marks c.args.mark.0) =
-    c.clipped.ensures ∙ found-most c.args.from c.args.to (total c.args.pieces.now) c.total_of.result c.mark_place.result c.ranges.to.fits c.total_of.ensures
+    let clip : c.clipped.result ≡ option_and_then (clipped c.args.from c.args.to (total c.args.pieces.now))
+    (finite.get content.marks c.args.mark.0) =
+    c.clipped.ensures ∙ found-most c.args.from c.args.to (total c.args.pieces.now) c.total_of.result c.mark_place.result
+    c.ranges.to.fits c.total_of.ensures
     ∙ ap (option_and_then (clipped c.args.from c.args.to (total c.args.pieces.now))) c.mark_place.ensures.value in
-    let finish = replaced-is recording c.in_ok-draft.draft c.insert_pieces.new.self c.match-clipped.draft state c.args.mark c.args.from c.args.to c.args.pieces.now c.clipped.result
+    let finish = replaced-is recording c.in_ok-draft.draft c.insert_pieces.new.self c.match-clipped.draft state
+    c.args.mark c.args.from c.args.to c.args.pieces.now c.clipped.result
     made.2 (c.in_ok-draft.ensures.makes recording Replace log) clip in
     elim c.match-clipped.branch [
-      | in-Some+in_ok-put_mark-in-Some w ↦ finish (mark-put recording c.insert_pieces.new.self c.match-clipped.draft state c.args.mark c.clipped.result _ w.in-Some.is (w.draft-is ∙ w.in_ok-put_mark-in-Some.ensures))
-      | in-None w ↦ finish (mark-none recording c.insert_pieces.new.self c.match-clipped.draft state c.args.mark c.clipped.result w.in-None.is w.draft-is)
+      | in-Some+in_ok-put_mark-in-Some w ↦ finish
+          (mark-put recording c.insert_pieces.new.self c.match-clipped.draft state c.args.mark c.clipped.result _
+          w.in-Some.is (w.draft-is ∙ w.in_ok-put_mark-in-Some.ensures))
+      | in-None w ↦ finish (mark-none recording c.insert_pieces.new.self c.match-clipped.draft state c.args.mark
+          c.clipped.result w.in-None.is w.draft-is)
     ]

@@ -8,7 +8,8 @@ use Rattle.edit_ops.proofs.replacements.plan_replace.Goals as goal
 
 pub draft_replace-requires-clause-room : goal.draft_replace-requires-clause-room
 draft_replace-requires-clause-room g c =
-    subst (λ n. n - (c.min-to.result - c.min-from.result) + total c.args.pieces.now < 2 ^ 64) c.len.ensures (c.is_too_long.ensures.short c.if-is_too_long.false)
+    subst (λ n. n - (c.min-to.result - c.min-from.result) + total c.args.pieces.now
+    < 2 ^ 64) c.len.ensures (c.is_too_long.ensures.short c.if-is_too_long.false)
 
 pub returns-then-is_too_long-clause-too_long : goal.returns-then-is_too_long-clause-too_long
 returns-then-is_too_long-clause-too_long g c =
@@ -16,7 +17,8 @@ returns-then-is_too_long-clause-too_long g c =
     let len = length (g.S.TextStore.content c.args.store.now).cells in
     let left = c.len.result - (c.min-to.result - c.min-from.result) + count in
     let is : left ≡ len - (min c.args.to c.args.last - min c.args.from c.args.last) + count =
-    ap (λ n. n - (c.min-to.result - c.min-from.result) + count) c.len.ensures ∙ ap₂ (λ a b. len - (a - b) + count) c.min-to.ensures c.min-from.ensures in
+    ap (λ n. n - (c.min-to.result - c.min-from.result) + count) c.len.ensures
+    ∙ ap₂ (λ a b. len - (a - b) + count) c.min-to.ensures c.min-from.ensures in
     let long = ltb-true c.args.limits.now.chars left (sym c.is_too_long.ensures.value ∙ c.if-is_too_long.true) in
     (λ _. (c.if-to-from.false, subst (λ n. c.args.limits.now.chars < n) is long), λ _. refl)
 
@@ -26,13 +28,19 @@ returns-clause-too_long g c =
     let len = length (g.S.TextStore.content c.args.store.now).cells in
     let left = c.len.result - (c.min-to.result - c.min-from.result) + count in
     let is : left ≡ len - (min c.args.to c.args.last - min c.args.from c.args.last) + count =
-    ap (λ n. n - (c.min-to.result - c.min-from.result) + count) c.len.ensures ∙ ap₂ (λ a b. len - (a - b) + count) c.min-to.ensures c.min-from.ensures in
-    let short = ltb-false c.args.limits.now.chars left (sym c.is_too_long.ensures.value ∙ c.if-is_too_long.false) in
-    (λ same. absurd (cc), λ long. absurd (no-longer c.args.limits.now.chars left short (subst (λ n. c.args.limits.now.chars < n) (sym is) long.1)))
+    ap (λ n. n - (c.min-to.result - c.min-from.result) + count) c.len.ensures
+    ∙ ap₂ (λ a b. len - (a - b) + count) c.min-to.ensures c.min-from.ensures in
+    let short = ltb-false c.args.limits.now.chars left (sym c.is_too_long.ensures.value ∙ c.if-is_too_long.false) in (
+      λ same. absurd (cc),
+      λ long.
+          absurd (no-longer c.args.limits.now.chars left short
+          (subst (λ n. c.args.limits.now.chars < n) (sym is) long.1)),
+    )
 
 pub returns-clause-outcome : goal.returns-clause-outcome
 returns-clause-outcome g c =
     let log = log_of c.args.history.now in
     let state = state_of (g.S.TextStore.content c.args.store.now) c.args.anchors.now log in
     c.in_ok-prepare.ensures.outcome ∙ c.in_ok-draft.ensures.makes c.args.recording log
-    ∙ ap₂ (λ from to. replaced_span c.args.recording c.args.mark.0 from to c.args.pieces.now state) c.min-from.ensures c.min-to.ensures
+    ∙ ap₂ (λ from to. replaced_span c.args.recording c.args.mark.0 from to c.args.pieces.now state) c.min-from.ensures
+    c.min-to.ensures

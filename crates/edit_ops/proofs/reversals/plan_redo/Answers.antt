@@ -6,13 +6,17 @@ use Rattle.edit_ops.proofs.reversals.plan_redo.Goals as goal
 
 pub plan_reversal-requires-clause-fits : goal.plan_reversal-requires-clause-fits
 plan_reversal-requires-clause-fits g c =
-    redo-fits-replay c.args.limits.now.chars c.args.history.now.history (characters (g.S.TextStore.content c.args.store.now).cells) c.last_redo.result c.requires.fits c.last_redo.ensures
+    redo-fits-replay c.args.limits.now.chars c.args.history.now.history
+    (characters (g.S.TextStore.content c.args.store.now).cells) c.last_redo.result c.requires.fits
+    c.last_redo.ensures
 
 pub returns-clause-widgets : goal.returns-clause-widgets
 returns-clause-widgets g c =
-    plan-widgets c.args.mark.0 false c.last_redo.result _ (g.S.TextStore.content c.args.store.now) c.in_ok-plan.plan.anchors.items c.args.anchors.now (log_of c.args.history.now) c.in_ok-plan.ensures.outcome
+    plan-widgets c.args.mark.0 false c.last_redo.result _ (g.S.TextStore.content c.args.store.now)
+    c.in_ok-plan.plan.anchors.items c.args.anchors.now (log_of c.args.history.now) c.in_ok-plan.ensures.outcome
 
 pub returns-clause-outcome : goal.returns-clause-outcome
 returns-clause-outcome g c =
-    redo-planned c.args.mark.0 c.last_redo.result c.in_ok-plan.plan.notes _ (g.S.TextStore.content c.args.store.now) c.in_ok-plan.plan.anchors.items c.args.anchors.now (log_of c.args.history.now)
+    redo-planned c.args.mark.0 c.last_redo.result c.in_ok-plan.plan.notes _ (g.S.TextStore.content c.args.store.now)
+    c.in_ok-plan.plan.anchors.items c.args.anchors.now (log_of c.args.history.now)
     c.in_ok-plan.ensures.notes c.last_redo.ensures c.in_ok-plan.ensures.outcome

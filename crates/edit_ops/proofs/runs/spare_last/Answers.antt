@@ -3,7 +3,8 @@ use Rattle.std.proofs.lemmas.List.{get_or_default}
 use Rattle.edit_ops.specs.declared.spans.Span.{Span}
 use Rattle.edit_ops.proofs.RunLaws.{spare-alone, spare-only, spare-joined, spare-both, first-some, second-some}
 use Rattle.edit_ops.proofs.runs.spare_last.Goals as goal
-use Rattle.edit_ops.proofs.runs.spare_last.Goals.{then-joins+then-len-gt1+then-index-from, then-joins+else-len-gt1, else-joins}
+use Rattle.edit_ops.proofs.runs.spare_last.Goals.{then-joins+then-len-gt1+then-index-from, then-joins+else-len-gt1}
+use Rattle.edit_ops.proofs.runs.spare_last.Goals.{else-joins}
 
 pub returns-then-from-last-clause-covers : goal.returns-then-from-last-clause-covers
 returns-then-from-last-clause-covers c = λ d offset.
@@ -14,18 +15,25 @@ returns-then-from-last-clause-covers c = λ d offset.
           let f = w.index-then-len-gt1.result.now in
           let g = w.index-then-index-from.result.now in
           let some : 1 < length runs = omega (arith, w.if-len-gt1.true, w.len.ensures, c.args.runs.now.ok.0) in
-          let touch : (get_or runs 1 f).to ≡ (get_or runs 0 first).from - 1 = sym (ap (λ (s : Span). s.to) w.index-then-len-gt1.ensures) ∙ w.if-index-from.true ∙ ap (λ (s : Span). s.from - 1) c.index.ensures in
-          let from_is : c.if-joins.from ≡ (get_or runs 1 f).from = w.from-is ∙ ap (λ (s : Span). s.from) w.index-then-index-from.ensures ∙ ap (λ (s : Span). s.from) (get_or_default runs 1 g f some) in
+          let touch : (get_or runs 1 f).to ≡ (get_or runs 0 first).from
+          - 1 = sym (ap (λ (s : Span). s.to) w.index-then-len-gt1.ensures) ∙ w.if-index-from.true
+          ∙ ap (λ (s : Span). s.from - 1) c.index.ensures in
+          let from_is : c.if-joins.from ≡ (get_or runs 1 f).from = w.from-is
+          ∙ ap (λ (s : Span). s.from) w.index-then-index-from.ensures
+          ∙ ap (λ (s : Span). s.from) (get_or_default runs 1 g f some) in
           rw (w.runs-is, w.remove.ensures.items)
-          (spare-both runs (c.args.last + 2) c.args.last c.if-joins.from c.args.joins first d f some c.requires.apart (c.requires.held first) w.if-joins.true
+          (spare-both runs (c.args.last + 2) c.args.last c.if-joins.from c.args.joins first d f some c.requires.apart
+          (c.requires.held first) w.if-joins.true
           (c.requires.before first w.if-joins.true) touch from_is offset)
       | then-joins+else-len-gt1 w ↦
           rw w.runs-is
-          (spare-joined runs (c.args.last + 2) c.args.last c.if-joins.from c.args.joins first d c.requires.some c.requires.apart (c.requires.held first) w.if-joins.true
+          (spare-joined runs (c.args.last + 2) c.args.last c.if-joins.from c.args.joins first d c.requires.some
+          c.requires.apart (c.requires.held first) w.if-joins.true
           (c.requires.before first w.if-joins.true) (w.from-is ∙ ap (λ (s : Span). s.from - 1) c.index.ensures) offset)
       | else-joins w ↦
           rw w.runs-is
-          (spare-alone runs (c.args.last + 2) c.args.last c.if-joins.from c.args.joins first d c.requires.some c.requires.apart (c.requires.held first) w.if-joins.false
+          (spare-alone runs (c.args.last + 2) c.args.last c.if-joins.from c.args.joins first d c.requires.some
+          c.requires.apart (c.requires.held first) w.if-joins.false
           (w.from-is ∙ ap (λ (s : Span). s.from) c.index.ensures) offset)
     ]
 
@@ -41,8 +49,12 @@ returns-else-from-last-clause-covers c = λ d offset.
           let f = w.index-then-len-gt1.result.now in
           let g = w.index-then-index-from.result.now in
           let some : 1 < length runs = omega (arith, w.if-len-gt1.true, w.len.ensures, c.args.runs.now.ok.0) in
-          let touch : (get_or runs 1 f).to ≡ (get_or runs 0 first).from - 1 = sym (ap (λ (s : Span). s.to) w.index-then-len-gt1.ensures) ∙ w.if-index-from.true ∙ ap (λ (s : Span). s.from - 1) c.index.ensures in
-          let from_is : c.if-joins.from ≡ (get_or runs 1 f).from = w.from-is ∙ ap (λ (s : Span). s.from) w.index-then-index-from.ensures ∙ ap (λ (s : Span). s.from) (get_or_default runs 1 g f some) in
+          let touch : (get_or runs 1 f).to ≡ (get_or runs 0 first).from
+          - 1 = sym (ap (λ (s : Span). s.to) w.index-then-len-gt1.ensures) ∙ w.if-index-from.true
+          ∙ ap (λ (s : Span). s.from - 1) c.index.ensures in
+          let from_is : c.if-joins.from ≡ (get_or runs 1 f).from = w.from-is
+          ∙ ap (λ (s : Span). s.from) w.index-then-index-from.ensures
+          ∙ ap (λ (s : Span). s.from) (get_or_default runs 1 g f some) in
           let next = second-some runs (c.args.last + 2) f some c.requires.apart in
           absurd (omega (arith, one, held, next, touch, from_is, c.if-from-last.false))
       | then-joins+else-len-gt1 w ↦
@@ -51,6 +63,7 @@ returns-else-from-last-clause-covers c = λ d offset.
           absurd (omega (arith, one, held, first_is, from, before, c.if-from-last.false))
       | else-joins w ↦
           rw (c.remove-else-from-last.ensures.items, w.runs-is)
-          (spare-only runs (c.args.last + 2) c.args.last c.if-joins.from c.args.joins first d c.requires.some c.requires.apart (c.requires.held first) w.if-joins.false
+          (spare-only runs (c.args.last + 2) c.args.last c.if-joins.from c.args.joins first d c.requires.some
+          c.requires.apart (c.requires.held first) w.if-joins.false
           (w.from-is ∙ ap (λ (s : Span). s.from) c.index.ensures) c.if-from-last.false offset)
     ]

@@ -3,9 +3,11 @@ use Rattle.std.specs.Prelude.{IsSome}
 use Rattle.std.specs.Option.{option_to_list}
 use Rattle.std.proofs.lemmas.List.{nil_from_length, length_push}
 use Rattle.edit_ops.specs.Deletions.{in_spans}
-use Rattle.edit_ops.proofs.RunLaws.{merging-first, merging-joined, merging-next, some_is, merged-in, apart-below, in-within}
+use Rattle.edit_ops.proofs.RunLaws.{merging-first, merging-joined, merging-next, some_is, merged-in, apart-below}
+use Rattle.edit_ops.proofs.RunLaws.{in-within}
 use Rattle.edit_ops.proofs.runs.union.Goals as goal
-use Rattle.edit_ops.proofs.runs.union.Goals.{in-Some-pop+then-span-run+in_ok-push, in-Some-pop+else-span-run, in_default-pop}
+use Rattle.edit_ops.proofs.runs.union.Goals.{in-Some-pop+then-span-run+in_ok-push, in-Some-pop+else-span-run}
+use Rattle.edit_ops.proofs.runs.union.Goals.{in_default-pop}
 
 pub loop-init : goal.loop-init
 loop-init c = record {
@@ -23,21 +25,28 @@ loop-preserved c =
     let counted = c.loop.invariant.left in
     elim c.match-pop-2.branch [
       | in-Some-pop+then-span-run+in_ok-push w ↦
-          let apart : before ≡ left ++ w.in-Some-pop.span ∷ [] = c.pop-in-loop.ensures.items ∙ ap (λ o. left ++ option_to_list o) w.in-Some-pop.is in
+          let apart : before ≡ left ++ w.in-Some-pop.span ∷ [] = c.pop-in-loop.ensures.items
+          ∙ ap (λ o. left ++ option_to_list o) w.in-Some-pop.is in
           record {
-            left = let long : length before ≡ length left + 1 = ap length apart ∙ length_push left w.in-Some-pop.span in omega (arith, counted, long);
+            left = let long : length before ≡ length left + 1 = ap length apart ∙ length_push left w.in-Some-pop.span in
+                omega (arith, counted, long);
             merges = rw (w.runs-is, w.run-is, w.in_ok-push.ensures.items)
-                (merging-next c.args.spans.now before left c.loop.runs.items c.loop.run w.in-Some-pop.span c.loop.invariant.merges apart w.if-span-run.true);
+                (merging-next c.args.spans.now before left c.loop.runs.items c.loop.run w.in-Some-pop.span
+                c.loop.invariant.merges apart w.if-span-run.true);
           }
       | in-Some-pop+else-span-run w ↦
-          let apart : before ≡ left ++ w.in-Some-pop.span ∷ [] = c.pop-in-loop.ensures.items ∙ ap (λ o. left ++ option_to_list o) w.in-Some-pop.is in
+          let apart : before ≡ left ++ w.in-Some-pop.span ∷ [] = c.pop-in-loop.ensures.items
+          ∙ ap (λ o. left ++ option_to_list o) w.in-Some-pop.is in
           record {
-            left = let long : length before ≡ length left + 1 = ap length apart ∙ length_push left w.in-Some-pop.span in omega (arith, counted, long);
+            left = let long : length before ≡ length left + 1 = ap length apart ∙ length_push left w.in-Some-pop.span in
+                omega (arith, counted, long);
             merges = rw (w.runs-is, w.run-is)
-                (merging-joined c.args.spans.now before left c.loop.runs.items c.loop.run w.in-Some-pop.span w.min.result c.loop.invariant.merges apart w.if-span-run.false w.min.ensures);
+                (merging-joined c.args.spans.now before left c.loop.runs.items c.loop.run w.in-Some-pop.span
+                w.min.result c.loop.invariant.merges apart w.if-span-run.false w.min.ensures);
           }
       | in_default-pop w ↦
-          let some : IsSome c.pop-in-loop.result = c.pop-in-loop.ensures.variant.1 (omega (arith, counted, c.loop-test.true, c.len-end.ensures, c.loop.left.ok.0)) in
+          let some : IsSome c.pop-in-loop.result = c.pop-in-loop.ensures.variant.1
+          (omega (arith, counted, c.loop-test.true, c.len-end.ensures, c.loop.left.ok.0)) in
           let is = some_is c.pop-in-loop.result some in
           absurd (w.in_default-pop.not-Some is.0 is.1)
     ]
@@ -46,11 +55,14 @@ pub returns : goal.returns
 returns c =
     let items = c.in_ok-push-2.ensures.items in
     let spans = c.args.spans.now in
-    let none : c.loop.left.items ≡ [] = nil_from_length c.loop.left.items (omega (arith, c.loop.invariant.left, c.loop-test.false, c.len-end.ensures)) in
+    let none : c.loop.left.items ≡ [] = nil_from_length c.loop.left.items
+    (omega (arith, c.loop.invariant.left, c.loop-test.false, c.len-end.ensures)) in
     let covers : (offset : ℕ) → in_spans c.push-2.new.self.items offset ≡ in_spans spans offset =
-    λ offset. ap (λ xs. in_spans xs offset) items ∙ merged-in spans c.loop.left.items c.loop.runs.items c.loop.run c.loop.invariant.merges none offset in
+    λ offset. ap (λ xs. in_spans xs offset) items
+    ∙ merged-in spans c.loop.left.items c.loop.runs.items c.loop.run c.loop.invariant.merges none offset in
     record {
-      apart = λ end within. apart-below c.loop.invariant.merges.apart.0 end c.push-2.new.self.items (rw items c.loop.invariant.merges.apart.1)
+      apart = λ end within. apart-below c.loop.invariant.merges.apart.0 end c.push-2.new.self.items
+          (rw items c.loop.invariant.merges.apart.1)
           (λ offset is. in-within spans end offset within (sym (covers offset) ∙ is));
       covers = covers;
     }

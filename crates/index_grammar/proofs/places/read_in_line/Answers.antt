@@ -7,7 +7,8 @@ returns-then-eq-clause-value c = in_line-end c.args.line c.args.text.now (omega 
 
 pub returns-in-Some-clause-value : goal.returns-in-Some-clause-value
 returns-in-Some-clause-value c =
-    in_line-number c.args.line c.args.text.now (Some c.in-Some.character) (omega arith) (cc) (sym c.in-Some.is ∙ c.read_number.ensures)
+    in_line-number c.args.line c.args.text.now (Some c.in-Some.character) (omega arith) (cc) (sym c.in-Some.is
+    ∙ c.read_number.ensures)
 
 pub returns-in-None-clause-value : goal.returns-in-None-clause-value
 returns-in-None-clause-value c =

@@ -17,11 +17,13 @@ returns-in_err-word-clause-value c =
 
 pub returns-in_err-modifier-clause-value : goal.returns-in_err-modifier-clause-value
 returns-in_err-modifier-clause-value c =
-    counted-found c.args.is_plus c.in_ok-digits.digits.now c.in_ok-word.word.now (tokens_of c.args.text.now) (tokens_of c.in_ok-digits.rest.now) (tokens_of c.in_ok-word.rest.now) None
+    counted-found c.args.is_plus c.in_ok-digits.digits.now c.in_ok-word.word.now (tokens_of c.args.text.now)
+    (tokens_of c.in_ok-digits.rest.now) (tokens_of c.in_ok-word.rest.now) None
     (c.in_ok-digits.ensures {u = tt}).value (c.in_ok-word.ensures {u = tt}).value (c.in_err-modifier.ensures {u = tt})
     ∙ ap stepped (sym c.from_residual-in_err-modifier.ensures)
 
 pub returns-clause-value : goal.returns-clause-value
 returns-clause-value c =
-    counted-found c.args.is_plus c.in_ok-digits.digits.now c.in_ok-word.word.now (tokens_of c.args.text.now) (tokens_of c.in_ok-digits.rest.now) (tokens_of c.in_ok-word.rest.now) (Some c.in_ok-modifier.modifier)
+    counted-found c.args.is_plus c.in_ok-digits.digits.now c.in_ok-word.word.now (tokens_of c.args.text.now)
+    (tokens_of c.in_ok-digits.rest.now) (tokens_of c.in_ok-word.rest.now) (Some c.in_ok-modifier.modifier)
     (c.in_ok-digits.ensures {u = tt}).value (c.in_ok-word.ensures {u = tt}).value (c.in_ok-modifier.ensures {u = tt})

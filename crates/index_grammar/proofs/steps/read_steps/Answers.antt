@@ -17,7 +17,13 @@ loop-first-preserved c =
           ∙ ap (after items) stepped.value
           ∙ after-step items c.in-Some-read_step.modifier rest
           ∙ ap (λ ms. after ms rest) (sym (rw c.unwrap.ensures at c.push.ensures.items));
-      fits = omega (arith, c.loop-first.invariant.fits, read.taken, stepped.bound, rw c.unwrap.ensures at c.push.ensures.len);
+      fits = omega (
+        arith,
+        c.loop-first.invariant.fits,
+        read.taken,
+        stepped.bound,
+        rw c.unwrap.ensures at c.push.ensures.len,
+      );
       room = omega (arith, c.loop-first.invariant.room, c.push.ensures.capacity);
     }
 

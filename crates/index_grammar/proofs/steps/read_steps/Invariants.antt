@@ -6,7 +6,8 @@ use Rattle.index_grammar.proofs.steps.read_steps.Given as goal
 
 abbrev pub invariant-loop-first : goal.invariant-loop-first
 invariant-loop-first l = record {
-  value : saturated (modifiers_of (tokens_of l.text)) ≡ after l.modifiers.items (saturated (modifiers_of (tokens_of l.rest)));
+  value : saturated (modifiers_of (tokens_of l.text))
+      ≡ after l.modifiers.items (saturated (modifiers_of (tokens_of l.rest)));
   fits : 3 * vec_len l.modifiers + length l.rest ≤ length l.text;
   room : length l.text / 3 ≤ vec_capacity l.modifiers;
 }

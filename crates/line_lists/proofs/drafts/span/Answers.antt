@@ -17,8 +17,18 @@ overflow_add-from g c =
 
 pub overflow_sub-result : goal.overflow_sub-result
 overflow_sub-result g c =
-    omega (arith, c.start.ensures, c.start-2.ensures, begin-more (g.L.LineList.lines c.args.list.now) c.args.from c.args.count)
+    omega (
+      arith,
+      c.start.ensures,
+      c.start-2.ensures,
+      begin-more (g.L.LineList.lines c.args.list.now) c.args.from c.args.count,
+    )
 
 pub returns : goal.returns
 returns g c =
-    omega (arith, c.start.ensures, c.start-2.ensures, begin-more (g.L.LineList.lines c.args.list.now) c.args.from c.args.count)
+    omega (
+      arith,
+      c.start.ensures,
+      c.start-2.ensures,
+      begin-more (g.L.LineList.lines c.args.list.now) c.args.from c.args.count,
+    )

@@ -12,7 +12,9 @@ loop-start-preserved c =
     let so_far = c.loop-start.invariant in
     record {
       within = omega (arith, so_far.within);
-      rest = left-more has_marks c.args.lines.now c.loop-start.start line c.loop-start-test.true so_far.within c.index-lines-start.is (no-marks c.marks.result (finite.len line.marks) (c.marks.ensures ∙ ap (λ (s : Count). s.marks) c.sum.ensures) (omega (arith, c.if-marks-eq0.true))) so_far.rest;
+      rest = left-more has_marks c.args.lines.now c.loop-start.start line c.loop-start-test.true so_far.within
+          c.index-lines-start.is (no-marks c.marks.result (finite.len line.marks) (c.marks.ensures
+          ∙ ap (λ (s : Count). s.marks) c.sum.ensures) (omega (arith, c.if-marks-eq0.true))) so_far.rest;
     }
 
 pub returns : goal.returns
@@ -21,6 +23,9 @@ returns c =
     elim c.loop-start-test.branch [
       | then-loop-start-test+else-marks-eq0 w ↦
           let line = w.index-lines-start.result in
-          left-stops has_marks c.args.lines.now c.loop-start.start line w.loop-start-test.true so_far.within w.index-lines-start.is (some-marks w.marks.result (finite.len line.marks) (w.marks.ensures ∙ ap (λ (s : Count). s.marks) w.sum.ensures) (omega (arith, w.if-marks-eq0.false))) so_far.rest
-      | else-loop-start-test w ↦ left-none has_marks c.args.lines.now c.loop-start.start (omega (arith, w.loop-start-test.false)) so_far.rest
+          left-stops has_marks c.args.lines.now c.loop-start.start line w.loop-start-test.true so_far.within
+          w.index-lines-start.is (some-marks w.marks.result (finite.len line.marks) (w.marks.ensures
+          ∙ ap (λ (s : Count). s.marks) w.sum.ensures) (omega (arith, w.if-marks-eq0.false))) so_far.rest
+      | else-loop-start-test w ↦ left-none has_marks c.args.lines.now c.loop-start.start
+          (omega (arith, w.loop-start-test.false)) so_far.rest
     ]

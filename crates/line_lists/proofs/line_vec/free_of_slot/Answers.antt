@@ -12,7 +12,9 @@ loop-start-preserved c =
     let so_far = c.loop-start.invariant in
     record {
       within = omega (arith, so_far.within);
-      rest = left-more (has_toggle c.args.slot.0) c.args.lines.now c.loop-start.start line c.loop-start-test.true so_far.within c.index-lines-start.is (sym (c.has.ensures ∙ ap (λ (s : Count). set.contains s.presence c.args.slot.0) c.sum.ensures) ∙ c.if-not-has.true) so_far.rest;
+      rest = left-more (has_toggle c.args.slot.0) c.args.lines.now c.loop-start.start line c.loop-start-test.true
+          so_far.within c.index-lines-start.is (sym (c.has.ensures
+          ∙ ap (λ (s : Count). set.contains s.presence c.args.slot.0) c.sum.ensures) ∙ c.if-not-has.true) so_far.rest;
     }
 
 pub returns : goal.returns
@@ -21,6 +23,10 @@ returns c =
     elim c.loop-start-test.branch [
       | then-loop-start-test+else-not-has w ↦
           let line = w.index-lines-start.result in
-          left-stops (has_toggle c.args.slot.0) c.args.lines.now c.loop-start.start line w.loop-start-test.true so_far.within w.index-lines-start.is (sym (w.has.ensures ∙ ap (λ (s : Count). set.contains s.presence c.args.slot.0) w.sum.ensures) ∙ w.if-not-has.false) so_far.rest
-      | else-loop-start-test w ↦ left-none (has_toggle c.args.slot.0) c.args.lines.now c.loop-start.start (omega (arith, w.loop-start-test.false)) so_far.rest
+          left-stops (has_toggle c.args.slot.0) c.args.lines.now c.loop-start.start line w.loop-start-test.true
+          so_far.within w.index-lines-start.is
+          (sym (w.has.ensures ∙ ap (λ (s : Count). set.contains s.presence c.args.slot.0) w.sum.ensures)
+          ∙ w.if-not-has.false) so_far.rest
+      | else-loop-start-test w ↦ left-none (has_toggle c.args.slot.0) c.args.lines.now c.loop-start.start
+          (omega (arith, w.loop-start-test.false)) so_far.rest
     ]

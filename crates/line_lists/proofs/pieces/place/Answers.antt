@@ -11,28 +11,33 @@ use Rattle.line_lists.proofs.pieces.place.Goals as goal
 pub splice-requires-clause-within : goal.splice-requires-clause-within
 splice-requires-clause-within g c =
     let lines = g.L.LineList.lines c.loop-piece.list in
-    (can-split c.pop.new.self.items c.in-Some.piece lines (subst (λ ps. CanPlace ps lines) c.in-Some.ensures.items c.loop-piece.invariant.0)).1.within
+    (can-split c.pop.new.self.items c.in-Some.piece lines
+    (subst (λ ps. CanPlace ps lines) c.in-Some.ensures.items c.loop-piece.invariant.0)).1.within
 
 pub splice-requires-clause-room : goal.splice-requires-clause-room
 splice-requires-clause-room g c =
-    let all = ap (λ ps. length (piece_lines ps)) c.in-Some.ensures.items ∙ ap length (piece_lines-snoc c.pop.new.self.items c.in-Some.piece)
+    let all = ap (λ ps. length (piece_lines ps)) c.in-Some.ensures.items
+    ∙ ap length (piece_lines-snoc c.pop.new.self.items c.in-Some.piece)
     ∙ length-append (piece_lines c.pop.new.self.items) c.in-Some.piece.lines.items in
     omega (arith, all, c.loop-piece.invariant.2)
 
 pub splice-requires-clause-numbers : goal.splice-requires-clause-numbers
 splice-requires-clause-numbers g c =
     let P = λ (line : LineContent). NumbersBelow (g.L.LineList.mark_room c.loop-piece.list) line.marks in
-    (all-pieces P c.pop.new.self.items c.in-Some.piece (subst (λ ps. All P (piece_lines ps)) c.in-Some.ensures.items c.loop-piece.invariant.3)).1
+    (all-pieces P c.pop.new.self.items c.in-Some.piece
+    (subst (λ ps. All P (piece_lines ps)) c.in-Some.ensures.items c.loop-piece.invariant.3)).1
 
 pub splice-requires-clause-lines : goal.splice-requires-clause-lines
 splice-requires-clause-lines g c =
     let lines = g.L.LineList.lines c.loop-piece.list in
-    (can-split c.pop.new.self.items c.in-Some.piece lines (subst (λ ps. CanPlace ps lines) c.in-Some.ensures.items c.loop-piece.invariant.0)).1.are
+    (can-split c.pop.new.self.items c.in-Some.piece lines
+    (subst (λ ps. CanPlace ps lines) c.in-Some.ensures.items c.loop-piece.invariant.0)).1.are
 
 pub splice-requires-clause-counted : goal.splice-requires-clause-counted
 splice-requires-clause-counted g c =
     let lines = g.L.LineList.lines c.loop-piece.list in
-    (can-split c.pop.new.self.items c.in-Some.piece lines (subst (λ ps. CanPlace ps lines) c.in-Some.ensures.items c.loop-piece.invariant.0)).1.counted
+    (can-split c.pop.new.self.items c.in-Some.piece lines
+    (subst (λ ps. CanPlace ps lines) c.in-Some.ensures.items c.loop-piece.invariant.0)).1.counted
 
 pub loop-piece-preserved : goal.loop-piece-preserved
 loop-piece-preserved g c =
@@ -40,13 +45,17 @@ loop-piece-preserved g c =
     let pieces = c.pop.new.self.items in
     let piece = c.in-Some.piece in
     let items = c.in-Some.ensures.items in
-    let long = ap (λ ps. length (piece_lines ps)) items ∙ ap length (piece_lines-snoc pieces piece) ∙ length-append (piece_lines pieces) piece.lines.items in
+    let long = ap (λ ps. length (piece_lines ps)) items ∙ ap length (piece_lines-snoc pieces piece)
+    ∙ length-append (piece_lines pieces) piece.lines.items in
     let old = λ (line : LineContent). NumbersBelow (g.L.LineList.mark_room c.loop-piece.list) line.marks in
     let new = λ (line : LineContent). NumbersBelow (g.L.LineList.mark_room c.splice.new.self) line.marks in
     let made = c.splice.ensures.lines in (
-      subst (CanPlace pieces) (sym made) (can-split pieces piece lines (subst (λ ps. CanPlace ps lines) items c.loop-piece.invariant.0)).0,
-      ap (placed pieces) made ∙ sym (placed-snoc pieces piece lines) ∙ ap (λ ps. placed ps lines) (sym items) ∙ c.loop-piece.invariant.1,
+      subst (CanPlace pieces) (sym made) (can-split pieces piece lines
+          (subst (λ ps. CanPlace ps lines) items c.loop-piece.invariant.0)).0,
+      ap (placed pieces) made ∙ sym (placed-snoc pieces piece lines) ∙ ap (λ ps. placed ps lines) (sym items)
+          ∙ c.loop-piece.invariant.1,
       omega (arith, long, c.loop-piece.invariant.2, c.splice.ensures.room),
-      All-weaker old new (λ line below number place is. omega (arith, below number place is, c.splice.ensures.numbers)) (piece_lines pieces)
+      All-weaker old new (λ line below number place is. omega (arith, below number place is, c.splice.ensures.numbers))
+          (piece_lines pieces)
           (all-pieces old pieces piece (subst (λ ps. All old (piece_lines ps)) items c.loop-piece.invariant.3)).0,
     )

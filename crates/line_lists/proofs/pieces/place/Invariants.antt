@@ -8,7 +8,8 @@ use Rattle.line_lists.proofs.pieces.place.Given as goal
 abbrev pub invariant-loop-piece : goal.invariant-loop-piece
 invariant-loop-piece g l =
     CanPlace l.pieces.items (g.L.LineList.lines l.list)
-    × (placed l.pieces.items (g.L.LineList.lines l.list) ≡ placed l.initial.pieces.items (g.L.LineList.lines l.initial.list))
+    × (placed l.pieces.items (g.L.LineList.lines l.list)
+    ≡ placed l.initial.pieces.items (g.L.LineList.lines l.initial.list))
     × (length (piece_lines l.pieces.items) ≤ g.L.LineList.line_room l.list)
     × All (λ (line : LineContent). NumbersBelow (g.L.LineList.mark_room l.list) line.marks) (piece_lines l.pieces.items)
 

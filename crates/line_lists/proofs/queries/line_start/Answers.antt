@@ -11,7 +11,8 @@ start-requires g c =
 pub returns-clause-value : goal.returns-clause-value
 returns-clause-value g c =
     let list = c.args.list.now in let rows = (g.L.LineList.are_lines list).rows in
-    c.start.ensures ∙ sym (start-content (g.L.LineList.lines list) c.args.line rows (omega (arith, c.requires, newlines-content (g.L.LineList.lines list) rows)))
+    c.start.ensures ∙ sym (start-content (g.L.LineList.lines list) c.args.line rows
+    (omega (arith, c.requires, newlines-content (g.L.LineList.lines list) rows)))
 
 pub returns-clause-bound : goal.returns-clause-bound
 returns-clause-bound g c =

@@ -10,9 +10,11 @@ use Rattle.line_lists.proofs.queries.mark_at.Goals as goal
 pub returns : goal.returns
 returns g c =
     let list = g.L.LineList.lines c.args.list.now in
-    let k = c.place_of-line.result.0 in
-    let column = c.place_of-line.result.1 in
+    let k = c.place_of-column.result.0 in
+    let column = c.place_of-column.result.1 in
     c.mark_at.ensures
     ∙ ap (λ marks. slice_get marks c.args.index)
-    (ap (λ (line : LineContent). marks_at column line.marks) (sym (lent list k c.line.result.now c.line.ensures))
-    ∙ sym (marks-at list (g.L.LineList.are_lines c.args.list.now).rows c.args.offset k column c.place_of-line.ensures))
+    (ap (λ (line : LineContent). marks_at column line.marks) (sym (lent list k c.place_of-column.result.2.now
+    c.place_of-column.ensures.line))
+    ∙ sym (marks-at list (g.L.LineList.are_lines c.args.list.now).rows c.args.offset k column
+    c.place_of-column.ensures.place))

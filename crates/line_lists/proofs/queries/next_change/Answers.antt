@@ -15,41 +15,63 @@ use Rattle.line_lists.proofs.ToggleColumns.{some-toggle}
 use Rattle.line_lists.proofs.queries.next_change.Goals as goal
 
 -- src/queries.rt:165:27
-pub locate-index-requires : goal.locate-index-requires
-locate-index-requires g c = subst (λ n. c.args.offset < n) (length-content (g.L.LineList.lines c.args.list.now)) c.requires.within
+pub line_at-index-requires : goal.line_at-index-requires
+line_at-index-requires g c =
+    subst (λ n. c.args.offset < n) (length-content (g.L.LineList.lines c.args.list.now)) c.requires.within
 
 -- src/queries.rt:166:54
 pub overflow_add-column : goal.overflow_add-column
 overflow_add-column g c =
     let list = g.L.LineList.lines c.args.list.now in
-    omega (arith, c.locate-index.ensures.behind, c.requires.within, length-content list, (g.L.LineList.are_lines c.args.list.now).counted.characters, count-characters list)
+    omega (
+      arith,
+      c.line_at-index.ensures.place.behind,
+      c.requires.within,
+      length-content list,
+      (g.L.LineList.are_lines c.args.list.now).counted.characters,
+      count-characters list,
+    )
 
 -- src/queries.rt:167:9
 pub returns-in-Some-clause-value : goal.returns-in-Some-clause-value
 returns-in-Some-clause-value g c =
     let list = g.L.LineList.lines c.args.list.now in
     let slot = c.args.slot.0 in
-    let k = c.locate-index.result.0 in let column = c.locate-index.result.1 in
-    let near = lent-next list slot k c.line.result.now c.line.ensures (suc column) (column + 1) c.in-Some.next c.next_toggle.result c.next_toggle.ensures.value c.in-Some.is (add-one column) in
+    let k = c.line_at-index.result.0 in let column = c.line_at-index.result.1 in
+    let near = lent-next list slot k c.line_at-index.result.2.now c.line_at-index.ensures.line (suc column)
+    (column + 1) c.in-Some.next
+    c.next_toggle.result c.next_toggle.ensures.value c.in-Some.is (add-one column) in
     c.offset_of.ensures.value
-    ∙ sym (change-here list slot c.args.offset k column c.locate-index.ensures.behind c.locate-index.ensures.within (lent-inner list c.args.offset k column c.locate-index.ensures) c.in-Some.next near)
+    ∙ sym (change-here list slot c.args.offset k column c.line_at-index.ensures.place.behind
+    c.line_at-index.ensures.place.within
+    (lent-inner list c.args.offset k column c.line_at-index.ensures.place) c.in-Some.next near)
 
 -- src/queries.rt:169:32
 pub overflow_add-index : goal.overflow_add-index
 overflow_add-index g c =
     let list = g.L.LineList.lines c.args.list.now in
-    omega (arith, c.locate-index.ensures.within, (g.L.LineList.are_lines c.args.list.now).counted.lines, count-lines list)
+    omega (
+      arith,
+      c.line_at-index.ensures.place.within,
+      (g.L.LineList.are_lines c.args.list.now).counted.lines,
+      count-lines list,
+    )
 
 -- src/queries.rt:170:17
 pub returns-in-None-clause-value : goal.returns-in-None-clause-value
 returns-in-None-clause-value g c =
     let list = g.L.LineList.lines c.args.list.now in
     let slot = c.args.slot.0 in
-    let k = c.locate-index.result.0 in let column = c.locate-index.result.1 in
-    let none = lent-none-next list slot k c.line.result.now c.line.ensures (suc column) (column + 1) c.next_toggle.result c.next_toggle.ensures.value c.in_default.is (add-one column) in
-    let free = next-none (has_toggle slot) (suc k) list (ap (λ n. next_line (has_toggle slot) n list) (sym (add-one k)) ∙ sym c.next_with.ensures ∙ c.in-None.is) in
+    let k = c.line_at-index.result.0 in let column = c.line_at-index.result.1 in
+    let none = lent-none-next list slot k c.line_at-index.result.2.now c.line_at-index.ensures.line (suc column)
+    (column + 1)
+    c.next_toggle.result c.next_toggle.ensures.value c.in_default.is (add-one column) in
+    let free = next-none (has_toggle slot) (suc k) list (ap (λ n. next_line (has_toggle slot) n list) (sym (add-one k))
+    ∙ sym c.next_with.ensures ∙ c.in-None.is) in
     c.len.ensures ∙ length-content list
-    ∙ sym (change-nowhere list slot c.args.offset k column c.locate-index.ensures.behind c.locate-index.ensures.within (lent-inner list c.args.offset k column c.locate-index.ensures) none free)
+    ∙ sym (change-nowhere list slot c.args.offset k column c.line_at-index.ensures.place.behind
+    c.line_at-index.ensures.place.within
+    (lent-inner list c.args.offset k column c.line_at-index.ensures.place) none free)
 
 -- src/queries.rt:172:21
 pub returns-in-None-next_toggle-clause-value : goal.returns-in-None-next_toggle-clause-value
@@ -57,26 +79,38 @@ returns-in-None-next_toggle-clause-value g c =
     let list = g.L.LineList.lines c.args.list.now in
     let slot = c.args.slot.0 in
     let e = c.in-Some-next_with.later in
-    let line = next-found (has_toggle slot) (c.locate-index.result.0 + 1) list e (sym c.next_with.ensures ∙ c.in-Some-next_with.is) in
+    let line = next-found (has_toggle slot) (c.line_at-index.result.0 + 1) list e (sym c.next_with.ensures
+    ∙ c.in-Some-next_with.is) in
     some-toggle slot (line_at list e) line.passes
-    (lent-none-next list slot e c.line-in-Some-next_with.result.now c.line-in-Some-next_with.ensures 0 0 c.next_toggle-in-Some-next_with.result c.next_toggle-in-Some-next_with.ensures.value c.in-None-next_toggle.is refl)
+    (lent-none-next list slot e c.line.result.now c.line.ensures 0 0
+    c.next_toggle-in-Some-next_with.result c.next_toggle-in-Some-next_with.ensures.value c.in-None-next_toggle.is
+    refl)
 
 -- src/queries.rt:173:29
 pub returns-in-Some-next_toggle-clause-value : goal.returns-in-Some-next_toggle-clause-value
 returns-in-Some-next_toggle-clause-value g c =
     let list = g.L.LineList.lines c.args.list.now in
     let slot = c.args.slot.0 in
-    let k = c.locate-index.result.0 in let column = c.locate-index.result.1 in
+    let k = c.line_at-index.result.0 in let column = c.line_at-index.result.1 in
     let e = c.in-Some-next_with.later in let n = c.in-Some-next_toggle.next in
-    let none = lent-none-next list slot k c.line.result.now c.line.ensures (suc column) (column + 1) c.next_toggle.result c.next_toggle.ensures.value c.in_default.is (add-one column) in
-    let line = next-found (has_toggle slot) (suc k) list e (ap (λ i. next_line (has_toggle slot) i list) (sym (add-one k)) ∙ sym c.next_with.ensures ∙ c.in-Some-next_with.is) in
-    let near = lent-next list slot e c.line-in-Some-next_with.result.now c.line-in-Some-next_with.ensures 0 0 n c.next_toggle-in-Some-next_with.result c.next_toggle-in-Some-next_with.ensures.value c.in-Some-next_toggle.is refl in
+    let none = lent-none-next list slot k c.line_at-index.result.2.now c.line_at-index.ensures.line (suc column)
+    (column + 1)
+    c.next_toggle.result c.next_toggle.ensures.value c.in_default.is (add-one column) in
+    let line = next-found (has_toggle slot) (suc k) list e
+    (ap (λ i. next_line (has_toggle slot) i list) (sym (add-one k)) ∙ sym c.next_with.ensures
+    ∙ c.in-Some-next_with.is) in
+    let near = lent-next list slot e c.line.result.now c.line.ensures 0 0 n
+    c.next_toggle-in-Some-next_with.result c.next_toggle-in-Some-next_with.ensures.value c.in-Some-next_toggle.is
+    refl in
     c.offset_of-in-Some-next_toggle.ensures.value
-    ∙ sym (change-later list slot c.args.offset k column c.locate-index.ensures.behind c.locate-index.ensures.within (lent-inner list c.args.offset k column c.locate-index.ensures) e n none line near)
+    ∙ sym (change-later list slot c.args.offset k column c.line_at-index.ensures.place.behind
+    c.line_at-index.ensures.place.within
+    (lent-inner list c.args.offset k column c.line_at-index.ensures.place) e n none line near)
 
 -- src/queries.rt:173:29
 pub returns-in-Some-next_toggle-clause-above : goal.returns-in-Some-next_toggle-clause-above
 returns-in-Some-next_toggle-clause-above g c =
     let cells = (content_of (g.L.LineList.lines c.args.list.now)).cells in
     let long = length-map cells (λ (cell : Cell). set.contains cell.tags c.args.slot.0) in
-    subst (λ n. c.args.offset < n) (sym (returns-in-Some-next_toggle-clause-value g c)) (next_change-above (flags c.args.slot.0 cells) c.args.offset (omega (arith, long, c.requires.within)))
+    subst (λ n. c.args.offset < n) (sym (returns-in-Some-next_toggle-clause-value g c))
+    (next_change-above (flags c.args.slot.0 cells) c.args.offset (omega (arith, long, c.requires.within)))

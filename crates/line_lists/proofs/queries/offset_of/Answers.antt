@@ -8,7 +8,13 @@ pub overflow_add-result : goal.overflow_add-result
 overflow_add-result g c =
     let list = g.L.LineList.lines c.args.list.now in
     let counted = (g.L.LineList.are_lines c.args.list.now).counted.characters in
-    omega (arith, c.start.ensures, column-within list c.args.index c.args.column c.requires.known c.requires.within, counted, count-characters list)
+    omega (
+      arith,
+      c.start.ensures,
+      column-within list c.args.index c.args.column c.requires.known c.requires.within,
+      counted,
+      count-characters list,
+    )
 
 pub returns-clause-value : goal.returns-clause-value
 returns-clause-value g c = ap (λ n. n + c.args.column) c.start.ensures
@@ -16,4 +22,9 @@ returns-clause-value g c = ap (λ n. n + c.args.column) c.start.ensures
 pub returns-clause-bound : goal.returns-clause-bound
 returns-clause-bound g c =
     let list = g.L.LineList.lines c.args.list.now in
-    omega (arith, returns-clause-value g c, column-within list c.args.index c.args.column c.requires.known c.requires.within, length-content list)
+    omega (
+      arith,
+      returns-clause-value g c,
+      column-within list c.args.index c.args.column c.requires.known c.requires.within,
+      length-content list,
+    )

@@ -19,7 +19,12 @@ pub previous_toggle-requires-clause-within : goal.previous_toggle-requires-claus
 previous_toggle-requires-clause-within g c =
     let list = g.L.LineList.lines c.args.list.now in
     let last : c.args.offset ≤ length (whole list).columns = omega (arith, c.requires.within, length-content list) in
-    omega (arith, at-within list c.args.offset c.place_of-index.result.0 c.place_of-index.result.1 c.place_of-index.ensures last, lent-length list c.place_of-index.result.0 c.line.result.now c.line.ensures)
+    omega (
+      arith,
+      at-within list c.args.offset c.place_of-index.result.0 c.place_of-index.result.1
+          c.place_of-index.ensures.place last,
+      lent-length list c.place_of-index.result.0 c.place_of-index.result.2.now c.place_of-index.ensures.line,
+    )
 
 -- src/queries.rt:188:16
 pub offset_of-requires-clause-within : goal.offset_of-requires-clause-within
@@ -27,9 +32,11 @@ offset_of-requires-clause-within g c =
     let list = g.L.LineList.lines c.args.list.now in
     let k = c.place_of-index.result.0 in let column = c.place_of-index.result.1 in
     let last : c.args.offset ≤ length (whole list).columns = omega (arith, c.requires.within, length-content list) in
-    let small = at-within list c.args.offset k column c.place_of-index.ensures last in
-    let below = if_some (λ previous. previous < column) c.previous_toggle.result c.in-Some.previous c.in-Some.is c.previous_toggle.ensures.below in
-    lent-within list k c.in-Some.previous c.line.result.now c.line.ensures (omega (arith, small, below, lent-length list k c.line.result.now c.line.ensures))
+    let small = at-within list c.args.offset k column c.place_of-index.ensures.place last in
+    let below = if_some (λ previous. previous < column) c.previous_toggle.result c.in-Some.previous c.in-Some.is
+    c.previous_toggle.ensures.below in
+    lent-within list k c.in-Some.previous c.place_of-index.result.2.now c.place_of-index.ensures.line
+    (omega (arith, small, below, lent-length list k c.place_of-index.result.2.now c.place_of-index.ensures.line))
 
 -- src/queries.rt:188:9
 pub returns-in-Some-clause-value : goal.returns-in-Some-clause-value
@@ -38,9 +45,12 @@ returns-in-Some-clause-value g c =
     let slot = c.args.slot.0 in
     let k = c.place_of-index.result.0 in let column = c.place_of-index.result.1 in let n = c.in-Some.previous in
     let last : c.args.offset ≤ length (whole list).columns = omega (arith, c.requires.within, length-content list) in
-    let small = at-within list c.args.offset k column c.place_of-index.ensures last in
-    let near = lent-previous list slot k c.line.result.now c.line.ensures column column n c.previous_toggle.result small c.previous_toggle.ensures.value c.in-Some.is refl in
-    c.offset_of.ensures.value ∙ sym (change-back list slot c.args.offset k column c.place_of-index.ensures last n small near)
+    let small = at-within list c.args.offset k column c.place_of-index.ensures.place last in
+    let near = lent-previous list slot k c.place_of-index.result.2.now c.place_of-index.ensures.line column column n
+    c.previous_toggle.result small
+    c.previous_toggle.ensures.value c.in-Some.is refl in
+    c.offset_of.ensures.value
+    ∙ sym (change-back list slot c.args.offset k column c.place_of-index.ensures.place last n small near)
 
 -- src/queries.rt:191:17
 pub returns-in-None-clause-value : goal.returns-in-None-clause-value
@@ -49,11 +59,13 @@ returns-in-None-clause-value g c =
     let slot = c.args.slot.0 in
     let k = c.place_of-index.result.0 in let column = c.place_of-index.result.1 in
     let last : c.args.offset ≤ length (whole list).columns = omega (arith, c.requires.within, length-content list) in
-    let small = at-within list c.args.offset k column c.place_of-index.ensures last in
-    let none = lent-none-previous list slot k c.line.result.now c.line.ensures column column c.previous_toggle.result small c.previous_toggle.ensures.value c.in_default.is refl in
-    let before : k ≤ length list = omega (arith, c.place_of-index.ensures.within) in
+    let small = at-within list c.args.offset k column c.place_of-index.ensures.place last in
+    let none = lent-none-previous list slot k c.place_of-index.result.2.now c.place_of-index.ensures.line column column
+    c.previous_toggle.result
+    small c.previous_toggle.ensures.value c.in_default.is refl in
+    let before : k ≤ length list = omega (arith, c.place_of-index.ensures.place.within) in
     let free = previous-none (has_toggle slot) k list before (sym c.previous_with.ensures ∙ c.in-None.is) in
-    sym (change-first list slot c.args.offset k column c.place_of-index.ensures last c.requires.some none free)
+    sym (change-first list slot c.args.offset k column c.place_of-index.ensures.place last c.requires.some none free)
 
 -- src/queries.rt:195:25
 pub returns-in-None-previous_toggle-clause-value : goal.returns-in-None-previous_toggle-clause-value
@@ -62,12 +74,14 @@ returns-in-None-previous_toggle-clause-value g c =
     let slot = c.args.slot.0 in
     let k = c.place_of-index.result.0 in
     let e = c.in-Some-previous_with.earlier in
-    let before : k ≤ length list = omega (arith, c.place_of-index.ensures.within) in
-    let line = previous-found (has_toggle slot) k list before e (sym c.previous_with.ensures ∙ c.in-Some-previous_with.is) in
+    let before : k ≤ length list = omega (arith, c.place_of-index.ensures.place.within) in
+    let line = previous-found (has_toggle slot) k list before e (sym c.previous_with.ensures
+    ∙ c.in-Some-previous_with.is) in
     let long = c.len.ensures ∙ sym (lent-length list e c.line-line.result.now c.line-line.ensures) in
     let same : length_at list e ≤ length_at list e = omega arith in
     some-toggle slot (line_at list e) line.passes
-    (lent-none-previous list slot e c.line-line.result.now c.line-line.ensures (length_at list e) c.len.result c.previous_toggle-in-Some-previous_with.result same
+    (lent-none-previous list slot e c.line-line.result.now c.line-line.ensures (length_at list e) c.len.result
+    c.previous_toggle-in-Some-previous_with.result same
     c.previous_toggle-in-Some-previous_with.ensures.value c.in-None-previous_toggle.is long)
 
 -- src/queries.rt:196:37
@@ -78,19 +92,26 @@ returns-in-Some-previous_toggle-clause-value g c =
     let k = c.place_of-index.result.0 in let column = c.place_of-index.result.1 in
     let e = c.in-Some-previous_with.earlier in let n = c.in-Some-previous_toggle.previous in
     let last : c.args.offset ≤ length (whole list).columns = omega (arith, c.requires.within, length-content list) in
-    let small = at-within list c.args.offset k column c.place_of-index.ensures last in
-    let none = lent-none-previous list slot k c.line.result.now c.line.ensures column column c.previous_toggle.result small c.previous_toggle.ensures.value c.in_default.is refl in
-    let before : k ≤ length list = omega (arith, c.place_of-index.ensures.within) in
-    let line = previous-found (has_toggle slot) k list before e (sym c.previous_with.ensures ∙ c.in-Some-previous_with.is) in
+    let small = at-within list c.args.offset k column c.place_of-index.ensures.place last in
+    let none = lent-none-previous list slot k c.place_of-index.result.2.now c.place_of-index.ensures.line column column
+    c.previous_toggle.result
+    small c.previous_toggle.ensures.value c.in_default.is refl in
+    let before : k ≤ length list = omega (arith, c.place_of-index.ensures.place.within) in
+    let line = previous-found (has_toggle slot) k list before e (sym c.previous_with.ensures
+    ∙ c.in-Some-previous_with.is) in
     let long = c.len.ensures ∙ sym (lent-length list e c.line-line.result.now c.line-line.ensures) in
     let same : length_at list e ≤ length_at list e = omega arith in
-    let near = lent-previous list slot e c.line-line.result.now c.line-line.ensures (length_at list e) c.len.result n c.previous_toggle-in-Some-previous_with.result same
+    let near = lent-previous list slot e c.line-line.result.now c.line-line.ensures (length_at list e) c.len.result n
+    c.previous_toggle-in-Some-previous_with.result same
     c.previous_toggle-in-Some-previous_with.ensures.value c.in-Some-previous_toggle.is long in
-    c.offset_of-in-Some-previous_toggle.ensures.value ∙ sym (change-earlier list slot c.args.offset k column c.place_of-index.ensures last e n none line near)
+    c.offset_of-in-Some-previous_toggle.ensures.value
+    ∙ sym (change-earlier list slot c.args.offset k column c.place_of-index.ensures.place last e n none line near)
 
 -- src/queries.rt:196:37
 pub returns-in-Some-previous_toggle-clause-below : goal.returns-in-Some-previous_toggle-clause-below
 returns-in-Some-previous_toggle-clause-below g c =
     let cells = (content_of (g.L.LineList.lines c.args.list.now)).cells in
     let long = length-map cells (λ (cell : Cell). set.contains cell.tags c.args.slot.0) in
-    subst (λ n. n < c.args.offset) (sym (returns-in-Some-previous_toggle-clause-value g c)) (previous_change-below (flags c.args.slot.0 cells) c.args.offset c.requires.some (omega (arith, long, c.requires.within)))
+    subst (λ n. n < c.args.offset) (sym (returns-in-Some-previous_toggle-clause-value g c))
+    (previous_change-below (flags c.args.slot.0 cells) c.args.offset c.requires.some
+    (omega (arith, long, c.requires.within)))

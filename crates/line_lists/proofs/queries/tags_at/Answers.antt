@@ -5,12 +5,15 @@ use Rattle.line_lists.proofs.PlaceRows.{length-content, tags-at}
 use Rattle.line_lists.proofs.queries.tags_at.Goals as goal
 
 -- src/queries.rt:40:27
-pub locate-index-requires : goal.locate-index-requires
-locate-index-requires g c = subst (λ n. c.args.offset < n) (length-content (g.L.LineList.lines c.args.list.now)) c.requires
+pub line_at-index-requires : goal.line_at-index-requires
+line_at-index-requires g c =
+    subst (λ n. c.args.offset < n) (length-content (g.L.LineList.lines c.args.list.now)) c.requires
 
 -- src/queries.rt:36:1
 pub returns : goal.returns
 returns g c =
     let list = g.L.LineList.lines c.args.list.now in
-    tags-at list c.args.offset c.locate-index.result.0 c.locate-index.result.1 c.line.result.now c.locate-index.ensures c.line.ensures
+    tags-at list c.args.offset c.line_at-index.result.0 c.line_at-index.result.1 c.line_at-index.result.2.now
+    c.line_at-index.ensures.place
+    c.line_at-index.ensures.line
     ∙ ap (λ s. Some s) (sym (c.differing.ensures ∙ ap₂ differing c.odd_slots.ensures c.tags_before-here.ensures))

@@ -7,12 +7,16 @@ use Rattle.line_tests.proofs.lists.worked_list.Goals as goal
 pub splice-requires-clause-numbers : goal.splice-requires-clause-numbers
 splice-requires-clause-numbers g c =
     let room = g.L.LineList.mark_room c.reserve.new.self in
-    subst (λ items. (k : ℕ) (d : LineContent) → k < length items → NumbersBelow room (get_or items k d).marks) (sym c.in_ok-lines.ensures) (numbers-worked room c.in_ok-reserve.ensures.numbers)
+    subst (λ items. (k : ℕ) (d : LineContent) → k < length items →
+    NumbersBelow room (get_or items k d).marks) (sym c.in_ok-lines.ensures)
+    (numbers-worked room c.in_ok-reserve.ensures.numbers)
 
 pub splice-requires-clause-lines : goal.splice-requires-clause-lines
 splice-requires-clause-lines g c =
-    spliced-worked (g.L.LineList.lines c.reserve.new.self) c.in_ok-lines.lines.items (c.reserve.ensures.same ∙ c.in_ok-list.ensures) c.in_ok-lines.ensures
+    spliced-worked (g.L.LineList.lines c.reserve.new.self) c.in_ok-lines.lines.items (c.reserve.ensures.same
+    ∙ c.in_ok-list.ensures) c.in_ok-lines.ensures
 
 pub splice-requires-clause-counted : goal.splice-requires-clause-counted
 splice-requires-clause-counted g c =
-    counted-worked (g.L.LineList.lines c.reserve.new.self) c.in_ok-lines.lines.items (c.reserve.ensures.same ∙ c.in_ok-list.ensures) c.in_ok-lines.ensures
+    counted-worked (g.L.LineList.lines c.reserve.new.self) c.in_ok-lines.lines.items (c.reserve.ensures.same
+    ∙ c.in_ok-list.ensures) c.in_ok-lines.ensures

@@ -10,4 +10,5 @@ before-requires-clause-row g c = row-tree (records c.args.store.now) c.args.leve
 
 pub returns-then-level-eq0-clause-value : goal.returns-then-level-eq0-clause-value
 returns-then-level-eq0-clause-value g c = let m = records c.args.store.now in
-    sym (lowest-before m c.args.node c.args.slot (subst (λ h. IsTree m h c.args.node) (ap suc c.if-level-eq0.true) c.requires.tree) c.requires.within)
+    sym (lowest-before m c.args.node c.args.slot
+    (subst (λ h. IsTree m h c.args.node) (ap suc c.if-level-eq0.true) c.requires.tree) c.requires.within)

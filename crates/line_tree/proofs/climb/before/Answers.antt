@@ -11,13 +11,15 @@ use Rattle.line_tree.proofs.climb.before.Goals.{in-Some, in_default}
 
 pub lines-lines-requires : goal.lines-lines-requires
 lines-lines-requires g c = let m = records c.args.store.now in
-    c.requires.row.each c.loop-i.i c.in-Some.child (sym (child_is m c.args.node c.requires.row c.child.result c.loop-i.i c.child.ensures.value) ∙ c.in-Some.is)
+    c.requires.row.each c.loop-i.i c.in-Some.child
+    (sym (child_is m c.args.node c.requires.row c.child.result c.loop-i.i c.child.ensures.value) ∙ c.in-Some.is)
 
 pub overflow_add-lines : goal.overflow_add-lines
 overflow_add-lines g c = let m = records c.args.store.now in let cs = kids m c.args.node in let i = c.loop-i.i in
     let here = sym (child_is m c.args.node c.requires.row c.child.result i c.child.ensures.value) ∙ c.in-Some.is in
     let more = step_yes (lines_at m) cs i c.in-Some.child here in
-    let s = lines_is m c.in-Some.child c.lines-lines.result (c.requires.row.each i c.in-Some.child here) c.lines-lines.ensures.value in
+    let s = lines_is m c.in-Some.child c.lines-lines.result (c.requires.row.each i c.in-Some.child here)
+    c.lines-lines.ensures.value in
     let value = c.loop-i.invariant.value in let fits = c.requires.fits in let within = c.requires.within in
     let shorter : i + 1 ≤ c.args.slot = omega (arith, c.loop-i-test.true) in
     let part = sum_by-take-le (lines_at m) (take c.args.slot cs) (i + 1) in
@@ -32,7 +34,8 @@ loop-i-preserved g c = let m = records c.args.store.now in let cs = kids m c.arg
       | in-Some w ↦
           let here = sym child ∙ w.in-Some.is in
           let more = step_yes (lines_at m) cs i w.in-Some.child here in
-          let s = lines_is m w.in-Some.child w.lines-lines.result (c.requires.row.each i w.in-Some.child here) w.lines-lines.ensures.value in
+          let s = lines_is m w.in-Some.child w.lines-lines.result (c.requires.row.each i w.in-Some.child here)
+          w.lines-lines.ensures.value in
           let t = ap g.C.Ticks.count w.ticks-is in let two = w.lines-lines.ensures.tick in let now = w.lines-is in
           record { value = omega arith; ticks = omega arith }
       | in_default w ↦

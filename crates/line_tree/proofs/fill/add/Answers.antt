@@ -14,7 +14,8 @@ sum-sum-requires g c = named-row (records c.args.store.now) c.args.node c.requir
 
 pub plus-requires : goal.plus-requires
 plus-requires g c = let m = records c.args.store.now in let p = c.args.node in
-    let now = ap (λ s. plus s c.args.more.now) (sum_is m p c.sum-sum.result (named-row m p c.requires.row) c.sum-sum.ensures.value) ∙ c.requires.sum in
+    let now = ap (λ s. plus s c.args.more.now)
+    (sum_is m p c.sum-sum.result (named-row m p c.requires.row) c.sum-sum.ensures.value) ∙ c.requires.sum in
     (omega arith, fits-both c.sum-sum.result c.args.more.now (subst FitsSum (sym now) c.requires.fits))
 
 pub set_sum-requires : goal.set_sum-requires
@@ -22,5 +23,6 @@ set_sum-requires g c = inner-row (records c.args.store.now) c.args.node c.requir
 
 pub returns-clause-records : goal.returns-clause-records
 returns-clause-records g c = let m = records c.args.store.now in let p = c.args.node in
-    let now = ap (λ s. plus s c.args.more.now) (sum_is m p c.sum-sum.result (named-row m p c.requires.row) c.sum-sum.ensures.value) ∙ c.requires.sum in
+    let now = ap (λ s. plus s c.args.more.now)
+    (sum_is m p c.sum-sum.result (named-row m p c.requires.row) c.sum-sum.ensures.value) ∙ c.requires.sum in
     c.set_sum.ensures.records ∙ ap (λ s. update m p (λ r. with_sum r s)) (c.plus.ensures ∙ now)

@@ -1,4 +1,5 @@
-use Rattle.std.proofs.Common.{◌≡◌, ◌-◌, ◌≤◌, ℕ, List, Some, length, take, drop, ap, refl, sym, ◌∙◌, subst, arith, length-drop, None}
+use Rattle.std.proofs.Common.{◌≡◌, ◌-◌, ◌≤◌, ℕ, List, Some, length, take, drop, ap, refl, sym, ◌∙◌, subst, arith}
+use Rattle.std.proofs.Common.{length-drop, None}
 use Rattle.std.specs.FinMap as finite
 use Rattle.std.specs.List.{insert}
 use Rattle.std.proofs.lemmas.List.{take_all}
@@ -19,30 +20,37 @@ use Rattle.line_tree.proofs.FillLaws.{row-some, sums-row}
 use Rattle.line_tree.proofs.RowLaws.{sum_is}
 use Rattle.line_tree.proofs.SumLaws.{fits-both}
 use Rattle.line_tree.proofs.TreeLaws.{named-row}
-use Rattle.line_tree.proofs.PutLaws.{count-row, fill-left, fill-right, fill-room, first-fits, halves-sum, kept-left, kept-put, last-fits, left-sums, named-all, right-sums}
+use Rattle.line_tree.proofs.PutLaws.{count-row, fill-left, fill-right, fill-room, first-fits, halves-sum, kept-left}
+use Rattle.line_tree.proofs.PutLaws.{kept-put, last-fits, left-sums, named-all, right-sums}
 use Rattle.line_tree.proofs.fill.put.Goals as goal
 
 short : (all : List NodePtr) → length all ≤ 12 → row (take 12 (drop 0 all)) ≡ row all
 short all few = ap row (take_all 12 all few)
 
 -- the last ones of thirteen
-last : (all : List NodePtr) (half : ℕ) → half ≤ 7 → length all ≤ 13 → row (take (13 - half) (drop half all)) ≡ row (drop half all)
-last all half small few = let n = length-drop half all in let h : length (drop half all) ≤ 13 - half = omega arith in ap row (take_all (13 - half) (drop half all) h)
+last : (all : List NodePtr) (half : ℕ) → half ≤ 7 → length all ≤ 13 →
+    row (take (13 - half) (drop half all)) ≡ row (drop half all)
+last all half small few = let n = length-drop half all in let h : length (drop half all) ≤ 13 - half = omega arith in
+    ap row (take_all (13 - half) (drop half all) h)
 
 -- the sum with what comes
-summed : (m : Records) (p : NodePtr) (s more all : Count) → HasRow m p → IfSome (finite.get m p) (λ r. s ≡ r.sum) → plus (sum_at m p) more ≡ all → plus s more ≡ all
+summed : (m : Records) (p : NodePtr) (s more all : Count) → HasRow m p → IfSome (finite.get m p) (λ r. s ≡ r.sum) →
+    plus (sum_at m p) more ≡ all → plus s more ≡ all
 summed m p s more all has says is = ap (λ x. plus x more) (sum_is m p s (named-row m p has) says) ∙ is
 
 pub sum-old-requires : goal.sum-old-requires
 sum-old-requires g c = named-row (records c.args.store.now) c.args.node c.requires.put.row
 
 pub plus-sum-requires : goal.plus-sum-requires
-plus-sum-requires g c = let m = records c.args.store.now in let p = c.args.node in let all = insert (kids m p) c.args.at c.args.extra in
-    let now = summed m p c.sum-old.result c.args.more.now (sum_all m all) c.requires.put.row c.sum-old.ensures.value c.requires.sum in
+plus-sum-requires g c = let m = records c.args.store.now in let p = c.args.node in
+    let all = insert (kids m p) c.args.at c.args.extra in
+    let now = summed m p c.sum-old.result c.args.more.now (sum_all m all) c.requires.put.row c.sum-old.ensures.value
+    c.requires.sum in
     (omega arith, fits-both c.sum-old.result c.args.more.now (subst FitsSum (sym now) c.requires.put.fits))
 
 pub refill-requires : goal.refill-requires
-refill-requires g c = let m = records c.args.store.now in let p = c.args.node in let all = insert (kids m p) c.args.at c.args.extra in
+refill-requires g c = let m = records c.args.store.now in let p = c.args.node in
+    let all = insert (kids m p) c.args.at c.args.extra in
     let n = count-row m p c.children.result c.requires.put.row c.children.ensures in
     let more = length-insert (kids m p) c.args.at c.args.extra c.requires.put.place in
     let few : length all ≤ 12 = omega (arith, c.if-children-lt12.true) in
@@ -50,78 +58,115 @@ refill-requires g c = let m = records c.args.store.now in let p = c.args.node in
     record {
       fill = (all, is, fill-room m p c.args.at c.args.extra c.requires.put few);
       from = omega (arith, c.requires.put.place, c.requires.put.row.few);
-      kept = ap (relinked m p 0) is ∙ kept-put m p c.args.at c.args.extra c.requires.put ∙ sym (ap (λ os. relinked m p c.args.at (drop c.args.at os)) is);
-      sum = c.plus-sum.ensures ∙ summed m p c.sum-old.result c.args.more.now (sum_all m all) c.requires.put.row c.sum-old.ensures.value c.requires.sum ∙ sym (ap (sums m) is ∙ sums-row m all);
+      kept = ap (relinked m p 0) is ∙ kept-put m p c.args.at c.args.extra c.requires.put
+          ∙ sym (ap (λ os. relinked m p c.args.at (drop c.args.at os)) is);
+      sum = c.plus-sum.ensures ∙ summed m p c.sum-old.result c.args.more.now (sum_all m all) c.requires.put.row
+          c.sum-old.ensures.value c.requires.sum ∙ sym (ap (sums m) is ∙ sums-row m all);
     }
 
 -- the parts of a node that splits
-named-part : (m : Records) (p : NodePtr) (at : ℕ) (x : NodePtr) → CanPut m p at x → (cs : List NodePtr) → ((c : NodePtr) → Among c cs → Among c (insert (kids m p) at x)) → (os : List (Option NodePtr)) → os ≡ row cs
+named-part : (m : Records) (p : NodePtr) (at : ℕ) (x : NodePtr) → CanPut m p at x → (cs : List NodePtr) →
+    ((c : NodePtr) → Among c cs → Among c (insert (kids m p) at x)) → (os : List (Option NodePtr)) → os ≡ row cs
     → (i : ℕ) (d : NodePtr) → slice_get os i ≡ Some (Some d) → IsSome (finite.get m d)
-named-part m p at x can cs inside os is i d there = named-all m p at x can d (inside d (get-among cs i d (row-some cs i d (ap (λ zs. slice_get zs i) (sym is) ∙ there))))
+named-part m p at x can cs inside os is i d there = named-all m p at x can d
+    (inside d (get-among cs i d (row-some cs i d (ap (λ zs. slice_get zs i) (sym is) ∙ there))))
 
 pub sum_of-last-requires : goal.sum_of-last-requires
-sum_of-last-requires g c = let m = records c.args.store.now in let half = c.first_half-half.result in let p = c.args.node in let all = insert (kids m p) c.args.at c.args.extra in
+sum_of-last-requires g c = let m = records c.args.store.now in let half = c.first_half-half.result in
+    let p = c.args.node in let all = insert (kids m p) c.args.at c.args.extra in
     let more = length-insert (kids m p) c.args.at c.args.extra c.requires.put.place in
     let few : length all ≤ 13 = omega (arith, c.requires.put.row.few) in
     let is = c.part-right.ensures ∙ last all half c.first_half-half.ensures.high few in
     record {
-      nodes = named-part m p c.args.at c.args.extra c.requires.put (drop half all) (λ d a. among-drop d half all a) c.part-right.result is;
+      nodes = named-part m p c.args.at c.args.extra c.requires.put (drop half all) (λ d a. among-drop d half all a)
+          c.part-right.result is;
       fits = subst (λ os. FitsSum (sums m os)) (sym is) (last-fits m p c.args.at c.args.extra c.requires.put half);
     }
 
 pub sum_less-first-requires : goal.sum_less-first-requires
-sum_less-first-requires g c = let m = records c.args.store.now in let half = c.first_half-half.result in let p = c.args.node in let all = insert (kids m p) c.args.at c.args.extra in
+sum_less-first-requires g c = let m = records c.args.store.now in let half = c.first_half-half.result in
+    let p = c.args.node in let all = insert (kids m p) c.args.at c.args.extra in
     let more = length-insert (kids m p) c.args.at c.args.extra c.requires.put.place in
     let few : length all ≤ 13 = omega (arith, c.requires.put.row.few) in
-    let sum = c.plus-sum.ensures ∙ summed m p c.sum-old.result c.args.more.now (sum_all m all) c.requires.put.row c.sum-old.ensures.value c.requires.sum in
+    let sum = c.plus-sum.ensures ∙ summed m p c.sum-old.result c.args.more.now (sum_all m all) c.requires.put.row
+    c.sum-old.ensures.value c.requires.sum in
     let one = ap (sums m) c.part-left.ensures ∙ sums-row m (take half all) in
-    let two = c.sum_of-last.ensures ∙ ap (sums m) (c.part-right.ensures ∙ last all half c.first_half-half.ensures.high few) ∙ sums-row m (drop half all) in
+    let two = c.sum_of-last.ensures ∙ ap (sums m) (c.part-right.ensures
+    ∙ last all half c.first_half-half.ensures.high few) ∙ sums-row m (drop half all) in
     record {
-      nodes = named-part m p c.args.at c.args.extra c.requires.put (take half all) (λ d a. among-take d half all a) c.part-left.result c.part-left.ensures;
+      nodes = named-part m p c.args.at c.args.extra c.requires.put (take half all) (λ d a. among-take d half all a)
+          c.part-left.result c.part-left.ensures;
       sum = (λ i. plus (one i) (two i)) ∙ halves-sum m p c.args.at c.args.extra c.requires.put half ∙ sym sum;
-      fits = subst (λ os. FitsSum (sums m os)) (sym c.part-left.ensures) (first-fits m p c.args.at c.args.extra c.requires.put half);
+      fits = subst (λ os. FitsSum (sums m os)) (sym c.part-left.ensures)
+          (first-fits m p c.args.at c.args.extra c.requires.put half);
     }
 
 pub refill-requires-else-children-lt12 : goal.refill-requires-else-children-lt12
-refill-requires-else-children-lt12 g c = let m = records c.args.store.now in let half = c.first_half-half.result in let p = c.args.node in let all = insert (kids m p) c.args.at c.args.extra in
+refill-requires-else-children-lt12 g c = let m = records c.args.store.now in let half = c.first_half-half.result in
+    let p = c.args.node in let all = insert (kids m p) c.args.at c.args.extra in
     record {
-      fill = (take half all, c.part-left.ensures, subst (λ n. CanFill n p (take half all)) (sym c.make-sibling.ensures.records) (fill-left m p c.args.at c.args.extra c.requires.put c.make-sibling.result c.make-sibling.ensures.fresh half (omega (arith, c.first_half-half.ensures.high))));
+      fill = (
+        take half all,
+        c.part-left.ensures,
+        subst (λ n. CanFill n p (take half all)) (sym c.make-sibling.ensures.records)
+            (fill-left m p c.args.at c.args.extra c.requires.put c.make-sibling.result c.make-sibling.ensures.fresh half
+            (omega (arith, c.first_half-half.ensures.high))),
+      );
       from = omega (arith, c.min.ensures);
       kept = subst (Stay (records c.make-sibling.new.self) p c.min.result) (sym c.part-left.ensures)
           (subst (λ n. Stay n p c.min.result (row (take half all))) (sym c.make-sibling.ensures.records)
-          (kept-left m p c.args.at c.args.extra c.requires.put c.make-sibling.result c.make-sibling.ensures.fresh half c.min.result (omega (arith, c.min.ensures)) (omega (arith, c.min.ensures))));
+          (kept-left m p c.args.at c.args.extra c.requires.put c.make-sibling.result c.make-sibling.ensures.fresh half
+          c.min.result (omega (arith, c.min.ensures)) (omega (arith, c.min.ensures))));
       sum = c.sum_less-first.ensures ∙ ap (sums m) c.part-left.ensures
-          ∙ sym (ap (λ n. sums n c.part-left.result) c.make-sibling.ensures.records ∙ ap (sums (finite.insert m c.make-sibling.result (blank None))) c.part-left.ensures
-          ∙ left-sums m p c.args.at c.args.extra c.requires.put c.make-sibling.result c.make-sibling.ensures.fresh half);
+          ∙ sym (ap (λ n. sums n c.part-left.result) c.make-sibling.ensures.records
+          ∙ ap (sums (finite.insert m c.make-sibling.result (blank None))) c.part-left.ensures
+          ∙ left-sums m p c.args.at c.args.extra c.requires.put c.make-sibling.result c.make-sibling.ensures.fresh
+          half);
     }
 
 pub refill-requires-else-children-lt12-2 : goal.refill-requires-else-children-lt12-2
-refill-requires-else-children-lt12-2 g c = let m = records c.args.store.now in let half = c.first_half-half.result in let p = c.args.node in let all = insert (kids m p) c.args.at c.args.extra in let s = c.make-sibling.result in
+refill-requires-else-children-lt12-2 g c = let m = records c.args.store.now in let half = c.first_half-half.result in
+    let p = c.args.node in let all = insert (kids m p) c.args.at c.args.extra in let s = c.make-sibling.result in
     let more = length-insert (kids m p) c.args.at c.args.extra c.requires.put.place in
     let few : length all ≤ 13 = omega (arith, c.requires.put.row.few) in
-    let now = c.refill-else-children-lt12.ensures.records ∙ ap (λ n. refilled n p c.part-left.result) c.make-sibling.ensures.records ∙ ap (refilled (finite.insert m s (blank None)) p) c.part-left.ensures in
+    let now = c.refill-else-children-lt12.ensures.records
+    ∙ ap (λ n. refilled n p c.part-left.result) c.make-sibling.ensures.records
+    ∙ ap (refilled (finite.insert m s (blank None)) p) c.part-left.ensures in
     record {
-      fill = (drop half all, c.part-right.ensures ∙ last all half c.first_half-half.ensures.high few, subst (λ n. CanFill n s (drop half all)) (sym now) (fill-right m p c.args.at c.args.extra c.requires.put s c.make-sibling.ensures.fresh half (omega (arith, few, c.first_half-half.ensures.low))));
+      fill = (
+        drop half all,
+        c.part-right.ensures ∙ last all half c.first_half-half.ensures.high few,
+        subst (λ n. CanFill n s (drop half all)) (sym now)
+            (fill-right m p c.args.at c.args.extra c.requires.put s c.make-sibling.ensures.fresh half
+            (omega (arith, few, c.first_half-half.ensures.low))),
+      );
       from = omega arith;
       kept = refl;
-      sum = c.sum_of-last.ensures ∙ ap (sums m) (c.part-right.ensures ∙ last all half c.first_half-half.ensures.high few)
-          ∙ sym (ap (λ n. sums n c.part-right.result) now ∙ ap (sums (refilled (finite.insert m s (blank None)) p (row (take half all)))) (c.part-right.ensures ∙ last all half c.first_half-half.ensures.high few)
+      sum =
+          c.sum_of-last.ensures ∙ ap (sums m) (c.part-right.ensures ∙ last all half c.first_half-half.ensures.high few)
+          ∙ sym (ap (λ n. sums n c.part-right.result) now
+          ∙ ap (sums (refilled (finite.insert m s (blank None)) p (row (take half all)))) (c.part-right.ensures
+          ∙ last all half c.first_half-half.ensures.high few)
           ∙ right-sums m p c.args.at c.args.extra c.requires.put s c.make-sibling.ensures.fresh half);
     }
 
 pub returns-then-children-lt12-clause-puts : goal.returns-then-children-lt12-clause-puts
-returns-then-children-lt12-clause-puts g c = let m = records c.args.store.now in let p = c.args.node in let all = insert (kids m p) c.args.at c.args.extra in
+returns-then-children-lt12-clause-puts g c = let m = records c.args.store.now in let p = c.args.node in
+    let all = insert (kids m p) c.args.at c.args.extra in
     let n = count-row m p c.children.result c.requires.put.row c.children.ensures in
     let more = length-insert (kids m p) c.args.at c.args.extra c.requires.put.place in
     let few : length all ≤ 12 = omega (arith, c.if-children-lt12.true) in
     record { few = few; same = c.refill.ensures.records ∙ ap (refilled m p) (c.part-all.ensures ∙ short all few) }
 
 pub returns-else-children-lt12-clause-puts : goal.returns-else-children-lt12-clause-puts
-returns-else-children-lt12-clause-puts g c = let m = records c.args.store.now in let half = c.first_half-half.result in let p = c.args.node in let all = insert (kids m p) c.args.at c.args.extra in let s = c.make-sibling.result in
+returns-else-children-lt12-clause-puts g c = let m = records c.args.store.now in let half = c.first_half-half.result in
+    let p = c.args.node in let all = insert (kids m p) c.args.at c.args.extra in let s = c.make-sibling.result in
     let n = count-row m p c.children.result c.requires.put.row c.children.ensures in
     let more = length-insert (kids m p) c.args.at c.args.extra c.requires.put.place in
     let few : length all ≤ 13 = omega (arith, c.requires.put.row.few) in
-    let left = c.refill-else-children-lt12.ensures.records ∙ ap (λ x. refilled x p c.part-left.result) c.make-sibling.ensures.records ∙ ap (refilled (finite.insert m s (blank None)) p) c.part-left.ensures in
+    let left = c.refill-else-children-lt12.ensures.records
+    ∙ ap (λ x. refilled x p c.part-left.result) c.make-sibling.ensures.records
+    ∙ ap (refilled (finite.insert m s (blank None)) p) c.part-left.ensures in
     record {
       many = omega (arith, c.if-children-lt12.false, c.requires.put.row.few);
       fresh = c.make-sibling.ensures.fresh;
@@ -129,5 +174,6 @@ returns-else-children-lt12-clause-puts g c = let m = records c.args.store.now in
       low = c.first_half-half.ensures.low;
       high = c.first_half-half.ensures.high;
       same = c.refill-else-children-lt12-2.ensures.records ∙ ap (λ x. refilled x s c.part-right.result) left
-          ∙ ap (refilled (refilled (finite.insert m s (blank None)) p (row (take half all))) s) (c.part-right.ensures ∙ last all half c.first_half-half.ensures.high few);
+          ∙ ap (refilled (refilled (finite.insert m s (blank None)) p (row (take half all))) s) (c.part-right.ensures
+          ∙ last all half c.first_half-half.ensures.high few);
     }

@@ -14,12 +14,14 @@ relink-requires-clause-node g c = inner-fill (records c.args.store.now) c.args.n
 
 pub relink-requires-clause-children : goal.relink-requires-clause-children
 relink-requires-clause-children g c i d is = let cs = c.requires.fill.0 in
-    c.requires.fill.2.each d (get-among cs i d (row-some cs i d (ap (λ os. slice_get os i) (sym c.requires.fill.1) ∙ is)))
+    c.requires.fill.2.each d (get-among cs i d (row-some cs i d (ap (λ os. slice_get os i) (sym c.requires.fill.1)
+    ∙ is)))
 
 pub set_sum-requires : goal.set_sum-requires
 set_sum-requires g c = let m = records c.args.store.now in let p = c.args.node in let cs = c.requires.fill.0 in
     let now = c.relink.ensures.records ∙ sym c.requires.kept ∙ ap (relinked m p 0) c.requires.fill.1 in
-    inner-row (records c.relink.new.store) p (subst (λ n. HasRow n p) (sym now) (relinked-has_row m p cs c.requires.fill.2).0)
+    inner-row (records c.relink.new.store) p
+    (subst (λ n. HasRow n p) (sym now) (relinked-has_row m p cs c.requires.fill.2).0)
 
 pub returns-clause-records : goal.returns-clause-records
 returns-clause-records g c = let m = records c.args.store.now in let p = c.args.node in let os = c.args.children.now in

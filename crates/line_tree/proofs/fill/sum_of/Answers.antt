@@ -16,17 +16,21 @@ use Rattle.line_tree.proofs.fill.sum_of.Goals as goal
 use Rattle.line_tree.proofs.fill.sum_of.Goals.{in-Some, in_default}
 
 -- what the node at a slot adds
-some_step : (m : Records) (os : List (Option NodePtr)) (i : ℕ) (d : Option NodePtr) (c : NodePtr) (s : Count) → i < length os → get_or os i d ≡ Some c → IsSome (finite.get m c) → IfSome (finite.get m c) (λ r. s ≡ r.sum)
+some_step : (m : Records) (os : List (Option NodePtr)) (i : ℕ) (d : Option NodePtr) (c : NodePtr) (s : Count) →
+    i < length os → get_or os i d ≡ Some c → IsSome (finite.get m c) → IfSome (finite.get m c) (λ r. s ≡ r.sum)
     → sums m (drop i os) ≡ plus s (sums m (drop (i + 1) os))
 some_step m os i d c s within is named says =
     at_drop_more (sums m) os i d within ∙ ap (λ x. plus (sum_or_none m x) (sums m (drop (i + 1) os))) is
     ∙ ap (λ x. plus x (sums m (drop (i + 1) os))) (sym (sum_is m c s named says))
 
-none_step : (m : Records) (os : List (Option NodePtr)) (i : ℕ) (d : Option NodePtr) → i < length os → get_or os i d ≡ None → sums m (drop i os) ≡ sums m (drop (i + 1) os)
+none_step : (m : Records) (os : List (Option NodePtr)) (i : ℕ) (d : Option NodePtr) → i < length os →
+    get_or os i d ≡ None → sums m (drop i os) ≡ sums m (drop (i + 1) os)
 none_step m os i d within none =
-    at_drop_more (sums m) os i d within ∙ ap (λ x. plus (sum_or_none m x) (sums m (drop (i + 1) os))) none ∙ no_text-plus (sums m (drop (i + 1) os))
+    at_drop_more (sums m) os i d within ∙ ap (λ x. plus (sum_or_none m x) (sums m (drop (i + 1) os))) none
+    ∙ no_text-plus (sums m (drop (i + 1) os))
 
-at : (os : List (Option NodePtr)) (i : ℕ) (d : Option NodePtr) (c : NodePtr) → i < length os → get_or os i d ≡ Some c → slice_get os i ≡ Some (Some c)
+at : (os : List (Option NodePtr)) (i : ℕ) (d : Option NodePtr) (c : NodePtr) → i < length os → get_or os i d ≡ Some c →
+    slice_get os i ≡ Some (Some c)
 at os i d c within is = slice_get-get_or os i d within ∙ ap (λ o. Some o) is
 
 pub sum-more-requires : goal.sum-more-requires
@@ -35,27 +39,43 @@ sum-more-requires g c = let os = c.args.nodes.now in let i = c.loop-slot.slot in
     c.requires.nodes i c.in-Some.node (at os i _ c.in-Some.node within c.in-Some.is)
 
 pub loop-slot-init : goal.loop-slot-init
-loop-slot-init g c = let m = records c.args.store.now in let os = c.args.nodes.now in record { sum = ap (λ s. plus s (sums m os)) c.zero-sum.ensures ∙ no_text-plus (sums m os) }
+loop-slot-init g c = let m = records c.args.store.now in let os = c.args.nodes.now in
+    record { sum = ap (λ s. plus s (sums m os)) c.zero-sum.ensures ∙ no_text-plus (sums m os) }
 
 pub plus-sum-requires : goal.plus-sum-requires
-plus-sum-requires g c = let m = records c.args.store.now in let os = c.args.nodes.now in let i = c.loop-slot.slot in let rest = sums m (drop (i + 1) os) in
+plus-sum-requires g c = let m = records c.args.store.now in let os = c.args.nodes.now in let i = c.loop-slot.slot in
+    let rest = sums m (drop (i + 1) os) in
     let within : i < length os = omega (arith, c.told-nodes, c.loop-slot-test.true) in
     let n = c.in-Some.node in
-    let step = some_step m os i _ n c.sum-more.result within c.in-Some.is (c.requires.nodes i n (at os i _ n within c.in-Some.is)) c.sum-more.ensures.value in
-    let sum = c.loop-slot.sum in let more = c.sum-more.result in
-    (omega arith, fits-both sum more (fits-left (plus sum more) rest (subst FitsSum (sym (plus-associative sum more rest ∙ ap (plus sum) (sym step) ∙ c.loop-slot.invariant.sum)) c.requires.fits)))
+    let step = some_step m os i _ n c.sum-more.result within c.in-Some.is
+    (c.requires.nodes i n (at os i _ n within c.in-Some.is)) c.sum-more.ensures.value in
+    let sum = c.loop-slot.sum in let more = c.sum-more.result in (
+      omega arith,
+      fits-both sum more (fits-left (plus sum more) rest
+          (subst FitsSum (sym (plus-associative sum more rest ∙ ap (plus sum) (sym step) ∙ c.loop-slot.invariant.sum))
+          c.requires.fits)),
+    )
 
 pub loop-slot-preserved : goal.loop-slot-preserved
-loop-slot-preserved g c = let m = records c.args.store.now in let os = c.args.nodes.now in let i = c.loop-slot.slot in let rest = sums m (drop (i + 1) os) in
+loop-slot-preserved g c = let m = records c.args.store.now in let os = c.args.nodes.now in let i = c.loop-slot.slot in
+    let rest = sums m (drop (i + 1) os) in
     let within : i < length os = omega (arith, c.told-nodes, c.loop-slot-test.true) in
     elim c.match-nodes-slot.branch [
       | in-Some w ↦
           let n = w.in-Some.node in
-          let step = some_step m os i _ n w.sum-more.result within w.in-Some.is (c.requires.nodes i n (at os i _ n within w.in-Some.is)) w.sum-more.ensures.value in
-          record { sum = ap (λ s. plus s rest) (w.sum-is ∙ w.plus-sum.ensures) ∙ plus-associative c.loop-slot.sum w.sum-more.result rest ∙ ap (plus c.loop-slot.sum) (sym step) ∙ c.loop-slot.invariant.sum }
+          let step = some_step m os i _ n w.sum-more.result within w.in-Some.is
+          (c.requires.nodes i n (at os i _ n within w.in-Some.is)) w.sum-more.ensures.value in
+          record {
+            sum = ap (λ s. plus s rest) (w.sum-is ∙ w.plus-sum.ensures)
+                ∙ plus-associative c.loop-slot.sum w.sum-more.result rest ∙ ap (plus c.loop-slot.sum) (sym step)
+                ∙ c.loop-slot.invariant.sum;
+          }
       | in_default w ↦
           let step = none_step m os i _ within (none_of _ w.in_default.not-Some) in
-          record { sum = ap (λ s. plus s rest) w.sum-is ∙ ap (plus c.loop-slot.sum) (sym step) ∙ c.loop-slot.invariant.sum }
+          record {
+            sum = ap (λ s. plus s rest) w.sum-is ∙ ap (plus c.loop-slot.sum) (sym step)
+                ∙ c.loop-slot.invariant.sum;
+          }
     ]
 
 pub returns : goal.returns

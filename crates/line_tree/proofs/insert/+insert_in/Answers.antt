@@ -12,7 +12,8 @@ use Rattle.line_tree.specs.Finds.{Leads, lines_below}
 use Rattle.line_tree.specs.Growth.{CanInsert, Inserts}
 use Rattle.line_tree.specs.Shape.{sum_at, tree_at}
 use Rattle.line_tree.specs.declared.find.Found.{Found}
-use Rattle.line_tree.proofs.InsertLaws.{can-child, has-node, has-now, low-can_put, low-inserts, low-sum, one-fits, one-inserts, one-sum, two-can_put, two-inserts, two-sum}
+use Rattle.line_tree.proofs.InsertLaws.{can-child, has-node, has-now, low-can_put, low-inserts, low-sum, one-fits}
+use Rattle.line_tree.proofs.InsertLaws.{one-inserts, one-sum, two-can_put, two-inserts, two-sum}
 use Rattle.line_tree.proofs.RoomLaws.{len-puts, len-resummed}
 use Rattle.toggle_sums.specs.Counts.{Count, plus}
 use Rattle.std.specs.Prelude.{IfSome, IsSome}
@@ -22,82 +23,131 @@ use Rattle.line_tree.proofs.TreeLaws.{below-tree, named-tree, whole-below}
 use Rattle.line_tree.proofs.insert.+insert_in.Goals as goal
 
 -- the height as one more than another
-above : (m : Records) (h : ℕ) (p : NodePtr) (k : ℕ) (x : NodePtr) → CanInsert m h p k x → 0 < h → CanInsert m (suc (h - 1)) p k x
+above : (m : Records) (h : ℕ) (p : NodePtr) (k : ℕ) (x : NodePtr) → CanInsert m h p k x → 0 < h →
+    CanInsert m (suc (h - 1)) p k x
 above m h p k x can some = let e : h ≡ suc (h - 1) = omega arith in subst (λ j. CanInsert m j p k x) e can
 
-back : (m n : Records) (h : ℕ) (p : NodePtr) (k : ℕ) (x : NodePtr) (o : Option NodePtr) → 0 < h → Inserts m n (suc (h - 1)) p k x o → Inserts m n h p k x o
+back : (m n : Records) (h : ℕ) (p : NodePtr) (k : ℕ) (x : NodePtr) (o : Option NodePtr) → 0 < h →
+    Inserts m n (suc (h - 1)) p k x o → Inserts m n h p k x o
 back m n h p k x o some ins = let e : suc (h - 1) ≡ h = omega arith in subst (λ j. Inserts m n j p k x o) e ins
 
-some-kids : (m : Records) (h : ℕ) (p : NodePtr) (k : ℕ) (x : NodePtr) → CanInsert m (suc h) p k x → 0 < length (kids m p)
+some-kids : (m : Records) (h : ℕ) (p : NodePtr) (k : ℕ) (x : NodePtr) → CanInsert m (suc h) p k x →
+    0 < length (kids m p)
 some-kids m h p k x can = let n = length-map (kids m p) (tree_at m h) in let w = can.wide.0 in omega arith
 
-within-kids : (m : Records) (h : ℕ) (p : NodePtr) (k : ℕ) (x : NodePtr) → CanInsert m (suc h) p k x → k ≤ lines_below m p
+within-kids : (m : Records) (h : ℕ) (p : NodePtr) (k : ℕ) (x : NodePtr) → CanInsert m (suc h) p k x →
+    k ≤ lines_below m p
 within-kids m h p k x can = let n = below-tree m h p can.tree in let w = can.place in omega arith
 
-few-kids : (m : Records) (h : ℕ) (p : NodePtr) (k : ℕ) (x : NodePtr) → CanInsert m (suc h) p k x → (f : Found) → Leads m p k f → f.slot < 12
-few-kids m h p k x can f leads = let w = slice_get_within (kids m p) f.slot f.child leads.child in let few = (has-node m h p k x can).few in omega arith
+few-kids : (m : Records) (h : ℕ) (p : NodePtr) (k : ℕ) (x : NodePtr) → CanInsert m (suc h) p k x → (f : Found) →
+    Leads m p k f → f.slot < 12
+few-kids m h p k x can f leads = let w = slice_get_within (kids m p) f.slot f.child leads.child in
+    let few = (has-node m h p k x can).few in omega arith
 
 pub put-requires-clause-put : goal.put-requires-clause-put
-put-requires-clause-put g t c = low-can_put (records c.args.store.now) c.args.node c.args.k c.args.line (subst (λ h. CanInsert (records c.args.store.now) h c.args.node c.args.k c.args.line) c.if-height-eq1.true c.requires.insert)
+put-requires-clause-put g t c = low-can_put (records c.args.store.now) c.args.node c.args.k c.args.line
+    (subst (λ h. CanInsert (records c.args.store.now) h c.args.node c.args.k c.args.line) c.if-height-eq1.true
+    c.requires.insert)
 
 -- what the line adds
-line-sum : (m l : Records) (p x : NodePtr) (s : Count) (all : Count) → IsSome (finite.get m x) → IfSome (finite.get m x) (λ r. s ≡ r.sum) → plus (sum_at l p) (sum_at m x) ≡ all → plus (sum_at l p) s ≡ all
+line-sum : (m l : Records) (p x : NodePtr) (s : Count) (all : Count) → IsSome (finite.get m x) →
+    IfSome (finite.get m x) (λ r. s ≡ r.sum) → plus (sum_at l p) (sum_at m x) ≡ all → plus (sum_at l p) s ≡ all
 line-sum m l p x s all named says is = ap (plus (sum_at l p)) (sum_is m x s named says) ∙ is
 
 pub put-requires-clause-sum : goal.put-requires-clause-sum
 put-requires-clause-sum g t c = let m = records c.args.store.now in
-    line-sum m m c.args.node c.args.line c.sum-more.result (sum_all m (insert (kids m c.args.node) c.args.k c.args.line)) (named-tree m 0 c.args.line c.requires.insert.line) c.sum-more.ensures.value
-    (low-sum m c.args.node c.args.k c.args.line (subst (λ h. CanInsert m h c.args.node c.args.k c.args.line) c.if-height-eq1.true c.requires.insert))
+    line-sum m m c.args.node c.args.line c.sum-more.result
+    (sum_all m (insert (kids m c.args.node) c.args.k c.args.line))
+    (named-tree m 0 c.args.line c.requires.insert.line) c.sum-more.ensures.value
+    (low-sum m c.args.node c.args.k c.args.line
+    (subst (λ h. CanInsert m h c.args.node c.args.k c.args.line) c.if-height-eq1.true c.requires.insert))
 
 pub put-requires-in-Some-clause-sum : goal.put-requires-in-Some-clause-sum
 put-requires-in-Some-clause-sum g t c = let m = records c.args.store.now in let l = records c.insert_in.new.store in
-    line-sum m l c.args.node c.args.line c.sum-more.result (sum_all l (insert (kids l c.args.node) (c.lead-found.result.slot + 1) c.in-Some.sibling)) (named-tree m 0 c.args.line c.requires.insert.line) c.sum-more.ensures.value
-    (two-sum m (c.args.height - 1) c.args.node c.args.k c.args.line (above m c.args.height c.args.node c.args.k c.args.line c.requires.insert c.requires.node) c.lead-found.result c.lead-found.ensures l c.in-Some.sibling
-    (subst (λ o. Inserts m l (c.args.height - 1) c.lead-found.result.child c.lead-found.result.rest c.args.line o) c.in-Some.is c.insert_in.ensures.inserts))
+    line-sum m l c.args.node c.args.line c.sum-more.result
+    (sum_all l (insert (kids l c.args.node) (c.lead-found.result.slot + 1) c.in-Some.sibling))
+    (named-tree m 0 c.args.line c.requires.insert.line) c.sum-more.ensures.value
+    (two-sum m (c.args.height - 1) c.args.node c.args.k c.args.line
+    (above m c.args.height c.args.node c.args.k c.args.line c.requires.insert c.requires.node) c.lead-found.result
+    c.lead-found.ensures l c.in-Some.sibling
+    (subst (λ o. Inserts m l (c.args.height - 1) c.lead-found.result.child c.lead-found.result.rest c.args.line o)
+    c.in-Some.is c.insert_in.ensures.inserts))
 
 pub returns-then-height-eq1-clause-inserts : goal.returns-then-height-eq1-clause-inserts
 returns-then-height-eq1-clause-inserts g t c = let m = records c.args.store.now in
-    subst (λ h. Inserts m (records c.put.new.store) h c.args.node c.args.k c.args.line c.put.result) (sym c.if-height-eq1.true)
-    (low-inserts m c.args.node c.args.k c.args.line (subst (λ h. CanInsert m h c.args.node c.args.k c.args.line) c.if-height-eq1.true c.requires.insert) (records c.put.new.store) c.put.result c.put.ensures.puts)
+    subst (λ h. Inserts m (records c.put.new.store) h c.args.node c.args.k c.args.line c.put.result)
+    (sym c.if-height-eq1.true)
+    (low-inserts m c.args.node c.args.k c.args.line
+    (subst (λ h. CanInsert m h c.args.node c.args.k c.args.line) c.if-height-eq1.true c.requires.insert)
+    (records c.put.new.store) c.put.result c.put.ensures.puts)
 
 pub lead-found-requires-clause-row : goal.lead-found-requires-clause-row
 lead-found-requires-clause-row g t c = let m = records c.args.store.now in
-    has-node m (c.args.height - 1) c.args.node c.args.k c.args.line (above m c.args.height c.args.node c.args.k c.args.line c.requires.insert c.requires.node)
+    has-node m (c.args.height - 1) c.args.node c.args.k c.args.line
+    (above m c.args.height c.args.node c.args.k c.args.line c.requires.insert c.requires.node)
 
 pub lead-found-requires-clause-some : goal.lead-found-requires-clause-some
 lead-found-requires-clause-some g t c = let m = records c.args.store.now in
-    some-kids m (c.args.height - 1) c.args.node c.args.k c.args.line (above m c.args.height c.args.node c.args.k c.args.line c.requires.insert c.requires.node)
+    some-kids m (c.args.height - 1) c.args.node c.args.k c.args.line
+    (above m c.args.height c.args.node c.args.k c.args.line c.requires.insert c.requires.node)
 
 pub lead-found-requires-clause-within : goal.lead-found-requires-clause-within
 lead-found-requires-clause-within g t c = let m = records c.args.store.now in
-    within-kids m (c.args.height - 1) c.args.node c.args.k c.args.line (above m c.args.height c.args.node c.args.k c.args.line c.requires.insert c.requires.node)
+    within-kids m (c.args.height - 1) c.args.node c.args.k c.args.line
+    (above m c.args.height c.args.node c.args.k c.args.line c.requires.insert c.requires.node)
 
 pub lead-found-requires-clause-whole : goal.lead-found-requires-clause-whole
 lead-found-requires-clause-whole g t c = let m = records c.args.store.now in
-    whole-below m (c.args.height - 1) c.args.node (above m c.args.height c.args.node c.args.k c.args.line c.requires.insert c.requires.node).tree
+    whole-below m (c.args.height - 1) c.args.node
+    (above m c.args.height c.args.node c.args.k c.args.line c.requires.insert c.requires.node).tree
 
 pub insert_in-requires : goal.insert_in-requires
 insert_in-requires g t c κs inside = let m = records c.args.store.now in
-    let node = c.requires.node in let spares = c.requires.spares in let rooms = c.requires.rooms in let not = c.if-height-eq1.false in
-    (omega (arith, c.decreases), (inside, (omega arith, (can-child m (c.args.height - 1) c.args.node c.args.k c.args.line (above m c.args.height c.args.node c.args.k c.args.line c.requires.insert c.requires.node) c.lead-found.result c.lead-found.ensures, (omega arith, omega arith)))))
+    let node = c.requires.node in let spares = c.requires.spares in let rooms = c.requires.rooms in
+    let not = c.if-height-eq1.false in (
+      omega (arith, c.decreases),
+      (
+        inside,
+        (
+          omega arith,
+          (
+            can-child m (c.args.height - 1) c.args.node c.args.k c.args.line
+                (above m c.args.height c.args.node c.args.k c.args.line c.requires.insert c.requires.node)
+                c.lead-found.result
+                c.lead-found.ensures,
+            (omega arith, omega arith),
+          ),
+        ),
+      ),
+    )
 
 pub overflow_add-found : goal.overflow_add-found
 overflow_add-found g t c = let m = records c.args.store.now in
-    let few = few-kids m (c.args.height - 1) c.args.node c.args.k c.args.line (above m c.args.height c.args.node c.args.k c.args.line c.requires.insert c.requires.node) c.lead-found.result c.lead-found.ensures in omega arith
+    let few = few-kids m (c.args.height - 1) c.args.node c.args.k c.args.line
+    (above m c.args.height c.args.node c.args.k c.args.line c.requires.insert c.requires.node) c.lead-found.result
+    c.lead-found.ensures in omega arith
 
 pub put-requires-in-Some-clause-put : goal.put-requires-in-Some-clause-put
 put-requires-in-Some-clause-put g t c = let m = records c.args.store.now in let l = records c.insert_in.new.store in
-    two-can_put m (c.args.height - 1) c.args.node c.args.k c.args.line (above m c.args.height c.args.node c.args.k c.args.line c.requires.insert c.requires.node) c.lead-found.result c.lead-found.ensures l c.in-Some.sibling
-    (subst (λ o. Inserts m l (c.args.height - 1) c.lead-found.result.child c.lead-found.result.rest c.args.line o) c.in-Some.is c.insert_in.ensures.inserts)
+    two-can_put m (c.args.height - 1) c.args.node c.args.k c.args.line
+    (above m c.args.height c.args.node c.args.k c.args.line c.requires.insert c.requires.node) c.lead-found.result
+    c.lead-found.ensures l c.in-Some.sibling
+    (subst (λ o. Inserts m l (c.args.height - 1) c.lead-found.result.child c.lead-found.result.rest c.args.line o)
+    c.in-Some.is c.insert_in.ensures.inserts)
 
 pub add-requires-clause-row : goal.add-requires-clause-row
 add-requires-clause-row g t c = let m = records c.args.store.now in let l = records c.insert_in.new.store in
-    has-now m (c.args.height - 1) c.args.node c.args.k c.args.line (above m c.args.height c.args.node c.args.k c.args.line c.requires.insert c.requires.node) c.lead-found.result c.lead-found.ensures l c.insert_in.result c.insert_in.ensures.inserts
+    has-now m (c.args.height - 1) c.args.node c.args.k c.args.line
+    (above m c.args.height c.args.node c.args.k c.args.line c.requires.insert c.requires.node) c.lead-found.result
+    c.lead-found.ensures l c.insert_in.result c.insert_in.ensures.inserts
 
 pub add-requires-clause-fits : goal.add-requires-clause-fits
 add-requires-clause-fits g t c = let m = records c.args.store.now in let l = records c.insert_in.new.store in
-    one-fits m (c.args.height - 1) c.args.node c.args.k c.args.line (above m c.args.height c.args.node c.args.k c.args.line c.requires.insert c.requires.node) c.lead-found.result c.lead-found.ensures l
-    (subst (λ o. Inserts m l (c.args.height - 1) c.lead-found.result.child c.lead-found.result.rest c.args.line o) c.in-None.is c.insert_in.ensures.inserts)
+    one-fits m (c.args.height - 1) c.args.node c.args.k c.args.line
+    (above m c.args.height c.args.node c.args.k c.args.line c.requires.insert c.requires.node) c.lead-found.result
+    c.lead-found.ensures l
+    (subst (λ o. Inserts m l (c.args.height - 1) c.lead-found.result.child c.lead-found.result.rest c.args.line o)
+    c.in-None.is c.insert_in.ensures.inserts)
 
 pub sum-more-requires : goal.sum-more-requires
 sum-more-requires g t c = let m = records c.args.store.now in
@@ -105,29 +155,44 @@ sum-more-requires g t c = let m = records c.args.store.now in
 
 pub add-requires-clause-sum : goal.add-requires-clause-sum
 add-requires-clause-sum g t c = let m = records c.args.store.now in let l = records c.insert_in.new.store in
-    ap (λ s. plus (sum_at l c.args.node) s) (sum_is m c.args.line c.sum-more.result (named-tree m 0 c.args.line c.requires.insert.line) c.sum-more.ensures.value)
-    ∙ one-sum m (c.args.height - 1) c.args.node c.args.k c.args.line (above m c.args.height c.args.node c.args.k c.args.line c.requires.insert c.requires.node) c.lead-found.result c.lead-found.ensures l
-    (subst (λ o. Inserts m l (c.args.height - 1) c.lead-found.result.child c.lead-found.result.rest c.args.line o) c.in-None.is c.insert_in.ensures.inserts)
+    ap (λ s. plus (sum_at l c.args.node) s) (sum_is m c.args.line c.sum-more.result
+    (named-tree m 0 c.args.line c.requires.insert.line) c.sum-more.ensures.value)
+    ∙ one-sum m (c.args.height - 1) c.args.node c.args.k c.args.line
+    (above m c.args.height c.args.node c.args.k c.args.line c.requires.insert c.requires.node) c.lead-found.result
+    c.lead-found.ensures l
+    (subst (λ o. Inserts m l (c.args.height - 1) c.lead-found.result.child c.lead-found.result.rest c.args.line o)
+    c.in-None.is c.insert_in.ensures.inserts)
 
 pub returns-in-Some-clause-inserts : goal.returns-in-Some-clause-inserts
 returns-in-Some-clause-inserts g t c = let m = records c.args.store.now in let l = records c.insert_in.new.store in
-    back m (records c.put-in-Some.new.store) c.args.height c.args.node c.args.k c.args.line c.put-in-Some.result c.requires.node
-    (two-inserts m (c.args.height - 1) c.args.node c.args.k c.args.line (above m c.args.height c.args.node c.args.k c.args.line c.requires.insert c.requires.node) c.lead-found.result c.lead-found.ensures l c.in-Some.sibling
-    (subst (λ o. Inserts m l (c.args.height - 1) c.lead-found.result.child c.lead-found.result.rest c.args.line o) c.in-Some.is c.insert_in.ensures.inserts) (records c.put-in-Some.new.store) c.put-in-Some.result c.put-in-Some.ensures.puts)
+    back m (records c.put-in-Some.new.store) c.args.height c.args.node c.args.k c.args.line c.put-in-Some.result
+    c.requires.node
+    (two-inserts m (c.args.height - 1) c.args.node c.args.k c.args.line
+    (above m c.args.height c.args.node c.args.k c.args.line c.requires.insert c.requires.node) c.lead-found.result
+    c.lead-found.ensures l c.in-Some.sibling
+    (subst (λ o. Inserts m l (c.args.height - 1) c.lead-found.result.child c.lead-found.result.rest c.args.line o)
+    c.in-Some.is c.insert_in.ensures.inserts) (records c.put-in-Some.new.store) c.put-in-Some.result
+    c.put-in-Some.ensures.puts)
 
 pub returns-in-None-clause-inserts : goal.returns-in-None-clause-inserts
 returns-in-None-clause-inserts g t c = let m = records c.args.store.now in let l = records c.insert_in.new.store in
     back m (records c.add.new.store) c.args.height c.args.node c.args.k c.args.line None c.requires.node
-    (one-inserts m (c.args.height - 1) c.args.node c.args.k c.args.line (above m c.args.height c.args.node c.args.k c.args.line c.requires.insert c.requires.node) c.lead-found.result c.lead-found.ensures l
-    (subst (λ o. Inserts m l (c.args.height - 1) c.lead-found.result.child c.lead-found.result.rest c.args.line o) c.in-None.is c.insert_in.ensures.inserts) (records c.add.new.store) c.add.ensures.records)
+    (one-inserts m (c.args.height - 1) c.args.node c.args.k c.args.line
+    (above m c.args.height c.args.node c.args.k c.args.line c.requires.insert c.requires.node) c.lead-found.result
+    c.lead-found.ensures l
+    (subst (λ o. Inserts m l (c.args.height - 1) c.lead-found.result.child c.lead-found.result.rest c.args.line o)
+    c.in-None.is c.insert_in.ensures.inserts) (records c.add.new.store) c.add.ensures.records)
 
 pub returns-then-height-eq1-clause-count : goal.returns-then-height-eq1-clause-count
 returns-then-height-eq1-clause-count g t c = let m = records c.args.store.now in
-    let n = len-puts m (records c.put.new.store) c.args.node (insert (kids m c.args.node) c.args.k c.args.line) c.put.result c.put.ensures.puts in let s = c.put.ensures.spares in omega arith
+    let n = len-puts m (records c.put.new.store) c.args.node (insert (kids m c.args.node) c.args.k c.args.line)
+    c.put.result c.put.ensures.puts in let s = c.put.ensures.spares in omega arith
 
 pub returns-in-Some-clause-count : goal.returns-in-Some-clause-count
 returns-in-Some-clause-count g t c = let l = records c.insert_in.new.store in
-    let n = len-puts l (records c.put-in-Some.new.store) c.args.node (insert (kids l c.args.node) (c.lead-found.result.slot + 1) c.in-Some.sibling) c.put-in-Some.result c.put-in-Some.ensures.puts in
+    let n = len-puts l (records c.put-in-Some.new.store) c.args.node
+    (insert (kids l c.args.node) (c.lead-found.result.slot + 1) c.in-Some.sibling) c.put-in-Some.result
+    c.put-in-Some.ensures.puts in
     let s = c.put-in-Some.ensures.spares in let before = c.insert_in.ensures.count in omega arith
 
 pub returns-in-None-clause-count : goal.returns-in-None-clause-count
@@ -139,7 +204,9 @@ pub returns-then-height-eq1-clause-rooms : goal.returns-then-height-eq1-clause-r
 returns-then-height-eq1-clause-rooms g t c = let s = c.put.ensures.spares in let r = c.put.ensures.rooms in omega arith
 
 pub returns-in-Some-clause-rooms : goal.returns-in-Some-clause-rooms
-returns-in-Some-clause-rooms g t c = let before = c.insert_in.ensures.rooms in let s = c.put-in-Some.ensures.spares in let r = c.put-in-Some.ensures.rooms in omega arith
+returns-in-Some-clause-rooms g t c = let before = c.insert_in.ensures.rooms in let s = c.put-in-Some.ensures.spares in
+    let r = c.put-in-Some.ensures.rooms in omega arith
 
 pub returns-in-None-clause-rooms : goal.returns-in-None-clause-rooms
-returns-in-None-clause-rooms g t c = let before = c.insert_in.ensures.rooms in let s = c.add.ensures.spares in let r = c.add.ensures.rooms in omega arith
+returns-in-None-clause-rooms g t c = let before = c.insert_in.ensures.rooms in let s = c.add.ensures.spares in
+    let r = c.add.ensures.rooms in omega arith

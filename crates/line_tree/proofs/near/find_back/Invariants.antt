@@ -1,4 +1,4 @@
-use Rattle.std.proofs.Common.{◌≡◌, ◌+◌, ◌-◌, ◌<◌, take}
+use Rattle.std.proofs.Common.{◌≡◌, ◌+◌, ◌-◌, ◌*◌, ◌≤◌, ◌<◌, take}
 use Rattle.std.specs.List.{sum_by}
 use Rattle.raw_nodes.specs.Names.{records}
 use Rattle.raw_nodes.specs.Rows.{kids}
@@ -8,6 +8,8 @@ use Rattle.line_tree.proofs.near.find_back.Given as goal
 
 abbrev pub invariant-loop-back : goal.invariant-loop-back
 invariant-loop-back g l = record {
-  place : sum_by (lines_at (records l.store)) (take (12 - l.back) (kids (records l.store) l.node)) ≡ lines_below (records l.store) l.node - l.behind + l.rest;
+  place : sum_by (lines_at (records l.store)) (take (12 - l.back) (kids (records l.store) l.node))
+      ≡ lines_below (records l.store) l.node - l.behind + l.rest;
   some : 0 < l.rest;
+  ticks : g.C.Ticks.count l.ticks ≤ g.C.Ticks.count l.fn.ticks + 2 * l.back;
 }

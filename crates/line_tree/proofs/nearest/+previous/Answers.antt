@@ -6,12 +6,14 @@ use Rattle.line_tree.specs.Nearest.{passes, shows}
 use Rattle.line_tree.specs.Places.{lines_before}
 use Rattle.line_tree.specs.Shape.{lines_at, lines_in}
 use Rattle.line_tree.specs.Trees.{contents}
-use Rattle.line_tree.proofs.NearestLaws.{child-is, first-previous, last-before, line-previous, none-previous, previous-end, previous-hit, previous-missed, reaches}
+use Rattle.line_tree.proofs.NearestLaws.{child-is, first-previous, last-before, line-previous, none-previous}
+use Rattle.line_tree.proofs.NearestLaws.{previous-end, previous-hit, previous-missed, reaches}
 use Rattle.line_tree.proofs.RowLaws.{child_is, lines_is, none_of, step_no, step_yes}
 use Rattle.line_tree.proofs.StartLaws.{said}
 use Rattle.line_tree.proofs.TreeLaws.{count-tree, named-tree, row-above, sum-tree}
 use Rattle.line_tree.proofs.nearest.+previous.Goals as goal
-use Rattle.line_tree.proofs.nearest.+previous.Goals.{then-to-eq0-via-then-to-eq0, then-to-eq0-via-else-to-eq0+then-not-is_in}
+use Rattle.line_tree.proofs.nearest.+previous.Goals.{then-to-eq0-via-then-to-eq0}
+use Rattle.line_tree.proofs.nearest.+previous.Goals.{then-to-eq0-via-else-to-eq0+then-not-is_in}
 
 pub is_in-requires-clause-named : goal.is_in-requires-clause-named
 is_in-requires-clause-named g t c = named-tree (records c.args.store.now) c.args.height c.args.node c.requires.tree
@@ -20,124 +22,160 @@ pub child-requires-clause-name : goal.child-requires-clause-name
 child-requires-clause-name g t c = named-tree (records c.args.store.now) c.args.height c.args.node c.requires.tree
 
 pub returns-then-to-eq0 : goal.returns-then-to-eq0
-returns-then-to-eq0 g t c = let m = records c.args.store.now in let h = c.args.height in let p = c.args.node in let ls = lines_in m h p in
+returns-then-to-eq0 g t c = let m = records c.args.store.now in let h = c.args.height in let p = c.args.node in
+    let ls = lines_in m h p in
     elim c.then-to-eq0.branch [
       | then-to-eq0-via-then-to-eq0 w ↦ sym (first-previous c.args.wanted c.args.to ls w.if-to-eq0.true)
       | then-to-eq0-via-else-to-eq0+then-not-is_in w ↦
           let s = said (shows c.args.wanted) m p w.is_in.result (named-tree m h p c.requires.tree) w.is_in.ensures in
-          sym (none-previous c.args.wanted c.args.to ls c.requires.within (sym (s ∙ ap (shows c.args.wanted) (sum-tree m h p c.requires.tree)) ∙ w.if-not-is_in.true))
+          sym (none-previous c.args.wanted c.args.to ls c.requires.within
+          (sym (s ∙ ap (shows c.args.wanted) (sum-tree m h p c.requires.tree)) ∙ w.if-not-is_in.true))
     ]
 
 pub returns-then-height-eq0 : goal.returns-then-height-eq0
 returns-then-height-eq0 g t c = let m = records c.args.store.now in let h = c.args.height in let p = c.args.node in
     let s = said (shows c.args.wanted) m p c.is_in.result (named-tree m h p c.requires.tree) c.is_in.ensures in
     let not = c.if-to-eq0.false in
-    sym (line-previous m h p c.args.wanted c.args.to c.if-height-eq0.true (omega arith) c.requires.within (sym (s ∙ ap (shows c.args.wanted) (sum-tree m h p c.requires.tree)) ∙ c.if-not-is_in.false))
+    sym (line-previous m h p c.args.wanted c.args.to c.if-height-eq0.true (omega arith) c.requires.within
+    (sym (s ∙ ap (shows c.args.wanted) (sum-tree m h p c.requires.tree)) ∙ c.if-not-is_in.false))
 
 pub loop-slot-init : goal.loop-slot-init
-loop-slot-init g t c = let m = records c.args.store.now in let h = c.args.height in let p = c.args.node in let n = h - 1 in let not = c.if-height-eq0.false in
+loop-slot-init g t c = let m = records c.args.store.now in let h = c.args.height in let p = c.args.node in
+    let n = h - 1 in let not = c.if-height-eq0.false in
     let e : h ≡ suc n = omega arith in
     let s = lines_is m p c.lines-before.result (named-tree m h p c.requires.tree) c.lines-before.ensures.value in
     let count = count-tree m h p c.requires.tree in let within = c.requires.within in
-    record { few = omega arith; before = s ∙ last-before m h n p e c.requires.tree; free = λ j more less. absurd (omega arith) }
+    record {
+      few = omega arith;
+      before = s ∙ last-before m h n p e c.requires.tree;
+      free = λ j more less. absurd (omega arith);
+    }
 
 pub lines-lines-requires : goal.lines-lines-requires
-lines-lines-requires g t c = let m = records c.args.store.now in let h = c.args.height in let p = c.args.node in let n = h - 1 in let not = c.if-height-eq0.false in
+lines-lines-requires g t c = let m = records c.args.store.now in let h = c.args.height in let p = c.args.node in
+    let n = h - 1 in let not = c.if-height-eq0.false in
     let e : h ≡ suc n = omega arith in
     let row = row-above m h n p e c.requires.tree in
-    row.each (c.loop-slot.slot - 1) c.in-Some.child (sym (child_is m p row c.child.result (c.loop-slot.slot - 1) c.child.ensures.value) ∙ c.in-Some.is)
+    row.each (c.loop-slot.slot - 1) c.in-Some.child
+    (sym (child_is m p row c.child.result (c.loop-slot.slot - 1) c.child.ensures.value) ∙ c.in-Some.is)
 
 pub lines-before-requires : goal.lines-before-requires
 lines-before-requires g t c = named-tree (records c.args.store.now) c.args.height c.args.node c.requires.tree
 
 pub overflow_sub-before : goal.overflow_sub-before
-overflow_sub-before g t c = let m = records c.args.store.now in let h = c.args.height in let p = c.args.node in let n = h - 1 in let not = c.if-height-eq0.false in
+overflow_sub-before g t c = let m = records c.args.store.now in let h = c.args.height in let p = c.args.node in
+    let n = h - 1 in let not = c.if-height-eq0.false in
     let e : h ≡ suc n = omega arith in let i = c.loop-slot.slot - 1 in
     let row = row-above m h n p e c.requires.tree in
     let here = sym (child_is m p row c.child.result i c.child.ensures.value) ∙ c.in-Some.is in
-    let s = lines_is m c.in-Some.child c.lines-lines.result (row.each i c.in-Some.child here) c.lines-lines.ensures.value in
+    let s = lines_is m c.in-Some.child c.lines-lines.result (row.each i c.in-Some.child here)
+    c.lines-lines.ensures.value in
     let some : i + 1 ≡ c.loop-slot.slot = omega (arith, c.loop-slot-test.true) in
     let more = step_yes (lines_at m) (kids m p) i c.in-Some.child here in
     let before = c.loop-slot.invariant.before ∙ ap (lines_before m p) (sym some) in omega arith
 
 pub previous-requires : goal.previous-requires
-previous-requires g t c κs inside = let m = records c.args.store.now in let h = c.args.height in let p = c.args.node in let n = h - 1 in let not = c.if-height-eq0.false in
+previous-requires g t c κs inside = let m = records c.args.store.now in let h = c.args.height in let p = c.args.node in
+    let n = h - 1 in let not = c.if-height-eq0.false in
     let e : h ≡ suc n = omega arith in let i = c.loop-slot.slot - 1 in
     let row = row-above m h n p e c.requires.tree in
     let here = sym (child_is m p row c.child.result i c.child.ensures.value) ∙ c.in-Some.is in
-    let s = lines_is m c.in-Some.child c.lines-lines.result (row.each i c.in-Some.child here) c.lines-lines.ensures.value in
+    let s = lines_is m c.in-Some.child c.lines-lines.result (row.each i c.in-Some.child here)
+    c.lines-lines.ensures.value in
     let some : i + 1 ≡ c.loop-slot.slot = omega (arith, c.loop-slot-test.true) in
     let more = step_yes (lines_at m) (kids m p) i c.in-Some.child here in
     let old = c.loop-slot.invariant.before ∙ ap (lines_before m p) (sym some) in
     let b = c.loop-slot.before - c.lines-lines.result in
     let before : b ≡ lines_before m p i = omega arith in
-    let reach = reaches c.args.to b (lines_at m c.in-Some.child) c.saturating_sub.result c.min-rest.result c.saturating_sub.ensures (c.min-rest.ensures ∙ ap (min c.saturating_sub.result) s) in
-    let child = child-is m h n p i b e c.requires.tree before c.in-Some.child here in let count = count-tree m n c.in-Some.child child in let within = reach.inside in
+    let reach = reaches c.args.to b (lines_at m c.in-Some.child) c.saturating_sub.result c.min-rest.result
+    c.saturating_sub.ensures (c.min-rest.ensures ∙ ap (min c.saturating_sub.result) s) in
+    let child = child-is m h n p i b e c.requires.tree before c.in-Some.child here in
+    let count = count-tree m n c.in-Some.child child in let within = reach.inside in
     (omega (arith, c.decreases), (inside, (child, (omega arith, c.requires.known))))
 
 pub returns-in-Some-previous : goal.returns-in-Some-previous
-returns-in-Some-previous g t c = let m = records c.args.store.now in let h = c.args.height in let p = c.args.node in let n = h - 1 in let not = c.if-height-eq0.false in
+returns-in-Some-previous g t c = let m = records c.args.store.now in let h = c.args.height in let p = c.args.node in
+    let n = h - 1 in let not = c.if-height-eq0.false in
     let e : h ≡ suc n = omega arith in let i = c.loop-slot.slot - 1 in
     let row = row-above m h n p e c.requires.tree in
     let here = sym (child_is m p row c.child.result i c.child.ensures.value) ∙ c.in-Some.is in
-    let s = lines_is m c.in-Some.child c.lines-lines.result (row.each i c.in-Some.child here) c.lines-lines.ensures.value in
+    let s = lines_is m c.in-Some.child c.lines-lines.result (row.each i c.in-Some.child here)
+    c.lines-lines.ensures.value in
     let some : i + 1 ≡ c.loop-slot.slot = omega (arith, c.loop-slot-test.true) in
     let more = step_yes (lines_at m) (kids m p) i c.in-Some.child here in
     let old = c.loop-slot.invariant.before ∙ ap (lines_before m p) (sym some) in
     let b = c.loop-slot.before - c.lines-lines.result in
     let before : b ≡ lines_before m p i = omega arith in
-    let reach = reaches c.args.to b (lines_at m c.in-Some.child) c.saturating_sub.result c.min-rest.result c.saturating_sub.ensures (c.min-rest.ensures ∙ ap (min c.saturating_sub.result) s) in
+    let reach = reaches c.args.to b (lines_at m c.in-Some.child) c.saturating_sub.result c.min-rest.result
+    c.saturating_sub.ensures (c.min-rest.ensures ∙ ap (min c.saturating_sub.result) s) in
     let same : c.loop-slot.before ≡ b + lines_at m c.in-Some.child = omega arith in
-    let free = subst (λ z. FailFrom (passes c.args.wanted) (contents (lines_in m h p)) z c.args.to) same c.loop-slot.invariant.free in
-    sym (previous-hit m h n p i b e c.requires.tree before c.in-Some.child here c.args.wanted c.args.to c.min-rest.result c.in-Some-previous.found reach c.requires.within free (sym c.previous.ensures ∙ c.in-Some-previous.is))
+    let free = subst (λ z. FailFrom (passes c.args.wanted) (contents (lines_in m h p)) z c.args.to) same
+    c.loop-slot.invariant.free in
+    sym (previous-hit m h n p i b e c.requires.tree before c.in-Some.child here c.args.wanted c.args.to
+    c.min-rest.result c.in-Some-previous.found reach c.requires.within free (sym c.previous.ensures
+    ∙ c.in-Some-previous.is))
 
 pub loop-slot-preserved-in_default-previous : goal.loop-slot-preserved-in_default-previous
-loop-slot-preserved-in_default-previous g t c = let m = records c.args.store.now in let h = c.args.height in let p = c.args.node in let n = h - 1 in let not = c.if-height-eq0.false in
+loop-slot-preserved-in_default-previous g t c = let m = records c.args.store.now in let h = c.args.height in
+    let p = c.args.node in let n = h - 1 in let not = c.if-height-eq0.false in
     let e : h ≡ suc n = omega arith in let i = c.loop-slot.slot - 1 in
     let row = row-above m h n p e c.requires.tree in
     let here = sym (child_is m p row c.child.result i c.child.ensures.value) ∙ c.in-Some.is in
-    let s = lines_is m c.in-Some.child c.lines-lines.result (row.each i c.in-Some.child here) c.lines-lines.ensures.value in
+    let s = lines_is m c.in-Some.child c.lines-lines.result (row.each i c.in-Some.child here)
+    c.lines-lines.ensures.value in
     let some : i + 1 ≡ c.loop-slot.slot = omega (arith, c.loop-slot-test.true) in
     let more = step_yes (lines_at m) (kids m p) i c.in-Some.child here in
     let old = c.loop-slot.invariant.before ∙ ap (lines_before m p) (sym some) in
     let b = c.loop-slot.before - c.lines-lines.result in
     let before : b ≡ lines_before m p i = omega arith in
-    let reach = reaches c.args.to b (lines_at m c.in-Some.child) c.saturating_sub.result c.min-rest.result c.saturating_sub.ensures (c.min-rest.ensures ∙ ap (min c.saturating_sub.result) s) in
+    let reach = reaches c.args.to b (lines_at m c.in-Some.child) c.saturating_sub.result c.min-rest.result
+    c.saturating_sub.ensures (c.min-rest.ensures ∙ ap (min c.saturating_sub.result) s) in
     let same : c.loop-slot.before ≡ b + lines_at m c.in-Some.child = omega arith in
-    let free = subst (λ z. FailFrom (passes c.args.wanted) (contents (lines_in m h p)) z c.args.to) same c.loop-slot.invariant.free in
+    let free = subst (λ z. FailFrom (passes c.args.wanted) (contents (lines_in m h p)) z c.args.to) same
+    c.loop-slot.invariant.free in
     let few = c.loop-slot.invariant.few in
     record {
       few = omega arith;
       before = before;
-      free = previous-missed m h n p i b e c.requires.tree before c.in-Some.child here c.args.wanted c.args.to c.min-rest.result reach free (sym c.previous.ensures ∙ none_of c.previous.result c.in_default-previous.not-Some);
+      free = previous-missed m h n p i b e c.requires.tree before c.in-Some.child here c.args.wanted c.args.to
+          c.min-rest.result reach free (sym c.previous.ensures
+          ∙ none_of c.previous.result c.in_default-previous.not-Some);
     }
 
 pub loop-slot-preserved-else-rest-gt0 : goal.loop-slot-preserved-else-rest-gt0
-loop-slot-preserved-else-rest-gt0 g t c = let m = records c.args.store.now in let h = c.args.height in let p = c.args.node in let n = h - 1 in let not = c.if-height-eq0.false in
+loop-slot-preserved-else-rest-gt0 g t c = let m = records c.args.store.now in let h = c.args.height in
+    let p = c.args.node in let n = h - 1 in let not = c.if-height-eq0.false in
     let e : h ≡ suc n = omega arith in let i = c.loop-slot.slot - 1 in
     let row = row-above m h n p e c.requires.tree in
     let here = sym (child_is m p row c.child.result i c.child.ensures.value) ∙ c.in-Some.is in
-    let s = lines_is m c.in-Some.child c.lines-lines.result (row.each i c.in-Some.child here) c.lines-lines.ensures.value in
+    let s = lines_is m c.in-Some.child c.lines-lines.result (row.each i c.in-Some.child here)
+    c.lines-lines.ensures.value in
     let some : i + 1 ≡ c.loop-slot.slot = omega (arith, c.loop-slot-test.true) in
     let more = step_yes (lines_at m) (kids m p) i c.in-Some.child here in
     let old = c.loop-slot.invariant.before ∙ ap (lines_before m p) (sym some) in
     let b = c.loop-slot.before - c.lines-lines.result in
     let before : b ≡ lines_before m p i = omega arith in
-    let reach = reaches c.args.to b (lines_at m c.in-Some.child) c.saturating_sub.result c.min-rest.result c.saturating_sub.ensures (c.min-rest.ensures ∙ ap (min c.saturating_sub.result) s) in
+    let reach = reaches c.args.to b (lines_at m c.in-Some.child) c.saturating_sub.result c.min-rest.result
+    c.saturating_sub.ensures (c.min-rest.ensures ∙ ap (min c.saturating_sub.result) s) in
     let same : c.loop-slot.before ≡ b + lines_at m c.in-Some.child = omega arith in
-    let free = subst (λ z. FailFrom (passes c.args.wanted) (contents (lines_in m h p)) z c.args.to) same c.loop-slot.invariant.free in
+    let free = subst (λ z. FailFrom (passes c.args.wanted) (contents (lines_in m h p)) z c.args.to) same
+    c.loop-slot.invariant.free in
     let few = c.loop-slot.invariant.few in let none : c.min-rest.result ≡ 0 = omega (arith, c.if-rest-gt0.false) in
     record {
       few = omega arith;
       before = before;
-      free = previous-missed m h n p i b e c.requires.tree before c.in-Some.child here c.args.wanted c.args.to c.min-rest.result reach free (first-previous c.args.wanted c.min-rest.result (lines_in m n c.in-Some.child) none);
+      free = previous-missed m h n p i b e c.requires.tree before c.in-Some.child here c.args.wanted c.args.to
+          c.min-rest.result reach free (first-previous c.args.wanted c.min-rest.result (lines_in m n c.in-Some.child)
+          none);
     }
 
 pub loop-slot-preserved : goal.loop-slot-preserved
-loop-slot-preserved g t c = let m = records c.args.store.now in let h = c.args.height in let p = c.args.node in let n = h - 1 in let not = c.if-height-eq0.false in
+loop-slot-preserved g t c = let m = records c.args.store.now in let h = c.args.height in let p = c.args.node in
+    let n = h - 1 in let not = c.if-height-eq0.false in
     let e : h ≡ suc n = omega arith in let i = c.loop-slot.slot - 1 in
     let row = row-above m h n p e c.requires.tree in
-    let none = sym (child_is m p row c.child.result i c.child.ensures.value) ∙ none_of c.child.result c.in_default.not-Some in
+    let none = sym (child_is m p row c.child.result i c.child.ensures.value)
+    ∙ none_of c.child.result c.in_default.not-Some in
     let some : i + 1 ≡ c.loop-slot.slot = omega (arith, c.loop-slot-test.true) in
     let few = c.loop-slot.invariant.few in
     record {
@@ -147,6 +185,8 @@ loop-slot-preserved g t c = let m = records c.args.store.now in let h = c.args.h
     }
 
 pub returns : goal.returns
-returns g t c = let m = records c.args.store.now in let h = c.args.height in let p = c.args.node in let n = h - 1 in let not = c.if-height-eq0.false in
+returns g t c = let m = records c.args.store.now in let h = c.args.height in let p = c.args.node in let n = h - 1 in
+    let not = c.if-height-eq0.false in
     let e : h ≡ suc n = omega arith in let first : c.loop-slot.slot ≡ 0 = omega (arith, c.loop-slot-test.false) in
-    sym (previous-end m h n p c.loop-slot.slot c.loop-slot.before e c.requires.tree c.loop-slot.invariant.before c.args.wanted c.args.to first c.requires.within c.loop-slot.invariant.free)
+    sym (previous-end m h n p c.loop-slot.slot c.loop-slot.before e c.requires.tree c.loop-slot.invariant.before
+    c.args.wanted c.args.to first c.requires.within c.loop-slot.invariant.free)

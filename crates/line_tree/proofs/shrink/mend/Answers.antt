@@ -1,4 +1,5 @@
-use Rattle.std.proofs.Common.{◌≡◌, ◌<◌, ◌+◌, ◌-◌, length, refl, sym, ap, subst, ◌∙◌, arith, suc, inl, inr, ℕ, zero, ◌⊎◌, List}
+use Rattle.std.proofs.Common.{◌≡◌, ◌<◌, ◌+◌, ◌-◌, length, refl, sym, ap, subst, ◌∙◌, arith, suc, inl, inr, ℕ, zero, ◌⊎◌}
+use Rattle.std.proofs.Common.{List}
 use Rattle.std.specs.Prelude.{IsSome, slice_get}
 use Rattle.std.specs.declared.option.Option.{Option}
 use Rattle.std.proofs.lemmas.Option.{slice_get-get_or}
@@ -17,19 +18,24 @@ near at (suc slot) e = let f : suc at ≡ suc slot = omega arith in inr f
 
 pub unwrap-left-requires : goal.unwrap-left-requires
 unwrap-left-requires g c = let cs = kids (records c.args.store.now) c.args.node in
-    some-at cs c.kid.result c.saturating_sub-at.result c.args.node c.kid.ensures (omega (arith, c.saturating_sub-at.ensures, c.requires.slot))
+    some-at cs c.kid.result c.saturating_sub-at.result c.args.node c.kid.ensures
+    (omega (arith, c.saturating_sub-at.ensures, c.requires.slot))
 
 pub unwrap-right-requires : goal.unwrap-right-requires
 unwrap-right-requires g c = let cs = kids (records c.args.store.now) c.args.node in
-    some-at cs c.kid-2.result (c.saturating_sub-at.result + 1) c.args.node c.kid-2.ensures (omega (arith, c.saturating_sub-at.ensures, c.requires.slot, c.requires.two))
+    some-at cs c.kid-2.result (c.saturating_sub-at.result + 1) c.args.node c.kid-2.ensures
+    (omega (arith, c.saturating_sub-at.ensures, c.requires.slot, c.requires.two))
 
 pub even-merged-requires : goal.even-merged-requires
-even-merged-requires g c = let cs = kids (records c.args.store.now) c.args.node in let at = c.saturating_sub-at.result in
+even-merged-requires g c = let cs = kids (records c.args.store.now) c.args.node in
+    let at = c.saturating_sub-at.result in
     let e : at + 1 ≡ suc at = omega arith in
-    c.requires.pairs at c.unwrap-left.result c.unwrap-right.result (sym c.kid.ensures ∙ c.unwrap-left.ensures) (ap (slice_get cs) (sym e) ∙ sym c.kid-2.ensures ∙ c.unwrap-right.ensures)
+    c.requires.pairs at c.unwrap-left.result c.unwrap-right.result (sym c.kid.ensures
+    ∙ c.unwrap-left.ensures) (ap (slice_get cs) (sym e) ∙ sym c.kid-2.ensures ∙ c.unwrap-right.ensures)
 
 pub returns-then-merged-clause-mends : goal.returns-then-merged-clause-mends
-returns-then-merged-clause-mends g c = let m = records c.args.store.now in let n = records c.even-merged.new.store in let cs = kids m c.args.node in let at = c.saturating_sub-at.result in
+returns-then-merged-clause-mends g c = let m = records c.args.store.now in let n = records c.even-merged.new.store in
+    let cs = kids m c.args.node in let at = c.saturating_sub-at.result in
     let e : at + 1 ≡ suc at = omega arith in
     record {
       at = at;
@@ -38,12 +44,14 @@ returns-then-merged-clause-mends g c = let m = records c.args.store.now in let n
       is_left = sym c.kid.ensures ∙ c.unwrap-left.ensures;
       is_right = ap (slice_get cs) (sym e) ∙ sym c.kid-2.ensures ∙ c.unwrap-right.ensures;
       near = near at c.args.slot c.saturating_sub-at.ensures;
-      evens = subst (λ b. Evens m n c.unwrap-left.result c.unwrap-right.result b) c.if-merged.true c.even-merged.ensures.evens;
+      evens = subst (λ b. Evens m n c.unwrap-left.result c.unwrap-right.result b) c.if-merged.true
+          c.even-merged.ensures.evens;
       gap = e;
     }
 
 pub returns-else-merged-clause-mends : goal.returns-else-merged-clause-mends
-returns-else-merged-clause-mends g c = let m = records c.args.store.now in let n = records c.even-merged.new.store in let cs = kids m c.args.node in let at = c.saturating_sub-at.result in
+returns-else-merged-clause-mends g c = let m = records c.args.store.now in let n = records c.even-merged.new.store in
+    let cs = kids m c.args.node in let at = c.saturating_sub-at.result in
     let e : at + 1 ≡ suc at = omega arith in
     record {
       at = at;
@@ -52,6 +60,7 @@ returns-else-merged-clause-mends g c = let m = records c.args.store.now in let n
       is_left = sym c.kid.ensures ∙ c.unwrap-left.ensures;
       is_right = ap (slice_get cs) (sym e) ∙ sym c.kid-2.ensures ∙ c.unwrap-right.ensures;
       near = near at c.args.slot c.saturating_sub-at.ensures;
-      evens = subst (λ b. Evens m n c.unwrap-left.result c.unwrap-right.result b) c.if-merged.false c.even-merged.ensures.evens;
+      evens = subst (λ b. Evens m n c.unwrap-left.result c.unwrap-right.result b) c.if-merged.false
+          c.even-merged.ensures.evens;
       gap = tt;
     }

@@ -7,5 +7,6 @@ use Rattle.line_tree.proofs.shrink.part_pair.Given as goal
 abbrev pub invariant-loop-i : goal.invariant-loop-i
 invariant-loop-i g l = record {
   long : length l.part ≡ 12;
-  items : (k : ℕ) → k < l.i → get_or l.part k None ≡ slice_get (take l.count (drop l.from (kids (records l.store) l.left ++ kids (records l.store) l.right))) k;
+  items : (k : ℕ) → k < l.i → get_or l.part k None
+      ≡ slice_get (take l.count (drop l.from (kids (records l.store) l.left ++ kids (records l.store) l.right))) k;
 }

@@ -15,5 +15,7 @@ pub sum-requires : goal.sum-requires
 sum-requires g c = c.requires.row.each c.args.slot c.unwrap-child.result (sym c.kid.ensures ∙ c.unwrap-child.ensures)
 
 pub returns : goal.returns
-returns g c d at = let m = records c.args.store.now in let child = c.unwrap-child.result in let here = sym c.kid.ensures ∙ c.unwrap-child.ensures in
-    sum_is m child c.sum.result (c.requires.row.each c.args.slot child here) c.sum.ensures.value ∙ ap (sum_at m) (same_Some child d (sym here ∙ at))
+returns g c d at = let m = records c.args.store.now in let child = c.unwrap-child.result in
+    let here = sym c.kid.ensures ∙ c.unwrap-child.ensures in
+    sum_is m child c.sum.result (c.requires.row.each c.args.slot child here) c.sum.ensures.value
+    ∙ ap (sum_at m) (same_Some child d (sym here ∙ at))

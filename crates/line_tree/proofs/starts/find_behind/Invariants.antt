@@ -9,5 +9,6 @@ use Rattle.line_tree.proofs.starts.find_behind.Given as goal
 abbrev pub invariant-loop-slot : goal.invariant-loop-slot
 invariant-loop-slot g l = record {
   place : sum_by (lines_at (records l.store)) (take l.slot (kids (records l.store) l.node)) + l.rest ≡ l.k;
-  characters : l.characters ≡ l.fn.before + sum_by (characters_at (records l.store)) (take l.slot (kids (records l.store) l.node));
+  characters : l.characters ≡ l.fn.before + sum_by (characters_at (records l.store))
+      (take l.slot (kids (records l.store) l.node));
 }

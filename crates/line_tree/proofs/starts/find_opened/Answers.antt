@@ -16,11 +16,15 @@ use Rattle.line_tree.proofs.starts.find_opened.Goals.{in-Some+else-rest-lines, i
 
 pub lines-lines-requires : goal.lines-lines-requires
 lines-lines-requires g c = let m = records c.args.store.now in
-    c.requires.row.each c.loop-slot.slot c.in-Some.child (sym (child_is m c.args.node c.requires.row c.child.result c.loop-slot.slot c.child.ensures.value) ∙ c.in-Some.is)
+    c.requires.row.each c.loop-slot.slot c.in-Some.child
+    (sym (child_is m c.args.node c.requires.row c.child.result c.loop-slot.slot c.child.ensures.value)
+    ∙ c.in-Some.is)
 
 pub odd_slots-requires : goal.odd_slots-requires
 odd_slots-requires g c = let m = records c.args.store.now in
-    c.requires.row.each c.loop-slot.slot c.in-Some.child (sym (child_is m c.args.node c.requires.row c.child.result c.loop-slot.slot c.child.ensures.value) ∙ c.in-Some.is)
+    c.requires.row.each c.loop-slot.slot c.in-Some.child
+    (sym (child_is m c.args.node c.requires.row c.child.result c.loop-slot.slot c.child.ensures.value)
+    ∙ c.in-Some.is)
 
 pub loop-slot-init : goal.loop-slot-init
 loop-slot-init g c = record { place = omega arith; slots = sym (differing-empty c.args.before) }
@@ -28,9 +32,17 @@ loop-slot-init g c = record { place = omega arith; slots = sym (differing-empty 
 pub returns-then-rest-lines : goal.returns-then-rest-lines
 returns-then-rest-lines g c = let m = records c.args.store.now in let i = c.loop-slot.slot in
     let here = sym (child_is m c.args.node c.requires.row c.child.result i c.child.ensures.value) ∙ c.in-Some.is in
-    let s = lines_is m c.in-Some.child c.lines-lines.result (c.requires.row.each i c.in-Some.child here) c.lines-lines.ensures.value in
+    let s = lines_is m c.in-Some.child c.lines-lines.result (c.requires.row.each i c.in-Some.child here)
+    c.lines-lines.ensures.value in
     let test = c.if-rest-lines.true in
-    record { slot = i; child = here; place = c.loop-slot.invariant.place; rest = omega arith; slots = c.loop-slot.invariant.slots }
+    record {
+      slot = i;
+      child = here;
+      place = c.loop-slot.invariant.place;
+      rest = omega arith;
+      lines = s;
+      slots = c.loop-slot.invariant.slots;
+    }
 
 pub loop-slot-preserved : goal.loop-slot-preserved
 loop-slot-preserved g c = let m = records c.args.store.now in let cs = kids m c.args.node in let i = c.loop-slot.slot in
@@ -40,8 +52,10 @@ loop-slot-preserved g c = let m = records c.args.store.now in let cs = kids m c.
       | in-Some+else-rest-lines w ↦
           let here = sym child ∙ w.in-Some.is in
           let more = step_yes (lines_at m) cs i w.in-Some.child here in
-          let n = lines_is m w.in-Some.child w.lines-lines.result (c.requires.row.each i w.in-Some.child here) w.lines-lines.ensures.value in
-          let s = said (λ (x : Count). x.parity) m w.in-Some.child w.odd_slots.result (c.requires.row.each i w.in-Some.child here) w.odd_slots.ensures.value in
+          let n = lines_is m w.in-Some.child w.lines-lines.result (c.requires.row.each i w.in-Some.child here)
+          w.lines-lines.ensures.value in
+          let s = said (λ (x : Count). x.parity) m w.in-Some.child w.odd_slots.result
+          (c.requires.row.each i w.in-Some.child here) w.odd_slots.ensures.value in
           let rest = w.rest-is in let test = w.if-rest-lines.false in
           record {
             place = omega arith;
@@ -53,11 +67,16 @@ loop-slot-preserved g c = let m = records c.args.store.now in let cs = kids m c.
           let none = sym child ∙ none_of c.child.result w.in_default.not-Some in
           let same = step_no (lines_at m) cs i none in
           let rest = w.rest-is in
-          record { place = omega arith; slots = w.slots-is ∙ so_far ∙ ap (λ (x : Count). differing c.args.before x.parity) (sym (sum-none m cs i none)) }
+          record {
+            place = omega arith;
+            slots = w.slots-is ∙ so_far
+                ∙ ap (λ (x : Count). differing c.args.before x.parity) (sym (sum-none m cs i none));
+          }
     ]
 
 pub returns : goal.returns
 returns g c = let m = records c.args.store.now in let cs = kids m c.args.node in
-    let all = ap (sum_by (lines_at m)) (take_all c.loop-slot.slot cs (omega (arith, c.requires.row.few, c.loop-slot-test.false))) in
+    let all = ap (sum_by (lines_at m)) (take_all c.loop-slot.slot cs
+    (omega (arith, c.requires.row.few, c.loop-slot-test.false))) in
     let place = c.loop-slot.invariant.place in let within = c.requires.within in
     absurd (omega arith)

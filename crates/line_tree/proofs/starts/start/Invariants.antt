@@ -1,12 +1,16 @@
+use Rattle.std.proofs.Common.{◌≡◌}
 use Rattle.raw_nodes.specs.Names.{records}
-use Rattle.line_tree.specs.Shape.{IsTree, lines_in}
+use Rattle.line_tree.specs.Locating.{characters_at}
+use Rattle.line_tree.specs.Shape.{IsTree, lines_at, lines_in}
 use Rattle.line_tree.proofs.StartLaws.{Starts}
 use Rattle.line_tree.proofs.starts.start.Given as goal
 
 abbrev pub invariant-loop-level : goal.invariant-loop-level
 invariant-loop-level g l = record {
-  tree : IsTree (records l.store) l.level l.at;
-  down : Starts (lines_in (records l.store) l.fn.height l.fn.root) (lines_in (records l.store) l.level l.at) l.fn.k l.rest l.characters;
+  tree : IsTree (records l.store) l.level l.at.child;
+  size : l.at.size ≡ (lines_at (records l.store) l.at.child, characters_at (records l.store) l.at.child);
+  down : Starts (lines_in (records l.store) l.fn.height l.fn.root) (lines_in (records l.store) l.level l.at.child)
+      l.fn.k l.at.rest l.at.characters;
 }
 
 abbrev pub decreases-loop-level : goal.decreases-loop-level

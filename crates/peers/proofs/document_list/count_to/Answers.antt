@@ -11,13 +11,29 @@ overflow_add-count g c =
     let documents = c.args.documents.now in
     let within = c.loop-at-test.true in
     let place = c.requires.within in
-    let read = read-count documents c.loop-at.at c.index-documents-at.result (omega (arith, within, place)) c.index-documents-at.is in
-    omega (arith, c.requires.few, c.loop-at.invariant, c.widget_count-count.ensures, next-windows c.loop-at.at documents (omega (arith, within, place)), front-windows (c.loop-at.at + 1) documents, read)
+    let read = read-count documents c.loop-at.at c.index-documents-at.result (omega (arith, within, place))
+    c.index-documents-at.is in
+    omega (
+      arith,
+      c.requires.few,
+      c.loop-at.invariant,
+      c.widget_count-count.ensures,
+      next-windows c.loop-at.at documents (omega (arith, within, place)),
+      front-windows (c.loop-at.at + 1) documents,
+      read,
+    )
 
 pub loop-at-preserved : goal.loop-at-preserved
 loop-at-preserved g c =
     let documents = c.args.documents.now in
     let within = c.loop-at-test.true in
     let place = c.requires.within in
-    let read = read-count documents c.loop-at.at c.index-documents-at.result (omega (arith, within, place)) c.index-documents-at.is in
-    omega (arith, c.loop-at.invariant, c.widget_count-count.ensures, next-windows c.loop-at.at documents (omega (arith, within, place)), read)
+    let read = read-count documents c.loop-at.at c.index-documents-at.result (omega (arith, within, place))
+    c.index-documents-at.is in
+    omega (
+      arith,
+      c.loop-at.invariant,
+      c.widget_count-count.ensures,
+      next-windows c.loop-at.at documents (omega (arith, within, place)),
+      read,
+    )

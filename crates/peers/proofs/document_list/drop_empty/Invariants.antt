@@ -6,7 +6,8 @@ use Rattle.peers.proofs.document_list.drop_empty.Given as goal
 
 abbrev pub invariant-loop-place : goal.invariant-loop-place
 invariant-loop-place g l =
-    kept_from (keeps_some (texts_of l.names)) l.place l.documents.items ≡ filter (keeps_some (texts_of l.names)) l.fn.documents.items
+    kept_from (keeps_some (texts_of l.names)) l.place l.documents.items
+    ≡ filter (keeps_some (texts_of l.names)) l.fn.documents.items
 
 abbrev pub decreases-loop-place : goal.decreases-loop-place
 decreases-loop-place g l = length l.documents.items - l.place

@@ -9,5 +9,6 @@ pub returns : goal.returns
 returns g c =
     let document = c.args.document.now in let widget = widget_at document c.args.widget in
     does-through c.args.limits.now document c.set_place.new.document c.set_place.result c.place_at-place.result
-    (place_at document widget (c.args.at + 1) (chars c.args.word.now)) (set_at c.args.limits.now document widget (chars c.args.name.now))
+    (place_at document widget (c.args.at + 1) (chars c.args.word.now))
+    (set_at c.args.limits.now document widget (chars c.args.name.now))
     c.place_at-place.ensures.value c.set_place.ensures

@@ -9,5 +9,6 @@ use Rattle.peers.proofs.options.settings_given.Goals as goal
 
 pub returns-in-Ok-clause-lines : goal.returns-in-Ok-clause-lines
 returns-in-Ok-clause-lines c =
-    subst (λ result. IfOk result (AreLines c.args.lines)) (ap (λ found. with_value found settings_checked) (sym c.read.ensures ∙ c.in-Ok.is) ∙ sym c.checked.ensures)
+    subst (λ result. IfOk result (AreLines c.args.lines))
+    (ap (λ found. with_value found settings_checked) (sym c.read.ensures ∙ c.in-Ok.is) ∙ sym c.checked.ensures)
     (given-lines c.args.lines c.args.at (texts_of c.args.words.now) c.args.settings c.requires.lines)

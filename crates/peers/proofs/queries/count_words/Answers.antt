@@ -10,4 +10,5 @@ returns g c =
     let document = c.args.document.now in let widget = widget_at document c.args.widget in
     gives-both c.place_at-from.result (place_at document widget c.args.at (chars c.args.first.now))
     c.place_at-to.result (place_at document widget (c.args.at + 1) (chars c.args.second.now)) c.count_between.result
-    (count_between document widget c.args.options.now) c.place_at-from.ensures.value c.place_at-to.ensures.value c.count_between.ensures
+    (count_between document widget c.args.options.now) c.place_at-from.ensures.value c.place_at-to.ensures.value
+    c.count_between.ensures

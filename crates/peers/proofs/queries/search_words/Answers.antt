@@ -9,5 +9,7 @@ pub returns : goal.returns
 returns g c =
     let document = c.args.document.now in let widget = widget_at document c.args.widget in
     gives-both c.place_at-from.result (place_at document widget (c.args.at + 1) (chars c.args.first.now))
-    c.stop_at-stop.result (stop_at document widget (c.args.at + 2) (option_map (λ word. chars word.now) c.args.last)) c.searched.result
-    (searched document widget c.args.switches (chars c.args.pattern.now)) c.place_at-from.ensures.value c.stop_at-stop.ensures.value c.searched.ensures
+    c.stop_at-stop.result (stop_at document widget (c.args.at + 2) (option_map (λ word. chars word.now) c.args.last))
+    c.searched.result
+    (searched document widget c.args.switches (chars c.args.pattern.now)) c.place_at-from.ensures.value
+    c.stop_at-stop.ensures.value c.searched.ensures

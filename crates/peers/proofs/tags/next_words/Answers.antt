@@ -14,6 +14,9 @@ returns g c =
     let last = option_map (λ word. chars word.now) c.args.last in
     let from = place_at document widget (c.args.at + 1) (chars c.args.first.now) in
     let next = next_between document widget (chars c.args.name.now) in
-    subst (λ end. Gives c.next_between.result (with_value from (λ first. with_value (place_or document widget end (c.args.at + 2) last) (next first)))) c.shown_len.ensures
-    (gives-both c.place_at-from.result from c.place_or-to.result (place_or document widget c.shown_len.result (c.args.at + 2) last) c.next_between.result next
+    subst (λ end. Gives c.next_between.result
+    (with_value from (λ first. with_value (place_or document widget end (c.args.at + 2) last) (next first))))
+    c.shown_len.ensures
+    (gives-both c.place_at-from.result from c.place_or-to.result
+    (place_or document widget c.shown_len.result (c.args.at + 2) last) c.next_between.result next
     c.place_at-from.ensures.value c.place_or-to.ensures.value c.next_between.ensures)

@@ -13,5 +13,6 @@ returns-clause-bytes g c =
     let written = g.W.ByteSink.log in
     let first = rw c.as_bytes.ensures.value at c.if-not-push.ensures.bytes in
     let second = rw c.as_bytes-2.ensures.value at c.push-2.ensures.bytes in
-    Gathers-then (written c.args.sink.now) (written c.push.new.sink) (written c.push-2.new.sink) c.args.output.now c.push.new.self c.push-2.new.self
+    Gathers-then (written c.args.sink.now) (written c.push.new.sink) (written c.push-2.new.sink) c.args.output.now
+    c.push.new.self c.push-2.new.self
     c.args.first.now c.args.second.now c.push-2.result first second

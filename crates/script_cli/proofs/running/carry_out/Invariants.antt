@@ -4,7 +4,8 @@ use Rattle.script_cli.proofs.running.carry_out.Given as goal
 
 abbrev pub invariant-loop-turn : goal.invariant-loop-turn
 invariant-loop-turn g l = record {
-  so_far : SoFar l.fn.splitter.finished l.fn.world l.fn.splitter.rest l.fn.summary l.world l.splitter.rest l.summary.commands l.summary.refused
+  so_far : SoFar l.fn.splitter.finished l.fn.world l.fn.splitter.rest l.fn.summary l.world l.splitter.rest
+      l.summary.commands l.summary.refused
       (g.W.ByteSink.log l.fn.sink) (g.W.ByteSink.log l.sink) l.output;
   same : l.splitter ≡ record l.fn.splitter { rest = l.splitter.rest };
   unfaulted : l.summary.script_fault ≡ false;

@@ -5,7 +5,8 @@ use Rattle.script_cli.proofs.running.run_reads.Given as goal
 
 abbrev pub invariant-loop-made : goal.invariant-loop-made
 invariant-loop-made g l = record {
-  running : Running l.fn.limits (g.R.ByteSource.log l.fn.source) (g.R.ByteSource.log l.source) (g.W.ByteSink.log l.fn.sink) (g.W.ByteSink.log l.sink)
+  running : Running l.fn.limits (g.R.ByteSource.log l.fn.source) (g.R.ByteSource.log l.source)
+      (g.W.ByteSink.log l.fn.sink) (g.W.ByteSink.log l.sink)
       l.world l.splitter.rest l.summary.commands l.summary.refused;
   fed : l.splitter ≡ unread l.splitter.rest false;
   empty : l.output ≡ [];

@@ -15,7 +15,8 @@ returns-in-Ok-true-clause-met g c =
     let taken = c.in-Ok-true.ensures.skipped is in
     let text = piece [] (Err Memory) in (
       text,
-      meets world world c.args.splitter.now c.skip_command.new.self taken.0 true text (c.in-Ok-true.ensures.shorter is) taken.1 (inr (refl, refl, refl)),
+      meets world world c.args.splitter.now c.skip_command.new.self taken.0 true text (c.in-Ok-true.ensures.shorter is)
+          taken.1 (inr (refl, refl, refl)),
       rw c.of_reply.ensures at c.push_to.ensures.bytes,
     )
 

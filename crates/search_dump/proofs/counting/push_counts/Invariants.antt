@@ -7,4 +7,5 @@ use Rattle.search_dump.proofs.counting.push_counts.Given as goal
 abbrev pub invariant-loop-option : goal.invariant-loop-option
 invariant-loop-option g l =
     Goes (string_bytes l.fn.list) (string_bytes l.list)
-    (map (distance (shown (g.S.TextStore.content l.view.store.now) l.view.s l.view.e) l.from l.to) (take l.option-index l.options))
+    (map (distance (shown (g.S.TextStore.content l.view.store.now) l.view.s l.view.e) l.from l.to)
+    (take l.option-index l.options))

@@ -8,4 +8,5 @@ pub returns : goal.returns
 returns g c =
     let view = c.args.view.now in
     let names = c.args.names.now in
-    mark-from (usable_by (g.S.TextStore.content view.store.now) view.s view.e names.marks.now.marks names.widget.0) (view.s + c.args.place) (option_map (shown_of view.s) c.next_mark.result) (sym c.next_mark.ensures)
+    mark-from (usable_by (g.S.TextStore.content view.store.now) view.s view.e names.marks.now.marks names.widget.0)
+    (view.s + c.args.place) (option_map (shown_of view.s) c.next_mark.result) (sym c.next_mark.ensures)

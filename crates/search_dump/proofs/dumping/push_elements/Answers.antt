@@ -1,14 +1,15 @@
 use Rattle.std.proofs.Common.{◌≡◌, ◌+◌, ◌||◌, ◌==◌, arith, inr, refl, string_bytes, subst}
 use Rattle.std.specs.Prelude.{IsTrue}
 use Rattle.std.specs.List.{flat_map}
-use Rattle.std.proofs.lemmas.Bool.{eq-eqb, or_left}
+use Rattle.std.proofs.lemmas.Bool.{eq-eqb, or_left, true≢false}
 use Rattle.tcl_words.specs.ListGrowth.{Goes}
 use Rattle.search_dump.specs.Dump.{elements_at, is_cut, seen_by}
 use Rattle.search_dump.specs.Matches.{places}
-use Rattle.search_dump.specs.Sight.{seen_in, IsFirstMark}
+use Rattle.search_dump.specs.Sight.{seen_in, AreTagsBefore, IsFirstMark}
 use Rattle.search_dump.specs.Stops.{stops_at_marks}
 use Rattle.search_dump.proofs.ChangeLaws.{ahead-begun}
 use Rattle.search_dump.proofs.StopLaws.{cut-next, cut-there, dump-begun, dump-on}
+use Rattle.search_dump.proofs.TagStops.{before-on}
 use Rattle.search_dump.proofs.dumping.push_elements.Goals as goal
 
 pub loop-place-init : goal.loop-place-init
@@ -18,12 +19,16 @@ loop-place-init g c =
     let content = g.S.TextStore.content view.store.now in
     let seen = seen_by content view.s view.e names.tags.now.tags names.marks.now.marks names.widget.0 in
     record {
-      goes = dump-begun (elements_at c.args.listed seen c.args.from c.args.to) c.args.from (string_bytes c.args.list.now);
+      goes =
+          dump-begun (elements_at c.args.listed seen c.args.from c.args.to) c.args.from (string_bytes c.args.list.now);
       begun = omega arith;
       within = c.requires.ordered;
       ahead = ahead-begun content view.s view.e c.args.from c.new-changes.result.next c.new-changes.ensures;
-      mark = λ _. c.mark_from-mark.ensures;
-      cut = λ _. inr (or_left (c.args.from == c.args.from) (is_cut seen c.args.from) (eq-eqb c.args.from c.args.from refl));
+      mark = c.listed_mark-mark.ensures;
+      tags = c.listed_before-tags.ensures;
+      still = λ is. absurd (true≢false is);
+      cut = λ _. inr (or_left (c.args.from == c.args.from) (is_cut seen c.args.from)
+          (eq-eqb c.args.from c.args.from refl));
     }
 
 pub loop-place-preserved : goal.loop-place-preserved
@@ -34,27 +39,43 @@ loop-place-preserved g c =
     let seen = seen_by content view.s view.e names.tags.now.tags names.marks.now.marks names.widget.0 in
     let before = c.loop-place.invariant in
     let stop = c.next_stop-next.ensures.stop in
-    let next = c.next_stop-next.result in
+    let next = c.next_stop-next.result.place in
     record {
-      goes = dump-on c.args.listed seen c.args.from c.args.to c.loop-place.place next (string_bytes c.args.list.now) (string_bytes c.loop-place.list) (string_bytes c.push_listed_tags.new.list)
+      goes = dump-on c.args.listed seen c.args.from c.args.to c.loop-place.place next (string_bytes c.args.list.now)
+          (string_bytes c.loop-place.list) (string_bytes c.push_listed_tags.new.list)
           (string_bytes c.push_listed_marks.new.list) (string_bytes c.push_listed_text.new.list) before.begun stop
-          (λ text. cut-there c.loop-place.place c.args.to (c.loop-place.place == c.args.from || is_cut seen c.loop-place.place) c.loop-place-test.true (before.cut text))
-          before.goes c.in_ok-push_listed_tags.ensures c.in_ok-mark.ensures.goes c.in_ok-push_listed_text.ensures;
+          (λ text. cut-there c.loop-place.place c.args.to (c.loop-place.place == c.args.from
+          || is_cut seen c.loop-place.place) c.loop-place-test.true (before.cut text))
+          before.goes c.in_ok-tags.ensures.goes c.in_ok-mark.ensures.goes c.in_ok-push_listed_text.ensures;
       begun = omega (arith, stop.above, before.begun);
       within = stop.below;
       ahead = c.next_stop-next.ensures.ahead;
       mark = c.next_stop-next.ensures.mark;
+      tags = λ is. before-on content view.s view.e names.tags.now.tags names.marks.now.marks names.widget.0
+          c.loop-place.place next c.in_ok-tags.tags stop.above (stop.tags is) (c.in_ok-tags.ensures.behind is);
+      still = c.next_stop-next.ensures.still;
       cut = λ text. cut-next seen c.args.from c.args.to next (stop.cut text).reached;
     }
 
 pub returns-clause-goes : goal.returns-clause-goes
 returns-clause-goes g c =
-    let each = elements_at c.args.listed (seen_in g.S.TextStore.content c.args.view.now c.args.names.now) c.args.from c.args.to in
+    let each = elements_at c.args.listed (seen_in g.S.TextStore.content c.args.view.now c.args.names.now) c.args.from
+    c.args.to in
     let end : c.loop-place.place ≡ c.args.to = omega (arith, c.loop-place.invariant.within, c.loop-place-test.false) in
-    subst (λ place. Goes (string_bytes c.args.list.now) (string_bytes c.loop-place.list) (flat_map each (places c.args.from place))) end c.loop-place.invariant.goes
+    subst (λ place. Goes (string_bytes c.args.list.now) (string_bytes c.loop-place.list)
+    (flat_map each (places c.args.from place))) end c.loop-place.invariant.goes
 
 pub returns-clause-mark : goal.returns-clause-mark
 returns-clause-mark g c =
     let view = c.args.view.now in
     let end : c.loop-place.place ≡ c.args.to = omega (arith, c.loop-place.invariant.within, c.loop-place-test.false) in
-    subst (λ place. IsTrue (stops_at_marks c.args.listed) → IsFirstMark g.S.TextStore.content view c.args.names.now (view.s + place) c.loop-place.mark) end c.loop-place.invariant.mark
+    subst (λ place. IsTrue (stops_at_marks c.args.listed) →
+    IsFirstMark g.S.TextStore.content view c.args.names.now (view.s + place) c.loop-place.mark) end
+    c.loop-place.invariant.mark
+
+pub returns-clause-before : goal.returns-clause-before
+returns-clause-before g c =
+    let end : c.loop-place.place ≡ c.args.to = omega (arith, c.loop-place.invariant.within, c.loop-place-test.false) in
+    subst (λ place. IsTrue c.args.listed.tags →
+    AreTagsBefore g.S.TextStore.content c.args.view.now c.args.names.now place c.loop-place.tags) end
+    c.loop-place.invariant.tags

@@ -1,12 +1,12 @@
-use Rattle.std.proofs.Common.{◌≡◌, ◌+◌, ◌-◌, ◌≤◌, ◌⊎◌, ◌||◌, ◌==◌, string_bytes, true}
+use Rattle.std.proofs.Common.{◌≡◌, ◌+◌, ◌-◌, ◌≤◌, ◌⊎◌, ◌||◌, ◌==◌, string_bytes, false, true}
 use Rattle.std.specs.List.{flat_map}
 use Rattle.std.specs.Option.{option_map}
 use Rattle.tcl_words.specs.ListGrowth.{Goes}
-use Rattle.search_dump.specs.Ahead.{AreAhead}
+use Rattle.search_dump.specs.Ahead.{AreAhead, AreBefore}
 use Rattle.search_dump.specs.Dump.{elements_at, is_cut, seen_by}
 use Rattle.search_dump.specs.MarksAhead.{IsMarkFrom, shown_of, usable_by}
 use Rattle.search_dump.specs.Matches.{places}
-use Rattle.search_dump.specs.Stops.{stops_at_marks}
+use Rattle.search_dump.specs.Stops.{has_tag_at, stops_at_marks}
 use Rattle.search_dump.proofs.dumping.push_elements.Given as goal
 
 abbrev pub invariant-loop-place : goal.invariant-loop-place
@@ -15,11 +15,17 @@ invariant-loop-place g l =
     let marks = l.names.marks.now.marks in
     let seen = seen_by content l.view.s l.view.e l.names.tags.now.tags marks l.names.widget.0 in
     record {
-      goes : Goes (string_bytes l.fn.list) (string_bytes l.list) (flat_map (elements_at l.listed seen l.from l.to) (places l.from l.place));
+      goes : Goes (string_bytes l.fn.list) (string_bytes l.list)
+          (flat_map (elements_at l.listed seen l.from l.to) (places l.from l.place));
       begun : l.from ≤ l.place;
       within : l.place ≤ l.to;
       ahead : AreAhead content l.view.s l.view.e l.place l.changes.next;
-      mark : stops_at_marks l.listed ≡ true → IsMarkFrom (usable_by content l.view.s l.view.e marks l.names.widget.0) (l.view.s + l.place) (option_map (shown_of l.view.s) l.mark);
+      mark : stops_at_marks l.listed ≡ true →
+          IsMarkFrom (usable_by content l.view.s l.view.e marks l.names.widget.0) (l.view.s + l.place)
+          (option_map (shown_of l.view.s) l.mark);
+      tags : l.listed.tags ≡ true →
+          AreBefore content l.view.s l.view.e l.names.tags.now.tags l.names.widget.0 l.place l.tags;
+      still : l.may_change ≡ false → l.listed.tags ≡ true → has_tag_at seen l.place ≡ false;
       cut : l.listed.text ≡ true → (l.place ≡ l.to) ⊎ ((l.place == l.from || is_cut seen l.place) ≡ true);
     }
 

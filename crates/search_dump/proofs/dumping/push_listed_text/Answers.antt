@@ -15,8 +15,11 @@ returns g c =
     let content = g.S.TextStore.content view.store.now in
     let text = shown content view.s view.e in
     let written = element (codes "text") text c.args.from (slice_range text c.args.from c.args.to) in
-    subst (λ xs. OnOk c.push_dumped.result (Goes (string_bytes c.args.list.now) (string_bytes c.push_dumped.new.list) xs))
+    subst (λ xs. OnOk c.push_dumped.result (Goes (string_bytes c.args.list.now) (string_bytes c.push_dumped.new.list)
+    xs))
     (ap₂ (λ key value. element key text c.args.from value) text-characters
-    (ap chars c.as_str.ensures.value ∙ c.in_ok-text.ensures ∙ sym (slice-part (characters content.cells) view.s view.e c.args.from c.args.to c.requires.ordered c.requires.within))
+    (ap chars c.as_str.ensures.value ∙ c.in_ok-text.ensures
+    ∙ sym (slice-part (characters content.cells) view.s view.e c.args.from c.args.to c.requires.ordered
+    c.requires.within))
     ∙ sym (ap (λ b. if_listed b written) (not-false c.args.listed.text c.if-not-listed.false)))
     c.push_dumped.ensures

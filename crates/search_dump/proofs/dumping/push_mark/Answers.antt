@@ -14,7 +14,8 @@ pub name-requires : goal.name-requires
 name-requires g c =
     let view = c.args.view.now in
     let names = c.args.names.now in
-    let placed = usable-placed (g.S.TextStore.content view.store.now) view.s view.e names.marks.now.marks names.widget.0 (shown_of view.s c.args.mark) c.requires.view.ordered c.requires.usable in
+    let placed = usable-placed (g.S.TextStore.content view.store.now) view.s view.e names.marks.now.marks names.widget.0
+    (shown_of view.s c.args.mark) c.requires.view.ordered c.requires.usable in
     omega (arith, placed.known, length-map names.marks.now.marks (λ (mark : Mark). mark.number))
 
 pub returns : goal.returns
@@ -22,7 +23,9 @@ returns g c =
     let view = c.args.view.now in
     let names = names_of c.args.names.now.marks.now.marks in
     let text = shown (g.S.TextStore.content view.store.now) view.s view.e in
-    subst (λ xs. OnOk c.push_dumped.result (Goes (string_bytes c.args.list.now) (string_bytes c.push_dumped.new.list) xs))
+    subst (λ xs. OnOk c.push_dumped.result (Goes (string_bytes c.args.list.now) (string_bytes c.push_dumped.new.list)
+    xs))
     (ap₂ (λ key name. element key text c.args.place name) mark-characters c.name.ensures
-    ∙ sym (ap (λ b. if_listed b (mark_element text names c.args.place (shown_of view.s c.args.mark))) c.if-not-is_listed.false))
+    ∙ sym (ap (λ b. if_listed b (mark_element text names c.args.place (shown_of view.s c.args.mark)))
+    c.if-not-is_listed.false))
     c.push_dumped.ensures

@@ -15,10 +15,13 @@ invariant-loop-next g l =
     let all = usable_by content l.view.s l.view.e marks l.names.widget.0 in
     record {
       goes : Goes (string_bytes l.fn.list) (string_bytes l.list)
-          (if_listed l.is_listed (passed (l.view.s + l.place) (mark_element (shown content l.view.s l.view.e) (names_of marks) l.place) (option_map (shown_of l.view.s) l.next) all));
+          (if_listed l.is_listed (passed (l.view.s + l.place)
+          (mark_element (shown content l.view.s l.view.e) (names_of marks) l.place)
+          (option_map (shown_of l.view.s) l.next) all));
       on : IsMarkOn all (l.view.s + l.place) (option_map (shown_of l.view.s) l.next);
     }
 
 abbrev pub decreases-loop-next : goal.decreases-loop-next
 decreases-loop-next g l =
-    marks_left (usable_by (g.S.TextStore.content l.view.store.now) l.view.s l.view.e l.names.marks.now.marks l.names.widget.0) (option_map (shown_of l.view.s) l.next)
+    marks_left (usable_by (g.S.TextStore.content l.view.store.now) l.view.s l.view.e l.names.marks.now.marks
+    l.names.widget.0) (option_map (shown_of l.view.s) l.next)

@@ -1,16 +1,16 @@
 use Rattle.std.proofs.Common.{ap, string_bytes, subst, ◌∙◌}
-use Rattle.std.specs.Prelude.{OnOk}
 use Rattle.std.specs.List.{flat_map}
-use Rattle.std.proofs.lemmas.Result.{on_ok_weaker}
 use Rattle.tcl_words.specs.ListGrowth.{Goes}
 use Rattle.tcl_words.proofs.ListGrowth.{goes_on}
 use Rattle.text_index.specs.Views.{shown}
+use Rattle.tag_table.specs.Tags.{slots_of}
+use Rattle.search_dump.specs.Ahead.{slot_of_row, AreAt}
 use Rattle.search_dump.specs.Dump.{only_in, seen_by, tagoff_elements, tagon_elements}
 use Rattle.search_dump.proofs.SeenLaws.{tagoff-characters, tagoffs-are, tagon-characters, tagons-are}
 use Rattle.search_dump.proofs.dumping.push_tags_at.Goals as goal
 
-pub returns : goal.returns
-returns g c =
+pub returns-clause-goes : goal.returns-clause-goes
+returns-clause-goes g c =
     let view = c.args.view.now in
     let content = g.S.TextStore.content view.store.now in
     let text = shown content view.s view.e in
@@ -18,16 +18,18 @@ returns g c =
     let marks = c.args.names.now.marks.now.marks in
     let widget = c.args.names.now.widget.0 in
     let place = c.args.place in
-    let before = c.tags_before-before.result in
+    let before = c.args.before in
     let behind = c.tags_behind-behind.result in
     let seen = seen_by content view.s view.e tags marks widget in
-    on_ok_weaker c.push_tags-2.result
-    (goes_on (string_bytes c.args.list.now) (string_bytes c.push_tags.new.list) (string_bytes c.push_tags-2.new.list) (tagoff_elements seen place) (tagon_elements seen place)
+    let are_behind : AreAt content view.s view.e tags widget place behind =
+    λ at within. c.tags_behind-behind.ensures (slot_of_row widget (slots_of tags) at) in
+    goes_on (string_bytes c.args.list.now) (string_bytes c.push_tags.new.list) (string_bytes c.push_tags-2.new.list)
+    (tagoff_elements seen place) (tagon_elements seen place)
     (subst (Goes (string_bytes c.args.list.now) (string_bytes c.push_tags.new.list))
     (ap (λ key. flat_map (only_in before behind widget key text place) tags) tagoff-characters
-    ∙ tagoffs-are content view.s view.e tags marks widget place before behind c.tags_before-before.ensures c.tags_behind-behind.ensures)
-    c.in_ok-push_tags.ensures))
-    (subst (λ xs. OnOk c.push_tags-2.result (Goes (string_bytes c.push_tags.new.list) (string_bytes c.push_tags-2.new.list) xs))
+    ∙ tagoffs-are content view.s view.e tags marks widget place before behind c.requires.before are_behind)
+    c.in_ok-push_tags.ensures)
+    (subst (Goes (string_bytes c.push_tags.new.list) (string_bytes c.push_tags-2.new.list))
     (ap (λ key. flat_map (only_in behind before widget key text place) tags) tagon-characters
-    ∙ tagons-are content view.s view.e tags marks widget place before behind c.tags_before-before.ensures c.tags_behind-behind.ensures)
-    c.push_tags-2.ensures)
+    ∙ tagons-are content view.s view.e tags marks widget place before behind c.requires.before are_behind)
+    c.in_ok-push_tags-2.ensures)

@@ -14,10 +14,13 @@ returns-clause-stop g c = λ stops.
     let names = c.args.names.now in
     let content = g.S.TextStore.content view.store.now in
     let tags = names.tags.now.tags in
-    let long = λ (slot : ℕ). length-part (flags slot content.cells) view.s view.e (flags-within content slot view.s view.e c.requires.view) c.requires.view.ordered in
-    (tag-stop content view.s view.e tags names.marks.now.marks names.widget.0 c.args.place c.args.to c.nearest.result c.pass.new.self.next c.requires.some (omega arith)
+    let long = λ (slot : ℕ). length-part (flags slot content.cells) view.s view.e
+    (flags-within content slot view.s view.e c.requires.view) c.requires.view.ordered in
+    (tag-stop content view.s view.e tags names.marks.now.marks names.widget.0 c.args.place c.args.to c.nearest.result
+    c.pass.new.self.next c.requires.some (omega arith)
     (λ slot is. long slot) c.pass.ensures.known
-    (λ at within. next-above (shown_flags (slot_of_row names.widget.0 (slots_of tags) at) content view.s view.e) c.args.place (omega (arith, long (slot_of_row names.widget.0 (slots_of tags) at))))
+    (λ at within. next-above (shown_flags (slot_of_row names.widget.0 (slots_of tags) at) content view.s view.e)
+    c.args.place (omega (arith, long (slot_of_row names.widget.0 (slots_of tags) at))))
     c.nearest.ensures).1
 
 pub returns-clause-above : goal.returns-clause-above
@@ -26,10 +29,13 @@ returns-clause-above g c =
     let names = c.args.names.now in
     let content = g.S.TextStore.content view.store.now in
     let tags = names.tags.now.tags in
-    let long = λ (slot : ℕ). length-part (flags slot content.cells) view.s view.e (flags-within content slot view.s view.e c.requires.view) c.requires.view.ordered in
-    (tag-stop content view.s view.e tags names.marks.now.marks names.widget.0 c.args.place c.args.to c.nearest.result c.pass.new.self.next c.requires.some (omega arith)
+    let long = λ (slot : ℕ). length-part (flags slot content.cells) view.s view.e
+    (flags-within content slot view.s view.e c.requires.view) c.requires.view.ordered in
+    (tag-stop content view.s view.e tags names.marks.now.marks names.widget.0 c.args.place c.args.to c.nearest.result
+    c.pass.new.self.next c.requires.some (omega arith)
     (λ slot is. long slot) c.pass.ensures.known
-    (λ at within. next-above (shown_flags (slot_of_row names.widget.0 (slots_of tags) at) content view.s view.e) c.args.place (omega (arith, long (slot_of_row names.widget.0 (slots_of tags) at))))
+    (λ at within. next-above (shown_flags (slot_of_row names.widget.0 (slots_of tags) at) content view.s view.e)
+    c.args.place (omega (arith, long (slot_of_row names.widget.0 (slots_of tags) at))))
     c.nearest.ensures).0
 
 pub returns-clause-below : goal.returns-clause-below

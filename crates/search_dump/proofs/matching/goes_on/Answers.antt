@@ -13,14 +13,18 @@ pub overflow_add-from : goal.overflow_add-from
 overflow_add-from g c =
     let view = c.args.view.now in
     let all = shown (g.S.TextStore.content view.store.now) view.s view.e in
-    let room : c.args.place + c.args.pattern.now.len + c.args.period.len ≤ length all = subst (λ d. HasRoom d all c.args.place c.args.pattern.now.len c.args.period.len) c.in-Forward.is c.requires.room in
+    let room : c.args.place + c.args.pattern.now.len + c.args.period.len
+    ≤ length all = subst (λ d. HasRoom d all c.args.place c.args.pattern.now.len c.args.period.len) c.in-Forward.is
+    c.requires.room in
     omega (arith, length-shown (g.S.TextStore.content view.store.now) view.s view.e c.requires.view)
 
 pub overflow_add-from-in-Forward : goal.overflow_add-from-in-Forward
 overflow_add-from-in-Forward g c =
     let view = c.args.view.now in
     let all = shown (g.S.TextStore.content view.store.now) view.s view.e in
-    let room : c.args.place + c.args.pattern.now.len + c.args.period.len ≤ length all = subst (λ d. HasRoom d all c.args.place c.args.pattern.now.len c.args.period.len) c.in-Forward.is c.requires.room in
+    let room : c.args.place + c.args.pattern.now.len + c.args.period.len
+    ≤ length all = subst (λ d. HasRoom d all c.args.place c.args.pattern.now.len c.args.period.len) c.in-Forward.is
+    c.requires.room in
     omega (arith, length-shown (g.S.TextStore.content view.store.now) view.s view.e c.requires.view)
 
 pub returns-in-Forward : goal.returns-in-Forward
@@ -30,14 +34,18 @@ returns-in-Forward g c =
     let period = c.args.period in
     let all = shown (g.S.TextStore.content view.store.now) view.s view.e in
     let text = compared pattern.ignores_case all in
-    let room : c.args.place + pattern.len + period.len ≤ length all = subst (λ d. HasRoom d all c.args.place pattern.len period.len) c.in-Forward.is c.requires.room in
-    IfOk-weaker c.stands.result (λ stands. IsTrue stands → slice_range text (c.args.place + pattern.len) (c.args.place + pattern.len + period.len) ≡ chars period.tail.now)
+    let room : c.args.place + pattern.len + period.len
+    ≤ length all = subst (λ d. HasRoom d all c.args.place pattern.len period.len) c.in-Forward.is c.requires.room in
+    IfOk-weaker c.stands.result (λ stands. IsTrue stands →
+    slice_range text (c.args.place + pattern.len) (c.args.place + pattern.len + period.len) ≡ chars period.tail.now)
     (λ stands. IsTrue stands → HasMatch (chars pattern.text.now) text (beside c.args.direction c.args.place period.len))
     (λ stands says is.
     subst (λ d. HasMatch (chars pattern.text.now) text (beside d c.args.place period.len)) (sym c.in-Forward.is)
-    (goes-on (chars pattern.text.now) text period.len (chars period.front.now) (chars period.tail.now) c.requires.period c.args.place c.requires.matches
+    (goes-on (chars pattern.text.now) text period.len (chars period.front.now) (chars period.tail.now) c.requires.period
+    c.args.place c.requires.matches
     (omega (arith, c.args.pattern.now.counted, length-compared pattern.ignores_case all))
-    (ap (λ n. slice_range text (c.args.place + n) (c.args.place + n + period.len)) (sym c.args.pattern.now.counted) ∙ says is)))
+    (ap (λ n. slice_range text (c.args.place + n) (c.args.place + n + period.len)) (sym c.args.pattern.now.counted)
+    ∙ says is)))
     c.stands.ensures
 
 pub returns-in-Back : goal.returns-in-Back
@@ -47,10 +55,13 @@ returns-in-Back g c =
     let period = c.args.period in
     let all = shown (g.S.TextStore.content view.store.now) view.s view.e in
     let text = compared pattern.ignores_case all in
-    let room : period.len ≤ c.args.place = subst (λ d. HasRoom d all c.args.place pattern.len period.len) c.in-Back.is c.requires.room in
-    IfOk-weaker c.stands-in-Back.result (λ stands. IsTrue stands → slice_range text (c.args.place - period.len) c.args.place ≡ chars period.front.now)
+    let room : period.len ≤ c.args.place = subst (λ d. HasRoom d all c.args.place pattern.len period.len) c.in-Back.is
+    c.requires.room in
+    IfOk-weaker c.stands-in-Back.result (λ stands. IsTrue stands →
+    slice_range text (c.args.place - period.len) c.args.place ≡ chars period.front.now)
     (λ stands. IsTrue stands → HasMatch (chars pattern.text.now) text (beside c.args.direction c.args.place period.len))
     (λ stands says is.
     subst (λ d. HasMatch (chars pattern.text.now) text (beside d c.args.place period.len)) (sym c.in-Back.is)
-    (goes-back (chars pattern.text.now) text period.len (chars period.front.now) (chars period.tail.now) c.requires.period c.args.place c.requires.matches room (says is)))
+    (goes-back (chars pattern.text.now) text period.len (chars period.front.now) (chars period.tail.now)
+    c.requires.period c.args.place c.requires.matches room (says is)))
     c.stands-in-Back.ensures

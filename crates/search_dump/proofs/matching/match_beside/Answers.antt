@@ -19,16 +19,20 @@ returns-in-Some-beside g c =
     let is : at ≡ beside c.args.direction place distance =
     elim c.match-direction.branch [
       | in-Forward w ↦
-          some-given w.checked_add-beside.result (place + distance < 2 ^ 64) (place + distance) at w.checked_add-beside.ensures (sym w.beside-is ∙ c.in-Some-beside.is)
+          some-given w.checked_add-beside.result (place + distance
+          < 2 ^ 64) (place + distance) at w.checked_add-beside.ensures (sym w.beside-is ∙ c.in-Some-beside.is)
           ∙ sym (ap (λ d. beside d place distance) w.in-Forward.is)
       | in-Back w ↦
-          some-given w.checked_sub-beside.result (distance ≤ place) (place - distance) at w.checked_sub-beside.ensures (sym w.beside-is ∙ c.in-Some-beside.is)
+          some-given w.checked_sub-beside.result (distance ≤ place) (place - distance) at w.checked_sub-beside.ensures
+          (sym w.beside-is ∙ c.in-Some-beside.is)
           ∙ sym (ap (λ d. beside d place distance) w.in-Back.is)
     ] in
     let period : IsPeriod characters distance (chars c.in-Some.period.front.now) (chars c.in-Some.period.tail.now) =
     pattern.repeats c.in-Some.period c.in-Some.is in
     let within = has-within c.args.stretch at pattern.len c.has.result c.has.ensures c.if-has.true in
     ap Some is
-    ∙ nearest-beside characters text distance (chars c.in-Some.period.front.now) (chars c.in-Some.period.tail.now) period c.args.direction c.args.stretch place
-    c.requires.matches c.requires.behind (subst (IsWithin c.args.stretch (length characters)) is (subst (λ n. IsWithin c.args.stretch n at) c.args.pattern.now.counted within))
+    ∙ nearest-beside characters text distance (chars c.in-Some.period.front.now) (chars c.in-Some.period.tail.now)
+    period c.args.direction c.args.stretch place
+    c.requires.matches c.requires.behind (subst (IsWithin c.args.stretch (length characters)) is
+    (subst (λ n. IsWithin c.args.stretch n at) c.args.pattern.now.counted within))
     (c.in_ok-goes_on.ensures c.if-branch.true)

@@ -10,5 +10,6 @@ returns g c =
     let view = c.args.view.now in
     let text = characters (g.S.TextStore.content view.store.now).cells in
     subst (λ xs. IfOk c.compared.result (λ made. chars (string_bytes made) ≡ compared c.args.ignores_case xs))
-    (c.in_ok-copy_text.ensures ∙ sym (slice-part text view.s view.e c.args.from c.args.to c.requires.ordered c.requires.within))
+    (c.in_ok-copy_text.ensures
+    ∙ sym (slice-part text view.s view.e c.args.from c.args.to c.requires.ordered c.requires.within))
     c.compared.ensures

@@ -12,7 +12,8 @@ invariant-loop-next g l =
     let pattern = chars l.pattern.text.now in
     let text = compared l.pattern.ignores_case all in
     IsListing l.search.wanted l.search.direction pattern text (position_text all)
-    (wanted_of l.search.wanted (length pattern) (matches_in l.search.direction pattern text l.fn.stretch)) (string_bytes l.fn.list) (string_bytes l.list) l.rest l.next (length all)
+    (wanted_of l.search.wanted (length pattern) (matches_in l.search.direction pattern text l.fn.stretch))
+    (string_bytes l.fn.list) (string_bytes l.list) l.rest l.next (length all)
 
 abbrev pub decreases-loop-next : goal.decreases-loop-next
 decreases-loop-next g l = l.rest.high - l.rest.low

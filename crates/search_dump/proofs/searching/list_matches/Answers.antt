@@ -13,8 +13,10 @@ use Rattle.search_dump.proofs.searching.list_matches.Goals as goal
 
 pub returns-in-None : goal.returns-in-None
 returns-in-None g c =
-    subst (λ stop. OnOk c.list_round_whole.result (Goes (string_bytes c.args.list.now) (string_bytes c.list_round_whole.new.list)
-    (listed_whole g.S.TextStore.content c.args.view.now c.args.pattern.now c.args.search c.args.from stop))) (sym c.in-None.is) c.list_round_whole.ensures
+    subst (λ stop. OnOk c.list_round_whole.result
+    (Goes (string_bytes c.args.list.now) (string_bytes c.list_round_whole.new.list)
+    (listed_whole g.S.TextStore.content c.args.view.now c.args.pattern.now c.args.search c.args.from stop)))
+    (sym c.in-None.is) c.list_round_whole.ensures
 
 pub list_stretch-requires-clause-high : goal.list_stretch-requires-clause-high
 list_stretch-requires-clause-high g c =
@@ -24,8 +26,10 @@ list_stretch-requires-clause-high g c =
     let stop : c.in-Some.place ≤ len =
     omega (arith, long, subst (λ o. IfSome o (λ place. view.s + place ≤ view.e)) c.in-Some.is c.requires.stop) in
     let is : c.first_stretch-stretch.result ≡ first_stretch c.args.search len c.args.from (Some c.in-Some.place) =
-    c.first_stretch-stretch.ensures ∙ ap (λ n. first_stretch c.args.search n c.args.from (Some c.in-Some.place)) c.len.ensures in
-    (subst (LiesIn len) (sym is) (first-lies c.args.search len c.args.from c.in-Some.place (omega (arith, long, c.requires.from)) stop)).high
+    c.first_stretch-stretch.ensures ∙ ap (λ n. first_stretch c.args.search n c.args.from (Some c.in-Some.place))
+    c.len.ensures in
+    (subst (LiesIn len) (sym is) (first-lies c.args.search len c.args.from c.in-Some.place
+    (omega (arith, long, c.requires.from)) stop)).high
 
 pub list_stretch-requires-clause-within : goal.list_stretch-requires-clause-within
 list_stretch-requires-clause-within g c =
@@ -35,8 +39,10 @@ list_stretch-requires-clause-within g c =
     let stop : c.in-Some.place ≤ len =
     omega (arith, long, subst (λ o. IfSome o (λ place. view.s + place ≤ view.e)) c.in-Some.is c.requires.stop) in
     let is : c.first_stretch-stretch.result ≡ first_stretch c.args.search len c.args.from (Some c.in-Some.place) =
-    c.first_stretch-stretch.ensures ∙ ap (λ n. first_stretch c.args.search n c.args.from (Some c.in-Some.place)) c.len.ensures in
-    (subst (LiesIn len) (sym is) (first-lies c.args.search len c.args.from c.in-Some.place (omega (arith, long, c.requires.from)) stop)).end
+    c.first_stretch-stretch.ensures ∙ ap (λ n. first_stretch c.args.search n c.args.from (Some c.in-Some.place))
+    c.len.ensures in
+    (subst (LiesIn len) (sym is) (first-lies c.args.search len c.args.from c.in-Some.place
+    (omega (arith, long, c.requires.from)) stop)).end
 
 pub returns-in-Some : goal.returns-in-Some
 returns-in-Some g c =
@@ -45,10 +51,16 @@ returns-in-Some g c =
     let all = text_in g.S.TextStore.content view in
     let pattern = chars c.args.pattern.now.text.now in
     let is : c.first_stretch-stretch.result ≡ first_stretch search (length all) c.args.from (Some c.in-Some.place) =
-    c.first_stretch-stretch.ensures ∙ ap (λ n. first_stretch search n c.args.from (Some c.in-Some.place)) c.len.ensures in
-    subst (λ stop. OnOk c.list_stretch.result (Goes (string_bytes c.args.list.now) (string_bytes c.list_stretch.new.list)
+    c.first_stretch-stretch.ensures ∙ ap (λ n. first_stretch search n c.args.from (Some c.in-Some.place)) c.len.ensures
+    in
+    subst (λ stop. OnOk c.list_stretch.result
+    (Goes (string_bytes c.args.list.now) (string_bytes c.list_stretch.new.list)
     (listed_whole g.S.TextStore.content view c.args.pattern.now search c.args.from stop))) (sym c.in-Some.is)
-    (subst (λ found. OnOk c.list_stretch.result (Goes (string_bytes c.args.list.now) (string_bytes c.list_stretch.new.list) (map (position_text all) (wanted_of search.wanted (length pattern) found))))
-    (first-matches search pattern (searched g.S.TextStore.content view c.args.pattern.now) (length all) c.args.from c.in-Some.place)
-    (subst (λ stretch. OnOk c.list_stretch.result (Goes (string_bytes c.args.list.now) (string_bytes c.list_stretch.new.list)
+    (subst (λ found. OnOk c.list_stretch.result
+    (Goes (string_bytes c.args.list.now) (string_bytes c.list_stretch.new.list)
+    (map (position_text all) (wanted_of search.wanted (length pattern) found))))
+    (first-matches search pattern (searched g.S.TextStore.content view c.args.pattern.now) (length all) c.args.from
+    c.in-Some.place)
+    (subst (λ stretch. OnOk c.list_stretch.result
+    (Goes (string_bytes c.args.list.now) (string_bytes c.list_stretch.new.list)
     (listed_in g.S.TextStore.content view c.args.pattern.now search stretch))) is c.list_stretch.ensures))

@@ -20,9 +20,15 @@ list_stretch-requires-clause-high g c =
     let is : Some c.in-Some.rest ≡ left_to_list search.wanted search.direction whole c.args.listed (length pattern) =
     sym c.in-Some.is ∙ c.left_to_list.ensures
     ∙ ap₂ (λ s n. left_to_list search.wanted search.direction s c.args.listed n)
-    (c.second_stretch-whole.ensures ∙ ap (λ n. second_stretch search.direction n c.args.from) c.len.ensures) c.args.pattern.now.counted in
-    let within : c.args.from ≤ length text = omega (arith, c.requires.from, length-shown (g.S.TextStore.content view.store.now) view.s view.e c.requires.view) in
-    (rest-lies search.wanted search.direction (length text) (length pattern) whole c.in-Some.rest c.args.listed (round-lies search.direction (length text) c.args.from within) is).high
+    (c.second_stretch-whole.ensures ∙ ap (λ n. second_stretch search.direction n c.args.from) c.len.ensures)
+    c.args.pattern.now.counted in
+    let within : c.args.from ≤ length text = omega (
+      arith,
+      c.requires.from,
+      length-shown (g.S.TextStore.content view.store.now) view.s view.e c.requires.view,
+    ) in
+    (rest-lies search.wanted search.direction (length text) (length pattern) whole c.in-Some.rest c.args.listed
+    (round-lies search.direction (length text) c.args.from within) is).high
 
 pub list_stretch-requires-clause-within : goal.list_stretch-requires-clause-within
 list_stretch-requires-clause-within g c =
@@ -34,9 +40,15 @@ list_stretch-requires-clause-within g c =
     let is : Some c.in-Some.rest ≡ left_to_list search.wanted search.direction whole c.args.listed (length pattern) =
     sym c.in-Some.is ∙ c.left_to_list.ensures
     ∙ ap₂ (λ s n. left_to_list search.wanted search.direction s c.args.listed n)
-    (c.second_stretch-whole.ensures ∙ ap (λ n. second_stretch search.direction n c.args.from) c.len.ensures) c.args.pattern.now.counted in
-    let within : c.args.from ≤ length text = omega (arith, c.requires.from, length-shown (g.S.TextStore.content view.store.now) view.s view.e c.requires.view) in
-    (rest-lies search.wanted search.direction (length text) (length pattern) whole c.in-Some.rest c.args.listed (round-lies search.direction (length text) c.args.from within) is).end
+    (c.second_stretch-whole.ensures ∙ ap (λ n. second_stretch search.direction n c.args.from) c.len.ensures)
+    c.args.pattern.now.counted in
+    let within : c.args.from ≤ length text = omega (
+      arith,
+      c.requires.from,
+      length-shown (g.S.TextStore.content view.store.now) view.s view.e c.requires.view,
+    ) in
+    (rest-lies search.wanted search.direction (length text) (length pattern) whole c.in-Some.rest c.args.listed
+    (round-lies search.direction (length text) c.args.from within) is).end
 
 pub returns-in-Some : goal.returns-in-Some
 returns-in-Some g c =
@@ -48,9 +60,12 @@ returns-in-Some g c =
     let is : Some c.in-Some.rest ≡ left_to_list search.wanted search.direction whole c.args.listed (length pattern) =
     sym c.in-Some.is ∙ c.left_to_list.ensures
     ∙ ap₂ (λ s n. left_to_list search.wanted search.direction s c.args.listed n)
-    (c.second_stretch-whole.ensures ∙ ap (λ n. second_stretch search.direction n c.args.from) c.len.ensures) c.args.pattern.now.counted in
-    subst (λ places. OnOk c.list_stretch.result (Goes (string_bytes c.args.list.now) (string_bytes c.list_stretch.new.list) (map (position_text text) places)))
-    (rest-listed search.wanted search.direction pattern (searched g.S.TextStore.content view c.args.pattern.now) whole c.in-Some.rest c.args.listed is) c.list_stretch.ensures
+    (c.second_stretch-whole.ensures ∙ ap (λ n. second_stretch search.direction n c.args.from) c.len.ensures)
+    c.args.pattern.now.counted in
+    subst (λ places. OnOk c.list_stretch.result
+    (Goes (string_bytes c.args.list.now) (string_bytes c.list_stretch.new.list) (map (position_text text) places)))
+    (rest-listed search.wanted search.direction pattern (searched g.S.TextStore.content view c.args.pattern.now) whole
+    c.in-Some.rest c.args.listed is) c.list_stretch.ensures
 
 pub returns-in-None : goal.returns-in-None
 returns-in-None g c =
@@ -62,6 +77,9 @@ returns-in-None g c =
     let is : None ≡ left_to_list search.wanted search.direction whole c.args.listed (length pattern) =
     sym c.in-None.is ∙ c.left_to_list.ensures
     ∙ ap₂ (λ s n. left_to_list search.wanted search.direction s c.args.listed n)
-    (c.second_stretch-whole.ensures ∙ ap (λ n. second_stretch search.direction n c.args.from) c.len.ensures) c.args.pattern.now.counted in
-    subst (λ places. Goes (string_bytes c.args.list.now) (string_bytes c.args.list.now) (map (position_text text) places))
-    (none-listed search.wanted search.direction pattern (searched g.S.TextStore.content view c.args.pattern.now) whole c.args.listed is) (goes_nowhere (string_bytes c.args.list.now))
+    (c.second_stretch-whole.ensures ∙ ap (λ n. second_stretch search.direction n c.args.from) c.len.ensures)
+    c.args.pattern.now.counted in
+    subst (λ places. Goes (string_bytes c.args.list.now) (string_bytes c.args.list.now)
+    (map (position_text text) places))
+    (none-listed search.wanted search.direction pattern (searched g.S.TextStore.content view c.args.pattern.now) whole
+    c.args.listed is) (goes_nowhere (string_bytes c.args.list.now))

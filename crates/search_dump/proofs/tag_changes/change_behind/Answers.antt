@@ -9,4 +9,5 @@ returns-clause-value g c =
     let content = g.S.TextStore.content view.store.now in
     let all = flags c.args.slot.0 content.cells in
     let within : view.e ≤ length all = flags-within content c.args.slot.0 view.s view.e c.requires.view in
-    ap (λ n. n - view.s) c.min.ensures ∙ ap (λ n. min n view.e - view.s) c.next_change.ensures.value ∙ part-next all view.s view.e c.args.place within c.requires.within
+    ap (λ n. n - view.s) c.min.ensures ∙ ap (λ n. min n view.e - view.s) c.next_change.ensures.value
+    ∙ part-next all view.s view.e c.args.place within c.requires.within

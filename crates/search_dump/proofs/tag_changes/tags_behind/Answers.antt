@@ -16,5 +16,11 @@ pub returns : goal.returns
 returns g c =
     let view = c.args.view.now in
     let content = g.S.TextStore.content view.store.now in
-    let inside : view.s + c.args.place < view.e = omega (arith, c.requires.within, c.if-place-len.false, c.len.ensures, length-shown content view.s view.e c.requires.view) in
+    let inside : view.s + c.args.place < view.e = omega (
+      arith,
+      c.requires.within,
+      c.if-place-len.false,
+      c.len.ensures,
+      length-shown content view.s view.e c.requires.view,
+    ) in
     slots-shown content view.s view.e c.args.place c.tags_at.result inside c.tags_at.ensures

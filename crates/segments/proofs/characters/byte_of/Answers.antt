@@ -18,8 +18,10 @@ returns-then-count-text-clause-behind c =
 
 pub returns-then-count-text-clause-front : goal.returns-then-count-text-clause-front
 returns-then-count-text-clause-front c =
-    front_of c.args.text.now c.args.column c.args.column c.utf8.text (returns-then-count-text-clause-boundary c) (returns-then-count-text-clause-behind c)
+    front_of c.args.text.now c.args.column c.args.column c.utf8.text (returns-then-count-text-clause-boundary c)
+    (returns-then-count-text-clause-behind c)
 
 pub returns-clause-front : goal.returns-clause-front
 returns-clause-front c =
-    front_of c.args.text.now c.front_bytes.result c.args.column c.utf8.text c.front_bytes.ensures.boundary c.front_bytes.ensures.behind
+    front_of c.args.text.now c.front_bytes.result c.args.column c.utf8.text c.front_bytes.ensures.boundary
+    c.front_bytes.ensures.behind

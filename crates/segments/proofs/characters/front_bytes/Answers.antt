@@ -24,7 +24,11 @@ loop-left-preserved c =
     let is : drop byte text ≡ encode_utf8 character ++ found.0 = sym c.range_from.ensures.value ∙ found.1 in
     let on = column_on text found.0 byte column character c.utf8.text so_far.boundary so_far.behind is in
     let long = c.len_utf8-byte.ensures.value in
-    let next : column + 1 ≡ c.args.column - (c.loop-left.left - 1) = omega (arith, so_far.within, c.loop-left-test.true) in
+    let next : column + 1 ≡ c.args.column - (c.loop-left.left - 1) = omega (
+      arith,
+      so_far.within,
+      c.loop-left-test.true,
+    ) in
     record {
       within = omega arith;
       boundary = rw long on.0;

@@ -8,17 +8,22 @@ use Rattle.segments.proofs.marks.count_below.Goals.{After-partition_point}
 
 -- the marks before the place have lower numbers, and those from it on haven't
 parted : (c : After-partition_point)
-    → IsPartitionPoint (λ (mark : Mark). ltb mark.number.0 c.args.number.0 ≡ true) (λ mark. ltb mark.number.0 c.args.number.0 ≡ false) c.args.marks.now c.partition_point.result
+    → IsPartitionPoint (λ (mark : Mark). ltb mark.number.0 c.args.number.0
+    ≡ true) (λ mark. ltb mark.number.0 c.args.number.0 ≡ false) c.args.marks.now c.partition_point.result
 parted c =
-    let rise = IsPartitionedBy-ltb (λ (mark : Mark). mark.number.0) c.args.marks.now c.args.number.0 (numbers_rise c.args.marks.now c.requires) in
-    IsPartitionPoint-from_clause (λ (mark : Mark). ltb mark.number.0 c.args.number.0) _ _ c.partition_point.ensures.partitioned rise (λ a r q k. search rules)
+    let rise = IsPartitionedBy-ltb (λ (mark : Mark). mark.number.0) c.args.marks.now c.args.number.0
+    (numbers_rise c.args.marks.now c.requires) in
+    IsPartitionPoint-from_clause (λ (mark : Mark). ltb mark.number.0 c.args.number.0) _ _
+    c.partition_point.ensures.partitioned rise (λ a r q k. search rules)
 
 pub returns-clause-below : goal.returns-clause-below
 returns-clause-below c =
     let point = parted c in
-    all_below c.args.marks.now c.partition_point.result c.args.number.0 c.partition_point.ensures.bound (λ k d less. ltb-true _ _ (point.0 k d (omega arith) less))
+    all_below c.args.marks.now c.partition_point.result c.args.number.0 c.partition_point.ensures.bound (λ k d less.
+    ltb-true _ _ (point.0 k d (omega arith) less))
 
 pub returns-clause-above : goal.returns-clause-above
 returns-clause-above c =
     let point = parted c in
-    next_above c.args.marks.now c.partition_point.result c.args.number.0 (λ k d order within. ltb-false _ _ (point.1 k d order within))
+    next_above c.args.marks.now c.partition_point.result c.args.number.0 (λ k d order within.
+    ltb-false _ _ (point.1 k d order within))

@@ -16,4 +16,5 @@ loop-mark-preserved c =
     let mark = get_or marks index none in
     let within : index < length marks = omega (arith, c.loop-mark-test.true, c.loop-mark.auto.marks) in
     ap (λ (place : Place). set marks index (record { number = mark.number; place = place })) c.drawn-mark.ensures
-    ∙ map_over_more (with_place (drawn c.args.from c.args.to)) c.args.marks.now marks index mark c.loop-mark-test.true c.loop-mark.invariant (get_or_default marks index none mark within)
+    ∙ map_over_more (with_place (drawn c.args.from c.args.to)) c.args.marks.now marks index mark c.loop-mark-test.true
+    c.loop-mark.invariant (get_or_default marks index none mark within)

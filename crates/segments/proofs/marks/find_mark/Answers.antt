@@ -4,7 +4,8 @@ use Rattle.text_model.specs.declared.places.Gravity.TheVariants.{Left}
 use Rattle.segments.specs.declared.marks.Mark.{Mark}
 use Rattle.segments.proofs.MarkLaws.{above_end, above_other, find_here, find_none, get-marks_of}
 use Rattle.segments.proofs.marks.find_mark.Goals as goal
-use Rattle.segments.proofs.marks.find_mark.Goals.{else-index-marks-via-then-index-marks+else-marks-index, else-index-marks-via-else-index-marks}
+use Rattle.segments.proofs.marks.find_mark.Goals.{else-index-marks-via-then-index-marks+else-marks-index}
+use Rattle.segments.proofs.marks.find_mark.Goals.{else-index-marks-via-else-index-marks}
 
 pub returns-then-marks-index : goal.returns-then-marks-index
 returns-then-marks-index c =
@@ -14,7 +15,8 @@ returns-then-marks-index c =
     let mark = get_or marks index none in
     let within : index < length marks = c.if-index-marks.true in
     sym (get-marks_of marks c.args.number.0 c.requires
-    ∙ find_here marks index mark c.args.number.0 within c.count_below-index.ensures.below (get_or_default marks index none mark within) c.if-marks-index.true)
+    ∙ find_here marks index mark c.args.number.0 within c.count_below-index.ensures.below
+    (get_or_default marks index none mark within) c.if-marks-index.true)
 
 pub returns : goal.returns
 returns c =
@@ -28,6 +30,7 @@ returns c =
     (elim c.else-index-marks.branch [
       | else-index-marks-via-then-index-marks+else-marks-index w ↦
           let mark = get_or marks index none in
-          above_other marks index number mark (get_or_default marks index none mark w.if-index-marks.true) w.if-marks-index.false above
+          above_other marks index number mark (get_or_default marks index none mark w.if-index-marks.true)
+          w.if-marks-index.false above
       | else-index-marks-via-else-index-marks w ↦ above_end marks index number (omega (arith, w.if-index-marks.false))
     ]))

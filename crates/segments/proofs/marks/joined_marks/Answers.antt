@@ -4,9 +4,15 @@ use Rattle.std.proofs.lemmas.List.Elements.{All-append, All-drop, All-nil, All-p
 use Rattle.text_model.specs.declared.places.Gravity.TheVariants.{Left}
 use Rattle.segments.specs.declared.marks.Mark.{Mark}
 use Rattle.segments.specs.Marks.{StandIn}
-use Rattle.segments.proofs.MarkLaws.{Merges, MergesAt, merge_both_at, merge_end, merge_first_at, merge_second_at, merge_start, merged, moved_mark}
+use Rattle.segments.proofs.MarkLaws.{Merges, MergesAt, merge_both_at, merge_end, merge_first_at, merge_second_at}
+use Rattle.segments.proofs.MarkLaws.{merge_start, merged, moved_mark}
 use Rattle.segments.proofs.marks.joined_marks.Goals as goal
-use Rattle.segments.proofs.marks.joined_marks.Goals.{In_ok-extend_from_slice, In_ok-push-2, then-one-first-2+then-first-one-2, else-one-first-2, else-one-first-2-via-then-one-first-2+else-first-one-2, else-one-first-2-via-else-one-first-2, else-one-first-via-then-one-first+else-first-one, else-one-first-via-else-one-first}
+use Rattle.segments.proofs.marks.joined_marks.Goals.{In_ok-extend_from_slice, In_ok-push-2}
+use Rattle.segments.proofs.marks.joined_marks.Goals.{then-one-first-2+then-first-one-2, else-one-first-2}
+use Rattle.segments.proofs.marks.joined_marks.Goals.{else-one-first-2-via-then-one-first-2+else-first-one-2}
+use Rattle.segments.proofs.marks.joined_marks.Goals.{else-one-first-2-via-else-one-first-2}
+use Rattle.segments.proofs.marks.joined_marks.Goals.{else-one-first-via-then-one-first+else-first-one}
+use Rattle.segments.proofs.marks.joined_marks.Goals.{else-one-first-via-else-one-first}
 
 abbrev none : Mark
 none = record { number = record { 0 = 0 }; place = record { offset = 0; gravity = Left } }
@@ -18,8 +24,10 @@ loop-two-init c =
     let empty = sym c.in_ok-marks.ensures.items in
     record {
       within = omega arith;
-      merges = subst (MergesAt c.args.len first second 0 0) empty (merge_start c.args.len first second c.requires.first c.requires.second);
-      stand = λ more in_first in_second. subst (StandIn (c.args.len + more)) empty (All-nil (λ (mark : Mark). mark.place.offset ≤ c.args.len + more));
+      merges = subst (MergesAt c.args.len first second 0 0) empty
+          (merge_start c.args.len first second c.requires.first c.requires.second);
+      stand = λ more in_first in_second. subst (StandIn (c.args.len + more)) empty
+          (All-nil (λ (mark : Mark). mark.place.offset ≤ c.args.len + more));
     }
 
 pub loop-two-preserved-then-first-one : goal.loop-two-preserved-then-first-one
@@ -34,17 +42,21 @@ loop-two-preserved-then-first-one c =
     record {
       within = omega (arith, within);
       merges = subst (MergesAt c.args.len first second (one + 1) c.loop-two.two) pushed
-          (merge_first_at c.args.len first second marks one c.loop-two.two none within (λ there. c.if-first-one.true) kept.merges);
+          (merge_first_at c.args.len first second marks one c.loop-two.two none within (λ there. c.if-first-one.true)
+          kept.merges);
       stand = λ more in_first in_second.
           let lies = in_first one none within in
           subst (StandIn (c.args.len + more)) pushed
-          (All-push (λ (mark : Mark). mark.place.offset ≤ c.args.len + more) marks (get_or first one none) (kept.stand more in_first in_second) (omega (arith, lies)));
+          (All-push (λ (mark : Mark). mark.place.offset ≤ c.args.len + more) marks (get_or first one none)
+          (kept.stand more in_first in_second) (omega (arith, lies)));
     }
 
 -- the next of the second has no higher number than that of the first
-least : (c : In_ok-push-2) → c.loop-two.one < length c.args.first.now → (get_or c.args.second.now c.loop-two.two none).number.0 ≤ (get_or c.args.first.now c.loop-two.one none).number.0
+least : (c : In_ok-push-2) → c.loop-two.one < length c.args.first.now →
+    (get_or c.args.second.now c.loop-two.two none).number.0 ≤ (get_or c.args.first.now c.loop-two.one none).number.0
 least c there =
-    elim c.else-one-first.branch as (λ b. (get_or c.args.second.now c.loop-two.two none).number.0 ≤ (get_or c.args.first.now c.loop-two.one none).number.0) [
+    elim c.else-one-first.branch as (λ b. (get_or c.args.second.now c.loop-two.two none).number.0
+    ≤ (get_or c.args.first.now c.loop-two.one none).number.0) [
       | else-one-first-via-then-one-first+else-first-one w ↦ omega (arith, w.if-first-one.false)
       | else-one-first-via-else-one-first w ↦ absurd (omega (arith, there, w.if-one-first.false))
     ]
@@ -67,34 +79,45 @@ loop-two-preserved c =
         | else-one-first-2 w ↦ omega (arith, w.one-is, kept.within)
       ];
       merges = subst (MergesAt len first second c.if-one-first-2.one (two + 1)) pushed
-          (elim c.if-one-first-2.branch as (λ b. MergesAt len first second c.if-one-first-2.one (two + 1) (marks ++ moved_mark len mark ∷ [])) [
+          (elim c.if-one-first-2.branch as (λ b.
+          MergesAt len first second c.if-one-first-2.one (two + 1) (marks ++ moved_mark len mark ∷ [])) [
             | then-one-first-2+then-first-one-2 w ↦
                 subst (λ n. MergesAt len first second n (two + 1) (marks ++ moved_mark len mark ∷ [])) (sym w.one-is)
-                (merge_both_at len first second marks one two none w.if-one-first-2.true within w.if-first-one-2.true kept.merges)
+                (merge_both_at len first second marks one two none w.if-one-first-2.true within w.if-first-one-2.true
+                kept.merges)
             | else-one-first-2 w ↦
                 subst (λ n. MergesAt len first second n (two + 1) (marks ++ moved_mark len mark ∷ [])) (sym w.one-is)
                 (merge_second_at len first second marks one two none within (λ there.
                 let low = least c there in
                 elim w.else-one-first-2.branch as (λ b. mark.number.0 < (get_or first one none).number.0) [
-                  | else-one-first-2-via-then-one-first-2+else-first-one-2 w' ↦ omega (arith, low, w'.if-first-one-2.false)
+                  | else-one-first-2-via-then-one-first-2+else-first-one-2 w' ↦ omega (
+                    arith,
+                    low,
+                    w'.if-first-one-2.false,
+                  )
                   | else-one-first-2-via-else-one-first-2 w' ↦ absurd (omega (arith, there, w'.if-one-first-2.false))
                 ]) kept.merges)
           ]);
       stand = λ more in_first in_second.
           let lies = in_second two none within in
           subst (StandIn (len + more)) pushed
-          (All-push (λ (m : Mark). m.place.offset ≤ len + more) marks (moved_mark len mark) (kept.stand more in_first in_second) (omega (arith, lies)));
+          (All-push (λ (m : Mark). m.place.offset ≤ len + more) marks (moved_mark len mark)
+          (kept.stand more in_first in_second) (omega (arith, lies)));
     }
 
 -- the items, as they are in the end
-all_items : (c : In_ok-extend_from_slice) → c.extend_from_slice.new.self.items ≡ c.loop-two.marks.items ++ drop c.loop-two.one c.args.first.now
-all_items c = c.in_ok-extend_from_slice.ensures.items ∙ ap (λ rest. c.loop-two.marks.items ++ rest) (take_rest c.args.first.now c.loop-two.one)
+all_items : (c : In_ok-extend_from_slice) → c.extend_from_slice.new.self.items
+    ≡ c.loop-two.marks.items ++ drop c.loop-two.one c.args.first.now
+all_items c = c.in_ok-extend_from_slice.ensures.items
+    ∙ ap (λ rest. c.loop-two.marks.items ++ rest) (take_rest c.args.first.now c.loop-two.one)
 
 -- all marks of both
-whole : (c : In_ok-extend_from_slice) → Merges c.args.len c.args.first.now c.args.second.now c.extend_from_slice.new.self.items [] []
+whole : (c : In_ok-extend_from_slice) →
+    Merges c.args.len c.args.first.now c.args.second.now c.extend_from_slice.new.self.items [] []
 whole c =
     subst (λ all. Merges c.args.len c.args.first.now c.args.second.now all [] []) (sym (all_items c))
-    (merge_end c.args.len c.args.first.now c.args.second.now c.loop-two.marks.items c.loop-two.one c.loop-two.two (omega (arith, c.loop-two-test.false)) c.loop-two.invariant.merges)
+    (merge_end c.args.len c.args.first.now c.args.second.now c.loop-two.marks.items c.loop-two.one c.loop-two.two
+    (omega (arith, c.loop-two-test.false)) c.loop-two.invariant.merges)
 
 pub returns-clause-rise : goal.returns-clause-rise
 returns-clause-rise c = (whole c).rise
@@ -107,7 +130,9 @@ returns-clause-stand c = λ more in_first in_second.
     let marks = c.loop-two.marks.items in
     subst (StandIn (c.args.len + more)) (sym (all_items c))
     (All-append P marks rest (c.loop-two.invariant.stand more in_first in_second)
-    (All-weaker (λ (mark : Mark). mark.place.offset ≤ c.args.len) P (λ mark lies. omega (arith, lies)) rest (All-drop (λ (mark : Mark). mark.place.offset ≤ c.args.len) c.loop-two.one first in_first)))
+    (All-weaker (λ (mark : Mark). mark.place.offset ≤ c.args.len) P (λ mark lies. omega (arith, lies)) rest
+    (All-drop (λ (mark : Mark). mark.place.offset ≤ c.args.len) c.loop-two.one first in_first)))
 
 pub returns-clause-marks : goal.returns-clause-marks
-returns-clause-marks c = merged c.args.len c.args.first.now c.args.second.now c.extend_from_slice.new.self.items c.requires.first c.requires.second (whole c)
+returns-clause-marks c = merged c.args.len c.args.first.now c.args.second.now c.extend_from_slice.new.self.items
+    c.requires.first c.requires.second (whole c)

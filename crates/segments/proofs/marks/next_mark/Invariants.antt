@@ -7,4 +7,5 @@ use Rattle.segments.proofs.marks.next_mark.Given as goal
 
 abbrev pub invariant-loop-mark : goal.invariant-loop-mark
 invariant-loop-mark l =
-    next_mark l.fn.column (marks_of l.fn.marks) ≡ reduced_from min l.next (offsets_above l.fn.column (drop l.mark-index l.fn.marks))
+    next_mark l.fn.column (marks_of l.fn.marks)
+    ≡ reduced_from min l.next (offsets_above l.fn.column (drop l.mark-index l.fn.marks))

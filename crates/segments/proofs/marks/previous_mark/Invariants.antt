@@ -7,4 +7,5 @@ use Rattle.segments.proofs.marks.previous_mark.Given as goal
 
 abbrev pub invariant-loop-mark : goal.invariant-loop-mark
 invariant-loop-mark l =
-    previous_mark l.fn.column (marks_of l.fn.marks) ≡ reduced_from max l.previous (offsets_below l.fn.column (drop l.mark-index l.fn.marks))
+    previous_mark l.fn.column (marks_of l.fn.marks)
+    ≡ reduced_from max l.previous (offsets_below l.fn.column (drop l.mark-index l.fn.marks))

@@ -4,8 +4,10 @@ use Rattle.segments.proofs.toggles.clear.Goals as goal
 
 pub returns-clause-lie : goal.returns-clause-lie
 returns-clause-lie c = λ low high lie.
-    lies_cleared _ _ c.args.slot.0 c.args.from c.args.to (λ x b t y k. (search rules, search rules)) low high _ _ c.retain_mut.ensures.filtered lie
+    lies_cleared _ _ c.args.slot.0 c.args.from c.args.to (λ x b t y k. (search rules, search rules)) low high _ _
+    c.retain_mut.ensures.filtered lie
 
 pub returns-clause-slots : goal.returns-clause-slots
 returns-clause-slots c = λ low high at lie.
-    slots_stay_cleared _ _ c.args.slot.0 c.args.from c.args.to (λ x b t y k. (search rules, search rules)) low high _ _ at c.retain_mut.ensures.filtered lie
+    slots_stay_cleared _ _ c.args.slot.0 c.args.from c.args.to (λ x b t y k. (search rules, search rules)) low high _ _
+    at c.retain_mut.ensures.filtered lie

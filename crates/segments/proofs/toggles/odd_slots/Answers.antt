@@ -8,7 +8,8 @@ use Rattle.segments.proofs.EntryLaws.{odd_more}
 use Rattle.segments.proofs.toggles.odd_slots.Goals as goal
 
 pub loop-entry-init : goal.loop-entry-init
-loop-entry-init c = ap (λ s. differing s (odd_of c.args.toggles.now)) c.empty-slots.ensures ∙ empty-differing (odd_of c.args.toggles.now)
+loop-entry-init c = ap (λ s. differing s (odd_of c.args.toggles.now)) c.empty-slots.ensures
+    ∙ empty-differing (odd_of c.args.toggles.now)
 
 pub loop-entry-preserved : goal.loop-entry-preserved
 loop-entry-preserved c =
@@ -24,5 +25,6 @@ returns c =
     let toggles = c.args.toggles.now in
     let slots = c.loop-entry.slots in
     sym (differing-empty slots)
-    ∙ ap (λ entries. differing slots (odd_of entries)) (sym (drop_all c.loop-entry.entry-index toggles c.loop-entry-test.false))
+    ∙ ap (λ entries. differing slots (odd_of entries))
+    (sym (drop_all c.loop-entry.entry-index toggles c.loop-entry-test.false))
     ∙ c.loop-entry.invariant

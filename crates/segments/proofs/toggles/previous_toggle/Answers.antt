@@ -22,8 +22,10 @@ returns-then-has c = λ from to lie.
     let has = sym c.has.ensures ∙ c.if-has.true in
     sym (kept.1
     ∙ ap (λ n. previous_entry c.args.slot.0 c.args.column (take n toggles)) next
-    ∙ previous_last c.args.slot.0 c.args.column from (index - 1) toggles c.index-toggles-index-then-has.result c.index-toggles-index.result
-    (subst (λ n. LieIn from c.args.column (take n toggles)) next kept.0) (omega (arith, next, c.loop-index.invariant.0)) has)
+    ∙ previous_last c.args.slot.0 c.args.column from (index - 1) toggles c.index-toggles-index-then-has.result
+    c.index-toggles-index.result
+    (subst (λ n. LieIn from c.args.column (take n toggles)) next kept.0) (omega (arith, next, c.loop-index.invariant.0))
+    has)
 
 pub loop-index-preserved : goal.loop-index-preserved
 loop-index-preserved c = (
@@ -34,9 +36,11 @@ loop-index-preserved c = (
       let next : index ≡ suc (index - 1) = omega (arith, c.loop-index-test.true) in
       let kept = c.loop-index.invariant.1 from to lie in
       let has = sym c.has.ensures ∙ c.if-has.false in (
-        LieIn-less from c.args.column (index - 1) toggles (subst (λ n. LieIn from c.args.column (take n toggles)) next kept.0),
+        LieIn-less from c.args.column (index - 1) toggles
+            (subst (λ n. LieIn from c.args.column (take n toggles)) next kept.0),
         kept.1
             ∙ ap (λ n. previous_entry c.args.slot.0 c.args.column (take n toggles)) next
-            ∙ previous_less c.args.slot.0 c.args.column (index - 1) toggles c.index-toggles-index.result (omega (arith, next, c.loop-index.invariant.0)) has,
+            ∙ previous_less c.args.slot.0 c.args.column (index - 1) toggles c.index-toggles-index.result
+            (omega (arith, next, c.loop-index.invariant.0)) has,
       ),
 )

@@ -5,7 +5,8 @@ use Rattle.tcl_words.proofs.list_writing.push_element.Goals as goal
 
 pub returns-in_ok-push_parts-clause-text : goal.returns-in_ok-push_parts-clause-text
 returns-in_ok-push_parts-clause-text c =
-    push_bare (string_bytes c.args.list.now) _ c.args.element.now (chars c.args.element.now) (encodes-chars c.args.element.now c.utf8.element)
+    push_bare (string_bytes c.args.list.now) _ c.args.element.now (chars c.args.element.now)
+    (encodes-chars c.args.element.now c.utf8.element)
     (sym c.needs_quotes.ensures ∙ c.if-not-needs_quotes.true) c.in_ok-push_parts.ensures.ok
 
 pub returns-in_ok-push_parts-clause-list : goal.returns-in_ok-push_parts-clause-list
@@ -13,16 +14,20 @@ returns-in_ok-push_parts-clause-list c = goes_on _ _ _ (returns-in_ok-push_parts
 
 pub returns-in_ok-push_parts-2-clause-text : goal.returns-in_ok-push_parts-2-clause-text
 returns-in_ok-push_parts-2-clause-text c =
-    push_braced (string_bytes c.args.list.now) _ c.args.element.now (chars c.args.element.now) (encodes-chars c.args.element.now c.utf8.element)
-    (sym c.needs_quotes.ensures ∙ c.if-not-needs_quotes.false) (sym c.balances.ensures ∙ c.if-balances.true) c.in_ok-push_parts-2.ensures.ok
+    push_braced (string_bytes c.args.list.now) _ c.args.element.now (chars c.args.element.now)
+    (encodes-chars c.args.element.now c.utf8.element)
+    (sym c.needs_quotes.ensures ∙ c.if-not-needs_quotes.false) (sym c.balances.ensures
+    ∙ c.if-balances.true) c.in_ok-push_parts-2.ensures.ok
 
 pub returns-in_ok-push_parts-2-clause-list : goal.returns-in_ok-push_parts-2-clause-list
 returns-in_ok-push_parts-2-clause-list c = goes_on _ _ _ (returns-in_ok-push_parts-2-clause-text c)
 
 pub returns-in_ok-push_parts-3-clause-text : goal.returns-in_ok-push_parts-3-clause-text
 returns-in_ok-push_parts-3-clause-text c =
-    push_escaped (string_bytes c.args.list.now) _ _ (chars c.args.element.now) (c.as_str.ensures.value ∙ c.in_ok-text.ensures)
-    (sym c.needs_quotes.ensures ∙ c.if-not-needs_quotes.false) (sym c.balances.ensures ∙ c.if-balances.false) c.in_ok-push_parts-3.ensures.ok
+    push_escaped (string_bytes c.args.list.now) _ _ (chars c.args.element.now) (c.as_str.ensures.value
+    ∙ c.in_ok-text.ensures)
+    (sym c.needs_quotes.ensures ∙ c.if-not-needs_quotes.false) (sym c.balances.ensures
+    ∙ c.if-balances.false) c.in_ok-push_parts-3.ensures.ok
 
 pub returns-in_ok-push_parts-3-clause-list : goal.returns-in_ok-push_parts-3-clause-list
 returns-in_ok-push_parts-3-clause-list c = goes_on _ _ _ (returns-in_ok-push_parts-3-clause-text c)

@@ -1,15 +1,18 @@
-use Rattle.std.proofs.Common.{◌+◌, ◌<◌, ◌++◌, [], ◌∷◌, ◌∙◌, length, map, chars, string_bytes, refl, sym, ap, subst, arith, IsUtf8}
+use Rattle.std.proofs.Common.{◌+◌, ◌<◌, ◌++◌, [], ◌∷◌, ◌∙◌, length, map, chars, string_bytes, refl, sym, ap, subst}
+use Rattle.std.proofs.Common.{arith, IsUtf8}
 use Rattle.std.proofs.lemmas.Str.{IsUtf8-drop}
 use Rattle.tcl_words.proofs.Scans.{depth_on}
 use Rattle.tcl_words.specs.Runs.{IsSeam}
 use Rattle.tcl_words.proofs.Plain.{run_at, depth_from, front_range, char_boundary, after_char, none_left}
-use Rattle.tcl_words.proofs.Writing.{writing_begun, writing_passes, writing_closes, writing_same, writing_runs, writing_goes, writing_stops, writing_ends, is_last, seam_boundary}
+use Rattle.tcl_words.proofs.Writing.{writing_begun, writing_passes, writing_closes, writing_same, writing_runs}
+use Rattle.tcl_words.proofs.Writing.{writing_goes, writing_stops, writing_ends, is_last, seam_boundary}
 use Rattle.tcl_words.proofs.pieces.words_of.Goals as goal
 
 pub range_from-rest-requires : goal.range_from-rest-requires
 range_from-rest-requires c =
     let seam = subst (IsSeam _ _ _) c.in-Blank.is c.seam_behind.ensures in
-    λ h. seam_boundary c.loop-rest.rest.now _ c.plain_run-run.result c.begun-here.result c.as_bytes-bytes.ensures.value c.loop-rest.invariant.utf8 seam
+    λ h. seam_boundary c.loop-rest.rest.now _ c.plain_run-run.result c.begun-here.result c.as_bytes-bytes.ensures.value
+    c.loop-rest.invariant.utf8 seam
 
 pub loop-rest-preserved-in-Blank : goal.loop-rest-preserved-in-Blank
 loop-rest-preserved-in-Blank c =
@@ -19,17 +22,24 @@ loop-rest-preserved-in-Blank c =
     let bytes = c.as_bytes-bytes.ensures.value in
     let seam = subst (IsSeam _ _ _) c.in-Blank.is c.seam_behind.ensures in
     let within = seam.2 in
-    let run = run_at here rest _ n bytes c.loop-rest.invariant.utf8 seam.1 c.plain_run-run.ensures.within c.plain_run-run.ensures.plain c.plain_run-run.ensures.end in
+    let run = run_at here rest _ n bytes c.loop-rest.invariant.utf8 seam.1 c.plain_run-run.ensures.within
+    c.plain_run-run.ensures.plain c.plain_run-run.ensures.end in
     let some : 0 < length rest = omega (arith, ap length bytes) in
-    let begun = writing_begun (chars c.args.text.now) rest _ c.loop-rest.stage here _ _ _ c.loop-rest.invariant.written c.loop-rest.invariant.utf8 bytes some c.begun-here.ensures refl in
-    let empty = sym (ap length c.as_str.ensures.value) ∙ none_left c.as_str.result.now _ c.is_empty-in-loop-rest.ensures c.if-is_empty.true in
+    let begun = writing_begun (chars c.args.text.now) rest _ c.loop-rest.stage here _ _ _ c.loop-rest.invariant.written
+    c.loop-rest.invariant.utf8 bytes some c.begun-here.ensures refl in
+    let empty = sym (ap length c.as_str.ensures.value)
+    ∙ none_left c.as_str.result.now _ c.is_empty-in-loop-rest.ensures c.if-is_empty.true in
     let after = c.range_from-rest.ensures.value in
     let depth = c.loop-rest.invariant.depth in
     let long = c.range_from-rest.ensures.len in
-    let new = c.in_ok-add-in-Blank.ensures.words ∙ ap (λ l. map (λ word. string_bytes word) c.loop-rest.writer.words.items ++ l ∷ []) (c.range.ensures.value ∙ front_range n rest) in
+    let new = c.in_ok-add-in-Blank.ensures.words
+    ∙ ap (λ l. map (λ word. string_bytes word) c.loop-rest.writer.words.items ++ l ∷ []) (c.range.ensures.value
+    ∙ front_range n rest) in
     record {
-      utf8 = subst IsUtf8 (sym after) (IsUtf8-drop rest (n + 1) c.loop-rest.invariant.utf8 (seam_boundary rest _ n here bytes c.loop-rest.invariant.utf8 seam));
-      written = rw after (writing_passes (chars c.args.text.now) rest _ n here _ _ _ _ begun empty run.1 bytes seam new c.add.ensures.word);
+      utf8 = subst IsUtf8 (sym after) (IsUtf8-drop rest (n + 1) c.loop-rest.invariant.utf8
+          (seam_boundary rest _ n here bytes c.loop-rest.invariant.utf8 seam));
+      written = rw after (writing_passes (chars c.args.text.now) rest _ n here _ _ _ _ begun empty run.1 bytes seam new
+          c.add.ensures.word);
       depth = omega arith;
     }
 
@@ -41,11 +51,16 @@ returns-in-End c =
     let bytes = c.as_bytes-bytes.ensures.value in
     let seam = subst (IsSeam _ _ _) c.in-End.is c.seam_behind.ensures in
     let within = seam.2 in
-    let run = run_at here rest _ n bytes c.loop-rest.invariant.utf8 seam.1 c.plain_run-run.ensures.within c.plain_run-run.ensures.plain c.plain_run-run.ensures.end in
+    let run = run_at here rest _ n bytes c.loop-rest.invariant.utf8 seam.1 c.plain_run-run.ensures.within
+    c.plain_run-run.ensures.plain c.plain_run-run.ensures.end in
     let some : 0 < length rest = omega (arith, ap length bytes) in
-    let begun = writing_begun (chars c.args.text.now) rest _ c.loop-rest.stage here _ _ _ c.loop-rest.invariant.written c.loop-rest.invariant.utf8 bytes some c.begun-here.ensures refl in
-    let empty = sym (ap length c.as_str.ensures.value) ∙ none_left c.as_str.result.now _ c.is_empty-in-loop-rest.ensures c.if-is_empty.true in
-    let new = c.in_ok-add-in-End.ensures.words ∙ ap (λ l. map (λ word. string_bytes word) c.loop-rest.writer.words.items ++ l ∷ []) (c.range-in-End.ensures.value ∙ front_range n rest) in
+    let begun = writing_begun (chars c.args.text.now) rest _ c.loop-rest.stage here _ _ _ c.loop-rest.invariant.written
+    c.loop-rest.invariant.utf8 bytes some c.begun-here.ensures refl in
+    let empty = sym (ap length c.as_str.ensures.value)
+    ∙ none_left c.as_str.result.now _ c.is_empty-in-loop-rest.ensures c.if-is_empty.true in
+    let new = c.in_ok-add-in-End.ensures.words
+    ∙ ap (λ l. map (λ word. string_bytes word) c.loop-rest.writer.words.items ++ l ∷ [])
+    (c.range-in-End.ensures.value ∙ front_range n rest) in
     writing_closes (chars c.args.text.now) rest _ n here _ _ _ begun empty run.1 bytes seam new
 
 pub loop-rest-preserved-then-run-gt0 : goal.loop-rest-preserved-then-run-gt0
@@ -63,43 +78,54 @@ loop-rest-preserved-then-run-gt0 c =
     let positive = c.if-run-gt0.true in
     let some : 0 < length rest = omega (arith, ap length bytes) in
     let long = c.range_from-rest-then-run-gt0.ensures.len in
-    let begun = writing_begun (chars c.args.text.now) rest _ c.loop-rest.stage here _ _ _ c.loop-rest.invariant.written c.loop-rest.invariant.utf8 bytes some c.begun-here.ensures refl in
+    let begun = writing_begun (chars c.args.text.now) rest _ c.loop-rest.stage here _ _ _ c.loop-rest.invariant.written
+    c.loop-rest.invariant.utf8 bytes some c.begun-here.ensures refl in
     record {
       utf8 = subst IsUtf8 (sym after) (IsUtf8-drop rest n c.loop-rest.invariant.utf8 run.0);
       written = rw after (writing_same (chars c.args.text.now) _ here _ _ _
           (writing_runs (chars c.args.text.now) rest n here _ _ _ begun run.1
-          (c.in_ok-keep.ensures.word ∙ ap (λ l. string_bytes c.loop-rest.writer.word ++ l) (c.range-then-run-gt0.ensures.value ∙ front_range n rest)))
+          (c.in_ok-keep.ensures.word ∙ ap (λ l. string_bytes c.loop-rest.writer.word ++ l)
+          (c.range-then-run-gt0.ensures.value ∙ front_range n rest)))
           c.keep.ensures.words);
       depth = omega arith;
     }
 
 pub returns-in-End-next : goal.returns-in-End-next
 returns-in-End-next c =
-    writing_stops (chars c.args.text.now) (chars c.loop-rest.rest.now) _ c.loop-rest.stage _ _ _ _ c.step_from-step.result c.first_char-c.result c.loop-rest.invariant.written
-    c.first_char-c.ensures.2 c.step_from-step.ensures (is_last c.step_from-step.result.next c.in-End-next.is) c.in_ok-write.ensures.words c.in_ok-write.ensures.word
+    writing_stops (chars c.args.text.now) (chars c.loop-rest.rest.now) _ c.loop-rest.stage _ _ _ _
+    c.step_from-step.result c.first_char-c.result c.loop-rest.invariant.written
+    c.first_char-c.ensures.2 c.step_from-step.ensures (is_last c.step_from-step.result.next c.in-End-next.is)
+    c.in_ok-write.ensures.words c.in_ok-write.ensures.word
 
 pub range_from-rest-requires-in-loop-rest : goal.range_from-rest-requires-in-loop-rest
 range_from-rest-requires-in-loop-rest c =
-    λ h. char_boundary c.loop-rest.rest.now c.first_char-c.ensures.0 c.first_char-c.result c.len_utf8.result c.loop-rest.invariant.utf8 c.first_char-c.ensures.1 c.len_utf8.ensures.value
+    λ h. char_boundary c.loop-rest.rest.now c.first_char-c.ensures.0 c.first_char-c.result c.len_utf8.result
+    c.loop-rest.invariant.utf8 c.first_char-c.ensures.1 c.len_utf8.ensures.value
 
 pub loop-rest-preserved : goal.loop-rest-preserved
 loop-rest-preserved c =
     let rest = c.loop-rest.rest.now in
     let n = c.len_utf8.result in
-    let boundary = char_boundary rest c.first_char-c.ensures.0 c.first_char-c.result n c.loop-rest.invariant.utf8 c.first_char-c.ensures.1 c.len_utf8.ensures.value in
+    let boundary = char_boundary rest c.first_char-c.ensures.0 c.first_char-c.result n c.loop-rest.invariant.utf8
+    c.first_char-c.ensures.1 c.len_utf8.ensures.value in
     let after = c.range_from-rest-in-loop-rest.ensures.value in
-    let behind = after ∙ after_char rest c.first_char-c.ensures.0 c.first_char-c.result n c.first_char-c.ensures.1 c.len_utf8.ensures.len in
+    let behind = after ∙ after_char rest c.first_char-c.ensures.0 c.first_char-c.result n c.first_char-c.ensures.1
+    c.len_utf8.ensures.len in
     let deeper = depth_on c.loop-rest.stage c.in-Go.next _ _ c.in-Go.is c.step_from-step.ensures in
     let depth = c.loop-rest.invariant.depth in
     let long = c.range_from-rest-in-loop-rest.ensures.len in
     let some = c.len_utf8.ensures.lower_bound in
     record {
       utf8 = subst IsUtf8 (sym after) (IsUtf8-drop rest n c.loop-rest.invariant.utf8 boundary);
-      written = rw behind (writing_goes (chars c.args.text.now) (chars rest) _ c.loop-rest.stage c.in-Go.next _ _ _ _ c.step_from-step.result c.first_char-c.result c.loop-rest.invariant.written
-          c.first_char-c.ensures.2 c.step_from-step.ensures c.in-Go.is c.in_ok-write.ensures.words c.in_ok-write.ensures.word);
+      written = rw behind (writing_goes (chars c.args.text.now) (chars rest) _ c.loop-rest.stage c.in-Go.next _ _ _ _
+          c.step_from-step.result c.first_char-c.result c.loop-rest.invariant.written
+          c.first_char-c.ensures.2 c.step_from-step.ensures c.in-Go.is c.in_ok-write.ensures.words
+          c.in_ok-write.ensures.word);
       depth = omega arith;
     }
 
 pub returns : goal.returns
 returns c =
-    writing_ends (chars c.args.text.now) c.loop-rest.rest.now c.loop-rest.stage _ _ _ c.last_from.result c.loop-rest.invariant.written (none_left c.loop-rest.rest.now c.is_empty.result c.is_empty.ensures c.loop-rest-test.false) c.last_from.ensures c.in_ok-write-2.ensures.words
+    writing_ends (chars c.args.text.now) c.loop-rest.rest.now c.loop-rest.stage _ _ _ c.last_from.result
+    c.loop-rest.invariant.written (none_left c.loop-rest.rest.now c.is_empty.result c.is_empty.ensures
+    c.loop-rest-test.false) c.last_from.ensures c.in_ok-write-2.ensures.words

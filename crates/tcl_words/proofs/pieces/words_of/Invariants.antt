@@ -6,7 +6,8 @@ use Rattle.tcl_words.proofs.pieces.words_of.Given as goal
 abbrev pub invariant-loop-rest : goal.invariant-loop-rest
 invariant-loop-rest l = record {
   utf8 : IsUtf8 l.rest;
-  written : IsWritten (chars l.text) (chars l.rest) l.stage (map (λ word. string_bytes word) l.writer.words.items) (string_bytes l.writer.word);
+  written : IsWritten (chars l.text) (chars l.rest) l.stage (map (λ word. string_bytes word) l.writer.words.items)
+      (string_bytes l.writer.word);
   depth : depth_of l.stage + length l.rest ≤ length l.text;
 }
 

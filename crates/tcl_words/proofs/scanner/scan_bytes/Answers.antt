@@ -20,7 +20,8 @@ loop-index-preserved-in-Blank c =
     let depth = c.loop-index.invariant.depth in
     record {
       scans = c.loop-index.invariant.scans
-          ∙ ap (later index) (seam_passes bytes _ index run c.loop-index.stage c.begun-here.result _ c.loop-index-test.true c.begun-here.ensures refl same c.plain_run-run.ensures.plain seam)
+          ∙ ap (later index) (seam_passes bytes _ index run c.loop-index.stage c.begun-here.result _
+          c.loop-index-test.true c.begun-here.ensures refl same c.plain_run-run.ensures.plain seam)
           ∙ later-later index (run + 1) (scanned (drop (index + (run + 1)) bytes) BeforeWord);
       depth = omega arith;
       within = omega (arith, ap length same, length-drop index bytes);
@@ -33,7 +34,8 @@ returns-in-End c =
     let run = c.plain_run-run.result in
     let seam = subst (IsSeam _ _ run) c.in-End.is c.seam_behind.ensures in
     sym (c.loop-index.invariant.scans
-    ∙ ap (later index) (seam_ends bytes _ index run c.loop-index.stage c.begun-here.result _ c.loop-index-test.true c.begun-here.ensures refl (take_rest bytes index) c.plain_run-run.ensures.plain seam)
+    ∙ ap (later index) (seam_ends bytes _ index run c.loop-index.stage c.begun-here.result _ c.loop-index-test.true
+    c.begun-here.ensures refl (take_rest bytes index) c.plain_run-run.ensures.plain seam)
     ∙ ap EndsAt (let e : index + (run + 1) ≡ index + run + 1 = omega arith in e))
 
 pub loop-index-preserved-then-run-gt0 : goal.loop-index-preserved-then-run-gt0
@@ -42,13 +44,16 @@ loop-index-preserved-then-run-gt0 c =
     let index = c.loop-index.index in
     let run = c.plain_run-run.result in
     let here = c.begun-here.result in
-    let skips = scan_skips bytes _ index run here (take_rest bytes index) c.plain_run-run.ensures.within c.plain_run-run.ensures.plain in
+    let skips = scan_skips bytes _ index run here (take_rest bytes index) c.plain_run-run.ensures.within
+    c.plain_run-run.ensures.plain in
     let long = skips.1 in
     let less = depth_from c.loop-index.stage here _ c.begun-here.ensures in
     let depth = c.loop-index.invariant.depth in
     let within = c.loop-index.invariant.within in
     record {
-      scans = c.loop-index.invariant.scans ∙ ap (later index) (scan_begun bytes index c.loop-index.stage here _ c.loop-index-test.true c.begun-here.ensures refl ∙ skips.0)
+      scans = c.loop-index.invariant.scans
+          ∙ ap (later index) (scan_begun bytes index c.loop-index.stage here _ c.loop-index-test.true
+          c.begun-here.ensures refl ∙ skips.0)
           ∙ later-later index run (scanned (drop (index + run) bytes) here);
       depth = omega arith;
       within = omega (arith, length-drop index bytes);
@@ -56,11 +61,15 @@ loop-index-preserved-then-run-gt0 c =
 
 pub returns-in-End-next : goal.returns-in-End-next
 returns-in-End-next c =
-    sym (c.loop-index.invariant.scans ∙ ap (later c.loop-index.index) (scan_by c.args.bytes.now c.loop-index.index c.loop-index.stage _ _ _ c.loop-index-test.true c.in-End-next.is c.step_from.ensures c.from.ensures))
+    sym (c.loop-index.invariant.scans ∙ ap (later c.loop-index.index)
+    (scan_by c.args.bytes.now c.loop-index.index c.loop-index.stage _ _ _ c.loop-index-test.true c.in-End-next.is
+    c.step_from.ensures c.from.ensures))
 
 pub returns-in-Refuse : goal.returns-in-Refuse
 returns-in-Refuse c =
-    sym (c.loop-index.invariant.scans ∙ ap (later c.loop-index.index) (scan_by c.args.bytes.now c.loop-index.index c.loop-index.stage _ _ _ c.loop-index-test.true c.in-Refuse.is c.step_from.ensures c.from.ensures))
+    sym (c.loop-index.invariant.scans ∙ ap (later c.loop-index.index)
+    (scan_by c.args.bytes.now c.loop-index.index c.loop-index.stage _ _ _ c.loop-index-test.true c.in-Refuse.is
+    c.step_from.ensures c.from.ensures))
 
 pub loop-index-preserved : goal.loop-index-preserved
 loop-index-preserved c =
@@ -69,7 +78,8 @@ loop-index-preserved c =
     let less = c.loop-index-test.true in
     record {
       scans = c.loop-index.invariant.scans
-          ∙ ap (later c.loop-index.index) (scan_by c.args.bytes.now c.loop-index.index c.loop-index.stage _ _ _ c.loop-index-test.true c.in-Go.is c.step_from.ensures c.from.ensures)
+          ∙ ap (later c.loop-index.index) (scan_by c.args.bytes.now c.loop-index.index c.loop-index.stage _ _ _
+          c.loop-index-test.true c.in-Go.is c.step_from.ensures c.from.ensures)
           ∙ later-later c.loop-index.index 1 (scanned (drop (c.loop-index.index + 1) c.args.bytes.now) c.in-Go.next);
       depth = omega arith;
       within = omega arith;
@@ -77,4 +87,5 @@ loop-index-preserved c =
 
 pub returns : goal.returns
 returns c =
-    sym (c.loop-index.invariant.scans ∙ ap (later c.loop-index.index) (scan_over c.args.bytes.now c.loop-index.index c.loop-index.stage c.loop-index-test.false))
+    sym (c.loop-index.invariant.scans ∙ ap (later c.loop-index.index)
+    (scan_over c.args.bytes.now c.loop-index.index c.loop-index.stage c.loop-index-test.false))

@@ -11,5 +11,6 @@ returns-clause-items c =
     let long : length all ≡ c.len-len.result = search rules in
     let same : left ≡ 0 + left = omega arith in
     let rest : length (drop count all) ≡ left = omega (arith, length-drop count all) in
-    c.truncate.ensures.items ∙ ap (take left) c.copy_within.ensures.items ∙ ap (λ k. take k (paste all 0 (drop count all) left)) same
+    c.truncate.ensures.items ∙ ap (take left) c.copy_within.ensures.items
+    ∙ ap (λ k. take k (paste all 0 (drop count all) left)) same
     ∙ take-paste all 0 (drop count all) left (omega arith) (omega arith) ∙ take_all left (drop count all) (omega arith)

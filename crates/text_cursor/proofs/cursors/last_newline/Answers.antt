@@ -11,10 +11,14 @@ loop-index-preserved c =
     let text = c.args.characters.now in
     let index = c.loop-index.index in
     let found = c.index-characters-index.result in
-    let more = last-more text index found c.loop-index-test.true ∙ ap (λ x. if is_newline x then index + 1 else last_line (take index text)) (sym c.index-characters-index.is) in
+    let more = last-more text index found c.loop-index-test.true
+    ∙ ap (λ x. if is_newline x then index + 1 else last_line (take index text)) (sym c.index-characters-index.is) in
     elim c.if-character-eq10.branch [
       | then-character-eq10 w ↦
-          w.line-is ∙ sym (more ∙ ap (λ b. if b then index + 1 else last_line (take index text)) (eq-eqb found 10 w.if-character-eq10.true))
+          w.line-is ∙ sym (more ∙ ap (λ b. if b then index + 1
+          else last_line (take index text)) (eq-eqb found 10 w.if-character-eq10.true))
       | else-character-eq10 w ↦
-          w.line-is ∙ c.loop-index.invariant ∙ sym (more ∙ ap (λ b. if b then index + 1 else last_line (take index text)) (ne_eqb found 10 w.if-character-eq10.false))
+          w.line-is ∙ c.loop-index.invariant
+          ∙ sym (more ∙ ap (λ b. if b then index + 1
+          else last_line (take index text)) (ne_eqb found 10 w.if-character-eq10.false))
     ]

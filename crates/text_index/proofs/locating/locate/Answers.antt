@@ -17,23 +17,33 @@ returns-clause-value g c =
     let text = shown content view.s view.e in
     let word = index_of meanings.marks meanings.tags (chars c.args.word.now) in
     let short : length text < 18446744073709551615 =
-    omega (arith, length-shown content view.s view.e c.requires.view, c.requires.view.behind.within, length-map content.cells (λ (cell : Cell). cell.character), c.requires.room) in
+    omega (
+      arith,
+      length-shown content view.s view.e c.requires.view,
+      c.requires.view.behind.within,
+      length-map content.cells (λ (cell : Cell). cell.character),
+      c.requires.room,
+    ) in
     λ _. c.resolve.ensures.value
     ∙ index_value-saturated is_word meanings text word c.in_ok-index.index.base c.in_ok-index.index.modifiers short
-    (shown-within names.marks.now.marks names.tags.now.tags names.widget.0 content view.s view.e c.requires.view) c.in_ok-index.ensures.ok
+    (shown-within names.marks.now.marks names.tags.now.tags names.widget.0 content view.s view.e c.requires.view)
+    c.in_ok-index.ensures.ok
 
 pub returns-clause-within : goal.returns-clause-within
 returns-clause-within g c =
     let view = c.args.view.now in let names = c.args.names.now in let content = g.S.TextStore.content view.store.now in
     let meanings = shown_meanings names.marks.now.marks names.tags.now.tags names.widget.0 content view.s view.e in
     let long = length-shown content view.s view.e c.requires.view in
-    let within = shown-within names.marks.now.marks names.tags.now.tags names.widget.0 content view.s view.e c.requires.view in
+    let within = shown-within names.marks.now.marks names.tags.now.tags names.widget.0 content view.s view.e
+    c.requires.view in
     elim c.resolve.result as (λ r. c.resolve.result ≡ r → IfOk r (λ place. view.s + place ≤ view.e)) [
       | Ok place ↦ λ is. omega (
         arith,
         long,
         c.requires.view.ordered,
-        value_of-le is_word meanings (shown content view.s view.e) (Some (c.in_ok-index.index.base, c.in_ok-index.index.modifiers)) within place (sym c.resolve.ensures.value ∙ is),
+        value_of-le is_word meanings (shown content view.s view.e)
+            (Some (c.in_ok-index.index.base, c.in_ok-index.index.modifiers)) within place (sym c.resolve.ensures.value
+            ∙ is),
       )
       | Err fault ↦ λ _. tt
     ] refl

@@ -11,7 +11,12 @@ overflow_sub-lines g c =
     let content = g.S.TextStore.content view.store.now in
     let long = length-shown content view.s view.e c.requires.view in
     let some : view.s < view.e = omega (arith, c.if-place-len.false, c.len.ensures, long, c.requires.within) in
-    omega (arith, c.lines.ensures, some-line (characters content.cells) view.s view.e c.requires.view.first c.requires.view.behind some)
+    omega (
+      arith,
+      c.lines.ensures,
+      some-line (characters content.cells) view.s view.e c.requires.view.first
+          c.requires.view.behind some,
+    )
 
 pub in_line-requires-clause-known : goal.in_line-requires-clause-known
 in_line-requires-clause-known g c =
@@ -19,7 +24,12 @@ in_line-requires-clause-known g c =
     let content = g.S.TextStore.content view.store.now in
     let long = length-shown content view.s view.e c.requires.view in
     let some : view.s < view.e = omega (arith, c.if-place-len.false, c.len.ensures, long, c.requires.within) in
-    omega (arith, c.lines.ensures, c.min.ensures, some-line (characters content.cells) view.s view.e c.requires.view.first c.requires.view.behind some)
+    omega (
+      arith,
+      c.lines.ensures,
+      c.min.ensures,
+      some-line (characters content.cells) view.s view.e c.requires.view.first c.requires.view.behind some,
+    )
 
 pub returns-clause-value : goal.returns-clause-value
 returns-clause-value g c =

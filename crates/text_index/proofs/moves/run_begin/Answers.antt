@@ -11,8 +11,13 @@ returns-then-not-is_word-clause-value g c =
     let view = c.args.view.now in
     let content = g.S.TextStore.content view.store.now in
     let text = shown content view.s view.e in
-    let within : c.args.place ≤ length text = omega (arith, length-shown content view.s view.e c.requires.view, c.requires.within) in
-    run-begins is_word text c.args.place c.loop-passed.passed (suffix_len is_word (take c.args.place text)) c.is_word.result c.loop-passed-test.true within
+    let within : c.args.place ≤ length text = omega (
+      arith,
+      length-shown content view.s view.e c.requires.view,
+      c.requires.within,
+    ) in
+    run-begins is_word text c.args.place c.loop-passed.passed (suffix_len is_word (take c.args.place text))
+    c.is_word.result c.loop-passed-test.true within
     (c.is_word.ensures ∙ ap is_word c.char_at.ensures) c.if-not-is_word.true c.loop-passed.invariant
 
 pub loop-passed-preserved : goal.loop-passed-preserved
@@ -20,8 +25,13 @@ loop-passed-preserved g c =
     let view = c.args.view.now in
     let content = g.S.TextStore.content view.store.now in
     let text = shown content view.s view.e in
-    let within : c.args.place ≤ length text = omega (arith, length-shown content view.s view.e c.requires.view, c.requires.within) in
-    run-back is_word text c.args.place c.loop-passed.passed (suffix_len is_word (take c.args.place text)) c.is_word.result c.loop-passed-test.true within
+    let within : c.args.place ≤ length text = omega (
+      arith,
+      length-shown content view.s view.e c.requires.view,
+      c.requires.within,
+    ) in
+    run-back is_word text c.args.place c.loop-passed.passed (suffix_len is_word (take c.args.place text))
+    c.is_word.result c.loop-passed-test.true within
     (c.is_word.ensures ∙ ap is_word c.char_at.ensures) c.if-not-is_word.false c.loop-passed.invariant
 
 pub returns-clause-value : goal.returns-clause-value

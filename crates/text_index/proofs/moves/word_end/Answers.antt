@@ -10,7 +10,11 @@ returns-then-left-le1-clause-value g c =
     let view = c.args.view.now in
     let content = g.S.TextStore.content view.store.now in
     let text = shown content view.s view.e in
-    let within : c.args.place ≤ length text = omega (arith, length-shown content view.s view.e c.requires.view, c.requires.within) in
+    let within : c.args.place ≤ length text = omega (
+      arith,
+      length-shown content view.s view.e c.requires.view,
+      c.requires.within,
+    ) in
     end-of-last is_word text c.args.place within (omega (arith, c.if-left-le1.true, c.len.ensures))
 
 pub returns-then-is_word-clause-value : goal.returns-then-is_word-clause-value
@@ -18,11 +22,13 @@ returns-then-is_word-clause-value g c =
     let view = c.args.view.now in
     let text = shown (g.S.TextStore.content view.store.now) view.s view.e in
     let more : 1 < length text - c.args.place = omega (arith, c.if-left-le1.false, c.len.ensures) in
-    end-of-word is_word text c.args.place c.run_end.result c.is_word.result more (c.is_word.ensures ∙ ap is_word c.char_at.ensures) c.if-is_word.true c.run_end.ensures.value
+    end-of-word is_word text c.args.place c.run_end.result c.is_word.result more (c.is_word.ensures
+    ∙ ap is_word c.char_at.ensures) c.if-is_word.true c.run_end.ensures.value
 
 pub returns-else-is_word-clause-value : goal.returns-else-is_word-clause-value
 returns-else-is_word-clause-value g c =
     let view = c.args.view.now in
     let text = shown (g.S.TextStore.content view.store.now) view.s view.e in
     let more : 1 < length text - c.args.place = omega (arith, c.if-left-le1.false, c.len.ensures) in
-    end-of-other is_word text c.args.place c.is_word.result more (c.is_word.ensures ∙ ap is_word c.char_at.ensures) c.if-is_word.false
+    end-of-other is_word text c.args.place c.is_word.result more (c.is_word.ensures
+    ∙ ap is_word c.char_at.ensures) c.if-is_word.false

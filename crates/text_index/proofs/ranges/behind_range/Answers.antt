@@ -1,7 +1,7 @@
-use Rattle.std.proofs.Common.{◌≡◌, ◌-◌, arith, true}
+use Rattle.std.proofs.Common.{◌≡◌, ◌-◌, ap, arith, true, ◌∙◌}
 use Rattle.text_model.specs.Changes.{flag_at}
 use Rattle.text_index.specs.Views.{shown_flags}
-use Rattle.text_index.proofs.WalkLaws.{range-passed, range-ends}
+use Rattle.text_index.proofs.WalkLaws.{range-passed, range-ends, unset-there}
 use Rattle.text_index.proofs.ranges.behind_range.Goals as goal
 
 pub returns-clause-passed : goal.returns-clause-passed
@@ -17,3 +17,10 @@ returns-clause-here g c = λ there.
     let shown = shown_flags c.args.slot.0 (g.S.TextStore.content view.store.now) view.s view.e in
     let set : flag_at shown (c.args.place - 1) ≡ true = cc in
     range-ends shown (c.args.place - 1) c.change_behind.result set c.change_behind.ensures.value there
+
+pub returns-clause-past : goal.returns-clause-past
+returns-clause-past g c = λ _.
+    let view = c.args.view.now in
+    let shown = shown_flags c.args.slot.0 (g.S.TextStore.content view.store.now) view.s view.e in
+    let set : flag_at shown (c.args.place - 1) ≡ true = cc in
+    ap (flag_at shown) c.change_behind.ensures.value ∙ unset-there shown (c.args.place - 1) set

@@ -9,4 +9,5 @@ returns-clause-value g c =
     let content = g.S.TextStore.content view.store.now in
     let all = flags c.args.slot.0 content.cells in
     let within : view.e ≤ length all = flags-within content c.args.slot.0 view.s view.e c.requires.view in
-    ap (λ n. n - view.s) c.max.ensures ∙ ap (λ n. max n view.s - view.s) c.previous_change-change.ensures.value ∙ part-previous all view.s view.e c.args.place within c.requires.some c.requires.within
+    ap (λ n. n - view.s) c.max.ensures ∙ ap (λ n. max n view.s - view.s) c.previous_change-change.ensures.value
+    ∙ part-previous all view.s view.e c.args.place within c.requires.some c.requires.within

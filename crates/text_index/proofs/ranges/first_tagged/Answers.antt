@@ -6,9 +6,12 @@ use Rattle.text_index.proofs.ranges.first_tagged.Goals as goal
 pub returns-in_err-range-clause-value : goal.returns-in_err-range-clause-value
 returns-in_err-range-clause-value g c =
     let view = c.args.view.now in
-    c.from_residual.ensures ∙ first-start (shown_flags c.args.slot.0 (g.S.TextStore.content view.store.now) view.s view.e) None (c.in_err-range.ensures {u = tt}).value
+    c.from_residual.ensures
+    ∙ first-start (shown_flags c.args.slot.0 (g.S.TextStore.content view.store.now) view.s view.e) None
+    (c.in_err-range.ensures {u = tt}).value
 
 pub returns-clause-value : goal.returns-clause-value
 returns-clause-value g c =
     let view = c.args.view.now in
-    first-start (shown_flags c.args.slot.0 (g.S.TextStore.content view.store.now) view.s view.e) (Some c.in_ok-range.range) (c.in_ok-range.ensures {u = tt}).value
+    first-start (shown_flags c.args.slot.0 (g.S.TextStore.content view.store.now) view.s view.e)
+    (Some c.in_ok-range.range) (c.in_ok-range.ensures {u = tt}).value

@@ -12,15 +12,20 @@ returns-in_err-range-clause-value g c =
     let view = c.args.view.now in
     let content = g.S.TextStore.content view.store.now in
     let shown = shown_flags c.args.slot.0 content view.s view.e in
-    let long : length shown ≡ view.e - view.s = length-part (flags c.args.slot.0 content.cells) view.s view.e (flags-within content c.args.slot.0 view.s view.e c.requires.view) c.requires.view.ordered in
-    let all : c.len.result ≡ length shown = c.len.ensures ∙ length-shown content view.s view.e c.requires.view ∙ sym long in
-    c.from_residual.ensures ∙ last-end shown None ((c.in_err-range.ensures {u = tt}).value ∙ ap (previous_range shown) all)
+    let long : length shown ≡ view.e - view.s = length-part (flags c.args.slot.0 content.cells) view.s view.e
+    (flags-within content c.args.slot.0 view.s view.e c.requires.view) c.requires.view.ordered in
+    let all : c.len.result ≡ length shown = c.len.ensures ∙ length-shown content view.s view.e c.requires.view
+    ∙ sym long in
+    c.from_residual.ensures ∙ last-end shown None ((c.in_err-range.ensures {u = tt}).value
+    ∙ ap (previous_range shown) all)
 
 pub returns-clause-value : goal.returns-clause-value
 returns-clause-value g c =
     let view = c.args.view.now in
     let content = g.S.TextStore.content view.store.now in
     let shown = shown_flags c.args.slot.0 content view.s view.e in
-    let long : length shown ≡ view.e - view.s = length-part (flags c.args.slot.0 content.cells) view.s view.e (flags-within content c.args.slot.0 view.s view.e c.requires.view) c.requires.view.ordered in
-    let all : c.len.result ≡ length shown = c.len.ensures ∙ length-shown content view.s view.e c.requires.view ∙ sym long in
+    let long : length shown ≡ view.e - view.s = length-part (flags c.args.slot.0 content.cells) view.s view.e
+    (flags-within content c.args.slot.0 view.s view.e c.requires.view) c.requires.view.ordered in
+    let all : c.len.result ≡ length shown = c.len.ensures ∙ length-shown content view.s view.e c.requires.view
+    ∙ sym long in
     last-end shown (Some c.in_ok-range.range) ((c.in_ok-range.ensures {u = tt}).value ∙ ap (previous_range shown) all)

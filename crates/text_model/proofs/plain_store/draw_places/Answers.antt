@@ -6,8 +6,11 @@ use Rattle.text_model.proofs.plain_store.draw_places.Goals.{in-None, in-Some}
 
 pub loop-place-preserved : goal.loop-place-preserved
 loop-place-preserved c =
-    let more = place_more (drawn c.args.from c.args.to) c.args.places.now c.loop-place.places c.loop-place.place-index in
+    let more = place_more (drawn c.args.from c.args.to) c.args.places.now c.loop-place.places c.loop-place.place-index
+    in
     elim c.match-place.branch [
-      | in-None w ↦ more _ c.match-place.place c.loop-place-test.true c.loop-place.auto.places c.loop-place.invariant w.in-None.is w.place-is
-      | in-Some w ↦ more _ c.match-place.place c.loop-place-test.true c.loop-place.auto.places c.loop-place.invariant w.in-Some.is (w.place-is ∙ ap Some w.drawn.ensures)
+      | in-None w ↦ more _ c.match-place.place c.loop-place-test.true c.loop-place.auto.places c.loop-place.invariant
+          w.in-None.is w.place-is
+      | in-Some w ↦ more _ c.match-place.place c.loop-place-test.true c.loop-place.auto.places c.loop-place.invariant
+          w.in-Some.is (w.place-is ∙ ap Some w.drawn.ensures)
     ]

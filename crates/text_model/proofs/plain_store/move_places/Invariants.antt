@@ -4,4 +4,5 @@ use Rattle.text_model.specs.Splices.{moved}
 use Rattle.text_model.proofs.plain_store.move_places.Given as goal
 
 abbrev pub invariant-loop-place : goal.invariant-loop-place
-invariant-loop-place l = l.places ≡ map (option_map (moved l.at l.count)) (take l.place-index l.initial.places) ++ drop l.place-index l.initial.places
+invariant-loop-place l = l.places ≡ map (option_map (moved l.at l.count)) (take l.place-index l.initial.places)
+    ++ drop l.place-index l.initial.places

@@ -7,5 +7,7 @@ use Rattle.text_model.proofs.plain_store.push_cells.Goals as goal
 
 pub returns : goal.returns
 returns c =
-    let all = YieldsList-end (YieldsList-from_chars c.args.text.now c.utf8.text cc) c.loop-character.yielded _ c.loop-character.yielded_by _ _ c.in-None.is c.next.ensures.steps in
-    c.loop-character.invariant ∙ ap (λ text. c.args.cells.now.items ++ cells_of text c.args.tags) (sym (map-id c.loop-character.yielded) ∙ all.0)
+    let all = YieldsList-end (YieldsList-from_chars c.args.text.now c.utf8.text cc) c.loop-character.yielded _
+    c.loop-character.yielded_by _ _ c.in-None.is c.next.ensures.steps in
+    c.loop-character.invariant ∙ ap (λ text. c.args.cells.now.items ++ cells_of text c.args.tags)
+    (sym (map-id c.loop-character.yielded) ∙ all.0)

@@ -5,4 +5,5 @@ use Rattle.text_model.proofs.TextLaws.{chars-push}
 use Rattle.text_model.proofs.plain_store.push_char.Goals as goal
 
 pub returns : goal.returns
-returns c = ap chars (c.in_ok-push.ensures.bytes) ∙ chars-push _ c.args.character (IsUtf8-string_bytes c.args.text.now) c.ranges.character.0
+returns c = ap chars (c.in_ok-push.ensures.bytes)
+    ∙ chars-push _ c.args.character (IsUtf8-string_bytes c.args.text.now) c.ranges.character.0

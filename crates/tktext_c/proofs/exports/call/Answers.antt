@@ -4,5 +4,7 @@ use Rattle.tktext_c.proofs.exports.call.Goals as goal
 
 pub returns : goal.returns
 returns c =
-    calls-held _ _ c.deref_mut.result.now c.call_bytes-ended.new.self c.args.lengths.now c.args.bytes.now c.call_bytes-ended.result
-    (c.take-session.ensures.value ∙ ap (λ s. Some s) (sym c.deref_mut.ensures.value)) c.put.ensures.session c.call_bytes-ended.ensures
+    calls-held _ _ c.deref_mut.result.now c.call_bytes-ended.new.self c.args.lengths.now c.args.bytes.now
+    c.call_bytes-ended.result
+    (c.take-session.ensures.value ∙ ap (λ s. Some s) (sym c.deref_mut.ensures.value)) c.put.ensures.session
+    c.call_bytes-ended.ensures

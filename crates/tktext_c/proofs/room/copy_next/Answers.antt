@@ -5,7 +5,9 @@ use Rattle.tktext_c.proofs.room.copy_next.Goals as goal
 
 pub returns : goal.returns
 returns c = λ done start before.
-    copied-more done c.args.text.now start c.args.room.now c.copy_text.new.room c.args.total c.min-at.result c.saturating_add.result before
+    copied-more done c.args.text.now start c.args.room.now c.copy_text.new.room c.args.total c.min-at.result
+    c.saturating_add.result before
     (omega arith) c.min-at.ensures
-    (c.copy_text.ensures ∙ ap (λ t. take c.min-at.result c.args.room.now ++ over t (drop c.min-at.result c.args.room.now)) c.as_bytes.ensures.value)
+    (c.copy_text.ensures ∙ ap (λ t. take c.min-at.result c.args.room.now
+    ++ over t (drop c.min-at.result c.args.room.now)) c.as_bytes.ensures.value)
     c.copy_text.auto.room c.saturating_add.ensures

@@ -4,7 +4,8 @@ use Rattle.tktext_c.proofs.room.copy_piece.Goals as goal
 
 pub returns : goal.returns
 returns c =
-    let p = c.parts.result in let a = p.0.now in let b = p.1.now in let d = p.2.now in let e = p.3.now in let f = p.4.now in
+    let p = c.parts.result in let a = p.0.now in let b = p.1.now in let d = p.2.now in let e = p.3.now in
+    let f = p.4.now in
     let room = c.args.room.now in
     let first = c.copy_next-total.ensures [] room (copied-none room) in
     let second = c.copy_next-total-2.ensures ([] ++ a) room first in

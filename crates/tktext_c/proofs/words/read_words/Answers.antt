@@ -10,6 +10,8 @@ loop-length-preserved c =
     let left = drop_more lengths i 0 c.loop-length-test.true in
     let cases = c.in-Some.ensures.cases in
     let text = rw cases.1 at c.in_ok-word.ensures.text in
-    let more = reading-more lengths c.args.bytes.now (drop i lengths) rest (texts_of c.loop-length.words.items) _ (drop (i + 1) lengths) c.loop-length.invariant left cases.0 text in
-    let words = texts-more c.loop-length.words.items c.push.new.self.items c.in_ok-word.word _ (search rules) (c.in_ok-word.ensures.word ∙ cases.1) in
+    let more = reading-more lengths c.args.bytes.now (drop i lengths) rest (texts_of c.loop-length.words.items) _
+    (drop (i + 1) lengths) c.loop-length.invariant left cases.0 text in
+    let words = texts-more c.loop-length.words.items c.push.new.self.items c.in_ok-word.word _ (search rules)
+    (c.in_ok-word.ensures.word ∙ cases.1) in
     rw (cases.2, words) more

@@ -11,6 +11,7 @@ overflow_add-counted c =
     let old = c.args.counted.now in
     let lines = c.args.lines in
     let long : c.len-2.result ≡ length lines.items = omega (arith, c.len-2.ensures, lines.ok.0) in
-    let fits = subst (λ ls. FitsSum (plus (total old.tree.lines) (count_of ls))) c.deref.ensures.value (c.can_splice.ensures.fits c.if-not-can_splice.false) in
+    let fits = subst (λ ls. FitsSum (plus (total old.tree.lines) (count_of ls))) c.deref.ensures.value
+    (c.can_splice.ensures.fits c.if-not-can_splice.false) in
     let few = spliced old.tree.lines lines.items old.count c.args.gone c.len-2.result old.same long fits in
     omega (arith, few)

@@ -16,12 +16,14 @@ line-requires t c = named-tree (records c.args.store.now) c.args.height c.args.n
 pub walk_below-below-requires : goal.walk_below-below-requires
 walk_below-below-requires t c = let more = c.if-height-eq0.false in let child = c.in-Some.child in (
   omega (arith, c.decreases),
-  child-is-tree (records c.args.store.now) (c.args.height - 1) c.args.node c.loop-slot.slot child (c.child_in.ensures child c.in-Some.is),
+  child-is-tree (records c.args.store.now) (c.args.height - 1) c.args.node c.loop-slot.slot child
+      (c.child_in.ensures child c.in-Some.is),
 )
 
 pub is_linked-requires-clause-link : goal.is_linked-requires-clause-link
 is_linked-requires-clause-link t c = let child = c.in-Some.child in
-    linked (records c.args.store.now) (c.args.height - 1) c.args.node c.loop-slot.slot child (c.child_in.ensures child c.in-Some.is)
+    linked (records c.args.store.now) (c.args.height - 1) c.args.node c.loop-slot.slot child
+    (c.child_in.ensures child c.in-Some.is)
 
 pub sum-requires : goal.sum-requires
 sum-requires t c = named-tree (records c.args.store.now) c.args.height c.args.node c.requires

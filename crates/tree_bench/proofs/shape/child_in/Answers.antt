@@ -14,5 +14,6 @@ returns c x is = let m = records c.args.store.now in let h = c.args.height in le
     let e : h ≡ suc (h - 1) = omega arith in
     record {
       tree = subst (λ k. IsTree m k p) e c.requires.tree;
-      at = sym (child_is m p (row-above m h (h - 1) p e c.requires.tree) c.child.result c.args.slot c.child.ensures.value) ∙ is;
+      at = sym (child_is m p (row-above m h (h - 1) p e c.requires.tree) c.child.result c.args.slot
+          c.child.ensures.value) ∙ is;
     }

@@ -11,6 +11,7 @@ parent-requires c = subst (λ o. IsSome o) (sym c.requires.link.is) refl
 
 pub same-requires : goal.same-requires
 same-requires c = let m = records c.args.store.now in let link = c.requires.link in
-    let up = at_some (finite.get m c.args.child) (λ r. c.parent.result ≡ r.parent) link.found c.parent.ensures.value link.is ∙ link.parent in
+    let up = at_some (finite.get m c.args.child) (λ r. c.parent.result
+    ≡ r.parent) link.found c.parent.ensures.value link.is ∙ link.parent in
     let e = same_Some c.args.node c.in-Some.parent (sym up ∙ c.in-Some.is) in
     record { names = (subst (λ q. IsSome (finite.get m q)) e c.requires.node, c.requires.node) }

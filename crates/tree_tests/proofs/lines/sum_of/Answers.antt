@@ -10,4 +10,5 @@ plus-sum-requires c =
 
 pub loop-line-preserved : goal.loop-line-preserved
 loop-line-preserved c =
-    c.plus-sum.ensures ∙ ap₂ plus c.loop-line.invariant c.sum-more.ensures ∙ sum-more c.args.lines.now c.loop-line.line-index c.line-item.result c.loop-line-test.true c.line-item.is
+    c.plus-sum.ensures ∙ ap₂ plus c.loop-line.invariant c.sum-more.ensures
+    ∙ sum-more c.args.lines.now c.loop-line.line-index c.line-item.result c.loop-line-test.true c.line-item.is

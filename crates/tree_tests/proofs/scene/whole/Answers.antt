@@ -4,5 +4,6 @@ use Rattle.tree_tests.proofs.scene.whole.Goals as goal
 
 pub returns : goal.returns
 returns c =
-    let is : length c.args.scene.now.tree.lines ≡ c.len.result = omega (arith, c.args.scene.now.same, c.len.ensures, c.args.scene.now.plain.ok.0) in
+    let is : length c.args.scene.now.tree.lines
+    ≡ c.len.result = omega (arith, c.args.scene.now.same, c.len.ensures, c.args.scene.now.plain.ok.0) in
     c.prefix.ensures ∙ all-counted c.args.scene.now.tree.lines c.len.result is

@@ -12,7 +12,7 @@ returns-clause-value c =
     let words = c.args.words.now in
     let count = c.count_switches-count in
     c.decide.ensures.value
-    ∙ ap₂ (λ front back. decided (row_rule c.args.self) c.args.at front back)
+    ∙ ap₂ (λ front back. decided (row_rule c.args.self.now) c.args.at front back)
     (sym (take-map (λ word. chars (string_bytes word)) count.result words) ∙ count.ensures.front)
     (ap texts_of (take_rest words count.result) ∙ sym (drop-map (λ word. chars (string_bytes word)) count.result words)
     ∙ ap (λ n. drop n (texts_of words)) count.ensures.value)

@@ -1,5 +1,7 @@
 -- `new` begins with no bytes.
-use Rattle.devices.proofs.WalkSteps.{[], ◌∷◌, refl, proved, ftrue, tables, ‵, ◌⊛◌, ◌$◌, ◌∵◌, !, qed, keep, join, suffices, frame, enter, returns, alloc_all, pass_all, free_all, look_at, sets, nothing, Stays, walk_of, ends_at}
+use Rattle.devices.proofs.WalkSteps.{[], ◌∷◌, refl, proved, ftrue, tables, ‵, ◌⊛◌, ◌$◌, ◌∵◌, !, qed, keep, join}
+use Rattle.devices.proofs.WalkSteps.{suffices, frame, enter, returns, alloc_all, pass_all, free_all, look_at, sets}
+use Rattle.devices.proofs.WalkSteps.{nothing, Stays, walk_of, ends_at}
 use types.Part.{agg}
 use types.Kit.{use0, by}
 use contract.Monad.{fact_i}
@@ -25,4 +27,8 @@ new_spec 𝓤 𝓛 𝓜 𝓡 wired =
     enter ! _ _ _ _ _ $ alloc_all ! (λ l. pass_all ! refl tt $ sets ! (agg ! (no_more !)) refl (tt, tt) $
     returns ! (look_at ! 0 refl) $ free_all ! refl $
     suffices ! _ (ends_at 𝓛 f.ended stayed c y (vstruct vnil) (record { bytes = [] }) tt tt) $
-    use0 𝓛 (‵ (R.own_val (record { bytes = [] }) (vstruct vnil ∷ []))) (makes_shadow 𝓛 (R.own_val (record { bytes = [] }) (vstruct vnil ∷ [])) ((λ u. (tt, tt)), tt) ((tt, (refl, tt)), tt)) $ nothing ! $ join ! $ nothing ! $ join ! $ frame ! $ by ! (fact_i 𝓤 _ _ refl)))
+    use0 𝓛 (‵ (R.own_val (record { bytes = [] }) (vstruct vnil ∷ [])))
+    (makes_shadow 𝓛 (R.own_val (record { bytes = [] }) (vstruct vnil ∷ [])) ((λ u. (tt, tt)), tt) (
+      (tt, (refl, tt)),
+      tt,
+    )) $ nothing ! $ join ! $ nothing ! $ join ! $ frame ! $ by ! (fact_i 𝓤 _ _ refl)))

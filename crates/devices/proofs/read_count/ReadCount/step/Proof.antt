@@ -1,5 +1,9 @@
 -- `step` sets the ghost count.
-use Rattle.devices.proofs.WalkSteps.{[], ◌∷◌, refl, proved, ftrue, flft, named, vunit, tables, ‵, ◌⊛◌, ◌$◌, ◌∵◌, !, qed, done, move, keep, split, join, fsplit3, feq_i, suffices, frame, group, enter, of_opd, unit_lit, returns, alloc_all, pass_all, free_all, look_at, sets, MutRef, mut_vals, mut_Tells, plain, nothing, opens, closes, Stays, walk_of, says, stay_ref, Goes-ref, ends_at}
+use Rattle.devices.proofs.WalkSteps.{[], ◌∷◌, refl, proved, ftrue, flft, named, vunit, tables, ‵, ◌⊛◌, ◌$◌, ◌∵◌, !, qed}
+use Rattle.devices.proofs.WalkSteps.{done, move, keep, split, join, fsplit3, feq_i, suffices, frame, group, enter}
+use Rattle.devices.proofs.WalkSteps.{of_opd, unit_lit, returns, alloc_all, pass_all, free_all, look_at, sets, MutRef}
+use Rattle.devices.proofs.WalkSteps.{mut_vals, mut_Tells, plain, nothing, opens, closes, Stays, walk_of, says, stay_ref}
+use Rattle.devices.proofs.WalkSteps.{Goes-ref, ends_at}
 use Prim.Native.Nat.{◌+◌}
 use Rattle.devices.specs.contracts.read_count.ReadCount.step as f
 use Rattle.devices.proofs.read_count.ReadCount.step.Statement.{statement}
@@ -25,5 +29,6 @@ step_spec 𝓤 𝓛 𝓜 𝓡 wired =
     closes ! tt R (record h { count = h.count + 1 }) us b o $
     returns ! (look_at ! 0 refl) $ free_all ! refl $ move ! (3 ∷ []) $
     suffices ! _ (ends_at 𝓛 f.ended stayed c y vunit tt (record h { count = h.count + 1 }, tt) (tt, tt)) $ says ! refl $
-    group ! 3 $ nothing ! $ move ! (1 ∷ 0 ∷ []) $ join ! $ nothing ! $ move ! (2 ∷ 0 ∷ []) $ join ! $ frame ! $ frame ! $
+    group ! 3 $ nothing ! $ move ! (1 ∷ 0 ∷ []) $ join ! $ nothing ! $ move ! (2 ∷ 0 ∷ []) $ join ! $ frame ! $ frame !
+    $
     feq_i ! _ (vunit ∷ []) _ refl $ done !)))

@@ -15,7 +15,8 @@ make_seat-made-requires-clause-new g c =
     let old = c.self.inside in
     let document = c.args.self.now in
     let content = g.S.TextStore.content old.store in
-    let parts = parts_of old.seats old.tags old.marks old.settings old.disabled.items old.anchors.items old.history content in
+    let parts = parts_of old.seats old.tags old.marks old.settings old.disabled.items old.anchors.items old.history
+    content in
     let stands : Stands parts document = record { sound = c.self.invariant; is = c.self.view_is } in
     unnamed parts document (chars c.args.name.now) stands c.requires.new
 
@@ -24,10 +25,12 @@ make_seat-made-requires-clause-within g c =
     let old = c.self.inside in
     let document = c.args.self.now in
     let content = g.S.TextStore.content old.store in
-    let parts = parts_of old.seats old.tags old.marks old.settings old.disabled.items old.anchors.items old.history content in
+    let parts = parts_of old.seats old.tags old.marks old.settings old.disabled.items old.anchors.items old.history
+    content in
     let stands : Stands parts document = record { sound = c.self.invariant; is = c.self.view_is } in
     let own : Anchors = record { start = c.anchor_at-start.result; end = c.anchor_at-end.result } in
-    let within = (own-within parts document c.args.settings own stands c.requires.lines c.requires.ordered (λ i. record { start = c.anchor_at-start.ensures i; end = c.anchor_at-end.ensures i })).1 in
+    let within = (own-within parts document c.args.settings own stands c.requires.lines c.requires.ordered (λ i.
+    record { start = c.anchor_at-start.ensures i; end = c.anchor_at-end.ensures i })).1 in
     omega (arith, within, c.unwrap_or.ensures)
 
 pub invariant_of-self-in-Ok : goal.invariant_of-self-in-Ok
@@ -35,15 +38,20 @@ invariant_of-self-in-Ok g c =
     let old = c.self.inside in
     let document = c.args.self.now in
     let content = g.S.TextStore.content old.store in
-    let parts = parts_of old.seats old.tags old.marks old.settings old.disabled.items old.anchors.items old.history content in
+    let parts = parts_of old.seats old.tags old.marks old.settings old.disabled.items old.anchors.items old.history
+    content in
     let stands : Stands parts document = record { sound = c.self.invariant; is = c.self.view_is } in
     let name = chars c.args.name.now in
     let own : Anchors = record { start = c.anchor_at-start.result; end = c.anchor_at-end.result } in
-    let own_is : own ≡ record { start = line_anchor (model.characters content.cells) c.args.settings.start; end = line_anchor (model.characters content.cells) c.args.settings.end } =
+    let own_is : own ≡ record {
+      start = line_anchor (model.characters content.cells) c.args.settings.start;
+      end = line_anchor (model.characters content.cells) c.args.settings.end;
+    } =
     λ i. record { start = c.anchor_at-start.ensures i; end = c.anchor_at-end.ensures i } in
     let new = c.make_seat-made.new in
     let slot = c.in-Ok.slot in
-    let made : IsSeatMade parts old.history c.bound.new.history name slot c.args.settings new.seats new.disabled.items new.anchors.items own (g.S.TextStore.content new.store) = record {
+    let made : IsSeatMade parts old.history c.bound.new.history name slot c.args.settings new.seats new.disabled.items
+    new.anchors.items own (g.S.TextStore.content new.store) = record {
       named = c.requires.named;
       sound = c.in-Ok.ensures.sound;
       seats_is = c.in-Ok.ensures.last;
@@ -54,12 +62,15 @@ invariant_of-self-in-Ok g c =
       flagged = c.in-Ok.ensures.room.0;
       anchored = c.in-Ok.ensures.room.1;
       own_is = own_is;
-      content_is = c.in-Ok.ensures.store ∙ ap (λ n. with_own_marks slot (record new_mark { offset = n }) content) c.unwrap_or.ensures;
+      content_is = c.in-Ok.ensures.store
+          ∙ ap (λ n. with_own_marks slot (record new_mark { offset = n }) content) c.unwrap_or.ensures;
       history = c.bound.ensures.history;
       modified = c.bound.ensures.modified;
       most = c.bound.ensures.most;
     } in
-    let seated = seated-made parts old.history c.bound.new.history document name slot c.args.settings new.seats new.disabled.items new.anchors.items own (g.S.TextStore.content new.store) stands c.requires.lines c.requires.ordered made in
+    let seated = seated-made parts old.history c.bound.new.history document name slot c.args.settings new.seats
+    new.disabled.items new.anchors.items own (g.S.TextStore.content new.store) stands c.requires.lines
+    c.requires.ordered made in
     seated.sound
 
 pub returns-in-Err-clause-err : goal.returns-in-Err-clause-err
@@ -67,12 +78,16 @@ returns-in-Err-clause-err g c =
     let old = c.self.inside in
     let document = c.args.self.now in
     let content = g.S.TextStore.content old.store in
-    let parts = parts_of old.seats old.tags old.marks old.settings old.disabled.items old.anchors.items old.history content in
+    let parts = parts_of old.seats old.tags old.marks old.settings old.disabled.items old.anchors.items old.history
+    content in
     let stands : Stands parts document = record { sound = c.self.invariant; is = c.self.view_is } in
     let new = c.make_seat-made.new in
     let back : c.truncate.new.self ≡ old.seats =
-    c.truncate.ensures ∙ ap (λ n. record new.seats { entries = take n new.seats.entries }) c.len-front.ensures.value ∙ c.in-Err.ensures.front in
-    let left = unseated parts document c.truncate.new.self new.disabled.items new.anchors.items (g.S.TextStore.content new.store) stands back c.in-Err.ensures.disabled c.in-Err.ensures.anchors c.in-Err.ensures.err in
+    c.truncate.ensures ∙ ap (λ n. record new.seats { entries = take n new.seats.entries }) c.len-front.ensures.value
+    ∙ c.in-Err.ensures.front in
+    let left = unseated parts document c.truncate.new.self new.disabled.items new.anchors.items
+    (g.S.TextStore.content new.store) stands back c.in-Err.ensures.disabled c.in-Err.ensures.anchors
+    c.in-Err.ensures.err in
     left.is
 
 pub returns-in-Err-clause-well_formed : goal.returns-in-Err-clause-well_formed
@@ -80,12 +95,16 @@ returns-in-Err-clause-well_formed g c =
     let old = c.self.inside in
     let document = c.args.self.now in
     let content = g.S.TextStore.content old.store in
-    let parts = parts_of old.seats old.tags old.marks old.settings old.disabled.items old.anchors.items old.history content in
+    let parts = parts_of old.seats old.tags old.marks old.settings old.disabled.items old.anchors.items old.history
+    content in
     let stands : Stands parts document = record { sound = c.self.invariant; is = c.self.view_is } in
     let new = c.make_seat-made.new in
     let back : c.truncate.new.self ≡ old.seats =
-    c.truncate.ensures ∙ ap (λ n. record new.seats { entries = take n new.seats.entries }) c.len-front.ensures.value ∙ c.in-Err.ensures.front in
-    let left = unseated parts document c.truncate.new.self new.disabled.items new.anchors.items (g.S.TextStore.content new.store) stands back c.in-Err.ensures.disabled c.in-Err.ensures.anchors c.in-Err.ensures.err in
+    c.truncate.ensures ∙ ap (λ n. record new.seats { entries = take n new.seats.entries }) c.len-front.ensures.value
+    ∙ c.in-Err.ensures.front in
+    let left = unseated parts document c.truncate.new.self new.disabled.items new.anchors.items
+    (g.S.TextStore.content new.store) stands back c.in-Err.ensures.disabled c.in-Err.ensures.anchors
+    c.in-Err.ensures.err in
     λ limits formed. subst (IsWellFormedDocument limits) (sym left.is) formed
 
 pub returns-in-Ok-clause-ok : goal.returns-in-Ok-clause-ok
@@ -93,15 +112,20 @@ returns-in-Ok-clause-ok g c =
     let old = c.self.inside in
     let document = c.args.self.now in
     let content = g.S.TextStore.content old.store in
-    let parts = parts_of old.seats old.tags old.marks old.settings old.disabled.items old.anchors.items old.history content in
+    let parts = parts_of old.seats old.tags old.marks old.settings old.disabled.items old.anchors.items old.history
+    content in
     let stands : Stands parts document = record { sound = c.self.invariant; is = c.self.view_is } in
     let name = chars c.args.name.now in
     let own : Anchors = record { start = c.anchor_at-start.result; end = c.anchor_at-end.result } in
-    let own_is : own ≡ record { start = line_anchor (model.characters content.cells) c.args.settings.start; end = line_anchor (model.characters content.cells) c.args.settings.end } =
+    let own_is : own ≡ record {
+      start = line_anchor (model.characters content.cells) c.args.settings.start;
+      end = line_anchor (model.characters content.cells) c.args.settings.end;
+    } =
     λ i. record { start = c.anchor_at-start.ensures i; end = c.anchor_at-end.ensures i } in
     let new = c.make_seat-made.new in
     let slot = c.in-Ok.slot in
-    let made : IsSeatMade parts old.history c.bound.new.history name slot c.args.settings new.seats new.disabled.items new.anchors.items own (g.S.TextStore.content new.store) = record {
+    let made : IsSeatMade parts old.history c.bound.new.history name slot c.args.settings new.seats new.disabled.items
+    new.anchors.items own (g.S.TextStore.content new.store) = record {
       named = c.requires.named;
       sound = c.in-Ok.ensures.sound;
       seats_is = c.in-Ok.ensures.last;
@@ -112,12 +136,15 @@ returns-in-Ok-clause-ok g c =
       flagged = c.in-Ok.ensures.room.0;
       anchored = c.in-Ok.ensures.room.1;
       own_is = own_is;
-      content_is = c.in-Ok.ensures.store ∙ ap (λ n. with_own_marks slot (record new_mark { offset = n }) content) c.unwrap_or.ensures;
+      content_is = c.in-Ok.ensures.store
+          ∙ ap (λ n. with_own_marks slot (record new_mark { offset = n }) content) c.unwrap_or.ensures;
       history = c.bound.ensures.history;
       modified = c.bound.ensures.modified;
       most = c.bound.ensures.most;
     } in
-    let seated = seated-made parts old.history c.bound.new.history document name slot c.args.settings new.seats new.disabled.items new.anchors.items own (g.S.TextStore.content new.store) stands c.requires.lines c.requires.ordered made in
+    let seated = seated-made parts old.history c.bound.new.history document name slot c.args.settings new.seats
+    new.disabled.items new.anchors.items own (g.S.TextStore.content new.store) stands c.requires.lines
+    c.requires.ordered made in
     seated.is
 
 pub returns-in-Ok-clause-well_formed : goal.returns-in-Ok-clause-well_formed
@@ -125,15 +152,20 @@ returns-in-Ok-clause-well_formed g c =
     let old = c.self.inside in
     let document = c.args.self.now in
     let content = g.S.TextStore.content old.store in
-    let parts = parts_of old.seats old.tags old.marks old.settings old.disabled.items old.anchors.items old.history content in
+    let parts = parts_of old.seats old.tags old.marks old.settings old.disabled.items old.anchors.items old.history
+    content in
     let stands : Stands parts document = record { sound = c.self.invariant; is = c.self.view_is } in
     let name = chars c.args.name.now in
     let own : Anchors = record { start = c.anchor_at-start.result; end = c.anchor_at-end.result } in
-    let own_is : own ≡ record { start = line_anchor (model.characters content.cells) c.args.settings.start; end = line_anchor (model.characters content.cells) c.args.settings.end } =
+    let own_is : own ≡ record {
+      start = line_anchor (model.characters content.cells) c.args.settings.start;
+      end = line_anchor (model.characters content.cells) c.args.settings.end;
+    } =
     λ i. record { start = c.anchor_at-start.ensures i; end = c.anchor_at-end.ensures i } in
     let new = c.make_seat-made.new in
     let slot = c.in-Ok.slot in
-    let made : IsSeatMade parts old.history c.bound.new.history name slot c.args.settings new.seats new.disabled.items new.anchors.items own (g.S.TextStore.content new.store) = record {
+    let made : IsSeatMade parts old.history c.bound.new.history name slot c.args.settings new.seats new.disabled.items
+    new.anchors.items own (g.S.TextStore.content new.store) = record {
       named = c.requires.named;
       sound = c.in-Ok.ensures.sound;
       seats_is = c.in-Ok.ensures.last;
@@ -144,10 +176,13 @@ returns-in-Ok-clause-well_formed g c =
       flagged = c.in-Ok.ensures.room.0;
       anchored = c.in-Ok.ensures.room.1;
       own_is = own_is;
-      content_is = c.in-Ok.ensures.store ∙ ap (λ n. with_own_marks slot (record new_mark { offset = n }) content) c.unwrap_or.ensures;
+      content_is = c.in-Ok.ensures.store
+          ∙ ap (λ n. with_own_marks slot (record new_mark { offset = n }) content) c.unwrap_or.ensures;
       history = c.bound.ensures.history;
       modified = c.bound.ensures.modified;
       most = c.bound.ensures.most;
     } in
-    let seated = seated-made parts old.history c.bound.new.history document name slot c.args.settings new.seats new.disabled.items new.anchors.items own (g.S.TextStore.content new.store) stands c.requires.lines c.requires.ordered made in
+    let seated = seated-made parts old.history c.bound.new.history document name slot c.args.settings new.seats
+    new.disabled.items new.anchors.items own (g.S.TextStore.content new.store) stands c.requires.lines
+    c.requires.ordered made in
     seated.formed

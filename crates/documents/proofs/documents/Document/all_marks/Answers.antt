@@ -14,9 +14,11 @@ pub returns : goal.returns
 returns g c =
     let old = c.self.inside in
     let document = c.args.self.now in
-    let parts = parts_of old.seats old.tags old.marks old.settings old.disabled.items old.anchors.items old.history (g.S.TextStore.content old.store) in
+    let parts = parts_of old.seats old.tags old.marks old.settings old.disabled.items old.anchors.items old.history
+    (g.S.TextStore.content old.store) in
     let stands : Stands parts document = record { sound = c.self.invariant; is = c.self.view_is } in
     let names = literal "insert" ∷ literal "current" ∷ names_of parts.marks.marks in
     let new = c.push_mark_names.new.list in
-    c.new.ensures ∙ written (string_bytes new) names (IsUtf8-string_bytes new) (subst (λ bytes. Goes bytes (string_bytes new) names) c.new-list.ensures.bytes c.in_ok-push_mark_names.ensures)
+    c.new.ensures ∙ written (string_bytes new) names (IsUtf8-string_bytes new)
+    (subst (λ bytes. Goes bytes (string_bytes new) names) c.new-list.ensures.bytes c.in_ok-push_mark_names.ensures)
     ∙ ap list_text (marks-listed parts document stands)

@@ -13,9 +13,11 @@ pub returns : goal.returns
 returns g c =
     let old = c.self.inside in
     let document = c.args.self.now in
-    let parts = parts_of old.seats old.tags old.marks old.settings old.disabled.items old.anchors.items old.history (g.S.TextStore.content old.store) in
+    let parts = parts_of old.seats old.tags old.marks old.settings old.disabled.items old.anchors.items old.history
+    (g.S.TextStore.content old.store) in
     let stands : Stands parts document = record { sound = c.self.invariant; is = c.self.view_is } in
     let names = names_of parts.tags.tags in
     let new = c.push_names.new.list in
-    c.new.ensures ∙ written (string_bytes new) names (IsUtf8-string_bytes new) (subst (λ bytes. Goes bytes (string_bytes new) names) c.new-list.ensures.bytes c.in_ok-push_names.ensures)
+    c.new.ensures ∙ written (string_bytes new) names (IsUtf8-string_bytes new)
+    (subst (λ bytes. Goes bytes (string_bytes new) names) c.new-list.ensures.bytes c.in_ok-push_names.ensures)
     ∙ ap list_text (tags-listed parts document stands)

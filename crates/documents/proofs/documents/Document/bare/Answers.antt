@@ -8,26 +8,52 @@ use Rattle.documents.proofs.documents.Document.bare.Goals as goal
 
 pub invariant_of-result : goal.invariant_of-result
 invariant_of-result g c =
-    let tags : c.in_ok-new-3.field-0 ≡ record { tags = sel_alone; limit = MOST_TAGS } = c.in_ok-new-3.ensures ∙ ap (λ limit. record { tags = sel_alone; limit = limit }) c.greatest_limits-limits.ensures.tags in
-    let marks : c.in_ok-new-4.field-0 ≡ record { marks = []; limit = MOST_MARKS } = c.in_ok-new-4.ensures ∙ ap (λ limit. record { marks = []; limit = limit }) c.greatest_limits-limits.ensures.marks in
-    let is : parts_of c.in_ok-new.field-0 c.in_ok-new-3.field-0 c.in_ok-new-4.field-0 c.new-8.result c.new-2.result.items c.new-3.result.items c.new-7.result (g.S.TextStore.content c.in_ok-new-2.field-0) ≡ bare_parts = λ i. record {
+    let tags : c.in_ok-new-3.field-0 ≡ record { tags = sel_alone; limit = MOST_TAGS } = c.in_ok-new-3.ensures
+    ∙ ap (λ limit. record { tags = sel_alone; limit = limit }) c.greatest_limits-limits.ensures.tags in
+    let marks : c.in_ok-new-4.field-0 ≡ record { marks = []; limit = MOST_MARKS } = c.in_ok-new-4.ensures
+    ∙ ap (λ limit. record { marks = []; limit = limit }) c.greatest_limits-limits.ensures.marks in
+    let is : parts_of c.in_ok-new.field-0 c.in_ok-new-3.field-0 c.in_ok-new-4.field-0 c.new-8.result
+    c.new-2.result.items c.new-3.result.items c.new-7.result (g.S.TextStore.content c.in_ok-new-2.field-0)
+    ≡ bare_parts = λ i. record {
       seats = c.in_ok-new.ensures i;
       tags = tags i;
       marks = marks i;
-      journal = record { settings = c.new-8.ensures i; disabled = c.new-2.ensures.items i; anchors = c.new-3.ensures.items i; log = record { history = c.new-7.ensures.history i; modified = c.new-7.ensures.modified i; most = c.new-7.ensures.most i } };
+      journal = record {
+        settings = c.new-8.ensures i;
+        disabled = c.new-2.ensures.items i;
+        anchors = c.new-3.ensures.items i;
+        log = record {
+          history = c.new-7.ensures.history i;
+          modified = c.new-7.ensures.modified i;
+          most = c.new-7.ensures.most i;
+        };
+      };
       content = c.in_ok-new-2.ensures i;
     } in
     subst IsSound (sym is) sound-bare
 
 pub returns-clause-well_formed : goal.returns-clause-well_formed
 returns-clause-well_formed g c = λ limits are.
-    let tags : c.in_ok-new-3.field-0 ≡ record { tags = sel_alone; limit = MOST_TAGS } = c.in_ok-new-3.ensures ∙ ap (λ limit. record { tags = sel_alone; limit = limit }) c.greatest_limits-limits.ensures.tags in
-    let marks : c.in_ok-new-4.field-0 ≡ record { marks = []; limit = MOST_MARKS } = c.in_ok-new-4.ensures ∙ ap (λ limit. record { marks = []; limit = limit }) c.greatest_limits-limits.ensures.marks in
-    let is : parts_of c.in_ok-new.field-0 c.in_ok-new-3.field-0 c.in_ok-new-4.field-0 c.new-8.result c.new-2.result.items c.new-3.result.items c.new-7.result (g.S.TextStore.content c.in_ok-new-2.field-0) ≡ bare_parts = λ i. record {
+    let tags : c.in_ok-new-3.field-0 ≡ record { tags = sel_alone; limit = MOST_TAGS } = c.in_ok-new-3.ensures
+    ∙ ap (λ limit. record { tags = sel_alone; limit = limit }) c.greatest_limits-limits.ensures.tags in
+    let marks : c.in_ok-new-4.field-0 ≡ record { marks = []; limit = MOST_MARKS } = c.in_ok-new-4.ensures
+    ∙ ap (λ limit. record { marks = []; limit = limit }) c.greatest_limits-limits.ensures.marks in
+    let is : parts_of c.in_ok-new.field-0 c.in_ok-new-3.field-0 c.in_ok-new-4.field-0 c.new-8.result
+    c.new-2.result.items c.new-3.result.items c.new-7.result (g.S.TextStore.content c.in_ok-new-2.field-0)
+    ≡ bare_parts = λ i. record {
       seats = c.in_ok-new.ensures i;
       tags = tags i;
       marks = marks i;
-      journal = record { settings = c.new-8.ensures i; disabled = c.new-2.ensures.items i; anchors = c.new-3.ensures.items i; log = record { history = c.new-7.ensures.history i; modified = c.new-7.ensures.modified i; most = c.new-7.ensures.most i } };
+      journal = record {
+        settings = c.new-8.ensures i;
+        disabled = c.new-2.ensures.items i;
+        anchors = c.new-3.ensures.items i;
+        log = record {
+          history = c.new-7.ensures.history i;
+          modified = c.new-7.ensures.modified i;
+          most = c.new-7.ensures.most i;
+        };
+      };
       content = c.in_ok-new-2.ensures i;
     } in
     subst (λ (parts : Parts). IsWellFormedDocument limits (document_of parts)) (sym is) (formed-bare limits are)

@@ -8,8 +8,14 @@ pub returns : goal.returns
 returns g c =
     let found = c.view_at-view in
     let content = g.S.TextStore.content found.result.store.now in
-    let begins : found.result.s + c.args.place ≤ found.result.e = omega (arith, c.requires.within, found.ensures.count, found.ensures.ordered) in
-    let within : found.result.e ≤ length (characters content.cells) = omega (arith, counted content, found.ensures.within, found.ensures.cells) in
+    let begins : found.result.s + c.args.place
+    ≤ found.result.e = omega (arith, c.requires.within, found.ensures.count, found.ensures.ordered) in
+    let within : found.result.e ≤ length (characters content.cells) = omega (
+      arith,
+      counted content,
+      found.ensures.within,
+      found.ensures.cells,
+    ) in
     let stop : c.min.result ≡ min (found.result.s + c.args.place + 1) found.result.e = c.min.ensures in
     c.new.ensures ∙ c.in_ok-copy_text.ensures
     ∙ part-one (characters content.cells) found.result.s found.result.e c.args.place c.min.result begins within stop

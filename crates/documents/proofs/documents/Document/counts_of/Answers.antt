@@ -8,5 +8,7 @@ use Rattle.documents.proofs.documents.Document.counts_of.Goals as goal
 pub returns : goal.returns
 returns g c =
     let found = c.view_at-view in
-    c.new.ensures ∙ spelled c.in_ok-count.field-0 (counted c.args.options.now (shown (g.S.TextStore.content found.result.store.now) found.result.s found.result.e) c.args.from c.args.to) c.in_ok-count.ensures
+    c.new.ensures ∙ spelled c.in_ok-count.field-0
+    (counted c.args.options.now (shown (g.S.TextStore.content found.result.store.now) found.result.s found.result.e)
+    c.args.from c.args.to) c.in_ok-count.ensures
     ∙ ap (λ text. list_text (counted c.args.options.now text c.args.from c.args.to)) found.ensures.text

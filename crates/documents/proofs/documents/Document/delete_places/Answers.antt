@@ -15,7 +15,8 @@ pub start_of-start-requires : goal.start_of-start-requires
 start_of-start-requires g c =
     let old = c.self.inside in
     let document = c.args.self.now in
-    let parts = parts_of old.seats old.tags old.marks old.settings old.disabled.items old.anchors.items old.history (g.S.TextStore.content old.store) in
+    let parts = parts_of old.seats old.tags old.marks old.settings old.disabled.items old.anchors.items old.history
+    (g.S.TextStore.content old.store) in
     let stands : Stands parts document = record { sound = c.self.invariant; is = c.self.view_is } in
     let slot = c.number-slot.result in
     let seated = sits parts document c.args.widget slot stands c.number-slot.ensures.value in
@@ -25,7 +26,8 @@ pub end_of-end-requires : goal.end_of-end-requires
 end_of-end-requires g c =
     let old = c.self.inside in
     let document = c.args.self.now in
-    let parts = parts_of old.seats old.tags old.marks old.settings old.disabled.items old.anchors.items old.history (g.S.TextStore.content old.store) in
+    let parts = parts_of old.seats old.tags old.marks old.settings old.disabled.items old.anchors.items old.history
+    (g.S.TextStore.content old.store) in
     let stands : Stands parts document = record { sound = c.self.invariant; is = c.self.view_is } in
     let slot = c.number-slot.result in
     let seated = sits parts document c.args.widget slot stands c.number-slot.ensures.value in
@@ -35,25 +37,32 @@ pub spans_of-requires-clause-within : goal.spans_of-requires-clause-within
 spans_of-requires-clause-within g c =
     let old = c.self.inside in
     let document = c.args.self.now in
-    let parts = parts_of old.seats old.tags old.marks old.settings old.disabled.items old.anchors.items old.history (g.S.TextStore.content old.store) in
+    let parts = parts_of old.seats old.tags old.marks old.settings old.disabled.items old.anchors.items old.history
+    (g.S.TextStore.content old.store) in
     let stands : Stands parts document = record { sound = c.self.invariant; is = c.self.view_is } in
     let slot = c.number-slot.result in
     let seated = sits parts document c.args.widget slot stands c.number-slot.ensures.value in
-    let start = start-found parts slot c.deref.result.now c.start_of-start.result c.deref.ensures.value c.start_of-start.ensures in
-    let end = end-found parts slot c.deref-2.result.now c.len.result c.end_of-end.result c.deref-2.ensures.value c.len.ensures c.end_of-end.ensures in
+    let start = start-found parts slot c.deref.result.now c.start_of-start.result c.deref.ensures.value
+    c.start_of-start.ensures in
+    let end = end-found parts slot c.deref-2.result.now c.len.result c.end_of-end.result c.deref-2.ensures.value
+    c.len.ensures c.end_of-end.ensures in
     let shows = active-is parts document c.args.widget slot stands seated c.requires.active in
-    λ k d inside. (let h = c.requires.within k d inside in omega (arith, h, start, end, shown-length parts document c.args.widget slot stands seated))
+    λ k d inside. (let h = c.requires.within k d inside in
+    omega (arith, h, start, end, shown-length parts document c.args.widget slot stands seated))
 
 pub delete_spans-deleted-requires-clause-shows : goal.delete_spans-deleted-requires-clause-shows
 delete_spans-deleted-requires-clause-shows g c =
     let old = c.self.inside in
     let document = c.args.self.now in
-    let parts = parts_of old.seats old.tags old.marks old.settings old.disabled.items old.anchors.items old.history (g.S.TextStore.content old.store) in
+    let parts = parts_of old.seats old.tags old.marks old.settings old.disabled.items old.anchors.items old.history
+    (g.S.TextStore.content old.store) in
     let stands : Stands parts document = record { sound = c.self.invariant; is = c.self.view_is } in
     let slot = c.number-slot.result in
     let seated = sits parts document c.args.widget slot stands c.number-slot.ensures.value in
-    let start = start-found parts slot c.deref.result.now c.start_of-start.result c.deref.ensures.value c.start_of-start.ensures in
-    let end = end-found parts slot c.deref-2.result.now c.len.result c.end_of-end.result c.deref-2.ensures.value c.len.ensures c.end_of-end.ensures in
+    let start = start-found parts slot c.deref.result.now c.start_of-start.result c.deref.ensures.value
+    c.start_of-start.ensures in
+    let end = end-found parts slot c.deref-2.result.now c.len.result c.end_of-end.result c.deref-2.ensures.value
+    c.len.ensures c.end_of-end.ensures in
     let shows = active-is parts document c.args.widget slot stands seated c.requires.active in
     omega (arith, start, end, shows.1)
 
@@ -61,62 +70,90 @@ pub delete_spans-deleted-requires-clause-spans : goal.delete_spans-deleted-requi
 delete_spans-deleted-requires-clause-spans g c =
     let old = c.self.inside in
     let document = c.args.self.now in
-    let parts = parts_of old.seats old.tags old.marks old.settings old.disabled.items old.anchors.items old.history (g.S.TextStore.content old.store) in
+    let parts = parts_of old.seats old.tags old.marks old.settings old.disabled.items old.anchors.items old.history
+    (g.S.TextStore.content old.store) in
     let stands : Stands parts document = record { sound = c.self.invariant; is = c.self.view_is } in
     let slot = c.number-slot.result in
     let seated = sits parts document c.args.widget slot stands c.number-slot.ensures.value in
-    let start = start-found parts slot c.deref.result.now c.start_of-start.result c.deref.ensures.value c.start_of-start.ensures in
-    let end = end-found parts slot c.deref-2.result.now c.len.result c.end_of-end.result c.deref-2.ensures.value c.len.ensures c.end_of-end.ensures in
+    let start = start-found parts slot c.deref.result.now c.start_of-start.result c.deref.ensures.value
+    c.start_of-start.ensures in
+    let end = end-found parts slot c.deref-2.result.now c.len.result c.end_of-end.result c.deref-2.ensures.value
+    c.len.ensures c.end_of-end.ensures in
     let shows = active-is parts document c.args.widget slot stands seated c.requires.active in
     let spans = c.deref-3.result.now in
-    let within = spans-in parts document c.args.widget slot c.start_of-start.result (c.end_of-end.result - c.start_of-start.result) c.args.places.now c.in_ok-spans.spans.items spans stands seated start
-    (ap₂ (λ e s. e - s) end start) c.requires.within (omega (arith, shows.1)) c.in_ok-spans.ensures c.deref-3.ensures.value in
+    let within = spans-in parts document c.args.widget slot c.start_of-start.result
+    (c.end_of-end.result - c.start_of-start.result) c.args.places.now c.in_ok-spans.spans.items spans stands seated
+    start
+    (ap₂ (λ e s. e - s) end start) c.requires.within (omega (arith, shows.1)) c.in_ok-spans.ensures
+    c.deref-3.ensures.value in
     λ k d inside. (let h = (within.1 k d inside).within in omega (arith, h, end))
 
 pub invariant_of-self : goal.invariant_of-self
 invariant_of-self g c =
     let old = c.self.inside in
     let document = c.args.self.now in
-    let parts = parts_of old.seats old.tags old.marks old.settings old.disabled.items old.anchors.items old.history (g.S.TextStore.content old.store) in
+    let parts = parts_of old.seats old.tags old.marks old.settings old.disabled.items old.anchors.items old.history
+    (g.S.TextStore.content old.store) in
     let stands : Stands parts document = record { sound = c.self.invariant; is = c.self.view_is } in
     let slot = c.number-slot.result in
     let seated = sits parts document c.args.widget slot stands c.number-slot.ensures.value in
-    let start = start-found parts slot c.deref.result.now c.start_of-start.result c.deref.ensures.value c.start_of-start.ensures in
-    let end = end-found parts slot c.deref-2.result.now c.len.result c.end_of-end.result c.deref-2.ensures.value c.len.ensures c.end_of-end.ensures in
+    let start = start-found parts slot c.deref.result.now c.start_of-start.result c.deref.ensures.value
+    c.start_of-start.ensures in
+    let end = end-found parts slot c.deref-2.result.now c.len.result c.end_of-end.result c.deref-2.ensures.value
+    c.len.ensures c.end_of-end.ensures in
     let shows = active-is parts document c.args.widget slot stands seated c.requires.active in
     let spans = c.deref-3.result.now in
-    let within = spans-in parts document c.args.widget slot c.start_of-start.result (c.end_of-end.result - c.start_of-start.result) c.args.places.now c.in_ok-spans.spans.items spans stands seated start
-    (ap₂ (λ e s. e - s) end start) c.requires.within (omega (arith, shows.1)) c.in_ok-spans.ensures c.deref-3.ensures.value in
+    let within = spans-in parts document c.args.widget slot c.start_of-start.result
+    (c.end_of-end.result - c.start_of-start.result) c.args.places.now c.in_ok-spans.spans.items spans stands seated
+    start
+    (ap₂ (λ e s. e - s) end start) c.requires.within (omega (arith, shows.1)) c.in_ok-spans.ensures
+    c.deref-3.ensures.value in
     let new = c.delete_spans-deleted.new in
     let content = g.S.TextStore.content old.store in
     let changed = g.S.TextStore.content new.store in
     let kept = take old.anchors.len (new.anchors ++ drop (length new.anchors) old.anchors.items) in
-    let written = written-back old.anchors.items new.anchors c.deref_mut.result.now old.anchors.len c.deref_mut.ensures.value c.delete_spans-deleted.auto.anchors old.anchors.ok.0 in
-    let edited = edited-is (λ recording state. deleted recording c.start_of-start.result c.end_of-end.result spans state) content changed old.anchors.items new.anchors c.deref_mut.result.now kept
-    (log_of old.history) (log_of new.history) (recording_of old.settings) c.recording.result written c.deref_mut.ensures.value c.recording.ensures c.in-Ok.ensures.ok in
-    (leaves-places c.args.limits.now parts (state_of changed kept (log_of new.history)) document c.args.widget slot c.start_of-start.result c.end_of-end.result c.args.places.now spans stands seated
+    let written = written-back old.anchors.items new.anchors c.deref_mut.result.now old.anchors.len
+    c.deref_mut.ensures.value c.delete_spans-deleted.auto.anchors old.anchors.ok.0 in
+    let edited = edited-is (λ recording state.
+    deleted recording c.start_of-start.result c.end_of-end.result spans state) content changed old.anchors.items
+    new.anchors c.deref_mut.result.now kept
+    (log_of old.history) (log_of new.history) (recording_of old.settings) c.recording.result written
+    c.deref_mut.ensures.value c.recording.ensures c.in-Ok.ensures.ok in
+    (leaves-places c.args.limits.now parts (state_of changed kept (log_of new.history)) document c.args.widget slot
+    c.start_of-start.result c.end_of-end.result c.args.places.now spans stands seated
     c.requires.active start end within edited).sound
 
 pub returns-in-Ok : goal.returns-in-Ok
 returns-in-Ok g c =
     let old = c.self.inside in
     let document = c.args.self.now in
-    let parts = parts_of old.seats old.tags old.marks old.settings old.disabled.items old.anchors.items old.history (g.S.TextStore.content old.store) in
+    let parts = parts_of old.seats old.tags old.marks old.settings old.disabled.items old.anchors.items old.history
+    (g.S.TextStore.content old.store) in
     let stands : Stands parts document = record { sound = c.self.invariant; is = c.self.view_is } in
     let slot = c.number-slot.result in
     let seated = sits parts document c.args.widget slot stands c.number-slot.ensures.value in
-    let start = start-found parts slot c.deref.result.now c.start_of-start.result c.deref.ensures.value c.start_of-start.ensures in
-    let end = end-found parts slot c.deref-2.result.now c.len.result c.end_of-end.result c.deref-2.ensures.value c.len.ensures c.end_of-end.ensures in
+    let start = start-found parts slot c.deref.result.now c.start_of-start.result c.deref.ensures.value
+    c.start_of-start.ensures in
+    let end = end-found parts slot c.deref-2.result.now c.len.result c.end_of-end.result c.deref-2.ensures.value
+    c.len.ensures c.end_of-end.ensures in
     let shows = active-is parts document c.args.widget slot stands seated c.requires.active in
     let spans = c.deref-3.result.now in
-    let within = spans-in parts document c.args.widget slot c.start_of-start.result (c.end_of-end.result - c.start_of-start.result) c.args.places.now c.in_ok-spans.spans.items spans stands seated start
-    (ap₂ (λ e s. e - s) end start) c.requires.within (omega (arith, shows.1)) c.in_ok-spans.ensures c.deref-3.ensures.value in
+    let within = spans-in parts document c.args.widget slot c.start_of-start.result
+    (c.end_of-end.result - c.start_of-start.result) c.args.places.now c.in_ok-spans.spans.items spans stands seated
+    start
+    (ap₂ (λ e s. e - s) end start) c.requires.within (omega (arith, shows.1)) c.in_ok-spans.ensures
+    c.deref-3.ensures.value in
     let new = c.delete_spans-deleted.new in
     let content = g.S.TextStore.content old.store in
     let changed = g.S.TextStore.content new.store in
     let kept = take old.anchors.len (new.anchors ++ drop (length new.anchors) old.anchors.items) in
-    let written = written-back old.anchors.items new.anchors c.deref_mut.result.now old.anchors.len c.deref_mut.ensures.value c.delete_spans-deleted.auto.anchors old.anchors.ok.0 in
-    let edited = edited-is (λ recording state. deleted recording c.start_of-start.result c.end_of-end.result spans state) content changed old.anchors.items new.anchors c.deref_mut.result.now kept
-    (log_of old.history) (log_of new.history) (recording_of old.settings) c.recording.result written c.deref_mut.ensures.value c.recording.ensures c.in-Ok.ensures.ok in
-    (leaves-places c.args.limits.now parts (state_of changed kept (log_of new.history)) document c.args.widget slot c.start_of-start.result c.end_of-end.result c.args.places.now spans stands seated
+    let written = written-back old.anchors.items new.anchors c.deref_mut.result.now old.anchors.len
+    c.deref_mut.ensures.value c.delete_spans-deleted.auto.anchors old.anchors.ok.0 in
+    let edited = edited-is (λ recording state.
+    deleted recording c.start_of-start.result c.end_of-end.result spans state) content changed old.anchors.items
+    new.anchors c.deref_mut.result.now kept
+    (log_of old.history) (log_of new.history) (recording_of old.settings) c.recording.result written
+    c.deref_mut.ensures.value c.recording.ensures c.in-Ok.ensures.ok in
+    (leaves-places c.args.limits.now parts (state_of changed kept (log_of new.history)) document c.args.widget slot
+    c.start_of-start.result c.end_of-end.result c.args.places.now spans stands seated
     c.requires.active start end within edited).does

@@ -25,7 +25,8 @@ pub undo_group-requires-clause-stand : goal.undo_group-requires-clause-stand
 undo_group-requires-clause-stand g c =
     let old = c.self.inside in
     let document = c.args.self.now in
-    let parts = parts_of old.seats old.tags old.marks old.settings old.disabled.items old.anchors.items old.history (g.S.TextStore.content old.store) in
+    let parts = parts_of old.seats old.tags old.marks old.settings old.disabled.items old.anchors.items old.history
+    (g.S.TextStore.content old.store) in
     let stands : Stands parts document = record { sound = c.self.invariant; is = c.self.view_is } in
     anchors-stand parts document c.deref_mut.result.now stands c.deref_mut.ensures.value
 
@@ -33,7 +34,8 @@ pub undo_group-requires-clause-fits : goal.undo_group-requires-clause-fits
 undo_group-requires-clause-fits g c =
     let old = c.self.inside in
     let document = c.args.self.now in
-    let parts = parts_of old.seats old.tags old.marks old.settings old.disabled.items old.anchors.items old.history (g.S.TextStore.content old.store) in
+    let parts = parts_of old.seats old.tags old.marks old.settings old.disabled.items old.anchors.items old.history
+    (g.S.TextStore.content old.store) in
     let stands : Stands parts document = record { sound = c.self.invariant; is = c.self.view_is } in
     fits-kept c.args.limits.now parts document stands.is c.requires.formed
 
@@ -41,28 +43,43 @@ pub invariant_of-self : goal.invariant_of-self
 invariant_of-self g c =
     let old = c.self.inside in
     let document = c.args.self.now in
-    let parts = parts_of old.seats old.tags old.marks old.settings old.disabled.items old.anchors.items old.history (g.S.TextStore.content old.store) in
+    let parts = parts_of old.seats old.tags old.marks old.settings old.disabled.items old.anchors.items old.history
+    (g.S.TextStore.content old.store) in
     let stands : Stands parts document = record { sound = c.self.invariant; is = c.self.view_is } in
     let slot = c.number.result in
     let new = c.undo_group.new in
     let content = g.S.TextStore.content old.store in
     let changed = g.S.TextStore.content new.store in
     let kept = take old.anchors.len (new.anchors ++ drop (length new.anchors) old.anchors.items) in
-    let written = written-back old.anchors.items new.anchors c.deref_mut.result.now old.anchors.len c.deref_mut.ensures.value c.undo_group.auto.anchors old.anchors.ok.0 in
+    let written = written-back old.anchors.items new.anchors c.deref_mut.result.now old.anchors.len
+    c.deref_mut.ensures.value c.undo_group.auto.anchors old.anchors.ok.0 in
     let group = c.in-Some.field-0 in
     let is : next_undo old.history.history ≡ Some group = sym c.last_undo.ensures ∙ c.in-Some.is in
     let reverted : IsReverted c.args.limits.now group =
-    record { bounds = c.undo_group.ensures.bounds; scalars = subst (λ found. IfSome found (All (λ (action : Action). All IsScalar action.text))) is c.undo_group.ensures.scalars } in
+    record {
+      bounds = c.undo_group.ensures.bounds;
+      scalars = subst (λ found. IfSome found (All (λ (action : Action). All IsScalar action.text))) is
+          c.undo_group.ensures.scalars;
+    } in
     let able : CanRevert parts document c.args.widget slot =
-    record { stands = stands; sits = sits parts document c.args.widget slot stands c.number.ensures.value; on = c.if-not-self.false; active = sym c.is_idle.ensures ∙ c.if-is_idle.false } in
+    record {
+      stands = stands;
+      sits = sits parts document c.args.widget slot stands c.number.ensures.value;
+      on = c.if-not-self.false;
+      active = sym c.is_idle.ensures ∙ c.if-is_idle.false;
+    } in
     let state = state_of changed kept (log_of new.history) in
     elim c.match-undo_group.branch [
       | in-Ok w ↦
-          (leaves-undone c.args.limits.now parts state document c.args.widget slot group able is reverted c.requires.formed
-          (edited-is (λ _ before. undone (2 * slot) before) content changed old.anchors.items new.anchors c.deref_mut.result.now kept (log_of old.history) (log_of new.history)
-          (recording_of old.settings) (recording_of old.settings) written c.deref_mut.ensures.value refl w.in-Ok.ensures.ok)).sound
+          (leaves-undone c.args.limits.now parts state document c.args.widget slot group able is reverted
+          c.requires.formed
+          (edited-is (λ _ before. undone (2 * slot) before) content changed old.anchors.items new.anchors
+          c.deref_mut.result.now kept (log_of old.history) (log_of new.history)
+          (recording_of old.settings) (recording_of old.settings) written c.deref_mut.ensures.value refl
+          w.in-Ok.ensures.ok)).sound
       | in-Err w ↦
-          let same = unedited-is content changed old.anchors.items new.anchors c.deref_mut.result.now kept (log_of old.history) (log_of new.history) written c.deref_mut.ensures.value
+          let same = unedited-is content changed old.anchors.items new.anchors c.deref_mut.result.now kept
+          (log_of old.history) (log_of new.history) written c.deref_mut.ensures.value
           w.in-Err.ensures.err.0 w.in-Err.ensures.err.1 w.in-Err.ensures.err.2 in
           (stands-same parts (with_state parts state) document stands (ap (with_state parts) same)).sound
     ]
@@ -71,31 +88,49 @@ pub returns : goal.returns
 returns g c =
     let old = c.self.inside in
     let document = c.args.self.now in
-    let parts = parts_of old.seats old.tags old.marks old.settings old.disabled.items old.anchors.items old.history (g.S.TextStore.content old.store) in
+    let parts = parts_of old.seats old.tags old.marks old.settings old.disabled.items old.anchors.items old.history
+    (g.S.TextStore.content old.store) in
     let stands : Stands parts document = record { sound = c.self.invariant; is = c.self.view_is } in
     let slot = c.number.result in
     let new = c.undo_group.new in
     let content = g.S.TextStore.content old.store in
     let changed = g.S.TextStore.content new.store in
     let kept = take old.anchors.len (new.anchors ++ drop (length new.anchors) old.anchors.items) in
-    let written = written-back old.anchors.items new.anchors c.deref_mut.result.now old.anchors.len c.deref_mut.ensures.value c.undo_group.auto.anchors old.anchors.ok.0 in
+    let written = written-back old.anchors.items new.anchors c.deref_mut.result.now old.anchors.len
+    c.deref_mut.ensures.value c.undo_group.auto.anchors old.anchors.ok.0 in
     let group = c.in-Some.field-0 in
     let is : next_undo old.history.history ≡ Some group = sym c.last_undo.ensures ∙ c.in-Some.is in
     let reverted : IsReverted c.args.limits.now group =
-    record { bounds = c.undo_group.ensures.bounds; scalars = subst (λ found. IfSome found (All (λ (action : Action). All IsScalar action.text))) is c.undo_group.ensures.scalars } in
+    record {
+      bounds = c.undo_group.ensures.bounds;
+      scalars = subst (λ found. IfSome found (All (λ (action : Action). All IsScalar action.text))) is
+          c.undo_group.ensures.scalars;
+    } in
     let able : CanRevert parts document c.args.widget slot =
-    record { stands = stands; sits = sits parts document c.args.widget slot stands c.number.ensures.value; on = c.if-not-self.false; active = sym c.is_idle.ensures ∙ c.if-is_idle.false } in
+    record {
+      stands = stands;
+      sits = sits parts document c.args.widget slot stands c.number.ensures.value;
+      on = c.if-not-self.false;
+      active = sym c.is_idle.ensures ∙ c.if-is_idle.false;
+    } in
     let state = state_of changed kept (log_of new.history) in
-    let P : Result Answer Fault → Type 0 = λ result. Does c.args.limits.now document (document_of (with_state parts state)) result (edit_undo document (widget_at document c.args.widget)) in
+    let P : Result Answer Fault → Type 0 = λ result.
+    Does c.args.limits.now document (document_of (with_state parts state)) result
+    (edit_undo document (widget_at document c.args.widget)) in
     elim c.match-undo_group.branch [
       | in-Ok w ↦ subst P (sym w.result-is)
-          (leaves-undone c.args.limits.now parts state document c.args.widget slot group able is reverted c.requires.formed
-          (edited-is (λ _ before. undone (2 * slot) before) content changed old.anchors.items new.anchors c.deref_mut.result.now kept (log_of old.history) (log_of new.history)
-          (recording_of old.settings) (recording_of old.settings) written c.deref_mut.ensures.value refl w.in-Ok.ensures.ok)).does
+          (leaves-undone c.args.limits.now parts state document c.args.widget slot group able is reverted
+          c.requires.formed
+          (edited-is (λ _ before. undone (2 * slot) before) content changed old.anchors.items new.anchors
+          c.deref_mut.result.now kept (log_of old.history) (log_of new.history)
+          (recording_of old.settings) (recording_of old.settings) written c.deref_mut.ensures.value refl
+          w.in-Ok.ensures.ok)).does
       | in-Err w ↦
-          let same = unedited-is content changed old.anchors.items new.anchors c.deref_mut.result.now kept (log_of old.history) (log_of new.history) written c.deref_mut.ensures.value
+          let same = unedited-is content changed old.anchors.items new.anchors c.deref_mut.result.now kept
+          (log_of old.history) (log_of new.history) written c.deref_mut.ensures.value
           w.in-Err.ensures.err.0 w.in-Err.ensures.err.1 w.in-Err.ensures.err.2 in
           let left = stands-same parts (with_state parts state) document stands (ap (with_state parts) same) in
-          subst P (sym w.result-is) (does-left c.args.limits.now document (document_of (with_state parts state)) w.in-Err.fault (edit_undo document (widget_at document c.args.widget)) left.is
+          subst P (sym w.result-is) (does-left c.args.limits.now document (document_of (with_state parts state))
+          w.in-Err.fault (edit_undo document (widget_at document c.args.widget)) left.is
           (λ other. absurd (other w.in-Err.ensures.fault)))
     ]

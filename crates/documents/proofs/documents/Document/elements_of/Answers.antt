@@ -9,11 +9,12 @@ use Rattle.documents.proofs.SeenLaws.{seen-found}
 use Rattle.documents.proofs.ViewLaws.{length-found, ordered-found, see, view-found}
 use Rattle.documents.proofs.documents.Document.elements_of.Goals as goal
 
-pub view_of-view-requires : goal.view_of-view-requires
-view_of-view-requires g c =
+pub view_of-requires : goal.view_of-requires
+view_of-requires g c =
     let old = c.self.inside in
     let document = c.args.self.now in
-    let parts = parts_of old.seats old.tags old.marks old.settings old.disabled.items old.anchors.items old.history (g.S.TextStore.content old.store) in
+    let parts = parts_of old.seats old.tags old.marks old.settings old.disabled.items old.anchors.items old.history
+    (g.S.TextStore.content old.store) in
     let stands : Stands parts document = record { sound = c.self.invariant; is = c.self.view_is } in
     let seated = sits parts document c.args.widget c.number-slot.result stands c.number-slot.ensures.value in
     omega (arith, seated.anchors, ap length c.deref.ensures.value)
@@ -22,60 +23,84 @@ pub dump-requires-clause-view : goal.dump-requires-clause-view
 dump-requires-clause-view g c =
     let old = c.self.inside in
     let document = c.args.self.now in
-    let parts = parts_of old.seats old.tags old.marks old.settings old.disabled.items old.anchors.items old.history (g.S.TextStore.content old.store) in
+    let parts = parts_of old.seats old.tags old.marks old.settings old.disabled.items old.anchors.items old.history
+    (g.S.TextStore.content old.store) in
     let stands : Stands parts document = record { sound = c.self.invariant; is = c.self.view_is } in
-    let found = c.view_of-view in
+    let found = c.lined-view in
     let content = g.S.TextStore.content found.result.store.now in
     let first = found.result.s in
     let behind = found.result.e in
     let slot = c.number-slot.result in
-    let sight = see parts document c.args.widget slot content first behind c.deref.result.now stands c.number-slot.ensures.value
-    c.deref.ensures.value found.ensures.start found.ensures.end found.ensures.store in
+    let sight = see parts document c.args.widget slot content first behind c.deref.result.now stands
+    c.number-slot.ensures.value
+    c.deref.ensures.value (found.ensures.start ∙ c.view_of.ensures.start) (found.ensures.end ∙ c.view_of.ensures.end)
+    (found.ensures.store ∙ c.view_of.ensures.store) in
     view-found parts document c.args.widget slot content first behind sight
 
 pub dump-requires-clause-from : goal.dump-requires-clause-from
 dump-requires-clause-from g c =
     let old = c.self.inside in
     let document = c.args.self.now in
-    let parts = parts_of old.seats old.tags old.marks old.settings old.disabled.items old.anchors.items old.history (g.S.TextStore.content old.store) in
+    let parts = parts_of old.seats old.tags old.marks old.settings old.disabled.items old.anchors.items old.history
+    (g.S.TextStore.content old.store) in
     let stands : Stands parts document = record { sound = c.self.invariant; is = c.self.view_is } in
-    let found = c.view_of-view in
+    let found = c.lined-view in
     let content = g.S.TextStore.content found.result.store.now in
     let first = found.result.s in
     let behind = found.result.e in
     let slot = c.number-slot.result in
-    let sight = see parts document c.args.widget slot content first behind c.deref.result.now stands c.number-slot.ensures.value
-    c.deref.ensures.value found.ensures.start found.ensures.end found.ensures.store in
-    omega (arith, c.requires.from, length-found parts document c.args.widget slot content first behind sight, ordered-found parts document c.args.widget slot content first behind sight)
+    let sight = see parts document c.args.widget slot content first behind c.deref.result.now stands
+    c.number-slot.ensures.value
+    c.deref.ensures.value (found.ensures.start ∙ c.view_of.ensures.start) (found.ensures.end ∙ c.view_of.ensures.end)
+    (found.ensures.store ∙ c.view_of.ensures.store) in
+    omega (
+      arith,
+      c.requires.from,
+      length-found parts document c.args.widget slot content first behind sight,
+      ordered-found parts document c.args.widget slot content first behind sight,
+    )
 
 pub dump-requires-clause-to : goal.dump-requires-clause-to
 dump-requires-clause-to g c =
     let old = c.self.inside in
     let document = c.args.self.now in
-    let parts = parts_of old.seats old.tags old.marks old.settings old.disabled.items old.anchors.items old.history (g.S.TextStore.content old.store) in
+    let parts = parts_of old.seats old.tags old.marks old.settings old.disabled.items old.anchors.items old.history
+    (g.S.TextStore.content old.store) in
     let stands : Stands parts document = record { sound = c.self.invariant; is = c.self.view_is } in
-    let found = c.view_of-view in
+    let found = c.lined-view in
     let content = g.S.TextStore.content found.result.store.now in
     let first = found.result.s in
     let behind = found.result.e in
     let slot = c.number-slot.result in
-    let sight = see parts document c.args.widget slot content first behind c.deref.result.now stands c.number-slot.ensures.value
-    c.deref.ensures.value found.ensures.start found.ensures.end found.ensures.store in
-    omega (arith, c.requires.to, length-found parts document c.args.widget slot content first behind sight, ordered-found parts document c.args.widget slot content first behind sight)
+    let sight = see parts document c.args.widget slot content first behind c.deref.result.now stands
+    c.number-slot.ensures.value
+    c.deref.ensures.value (found.ensures.start ∙ c.view_of.ensures.start) (found.ensures.end ∙ c.view_of.ensures.end)
+    (found.ensures.store ∙ c.view_of.ensures.store) in
+    omega (
+      arith,
+      c.requires.to,
+      length-found parts document c.args.widget slot content first behind sight,
+      ordered-found parts document c.args.widget slot content first behind sight,
+    )
 
 pub returns : goal.returns
 returns g c =
     let old = c.self.inside in
     let document = c.args.self.now in
-    let parts = parts_of old.seats old.tags old.marks old.settings old.disabled.items old.anchors.items old.history (g.S.TextStore.content old.store) in
+    let parts = parts_of old.seats old.tags old.marks old.settings old.disabled.items old.anchors.items old.history
+    (g.S.TextStore.content old.store) in
     let stands : Stands parts document = record { sound = c.self.invariant; is = c.self.view_is } in
-    let found = c.view_of-view in
+    let found = c.lined-view in
     let content = g.S.TextStore.content found.result.store.now in
     let first = found.result.s in
     let behind = found.result.e in
     let slot = c.number-slot.result in
-    let sight = see parts document c.args.widget slot content first behind c.deref.result.now stands c.number-slot.ensures.value
-    c.deref.ensures.value found.ensures.start found.ensures.end found.ensures.store in
+    let sight = see parts document c.args.widget slot content first behind c.deref.result.now stands
+    c.number-slot.ensures.value
+    c.deref.ensures.value (found.ensures.start ∙ c.view_of.ensures.start) (found.ensures.end ∙ c.view_of.ensures.end)
+    (found.ensures.store ∙ c.view_of.ensures.store) in
     c.new.ensures
-    ∙ spelled c.in_ok-dump.field-0 (dump_elements c.args.listed (seen_by content first behind old.tags.tags old.marks.marks slot) c.args.from c.args.to) c.in_ok-dump.ensures
-    ∙ ap (λ seen. list_text (dump_elements c.args.listed seen c.args.from c.args.to)) (seen-found parts document c.args.widget slot content first behind sight)
+    ∙ spelled c.in_ok-dump.field-0 (dump_elements c.args.listed
+    (seen_by content first behind old.tags.tags old.marks.marks slot) c.args.from c.args.to) c.in_ok-dump.ensures
+    ∙ ap (λ seen. list_text (dump_elements c.args.listed seen c.args.from c.args.to))
+    (seen-found parts document c.args.widget slot content first behind sight)

@@ -17,18 +17,22 @@ use Rattle.documents.proofs.documents.Document.insert_at.Goals as goal
 pub put_pairs-put-requires-clause-within : goal.put_pairs-put-requires-clause-within
 put_pairs-put-requires-clause-within g c =
     let old = c.self.inside in
-    let parts = parts_of old.seats old.tags old.marks old.settings old.disabled.items old.anchors.items old.history (g.S.TextStore.content old.store) in
+    let parts = parts_of old.seats old.tags old.marks old.settings old.disabled.items old.anchors.items old.history
+    (g.S.TextStore.content old.store) in
     omega (arith, c.requires.within, cells-kept parts c.args.self.now c.self.view_is)
 
 pub put_pairs-put-requires-clause-stand : goal.put_pairs-put-requires-clause-stand
 put_pairs-put-requires-clause-stand g c =
     let old = c.self.inside in
-    let parts = parts_of old.seats old.tags old.marks old.settings old.disabled.items old.anchors.items old.history (g.S.TextStore.content old.store) in
-    anchors-stand parts c.args.self.now c.deref_mut.result.now (record { sound = c.self.invariant; is = c.self.view_is }) c.deref_mut.ensures.value
+    let parts = parts_of old.seats old.tags old.marks old.settings old.disabled.items old.anchors.items old.history
+    (g.S.TextStore.content old.store) in
+    anchors-stand parts c.args.self.now c.deref_mut.result.now
+    (record { sound = c.self.invariant; is = c.self.view_is }) c.deref_mut.ensures.value
 
 pub truncate-requires : goal.truncate-requires
 truncate-requires g c =
-    ap (λ n. slot_of sel (take n c.put_pairs-put.new.tags.tags)) c.len-front.ensures.value ∙ ap (slot_of sel) c.in-Err.ensures.front.tags ∙ c.len-front.ensures.sound.selection
+    ap (λ n. slot_of sel (take n c.put_pairs-put.new.tags.tags)) c.len-front.ensures.value
+    ∙ ap (slot_of sel) c.in-Err.ensures.front.tags ∙ c.len-front.ensures.sound.selection
 
 pub invariant_of-self : goal.invariant_of-self
 invariant_of-self g c =
@@ -36,16 +40,28 @@ invariant_of-self g c =
     let new = c.put_pairs-put.new in
     let content = g.S.TextStore.content old.store in
     let changed = g.S.TextStore.content new.store in
-    let parts = parts_of old.seats old.tags old.marks old.settings old.disabled.items old.anchors.items old.history content in
+    let parts = parts_of old.seats old.tags old.marks old.settings old.disabled.items old.anchors.items old.history
+    content in
     let stands : Stands parts c.args.self.now = record { sound = c.self.invariant; is = c.self.view_is } in
     let kept = take old.anchors.len (new.anchors ++ drop (length new.anchors) old.anchors.items) in
-    let written = written-back old.anchors.items new.anchors c.deref_mut.result.now old.anchors.len c.deref_mut.ensures.value c.put_pairs-put.auto.anchors old.anchors.ok.0 in
+    let written = written-back old.anchors.items new.anchors c.deref_mut.result.now old.anchors.len
+    c.deref_mut.ensures.value c.put_pairs-put.auto.anchors old.anchors.ok.0 in
     let told = c.in-Ok.ensures in
-    (leaves-put c.args.limits.now parts new.tags (state_of changed kept (log_of new.history)) c.args.self.now c.args.widget c.number.result c.args.at c.args.pairs.items stands
+    (leaves-put c.args.limits.now parts new.tags (state_of changed kept (log_of new.history)) c.args.self.now
+    c.args.widget c.number.result c.args.at c.args.pairs.items stands
     (sits parts c.args.self.now c.args.widget c.number.result stands c.number.ensures.value)
-    (record { bounds = told.bounds; front = told.front; sound = told.sound; scalars = told.scalars; made = told.made; room = told.room }) c.requires.within
-    (edited-is (λ recording state. inserted_texts recording Insert c.args.at (map (piece_of new.tags.tags c.number.result) c.args.pairs.items) state)
-    content changed old.anchors.items new.anchors c.deref_mut.result.now kept (log_of old.history) (log_of new.history) (recording_of old.settings) c.recording.result written
+    (record {
+      bounds = told.bounds;
+      front = told.front;
+      sound = told.sound;
+      scalars = told.scalars;
+      made = told.made;
+      room = told.room;
+    }) c.requires.within
+    (edited-is (λ recording state. inserted_texts recording Insert c.args.at
+    (map (piece_of new.tags.tags c.number.result) c.args.pairs.items) state)
+    content changed old.anchors.items new.anchors c.deref_mut.result.now kept (log_of old.history) (log_of new.history)
+    (recording_of old.settings) c.recording.result written
     c.deref_mut.ensures.value c.recording.ensures told.ok)).sound
 
 pub returns-in-Ok : goal.returns-in-Ok
@@ -54,16 +70,28 @@ returns-in-Ok g c =
     let new = c.put_pairs-put.new in
     let content = g.S.TextStore.content old.store in
     let changed = g.S.TextStore.content new.store in
-    let parts = parts_of old.seats old.tags old.marks old.settings old.disabled.items old.anchors.items old.history content in
+    let parts = parts_of old.seats old.tags old.marks old.settings old.disabled.items old.anchors.items old.history
+    content in
     let stands : Stands parts c.args.self.now = record { sound = c.self.invariant; is = c.self.view_is } in
     let kept = take old.anchors.len (new.anchors ++ drop (length new.anchors) old.anchors.items) in
-    let written = written-back old.anchors.items new.anchors c.deref_mut.result.now old.anchors.len c.deref_mut.ensures.value c.put_pairs-put.auto.anchors old.anchors.ok.0 in
+    let written = written-back old.anchors.items new.anchors c.deref_mut.result.now old.anchors.len
+    c.deref_mut.ensures.value c.put_pairs-put.auto.anchors old.anchors.ok.0 in
     let told = c.in-Ok.ensures in
-    (leaves-put c.args.limits.now parts new.tags (state_of changed kept (log_of new.history)) c.args.self.now c.args.widget c.number.result c.args.at c.args.pairs.items stands
+    (leaves-put c.args.limits.now parts new.tags (state_of changed kept (log_of new.history)) c.args.self.now
+    c.args.widget c.number.result c.args.at c.args.pairs.items stands
     (sits parts c.args.self.now c.args.widget c.number.result stands c.number.ensures.value)
-    (record { bounds = told.bounds; front = told.front; sound = told.sound; scalars = told.scalars; made = told.made; room = told.room }) c.requires.within
-    (edited-is (λ recording state. inserted_texts recording Insert c.args.at (map (piece_of new.tags.tags c.number.result) c.args.pairs.items) state)
-    content changed old.anchors.items new.anchors c.deref_mut.result.now kept (log_of old.history) (log_of new.history) (recording_of old.settings) c.recording.result written
+    (record {
+      bounds = told.bounds;
+      front = told.front;
+      sound = told.sound;
+      scalars = told.scalars;
+      made = told.made;
+      room = told.room;
+    }) c.requires.within
+    (edited-is (λ recording state. inserted_texts recording Insert c.args.at
+    (map (piece_of new.tags.tags c.number.result) c.args.pairs.items) state)
+    content changed old.anchors.items new.anchors c.deref_mut.result.now kept (log_of old.history) (log_of new.history)
+    (recording_of old.settings) c.recording.result written
     c.deref_mut.ensures.value c.recording.ensures told.ok)).does
 
 pub invariant_of-self-in-Err : goal.invariant_of-self-in-Err
@@ -72,13 +100,17 @@ invariant_of-self-in-Err g c =
     let new = c.put_pairs-put.new in
     let content = g.S.TextStore.content old.store in
     let changed = g.S.TextStore.content new.store in
-    let parts = parts_of old.seats old.tags old.marks old.settings old.disabled.items old.anchors.items old.history content in
+    let parts = parts_of old.seats old.tags old.marks old.settings old.disabled.items old.anchors.items old.history
+    content in
     let stands : Stands parts c.args.self.now = record { sound = c.self.invariant; is = c.self.view_is } in
     let kept = take old.anchors.len (new.anchors ++ drop (length new.anchors) old.anchors.items) in
-    let written = written-back old.anchors.items new.anchors c.deref_mut.result.now old.anchors.len c.deref_mut.ensures.value c.put_pairs-put.auto.anchors old.anchors.ok.0 in
+    let written = written-back old.anchors.items new.anchors c.deref_mut.result.now old.anchors.len
+    c.deref_mut.ensures.value c.put_pairs-put.auto.anchors old.anchors.ok.0 in
     let err = c.in-Err.ensures.err in
-    let back = table-back old.tags new.tags c.truncate.new.self c.len-front.result c.len-front.ensures.value c.in-Err.ensures.front c.truncate.ensures in
-    let state = unedited-is content changed old.anchors.items new.anchors c.deref_mut.result.now kept (log_of old.history) (log_of new.history) written c.deref_mut.ensures.value err.0 err.1 err.2 in
+    let back = table-back old.tags new.tags c.truncate.new.self c.len-front.result c.len-front.ensures.value
+    c.in-Err.ensures.front c.truncate.ensures in
+    let state = unedited-is content changed old.anchors.items new.anchors c.deref_mut.result.now kept
+    (log_of old.history) (log_of new.history) written c.deref_mut.ensures.value err.0 err.1 err.2 in
     let after = with_state (with_tags c.truncate.new.self parts) (state_of changed kept (log_of new.history)) in
     (stands-same parts after c.args.self.now stands (ap₂ (λ t s. with_state (with_tags t parts) s) back state)).sound
 
@@ -89,14 +121,20 @@ returns-in-Err g c =
     let content = g.S.TextStore.content old.store in
     let changed = g.S.TextStore.content new.store in
     let document = c.args.self.now in
-    let parts = parts_of old.seats old.tags old.marks old.settings old.disabled.items old.anchors.items old.history content in
+    let parts = parts_of old.seats old.tags old.marks old.settings old.disabled.items old.anchors.items old.history
+    content in
     let stands : Stands parts document = record { sound = c.self.invariant; is = c.self.view_is } in
     let kept = take old.anchors.len (new.anchors ++ drop (length new.anchors) old.anchors.items) in
-    let written = written-back old.anchors.items new.anchors c.deref_mut.result.now old.anchors.len c.deref_mut.ensures.value c.put_pairs-put.auto.anchors old.anchors.ok.0 in
+    let written = written-back old.anchors.items new.anchors c.deref_mut.result.now old.anchors.len
+    c.deref_mut.ensures.value c.put_pairs-put.auto.anchors old.anchors.ok.0 in
     let err = c.in-Err.ensures.err in
-    let back = table-back old.tags new.tags c.truncate.new.self c.len-front.result c.len-front.ensures.value c.in-Err.ensures.front c.truncate.ensures in
-    let state = unedited-is content changed old.anchors.items new.anchors c.deref_mut.result.now kept (log_of old.history) (log_of new.history) written c.deref_mut.ensures.value err.0 err.1 err.2 in
+    let back = table-back old.tags new.tags c.truncate.new.self c.len-front.result c.len-front.ensures.value
+    c.in-Err.ensures.front c.truncate.ensures in
+    let state = unedited-is content changed old.anchors.items new.anchors c.deref_mut.result.now kept
+    (log_of old.history) (log_of new.history) written c.deref_mut.ensures.value err.0 err.1 err.2 in
     let after = with_state (with_tags c.truncate.new.self parts) (state_of changed kept (log_of new.history)) in
     let same = stands-same parts after document stands (ap₂ (λ t s. with_state (with_tags t parts) s) back state) in
-    does-left c.args.limits.now document (document_of after) c.in-Err.fault (insert_at c.args.limits.now document (widget_at document c.args.widget) c.args.at c.args.pairs.items) same.is
-    (λ other. put-left c.args.limits.now parts document (widget_at document c.args.widget) c.args.at c.args.pairs.items c.in-Err.fault stands (c.in-Err.ensures.fault other))
+    does-left c.args.limits.now document (document_of after) c.in-Err.fault
+    (insert_at c.args.limits.now document (widget_at document c.args.widget) c.args.at c.args.pairs.items) same.is
+    (λ other. put-left c.args.limits.now parts document (widget_at document c.args.widget) c.args.at c.args.pairs.items
+    c.in-Err.fault stands (c.in-Err.ensures.fault other))

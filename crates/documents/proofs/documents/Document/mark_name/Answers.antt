@@ -13,17 +13,25 @@ pub returns : goal.returns
 returns g c =
     let old = c.self.inside in
     let document = c.args.self.now in
-    let parts = parts_of old.seats old.tags old.marks old.settings old.disabled.items old.anchors.items old.history (g.S.TextStore.content old.store) in
+    let parts = parts_of old.seats old.tags old.marks old.settings old.disabled.items old.anchors.items old.history
+    (g.S.TextStore.content old.store) in
     let stands : Stands parts document = record { sound = c.self.invariant; is = c.self.view_is } in
     c.new.ensures ∙ ap chars c.in_ok-from_str.ensures.ok
     ∙ elim c.match-mark.branch [
-      | in-Insert w ↦ ap (λ n. chars n.now) w.name-is ∙ ap (λ m. slice_index_or (mark_names document) (rank_of m) []) (sym w.in-Insert.is)
-      | in-Current w ↦ ap (λ n. chars n.now) w.name-is ∙ ap (λ m. slice_index_or (mark_names document) (rank_of m) []) (sym w.in-Current.is)
+      | in-Insert w ↦ ap (λ n. chars n.now) w.name-is
+          ∙ ap (λ m. slice_index_or (mark_names document) (rank_of m) []) (sym w.in-Insert.is)
+      | in-Current w ↦ ap (λ n. chars n.now) w.name-is
+          ∙ ap (λ m. slice_index_or (mark_names document) (rank_of m) []) (sym w.in-Current.is)
       | in-Shared w ↦
-          ap (λ n. chars n.now) w.name-is ∙ name-shared parts document w.in-Shared.place (chars w.name-name.result.now) stands w.name-name.ensures
+          ap (λ n. chars n.now) w.name-is
+          ∙ name-shared parts document w.in-Shared.place (chars w.name-name.result.now) stands w.name-name.ensures
           ∙ ap (λ m. slice_index_or (mark_names document) (rank_of m) []) (sym w.in-Shared.is)
       | in-Shared-2 w ↦
-          let past : length parts.marks.marks ≤ w.in-Shared.place = omega (arith, w.len.ensures.value, w.if-place-len.false) in
+          let past : length parts.marks.marks ≤ w.in-Shared.place = omega (
+            arith,
+            w.len.ensures.value,
+            w.if-place-len.false,
+          ) in
           ap (λ n. chars n.now) w.name-is ∙ chars-nil ∙ name-past parts document w.in-Shared.place stands past
           ∙ ap (λ m. slice_index_or (mark_names document) (rank_of m) []) (sym w.in-Shared.is)
     ]

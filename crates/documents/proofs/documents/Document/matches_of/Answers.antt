@@ -9,5 +9,9 @@ use Rattle.documents.proofs.documents.Document.matches_of.Goals as goal
 pub returns : goal.returns
 returns g c =
     let found = c.view_at-view in
-    c.new.ensures ∙ spelled c.in_ok-search.field-0 (search_result c.args.switches (chars c.args.pattern.now) (shown (g.S.TextStore.content found.result.store.now) found.result.s found.result.e) c.args.from c.args.stop) c.in_ok-search.ensures
-    ∙ ap (λ text. list_text (search_result c.args.switches (chars c.args.pattern.now) text c.args.from c.args.stop)) found.ensures.text
+    c.new.ensures ∙ spelled c.in_ok-search.field-0
+    (search_result c.args.switches (chars c.args.pattern.now)
+    (shown (g.S.TextStore.content found.result.store.now) found.result.s found.result.e) c.args.from c.args.stop)
+    c.in_ok-search.ensures
+    ∙ ap (λ text. list_text (search_result c.args.switches (chars c.args.pattern.now) text c.args.from c.args.stop))
+    found.ensures.text

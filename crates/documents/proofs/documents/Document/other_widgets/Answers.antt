@@ -15,10 +15,12 @@ pub returns : goal.returns
 returns g c =
     let old = c.self.inside in
     let document = c.args.self.now in
-    let parts = parts_of old.seats old.tags old.marks old.settings old.disabled.items old.anchors.items old.history (g.S.TextStore.content old.store) in
+    let parts = parts_of old.seats old.tags old.marks old.settings old.disabled.items old.anchors.items old.history
+    (g.S.TextStore.content old.store) in
     let stands : Stands parts document = record { sound = c.self.invariant; is = c.self.view_is } in
     let name = chars c.name.result.now in
     let names = filter (λ other. not (is_same other name)) (names_of old.seats.entries) in
     let new = c.push_other_seats.new.list in
-    c.new.ensures ∙ written (string_bytes new) names (IsUtf8-string_bytes new) (subst (λ bytes. Goes bytes (string_bytes new) names) c.new-list.ensures.bytes c.in_ok-push_other_seats.ensures)
+    c.new.ensures ∙ written (string_bytes new) names (IsUtf8-string_bytes new)
+    (subst (λ bytes. Goes bytes (string_bytes new) names) c.new-list.ensures.bytes c.in_ok-push_other_seats.ensures)
     ∙ ap list_text (others-kept parts document c.args.widget name stands c.name.ensures)

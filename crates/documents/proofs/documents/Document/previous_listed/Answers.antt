@@ -19,17 +19,21 @@ pub returns-in_default : goal.returns-in_default
 returns-in_default g c =
     let old = c.self.inside in
     let document = c.args.self.now in
-    let parts = parts_of old.seats old.tags old.marks old.settings old.disabled.items old.anchors.items old.history (g.S.TextStore.content old.store) in
+    let parts = parts_of old.seats old.tags old.marks old.settings old.disabled.items old.anchors.items old.history
+    (g.S.TextStore.content old.store) in
     let stands : Stands parts document = record { sound = c.self.invariant; is = c.self.view_is } in
     c.new.ensures ∙ ap chars c.new-list.ensures.bytes ∙ chars-nil
-    ∙ ap (λ flags. list_text (range_words (shown document (widget_at document c.args.widget)) (begun (λ start. nat_le c.args.to start) (previous_range flags c.args.from))))
-    (flags-unknown parts document c.args.widget c.number-number.result stands (chars c.args.name.now) c.in_default.ensures.value)
+    ∙ ap (λ flags. list_text (range_words (shown document (widget_at document c.args.widget))
+    (begun (λ start. nat_le c.args.to start) (previous_range flags c.args.from))))
+    (flags-unknown parts document c.args.widget c.number-number.result stands (chars c.args.name.now)
+    c.in_default.ensures.value)
 
 pub view_of-view-requires : goal.view_of-view-requires
 view_of-view-requires g c =
     let old = c.self.inside in
     let document = c.args.self.now in
-    let parts = parts_of old.seats old.tags old.marks old.settings old.disabled.items old.anchors.items old.history (g.S.TextStore.content old.store) in
+    let parts = parts_of old.seats old.tags old.marks old.settings old.disabled.items old.anchors.items old.history
+    (g.S.TextStore.content old.store) in
     let stands : Stands parts document = record { sound = c.self.invariant; is = c.self.view_is } in
     let seated = sits parts document c.args.widget c.number-number.result stands c.number-number.ensures.value in
     omega (arith, seated.anchors, ap length c.deref.ensures.value)
@@ -38,11 +42,14 @@ pub push_previous-requires-clause-view : goal.push_previous-requires-clause-view
 push_previous-requires-clause-view g c =
     let old = c.self.inside in
     let document = c.args.self.now in
-    let parts = parts_of old.seats old.tags old.marks old.settings old.disabled.items old.anchors.items old.history (g.S.TextStore.content old.store) in
+    let parts = parts_of old.seats old.tags old.marks old.settings old.disabled.items old.anchors.items old.history
+    (g.S.TextStore.content old.store) in
     let stands : Stands parts document = record { sound = c.self.invariant; is = c.self.view_is } in
     let found = c.view_of-view in
     let content = g.S.TextStore.content found.result.store.now in
-    let seen = see parts document c.args.widget c.number-number.result content found.result.s found.result.e c.deref.result.now stands c.number-number.ensures.value c.deref.ensures.value found.ensures.start found.ensures.end
+    let seen = see parts document c.args.widget c.number-number.result content found.result.s found.result.e
+    c.deref.result.now stands c.number-number.ensures.value c.deref.ensures.value found.ensures.start
+    found.ensures.end
     found.ensures.store in
     view-found parts document c.args.widget c.number-number.result content found.result.s found.result.e seen
 
@@ -50,11 +57,14 @@ pub push_previous-requires-clause-within : goal.push_previous-requires-clause-wi
 push_previous-requires-clause-within g c =
     let old = c.self.inside in
     let document = c.args.self.now in
-    let parts = parts_of old.seats old.tags old.marks old.settings old.disabled.items old.anchors.items old.history (g.S.TextStore.content old.store) in
+    let parts = parts_of old.seats old.tags old.marks old.settings old.disabled.items old.anchors.items old.history
+    (g.S.TextStore.content old.store) in
     let stands : Stands parts document = record { sound = c.self.invariant; is = c.self.view_is } in
     let found = c.view_of-view in
     let content = g.S.TextStore.content found.result.store.now in
-    let seen = see parts document c.args.widget c.number-number.result content found.result.s found.result.e c.deref.result.now stands c.number-number.ensures.value c.deref.ensures.value found.ensures.start found.ensures.end
+    let seen = see parts document c.args.widget c.number-number.result content found.result.s found.result.e
+    c.deref.result.now stands c.number-number.ensures.value c.deref.ensures.value found.ensures.start
+    found.ensures.end
     found.ensures.store in
     omega (
       arith,
@@ -67,16 +77,27 @@ pub returns : goal.returns
 returns g c =
     let old = c.self.inside in
     let document = c.args.self.now in
-    let parts = parts_of old.seats old.tags old.marks old.settings old.disabled.items old.anchors.items old.history (g.S.TextStore.content old.store) in
+    let parts = parts_of old.seats old.tags old.marks old.settings old.disabled.items old.anchors.items old.history
+    (g.S.TextStore.content old.store) in
     let stands : Stands parts document = record { sound = c.self.invariant; is = c.self.view_is } in
     let found = c.view_of-view in
     let content = g.S.TextStore.content found.result.store.now in
-    let seen = see parts document c.args.widget c.number-number.result content found.result.s found.result.e c.deref.result.now stands c.number-number.ensures.value c.deref.ensures.value found.ensures.start found.ensures.end
+    let seen = see parts document c.args.widget c.number-number.result content found.result.s found.result.e
+    c.deref.result.now stands c.number-number.ensures.value c.deref.ensures.value found.ensures.start
+    found.ensures.end
     found.ensures.store in
-    let text = shown-found parts document c.args.widget c.number-number.result content found.result.s found.result.e seen in
-    let flags = flags-known parts document c.args.widget c.number-number.result content found.result.s found.result.e seen (chars c.args.name.now) c.in-Some.slot.0 c.in-Some.ensures.value in
+    let text = shown-found parts document c.args.widget c.number-number.result content found.result.s found.result.e
+    seen in
+    let flags = flags-known parts document c.args.widget c.number-number.result content found.result.s found.result.e
+    seen (chars c.args.name.now) c.in-Some.slot.0 c.in-Some.ensures.value in
     let new = c.push_previous.new.list in
-    let words = range_words (view.shown content found.result.s found.result.e) (begun (λ start. nat_le c.args.to start) (previous_range (view.shown_flags c.in-Some.slot.0 content found.result.s found.result.e) c.args.from)) in
-    c.new-2.ensures ∙ written (string_bytes new) words (IsUtf8-string_bytes new) (subst (λ bytes. Goes bytes (string_bytes new) words) c.new-list.ensures.bytes c.in_ok-push_previous.ensures)
-    ∙ ap (λ t. list_text (range_words t (begun (λ start. nat_le c.args.to start) (previous_range (view.shown_flags c.in-Some.slot.0 content found.result.s found.result.e) c.args.from)))) text
-    ∙ ap (λ flags. list_text (range_words (shown document (widget_at document c.args.widget)) (begun (λ start. nat_le c.args.to start) (previous_range flags c.args.from)))) flags
+    let words = range_words (view.shown content found.result.s found.result.e)
+    (begun (λ start. nat_le c.args.to start)
+    (previous_range (view.shown_flags c.in-Some.slot.0 content found.result.s found.result.e) c.args.from)) in
+    c.new-2.ensures ∙ written (string_bytes new) words (IsUtf8-string_bytes new)
+    (subst (λ bytes. Goes bytes (string_bytes new) words) c.new-list.ensures.bytes c.in_ok-push_previous.ensures)
+    ∙ ap (λ t.
+    list_text (range_words t (begun (λ start. nat_le c.args.to start)
+    (previous_range (view.shown_flags c.in-Some.slot.0 content found.result.s found.result.e) c.args.from)))) text
+    ∙ ap (λ flags. list_text (range_words (shown document (widget_at document c.args.widget))
+    (begun (λ start. nat_le c.args.to start) (previous_range flags c.args.from)))) flags

@@ -10,7 +10,8 @@ mark_view_of-view-requires g c =
     let old = c.self.inside in
     let document = c.args.self.now in
     let content = g.S.TextStore.content old.store in
-    let parts = parts_of old.seats old.tags old.marks old.settings old.disabled.items old.anchors.items old.history content in
+    let parts = parts_of old.seats old.tags old.marks old.settings old.disabled.items old.anchors.items old.history
+    content in
     let stands : Stands parts document = record { sound = c.self.invariant; is = c.self.view_is } in
     let slot = c.number.result in
     let seated = sits parts document c.args.widget slot stands c.number.ensures.value in
@@ -21,9 +22,12 @@ returns g c =
     let old = c.self.inside in
     let document = c.args.self.now in
     let content = g.S.TextStore.content old.store in
-    let parts = parts_of old.seats old.tags old.marks old.settings old.disabled.items old.anchors.items old.history content in
+    let parts = parts_of old.seats old.tags old.marks old.settings old.disabled.items old.anchors.items old.history
+    content in
     let stands : Stands parts document = record { sound = c.self.invariant; is = c.self.view_is } in
     let slot = c.number.result in
     let seated = sits parts document c.args.widget slot stands c.number.ensures.value in
-    previous-found parts document c.args.widget slot stands seated c.args.origin c.deref.result.now c.mark_view_of-view.result c.origin_in.result c.len.result 18446744073709551615 c.deref.ensures.value c.len.ensures
+    previous-found parts document c.args.widget slot stands seated c.args.origin c.deref.result.now
+    c.mark_view_of-view.result c.origin_in.result c.len.result 18446744073709551615 c.deref.ensures.value
+    c.len.ensures
     c.mark_view_of-view.ensures c.origin_in.ensures (omega arith) c.previous.result c.previous.ensures

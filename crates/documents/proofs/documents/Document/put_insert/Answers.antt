@@ -19,13 +19,20 @@ pub invariant_of-self : goal.invariant_of-self
 invariant_of-self g c =
     let old = c.self.inside in
     let document = c.args.self.now in
-    let parts = parts_of old.seats old.tags old.marks old.settings old.disabled.items old.anchors.items old.history (g.S.TextStore.content old.store) in
+    let parts = parts_of old.seats old.tags old.marks old.settings old.disabled.items old.anchors.items old.history
+    (g.S.TextStore.content old.store) in
     let stands : Stands parts document = record { sound = c.self.invariant; is = c.self.view_is } in
     let changed = g.S.TextStore.content c.put_mark.new.store in
-    let within : c.args.place.offset ≤ length parts.content.cells = omega (arith, c.requires.stands, cells-kept parts document stands.is) in
+    let within : c.args.place.offset ≤ length parts.content.cells = omega (
+      arith,
+      c.requires.stands,
+      cells-kept parts document stands.is,
+    ) in
     elim c.match-put_mark.branch [
-      | in-Err w ↦ (stands-same parts (record parts { content = changed }) document stands (ap (λ (content : Content). record parts { content = content }) w.in-Err.ensures.err)).sound
-      | in-Ok w ↦ (leaves-insert c.args.limits.now parts document c.args.widget c.number.result c.args.place changed stands (sits parts document c.args.widget c.number.result stands c.number.ensures.value) within
+      | in-Err w ↦ (stands-same parts (record parts { content = changed }) document stands
+          (ap (λ (content : Content). record parts { content = content }) w.in-Err.ensures.err)).sound
+      | in-Ok w ↦ (leaves-insert c.args.limits.now parts document c.args.widget c.number.result c.args.place changed
+          stands (sits parts document c.args.widget c.number.result stands c.number.ensures.value) within
           w.in-Ok.ensures.ok).sound
     ]
 
@@ -33,17 +40,26 @@ pub returns : goal.returns
 returns g c =
     let old = c.self.inside in
     let document = c.args.self.now in
-    let parts = parts_of old.seats old.tags old.marks old.settings old.disabled.items old.anchors.items old.history (g.S.TextStore.content old.store) in
+    let parts = parts_of old.seats old.tags old.marks old.settings old.disabled.items old.anchors.items old.history
+    (g.S.TextStore.content old.store) in
     let stands : Stands parts document = record { sound = c.self.invariant; is = c.self.view_is } in
     let changed = g.S.TextStore.content c.put_mark.new.store in
-    let within : c.args.place.offset ≤ length parts.content.cells = omega (arith, c.requires.stands, cells-kept parts document stands.is) in
+    let within : c.args.place.offset ≤ length parts.content.cells = omega (
+      arith,
+      c.requires.stands,
+      cells-kept parts document stands.is,
+    ) in
     let new : Parts = record parts { content = changed } in
     let change : Change = answered (with_insert document (widget_at document c.args.widget) c.args.place) Empty in
     let P : Result Answer Fault → Type 0 = λ result. Does c.args.limits.now document (document_of new) result change in
     elim c.match-put_mark.branch [
       | in-Err w ↦
-          let left = stands-same parts new document stands (ap (λ (content : Content). record parts { content = content }) w.in-Err.ensures.err) in
-          subst P (sym w.result-is) (does-left c.args.limits.now document (document_of new) Memory change left.is (λ other. absurd (other refl)))
-      | in-Ok w ↦ subst P (sym w.result-is) (leaves-insert c.args.limits.now parts document c.args.widget c.number.result c.args.place changed stands
-          (sits parts document c.args.widget c.number.result stands c.number.ensures.value) within w.in-Ok.ensures.ok).does
+          let left = stands-same parts new document stands
+          (ap (λ (content : Content). record parts { content = content }) w.in-Err.ensures.err) in
+          subst P (sym w.result-is) (does-left c.args.limits.now document (document_of new) Memory change left.is
+          (λ other. absurd (other refl)))
+      | in-Ok w ↦ subst P (sym w.result-is) (leaves-insert c.args.limits.now parts document c.args.widget
+          c.number.result c.args.place changed stands
+          (sits parts document c.args.widget c.number.result stands c.number.ensures.value) within
+          w.in-Ok.ensures.ok).does
     ]

@@ -20,46 +20,64 @@ pub returns-in_default : goal.returns-in_default
 returns-in_default g c =
     let old = c.self.inside in
     let document = c.args.self.now in
-    let parts = parts_of old.seats old.tags old.marks old.settings old.disabled.items old.anchors.items old.history (g.S.TextStore.content old.store) in
+    let parts = parts_of old.seats old.tags old.marks old.settings old.disabled.items old.anchors.items old.history
+    (g.S.TextStore.content old.store) in
     let stands : Stands parts document = record { sound = c.self.invariant; is = c.self.view_is } in
     let word = chars c.args.name.now in
-    let none : number_of word parts.marks.marks ≡ None = sym c.find.ensures ∙ ap (option_map (λ (n : MarkNo). n.0)) c.in_default.is in
+    let none : number_of word parts.marks.marks ≡ None = sym c.find.ensures
+    ∙ ap (option_map (λ (n : MarkNo). n.0)) c.in_default.is in
     does-unnamed c.args.limits.now parts document word c.args.place stands none
 
 pub invariant_of-self : goal.invariant_of-self
 invariant_of-self g c =
     let old = c.self.inside in
     let document = c.args.self.now in
-    let parts = parts_of old.seats old.tags old.marks old.settings old.disabled.items old.anchors.items old.history (g.S.TextStore.content old.store) in
+    let parts = parts_of old.seats old.tags old.marks old.settings old.disabled.items old.anchors.items old.history
+    (g.S.TextStore.content old.store) in
     let stands : Stands parts document = record { sound = c.self.invariant; is = c.self.view_is } in
     let word = chars c.args.name.now in
     let changed = g.S.TextStore.content c.turn_mark.new.store in
     let new = c.turn_mark.new.marks in
-    let known : number_of word parts.marks.marks ≡ Some c.in-Some.number.0 = sym c.find.ensures ∙ ap (option_map (λ (n : MarkNo). n.0)) c.in-Some.is in
-    let within : c.args.place.offset ≤ length parts.content.cells = omega (arith, c.requires, cells-kept parts document stands.is) in
+    let known : number_of word parts.marks.marks ≡ Some c.in-Some.number.0 = sym c.find.ensures
+    ∙ ap (option_map (λ (n : MarkNo). n.0)) c.in-Some.is in
+    let within : c.args.place.offset ≤ length parts.content.cells = omega (
+      arith,
+      c.requires,
+      cells-kept parts document stands.is,
+    ) in
     elim c.match-turn_mark.branch [
-      | in-Err w ↦ (stands-unmarked parts new changed document stands w.in-Err.ensures.err.1 w.in-Err.ensures.err.0).sound
-      | in-Ok w ↦ (leaves-turned c.args.limits.now parts new changed document word c.in-Some.number.0 c.args.place stands within known w.in-Ok.ensures.sound w.in-Ok.ensures.table w.in-Ok.ensures.ok).sound
+      | in-Err w ↦ (stands-unmarked parts new changed document stands w.in-Err.ensures.err.1
+          w.in-Err.ensures.err.0).sound
+      | in-Ok w ↦ (leaves-turned c.args.limits.now parts new changed document word c.in-Some.number.0 c.args.place
+          stands within known w.in-Ok.ensures.sound w.in-Ok.ensures.table w.in-Ok.ensures.ok).sound
     ]
 
 pub returns : goal.returns
 returns g c =
     let old = c.self.inside in
     let document = c.args.self.now in
-    let parts = parts_of old.seats old.tags old.marks old.settings old.disabled.items old.anchors.items old.history (g.S.TextStore.content old.store) in
+    let parts = parts_of old.seats old.tags old.marks old.settings old.disabled.items old.anchors.items old.history
+    (g.S.TextStore.content old.store) in
     let stands : Stands parts document = record { sound = c.self.invariant; is = c.self.view_is } in
     let word = chars c.args.name.now in
     let changed = g.S.TextStore.content c.turn_mark.new.store in
     let new = c.turn_mark.new.marks in
-    let known : number_of word parts.marks.marks ≡ Some c.in-Some.number.0 = sym c.find.ensures ∙ ap (option_map (λ (n : MarkNo). n.0)) c.in-Some.is in
-    let within : c.args.place.offset ≤ length parts.content.cells = omega (arith, c.requires, cells-kept parts document stands.is) in
+    let known : number_of word parts.marks.marks ≡ Some c.in-Some.number.0 = sym c.find.ensures
+    ∙ ap (option_map (λ (n : MarkNo). n.0)) c.in-Some.is in
+    let within : c.args.place.offset ≤ length parts.content.cells = omega (
+      arith,
+      c.requires,
+      cells-kept parts document stands.is,
+    ) in
     let made : Parts = record parts { marks = new; content = changed } in
     let change : Change = answered (with_shared document word c.args.place) Empty in
     let P : Result Answer Fault → Type 0 = λ result. Does c.args.limits.now document (document_of made) result change in
     elim c.match-turn_mark.branch [
       | in-Err w ↦
           let left = stands-unmarked parts new changed document stands w.in-Err.ensures.err.1 w.in-Err.ensures.err.0 in
-          subst P (sym w.result-is) (does-left c.args.limits.now document (document_of made) Memory change left.is (λ other. absurd (other refl)))
-      | in-Ok w ↦ subst P (sym w.result-is) (leaves-turned c.args.limits.now parts new changed document word c.in-Some.number.0 c.args.place stands within known w.in-Ok.ensures.sound
+          subst P (sym w.result-is) (does-left c.args.limits.now document (document_of made) Memory change left.is
+          (λ other. absurd (other refl)))
+      | in-Ok w ↦ subst P (sym w.result-is) (leaves-turned c.args.limits.now parts new changed document word
+          c.in-Some.number.0 c.args.place stands within known w.in-Ok.ensures.sound
           w.in-Ok.ensures.table w.in-Ok.ensures.ok).does
     ]

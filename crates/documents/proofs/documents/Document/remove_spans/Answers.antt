@@ -14,23 +14,28 @@ pub returns-in_default : goal.returns-in_default
 returns-in_default g c =
     let old = c.self.inside in
     let document = c.args.self.now in
-    let parts = parts_of old.seats old.tags old.marks old.settings old.disabled.items old.anchors.items old.history (g.S.TextStore.content old.store) in
+    let parts = parts_of old.seats old.tags old.marks old.settings old.disabled.items old.anchors.items old.history
+    (g.S.TextStore.content old.store) in
     let stands : Stands parts document = record { sound = c.self.invariant; is = c.self.view_is } in
-    does-remove_none c.args.limits.now parts document c.args.widget c.number-number.result (chars c.args.name.now) c.args.places.now stands c.in_default.ensures.value
+    does-remove_none c.args.limits.now parts document c.args.widget c.number-number.result (chars c.args.name.now)
+    c.args.places.now stands c.in_default.ensures.value
 
 pub set_slot-requires-clause-spans : goal.set_slot-requires-clause-spans
 set_slot-requires-clause-spans g c =
     let old = c.self.inside in
     let document = c.args.self.now in
-    let parts = parts_of old.seats old.tags old.marks old.settings old.disabled.items old.anchors.items old.history (g.S.TextStore.content old.store) in
+    let parts = parts_of old.seats old.tags old.marks old.settings old.disabled.items old.anchors.items old.history
+    (g.S.TextStore.content old.store) in
     let stands : Stands parts document = record { sound = c.self.invariant; is = c.self.view_is } in
-    subst (λ (n : ℕ). All (SpanFits n) c.deref.result.now) (cells-kept parts document stands.is) (subst (All (SpanFits (length document.cells))) (sym c.deref.ensures.value) c.in_ok-spans.ensures.fit)
+    subst (λ (n : ℕ). All (SpanFits n) c.deref.result.now) (cells-kept parts document stands.is)
+    (subst (All (SpanFits (length document.cells))) (sym c.deref.ensures.value) c.in_ok-spans.ensures.fit)
 
 pub invariant_of-self : goal.invariant_of-self
 invariant_of-self g c =
     let old = c.self.inside in
     let document = c.args.self.now in
-    let parts = parts_of old.seats old.tags old.marks old.settings old.disabled.items old.anchors.items old.history (g.S.TextStore.content old.store) in
+    let parts = parts_of old.seats old.tags old.marks old.settings old.disabled.items old.anchors.items old.history
+    (g.S.TextStore.content old.store) in
     let stands : Stands parts document = record { sound = c.self.invariant; is = c.self.view_is } in
     let new = c.set_slot.new in
     let word = chars c.args.name.now in
@@ -39,10 +44,19 @@ invariant_of-self g c =
     let widget = c.number-number.result in
     let seat = sits parts document c.args.widget widget stands c.number-number.ensures.value in
     let content = g.S.TextStore.content new.store in
-    let fit = subst (λ (n : ℕ). All (SpanFits n) given) (cells-kept parts document stands.is) (subst (All (SpanFits (length document.cells))) (sym spans) c.in_ok-spans.ensures.fit) in
+    let fit = subst (λ (n : ℕ). All (SpanFits n) given) (cells-kept parts document stands.is)
+    (subst (All (SpanFits (length document.cells))) (sym spans) c.in_ok-spans.ensures.fit) in
     let made : IsTagged parts parts.tags content widget word false given =
-    record { slot = c.in-Some.slot.0; front = front_same parts.tags; sound = stands.sound.kept.tags; is = c.in-Some.ensures.value; fit = fit; content_is = c.in-Ok.ensures.ok } in
-    let leaves = leaves-removed c.args.limits.now parts content (log_of new.history) document c.args.widget widget word c.args.places.now given c.in_ok-spans.spans.items stands seat made c.in-Ok.ensures.log
+    record {
+      slot = c.in-Some.slot.0;
+      front = front_same parts.tags;
+      sound = stands.sound.kept.tags;
+      is = c.in-Some.ensures.value;
+      fit = fit;
+      content_is = c.in-Ok.ensures.ok;
+    } in
+    let leaves = leaves-removed c.args.limits.now parts content (log_of new.history) document c.args.widget widget word
+    c.args.places.now given c.in_ok-spans.spans.items stands seat made c.in-Ok.ensures.log
     spans c.in_ok-spans.ensures.value in
     leaves.sound
 
@@ -50,7 +64,8 @@ pub returns-in-Ok : goal.returns-in-Ok
 returns-in-Ok g c =
     let old = c.self.inside in
     let document = c.args.self.now in
-    let parts = parts_of old.seats old.tags old.marks old.settings old.disabled.items old.anchors.items old.history (g.S.TextStore.content old.store) in
+    let parts = parts_of old.seats old.tags old.marks old.settings old.disabled.items old.anchors.items old.history
+    (g.S.TextStore.content old.store) in
     let stands : Stands parts document = record { sound = c.self.invariant; is = c.self.view_is } in
     let new = c.set_slot.new in
     let word = chars c.args.name.now in
@@ -59,9 +74,18 @@ returns-in-Ok g c =
     let widget = c.number-number.result in
     let seat = sits parts document c.args.widget widget stands c.number-number.ensures.value in
     let content = g.S.TextStore.content new.store in
-    let fit = subst (λ (n : ℕ). All (SpanFits n) given) (cells-kept parts document stands.is) (subst (All (SpanFits (length document.cells))) (sym spans) c.in_ok-spans.ensures.fit) in
+    let fit = subst (λ (n : ℕ). All (SpanFits n) given) (cells-kept parts document stands.is)
+    (subst (All (SpanFits (length document.cells))) (sym spans) c.in_ok-spans.ensures.fit) in
     let made : IsTagged parts parts.tags content widget word false given =
-    record { slot = c.in-Some.slot.0; front = front_same parts.tags; sound = stands.sound.kept.tags; is = c.in-Some.ensures.value; fit = fit; content_is = c.in-Ok.ensures.ok } in
-    let leaves = leaves-removed c.args.limits.now parts content (log_of new.history) document c.args.widget widget word c.args.places.now given c.in_ok-spans.spans.items stands seat made c.in-Ok.ensures.log
+    record {
+      slot = c.in-Some.slot.0;
+      front = front_same parts.tags;
+      sound = stands.sound.kept.tags;
+      is = c.in-Some.ensures.value;
+      fit = fit;
+      content_is = c.in-Ok.ensures.ok;
+    } in
+    let leaves = leaves-removed c.args.limits.now parts content (log_of new.history) document c.args.widget widget word
+    c.args.places.now given c.in_ok-spans.spans.items stands seat made c.in-Ok.ensures.log
     spans c.in_ok-spans.ensures.value in
     leaves.does

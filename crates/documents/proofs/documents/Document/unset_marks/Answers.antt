@@ -12,27 +12,35 @@ pub invariant_of-self : goal.invariant_of-self
 invariant_of-self g c =
     let old = c.self.inside in
     let document = c.args.self.now in
-    let parts = parts_of old.seats old.tags old.marks old.settings old.disabled.items old.anchors.items old.history (g.S.TextStore.content old.store) in
+    let parts = parts_of old.seats old.tags old.marks old.settings old.disabled.items old.anchors.items old.history
+    (g.S.TextStore.content old.store) in
     let stands : Stands parts document = record { sound = c.self.invariant; is = c.self.view_is } in
     let changed = g.S.TextStore.content c.take_marks.new.store in
-    (stands-same parts (record parts { content = changed }) document stands (ap (λ (content : Content). record parts { content = content }) c.in-Err.ensures.err)).sound
+    (stands-same parts (record parts { content = changed }) document stands
+    (ap (λ (content : Content). record parts { content = content }) c.in-Err.ensures.err)).sound
 
 pub invariant_of-self-in-Ok : goal.invariant_of-self-in-Ok
 invariant_of-self-in-Ok g c =
     let old = c.self.inside in
     let document = c.args.self.now in
-    let parts = parts_of old.seats old.tags old.marks old.settings old.disabled.items old.anchors.items old.history (g.S.TextStore.content old.store) in
+    let parts = parts_of old.seats old.tags old.marks old.settings old.disabled.items old.anchors.items old.history
+    (g.S.TextStore.content old.store) in
     let stands : Stands parts document = record { sound = c.self.invariant; is = c.self.view_is } in
     let changed = g.S.TextStore.content c.take_marks.new.store in
-    (leaves-unset c.args.limits.now parts c.unset_names.new.marks changed document (texts_of c.args.names.now) (map (λ (number : MarkNo). number.0) c.deref.result.now) stands c.len-count.ensures.sound
-    c.unset_names.ensures (ap (map (λ (number : MarkNo). number.0)) c.deref.ensures.value ∙ c.in_ok-numbers.ensures) c.in-Ok.ensures.ok).sound
+    (leaves-unset c.args.limits.now parts c.unset_names.new.marks changed document (texts_of c.args.names.now)
+    (map (λ (number : MarkNo). number.0) c.deref.result.now) stands c.len-count.ensures.sound
+    c.unset_names.ensures (ap (map (λ (number : MarkNo). number.0)) c.deref.ensures.value
+    ∙ c.in_ok-numbers.ensures) c.in-Ok.ensures.ok).sound
 
 pub returns : goal.returns
 returns g c =
     let old = c.self.inside in
     let document = c.args.self.now in
-    let parts = parts_of old.seats old.tags old.marks old.settings old.disabled.items old.anchors.items old.history (g.S.TextStore.content old.store) in
+    let parts = parts_of old.seats old.tags old.marks old.settings old.disabled.items old.anchors.items old.history
+    (g.S.TextStore.content old.store) in
     let stands : Stands parts document = record { sound = c.self.invariant; is = c.self.view_is } in
     let changed = g.S.TextStore.content c.take_marks.new.store in
-    (leaves-unset c.args.limits.now parts c.unset_names.new.marks changed document (texts_of c.args.names.now) (map (λ (number : MarkNo). number.0) c.deref.result.now) stands c.len-count.ensures.sound
-    c.unset_names.ensures (ap (map (λ (number : MarkNo). number.0)) c.deref.ensures.value ∙ c.in_ok-numbers.ensures) c.in-Ok.ensures.ok).does
+    (leaves-unset c.args.limits.now parts c.unset_names.new.marks changed document (texts_of c.args.names.now)
+    (map (λ (number : MarkNo). number.0) c.deref.result.now) stands c.len-count.ensures.sound
+    c.unset_names.ensures (ap (map (λ (number : MarkNo). number.0)) c.deref.ensures.value
+    ∙ c.in_ok-numbers.ensures) c.in-Ok.ensures.ok).does

@@ -8,7 +8,8 @@ use Rattle.documents.proofs.documents.Document.view_at.Goals as goal
 pub view_of-requires : goal.view_of-requires
 view_of-requires g c =
     let old = c.self.inside in
-    let parts = parts_of old.seats old.tags old.marks old.settings old.disabled.items old.anchors.items old.history (g.S.TextStore.content old.store) in
+    let parts = parts_of old.seats old.tags old.marks old.settings old.disabled.items old.anchors.items old.history
+    (g.S.TextStore.content old.store) in
     let stands : Stands parts c.args.self.now = record { sound = c.self.invariant; is = c.self.view_is } in
     let seated = sits parts c.args.self.now c.args.widget c.number.result stands c.number.ensures.value in
     omega (arith, seated.anchors, ap length c.deref.ensures.value)
@@ -18,9 +19,11 @@ returns-clause-lines g c =
     let old = c.self.inside in
     let found = c.view_of in
     let content = g.S.TextStore.content found.result.store.now in
-    let parts = parts_of old.seats old.tags old.marks old.settings old.disabled.items old.anchors.items old.history (g.S.TextStore.content old.store) in
+    let parts = parts_of old.seats old.tags old.marks old.settings old.disabled.items old.anchors.items old.history
+    (g.S.TextStore.content old.store) in
     let stands : Stands parts c.args.self.now = record { sound = c.self.invariant; is = c.self.view_is } in
-    let seen = see parts c.args.self.now c.args.widget c.number.result content found.result.s found.result.e c.deref.result.now stands c.number.ensures.value
+    let seen = see parts c.args.self.now c.args.widget c.number.result content found.result.s found.result.e
+    c.deref.result.now stands c.number.ensures.value
     c.deref.ensures.value found.ensures.start found.ensures.end found.ensures.store in
     view-found parts c.args.self.now c.args.widget c.number.result content found.result.s found.result.e seen
 
@@ -29,9 +32,11 @@ returns-clause-text g c =
     let old = c.self.inside in
     let found = c.view_of in
     let content = g.S.TextStore.content found.result.store.now in
-    let parts = parts_of old.seats old.tags old.marks old.settings old.disabled.items old.anchors.items old.history (g.S.TextStore.content old.store) in
+    let parts = parts_of old.seats old.tags old.marks old.settings old.disabled.items old.anchors.items old.history
+    (g.S.TextStore.content old.store) in
     let stands : Stands parts c.args.self.now = record { sound = c.self.invariant; is = c.self.view_is } in
-    let seen = see parts c.args.self.now c.args.widget c.number.result content found.result.s found.result.e c.deref.result.now stands c.number.ensures.value
+    let seen = see parts c.args.self.now c.args.widget c.number.result content found.result.s found.result.e
+    c.deref.result.now stands c.number.ensures.value
     c.deref.ensures.value found.ensures.start found.ensures.end found.ensures.store in
     shown-found parts c.args.self.now c.args.widget c.number.result content found.result.s found.result.e seen
 
@@ -40,9 +45,11 @@ returns-clause-start g c =
     let old = c.self.inside in
     let found = c.view_of in
     let content = g.S.TextStore.content found.result.store.now in
-    let parts = parts_of old.seats old.tags old.marks old.settings old.disabled.items old.anchors.items old.history (g.S.TextStore.content old.store) in
+    let parts = parts_of old.seats old.tags old.marks old.settings old.disabled.items old.anchors.items old.history
+    (g.S.TextStore.content old.store) in
     let stands : Stands parts c.args.self.now = record { sound = c.self.invariant; is = c.self.view_is } in
-    let seen = see parts c.args.self.now c.args.widget c.number.result content found.result.s found.result.e c.deref.result.now stands c.number.ensures.value
+    let seen = see parts c.args.self.now c.args.widget c.number.result content found.result.s found.result.e
+    c.deref.result.now stands c.number.ensures.value
     c.deref.ensures.value found.ensures.start found.ensures.end found.ensures.store in
     start-found-is parts c.args.self.now c.args.widget c.number.result content found.result.s found.result.e seen
 
@@ -51,9 +58,11 @@ returns-clause-end g c =
     let old = c.self.inside in
     let found = c.view_of in
     let content = g.S.TextStore.content found.result.store.now in
-    let parts = parts_of old.seats old.tags old.marks old.settings old.disabled.items old.anchors.items old.history (g.S.TextStore.content old.store) in
+    let parts = parts_of old.seats old.tags old.marks old.settings old.disabled.items old.anchors.items old.history
+    (g.S.TextStore.content old.store) in
     let stands : Stands parts c.args.self.now = record { sound = c.self.invariant; is = c.self.view_is } in
-    let seen = see parts c.args.self.now c.args.widget c.number.result content found.result.s found.result.e c.deref.result.now stands c.number.ensures.value
+    let seen = see parts c.args.self.now c.args.widget c.number.result content found.result.s found.result.e
+    c.deref.result.now stands c.number.ensures.value
     c.deref.ensures.value found.ensures.start found.ensures.end found.ensures.store in
     end-found-is parts c.args.self.now c.args.widget c.number.result content found.result.s found.result.e seen
 
@@ -62,8 +71,10 @@ returns-clause-count g c =
     let old = c.self.inside in
     let found = c.view_of in
     let content = g.S.TextStore.content found.result.store.now in
-    let parts = parts_of old.seats old.tags old.marks old.settings old.disabled.items old.anchors.items old.history (g.S.TextStore.content old.store) in
+    let parts = parts_of old.seats old.tags old.marks old.settings old.disabled.items old.anchors.items old.history
+    (g.S.TextStore.content old.store) in
     let stands : Stands parts c.args.self.now = record { sound = c.self.invariant; is = c.self.view_is } in
-    let seen = see parts c.args.self.now c.args.widget c.number.result content found.result.s found.result.e c.deref.result.now stands c.number.ensures.value
+    let seen = see parts c.args.self.now c.args.widget c.number.result content found.result.s found.result.e
+    c.deref.result.now stands c.number.ensures.value
     c.deref.ensures.value found.ensures.start found.ensures.end found.ensures.store in
     length-found parts c.args.self.now c.args.widget c.number.result content found.result.s found.result.e seen

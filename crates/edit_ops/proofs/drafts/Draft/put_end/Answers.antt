@@ -9,16 +9,20 @@ use Rattle.edit_ops.proofs.drafts.Draft.put_end.Goals as goal
 
 pub returns-in_ok-put_mark-in-Some-clause-fits : goal.returns-in_ok-put_mark-in-Some-clause-fits
 returns-in_ok-put_mark-in-Some-clause-fits g c =
-    mark-fits c.args.self.now c.put_mark.new.self (g.S.TextStore.content c.args.store.now) c.args.mark c.in-Some.place c.requires.fits
-    (stood-within c.mark_place.result c.args.end _ c.in-Some.place c.requires.bound (sym c.stood.ensures ∙ c.in-Some.is)) c.in_ok-put_mark-in-Some.ensures
+    mark-fits c.args.self.now c.put_mark.new.self (g.S.TextStore.content c.args.store.now) c.args.mark c.in-Some.place
+    c.requires.fits
+    (stood-within c.mark_place.result c.args.end _ c.in-Some.place c.requires.bound (sym c.stood.ensures
+    ∙ c.in-Some.is)) c.in_ok-put_mark-in-Some.ensures
 
 pub returns-in_ok-put_mark-in-Some-clause-makes : goal.returns-in_ok-put_mark-in-Some-clause-makes
 returns-in_ok-put_mark-in-Some-clause-makes g c = λ log.
     let content = g.S.TextStore.content c.args.store.now in
     let made = drawn_up c.args.self.now content log in
-    mark-stood c.args.self.now c.put_mark.new.self content c.args.mark c.stood.result c.in-Some.place made log c.in-Some.is c.in_ok-put_mark-in-Some.ensures refl
+    mark-stood c.args.self.now c.put_mark.new.self content c.args.mark c.stood.result c.in-Some.place made log
+    c.in-Some.is c.in_ok-put_mark-in-Some.ensures refl
     ∙ ap (λ o. record made { content = with_mark c.args.mark.0 o made.content })
-    (c.stood.ensures ∙ ap (option_and_then (λ (place : Place). option_map (λ at. record place { offset = at }) c.args.end)) c.mark_place.ensures.value)
+    (c.stood.ensures ∙ ap (option_and_then (λ (place : Place).
+    option_map (λ at. record place { offset = at }) c.args.end)) c.mark_place.ensures.value)
 
 pub returns-in-None-clause-makes : goal.returns-in-None-clause-makes
 returns-in-None-clause-makes g c = λ log.
@@ -26,4 +30,5 @@ returns-in-None-clause-makes g c = λ log.
     let made = drawn_up c.args.self.now content log in
     mark-stays c.args.self.now c.args.self.now content c.args.mark c.stood.result made log c.in-None.is refl refl
     ∙ ap (λ o. record made { content = with_mark c.args.mark.0 o made.content })
-    (c.stood.ensures ∙ ap (option_and_then (λ (place : Place). option_map (λ at. record place { offset = at }) c.args.end)) c.mark_place.ensures.value)
+    (c.stood.ensures ∙ ap (option_and_then (λ (place : Place).
+    option_map (λ at. record place { offset = at }) c.args.end)) c.mark_place.ensures.value)

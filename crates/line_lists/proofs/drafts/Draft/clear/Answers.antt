@@ -7,12 +7,15 @@ use Rattle.line_lists.proofs.drafts.Draft.clear.Goals as goal
 
 pub loop-at-preserved : goal.loop-at-preserved
 loop-at-preserved g c =
-    let first = text_at (g.L.LineList.lines c.args.self.now.list.now) c.args.self.now.front.items c.args.self.now.back.items in
-    let old = text_at (g.L.LineList.lines c.loop-at.self.list.now) c.loop-at.self.front.items c.loop-at.self.back.items in
+    let first = text_at (g.L.LineList.lines c.args.self.now.list.now) c.args.self.now.front.items
+    c.args.self.now.back.items in
+    let old = text_at (g.L.LineList.lines c.loop-at.self.list.now) c.loop-at.self.front.items c.loop-at.self.back.items
+    in
     let lines = g.L.LineList.lines c.clear_line.new.self.list.now in
     let front = c.clear_line.new.self.front.items in
     let back = c.clear_line.new.self.back.items in
-    let new = text_at (g.L.LineList.lines c.next_toggled.new.self.list.now) c.next_toggled.new.self.front.items c.next_toggled.new.self.back.items in
+    let new = text_at (g.L.LineList.lines c.next_toggled.new.self.list.now) c.next_toggled.new.self.front.items
+    c.next_toggled.new.self.back.items in
     let so_far = c.loop-at.invariant in
     let here = c.in_ok-clear_line.ensures in
     let next = c.in_ok-at.ensures in (
@@ -20,5 +23,6 @@ loop-at-preserved g c =
       record { draft = next.is; rows = subst AreRows (sym next.same) here.is.rows },
       omega (arith, next.value, here.above, so_far.2, c.loop-at-test.true),
       omega (arith, next.value),
-      clears-on c.args.slot.0 c.args.from c.loop-at.at c.args.to c.in_ok-at.at lines front back first old new so_far.2 c.loop-at-test.true c.requires.within so_far.4 here.above here.new next.value (ap whole next.same),
+      clears-on c.args.slot.0 c.args.from c.loop-at.at c.args.to c.in_ok-at.at lines front back first old new so_far.2
+          c.loop-at-test.true c.requires.within so_far.4 here.above here.new next.value (ap whole next.same),
     )

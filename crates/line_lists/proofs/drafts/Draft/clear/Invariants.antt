@@ -9,7 +9,8 @@ invariant-loop-at g l =
     × IsText (g.L.LineList.lines l.self.list.now) l.self.front.items l.self.back.items
     × (l.from ≤ l.at) × (l.at ≤ l.to)
     × (text_at (g.L.LineList.lines l.self.list.now) l.self.front.items l.self.back.items
-    ≡ with_cleared l.slot.0 l.from l.at (text_at (g.L.LineList.lines l.initial.self.list.now) l.initial.self.front.items l.initial.self.back.items))
+    ≡ with_cleared l.slot.0 l.from l.at (text_at (g.L.LineList.lines l.initial.self.list.now) l.initial.self.front.items
+    l.initial.self.back.items))
 
 abbrev pub decreases-loop-at : goal.decreases-loop-at
 decreases-loop-at g l = l.to - l.at

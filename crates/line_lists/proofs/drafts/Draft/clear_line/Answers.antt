@@ -14,12 +14,16 @@ returns-clause-is g c =
     let front = c.take.new.self.front.items in
     let back = c.take.new.self.back.items in
     let slot = c.args.slot.0 in
-    let old = drafted_at (g.L.LineList.lines c.args.self.now.list.now) c.args.self.now.front.items c.args.self.now.back.items in
+    let old = drafted_at (g.L.LineList.lines c.args.self.now.list.now) c.args.self.now.front.items
+    c.args.self.now.back.items in
     let end_is = c.min-end.ensures ∙ ap (λ n. min n (found.column + (c.args.to - c.args.from))) c.len.ensures in
     let columns = c.clear.ensures.columns ∙ ap (λ n. (with_cleared slot found.column n line).columns) end_is in
-    let new_is : c.clear.new.self ≡ with_cleared slot found.column (min (length line.columns) (found.column + (c.args.to - c.args.from))) line = λ i. record { columns = columns i; marks = c.clear.ensures.marks i } in
+    let new_is : c.clear.new.self ≡ with_cleared slot found.column
+    (min (length line.columns) (found.column + (c.args.to - c.args.from))) line = λ i.
+    record { columns = columns i; marks = c.clear.ensures.marks i } in
     let place = c.in_ok-stop.ensures in
-    let clears = clears-line slot c.args.from c.args.to found.column lines old front back found.stop c.clear.new.self place.taken place.same place.place c.requires.is.rows c.requires.is.draft.counted c.requires.ordered new_is in
+    let clears = clears-line slot c.args.from c.args.to found.column lines old front back found.stop c.clear.new.self
+    place.taken place.same place.place c.requires.is.rows c.requires.is.draft.counted c.requires.ordered new_is in
     subst (λ items. IsText lines items back) (sym c.push_reserved.ensures.items) clears.is
 
 pub returns-clause-above : goal.returns-clause-above
@@ -30,12 +34,16 @@ returns-clause-above g c =
     let front = c.take.new.self.front.items in
     let back = c.take.new.self.back.items in
     let slot = c.args.slot.0 in
-    let old = drafted_at (g.L.LineList.lines c.args.self.now.list.now) c.args.self.now.front.items c.args.self.now.back.items in
+    let old = drafted_at (g.L.LineList.lines c.args.self.now.list.now) c.args.self.now.front.items
+    c.args.self.now.back.items in
     let end_is = c.min-end.ensures ∙ ap (λ n. min n (found.column + (c.args.to - c.args.from))) c.len.ensures in
     let columns = c.clear.ensures.columns ∙ ap (λ n. (with_cleared slot found.column n line).columns) end_is in
-    let new_is : c.clear.new.self ≡ with_cleared slot found.column (min (length line.columns) (found.column + (c.args.to - c.args.from))) line = λ i. record { columns = columns i; marks = c.clear.ensures.marks i } in
+    let new_is : c.clear.new.self ≡ with_cleared slot found.column
+    (min (length line.columns) (found.column + (c.args.to - c.args.from))) line = λ i.
+    record { columns = columns i; marks = c.clear.ensures.marks i } in
     let place = c.in_ok-stop.ensures in
-    let clears = clears-line slot c.args.from c.args.to found.column lines old front back found.stop c.clear.new.self place.taken place.same place.place c.requires.is.rows c.requires.is.draft.counted c.requires.ordered new_is in
+    let clears = clears-line slot c.args.from c.args.to found.column lines old front back found.stop c.clear.new.self
+    place.taken place.same place.place c.requires.is.rows c.requires.is.draft.counted c.requires.ordered new_is in
     subst (λ items. c.args.from < place_of lines items) (sym c.push_reserved.ensures.items) clears.above
 
 pub returns-clause-new : goal.returns-clause-new
@@ -46,10 +54,16 @@ returns-clause-new g c =
     let front = c.take.new.self.front.items in
     let back = c.take.new.self.back.items in
     let slot = c.args.slot.0 in
-    let old = drafted_at (g.L.LineList.lines c.args.self.now.list.now) c.args.self.now.front.items c.args.self.now.back.items in
+    let old = drafted_at (g.L.LineList.lines c.args.self.now.list.now) c.args.self.now.front.items
+    c.args.self.now.back.items in
     let end_is = c.min-end.ensures ∙ ap (λ n. min n (found.column + (c.args.to - c.args.from))) c.len.ensures in
     let columns = c.clear.ensures.columns ∙ ap (λ n. (with_cleared slot found.column n line).columns) end_is in
-    let new_is : c.clear.new.self ≡ with_cleared slot found.column (min (length line.columns) (found.column + (c.args.to - c.args.from))) line = λ i. record { columns = columns i; marks = c.clear.ensures.marks i } in
+    let new_is : c.clear.new.self ≡ with_cleared slot found.column
+    (min (length line.columns) (found.column + (c.args.to - c.args.from))) line = λ i.
+    record { columns = columns i; marks = c.clear.ensures.marks i } in
     let place = c.in_ok-stop.ensures in
-    let clears = clears-line slot c.args.from c.args.to found.column lines old front back found.stop c.clear.new.self place.taken place.same place.place c.requires.is.rows c.requires.is.draft.counted c.requires.ordered new_is in
-    subst (λ items. text_at lines items back ≡ with_cleared slot c.args.from (min c.args.to (place_of lines items)) (whole old)) (sym c.push_reserved.ensures.items) clears.new
+    let clears = clears-line slot c.args.from c.args.to found.column lines old front back found.stop c.clear.new.self
+    place.taken place.same place.place c.requires.is.rows c.requires.is.draft.counted c.requires.ordered new_is in
+    subst (λ items. text_at lines items back
+    ≡ with_cleared slot c.args.from (min c.args.to (place_of lines items)) (whole old))
+    (sym c.push_reserved.ensures.items) clears.new

@@ -14,7 +14,8 @@ returns-clause-new g c =
     on_ok_weaker c.clear.result
     (λ is.
     is ∙ ap (λ text. with_cleared c.args.slot.0 c.in_ok-first.first c.args.len text) (ap whole first.same)
-    ∙ cleared-all c.args.slot.0 c.in_ok-first.first c.args.len lines start.front.items start.back.items before.start first.value
+    ∙ cleared-all c.args.slot.0 c.in_ok-first.first c.args.len lines start.front.items start.back.items before.start
+    first.value
     (c.requires.len ∙ sym (ap (λ xs. length (whole xs).columns) before.same))
     ∙ ap (λ text. with_cleared c.args.slot.0 0 c.args.len text) (ap whole before.same))
     c.clear.ensures.new

@@ -3,13 +3,15 @@ use Rattle.std.specs.Prelude.{slice_get}
 use Rattle.line_lists.specs.declared.drafts.Copied.{Copied}
 use Rattle.line_lists.specs.Drafts.{IsTaken, taken_lines}
 use Rattle.line_lists.proofs.CountRows.{count-lines}
-use Rattle.line_lists.proofs.FindLaws.{begin-le, found-before, found-line, inside-line, kept-within, opened-kept, opened-place, taken-kept}
+use Rattle.line_lists.proofs.FindLaws.{begin-le, found-before, found-line, inside-line, kept-within, opened-kept}
+use Rattle.line_lists.proofs.FindLaws.{opened-place, taken-kept}
 use Rattle.line_lists.proofs.drafts.Draft.copy_kept.Goals as goal
 
 pub find_line-index-requires-clause-within : goal.find_line-index-requires-clause-within
 find_line-index-requires-clause-within g c =
     let lines = g.L.LineList.lines c.args.self.now.list.now in
-    let before = kept-within lines c.args.self.now.front.items c.args.reached c.args.next c.args.offset c.requires.reached c.requires.ahead in
+    let before = kept-within lines c.args.self.now.front.items c.args.reached c.args.next c.args.offset
+    c.requires.reached c.requires.ahead in
     omega (arith, before, begin-le lines (c.args.reached.used + c.args.next.kept))
 
 pub overflow_add-next : goal.overflow_add-next
@@ -21,42 +23,66 @@ overflow_add-next g c =
 pub overflow_sub-next : goal.overflow_sub-next
 overflow_sub-next g c =
     let lines = g.L.LineList.lines c.args.self.now.list.now in
-    let before = kept-within lines c.args.self.now.front.items c.args.reached c.args.next c.args.offset c.requires.reached c.requires.ahead in
-    omega (arith, found-before c.args.reached lines c.args.next c.args.offset c.find_line-index.result.0 c.find_line-index.result.1 c.find_line-index.ensures before)
+    let before = kept-within lines c.args.self.now.front.items c.args.reached c.args.next c.args.offset
+    c.requires.reached c.requires.ahead in
+    omega (
+      arith,
+      found-before c.args.reached lines c.args.next c.args.offset c.find_line-index.result.0
+          c.find_line-index.result.1 c.find_line-index.ensures before,
+    )
 
 pub returns-clause-taken : goal.returns-clause-taken
 returns-clause-taken g c =
     let lines = g.L.LineList.lines c.args.self.now.list.now in
     let front = c.args.self.now.front.items in
     let next = c.args.next in
-    let copy : Copied = record { kept = c.find_line-index.result.0 - c.args.reached.used; gone = 1; line = c.in_ok-try_clone.field-0 } in
+    let copy : Copied = record {
+      kept = c.find_line-index.result.0 - c.args.reached.used;
+      gone = 1;
+      line = c.in_ok-try_clone.field-0;
+    } in
     let less : Copied = record next { kept = next.kept - (copy.kept + 1) } in
     let before = kept-within lines front c.args.reached next c.args.offset c.requires.reached c.requires.ahead in
-    let small = found-before c.args.reached lines next c.args.offset c.find_line-index.result.0 c.find_line-index.result.1 c.find_line-index.ensures before in
-    subst (λ back. IsTaken lines front back (record { reached = c.args.reached; copy = copy })) (sym c.push_reserved.ensures.items)
-    (taken-kept lines front c.args.self.now.back.items c.args.reached copy next less c.requires.is c.requires.reached refl small refl refl)
+    let small = found-before c.args.reached lines next c.args.offset c.find_line-index.result.0
+    c.find_line-index.result.1 c.find_line-index.ensures before in
+    subst (λ back. IsTaken lines front back (record { reached = c.args.reached; copy = copy }))
+    (sym c.push_reserved.ensures.items)
+    (taken-kept lines front c.args.self.now.back.items c.args.reached copy next less c.requires.is c.requires.reached
+    refl small refl refl)
 
 pub returns-clause-same : goal.returns-clause-same
 returns-clause-same g c =
     let lines = g.L.LineList.lines c.args.self.now.list.now in
     let front = c.args.self.now.front.items in
     let next = c.args.next in
-    let copy : Copied = record { kept = c.find_line-index.result.0 - c.args.reached.used; gone = 1; line = c.in_ok-try_clone.field-0 } in
+    let copy : Copied = record {
+      kept = c.find_line-index.result.0 - c.args.reached.used;
+      gone = 1;
+      line = c.in_ok-try_clone.field-0;
+    } in
     let less : Copied = record next { kept = next.kept - (copy.kept + 1) } in
     let before = kept-within lines front c.args.reached next c.args.offset c.requires.reached c.requires.ahead in
-    let small = found-before c.args.reached lines next c.args.offset c.find_line-index.result.0 c.find_line-index.result.1 c.find_line-index.ensures before in
+    let small = found-before c.args.reached lines next c.args.offset c.find_line-index.result.0
+    c.find_line-index.result.1 c.find_line-index.ensures before in
     let get = c.line.ensures ∙ ap Some (sym c.in_ok-try_clone.ensures) in
     ap (λ back. taken_lines lines front back copy) c.push_reserved.ensures.items
     ∙ opened-kept lines front c.args.self.now.back.items copy next less refl
-    (found-line lines front c.args.reached c.find_line-index.result.0 c.in_ok-try_clone.field-0 c.requires.reached c.find_line-index.ensures.first get) small refl refl refl
+    (found-line lines front c.args.reached c.find_line-index.result.0 c.in_ok-try_clone.field-0 c.requires.reached
+    c.find_line-index.ensures.first get) small refl refl refl
 
 pub returns-clause-place : goal.returns-clause-place
 returns-clause-place g c =
     let lines = g.L.LineList.lines c.args.self.now.list.now in
     let front = c.args.self.now.front.items in
-    let copy : Copied = record { kept = c.find_line-index.result.0 - c.args.reached.used; gone = 1; line = c.in_ok-try_clone.field-0 } in
+    let copy : Copied = record {
+      kept = c.find_line-index.result.0 - c.args.reached.used;
+      gone = 1;
+      line = c.in_ok-try_clone.field-0;
+    } in
     let get = c.line.ensures ∙ ap Some (sym c.in_ok-try_clone.ensures) in
     record {
-      place = opened-place lines front c.args.reached copy c.args.offset c.find_line-index.result.0 c.find_line-index.result.1 c.requires.reached c.find_line-index.ensures refl;
-      inside = inside-line c.find_line-index.result.1 (slice_get lines c.find_line-index.result.0) c.in_ok-try_clone.field-0 get c.find_line-index.ensures.inside;
+      place = opened-place lines front c.args.reached copy c.args.offset c.find_line-index.result.0
+          c.find_line-index.result.1 c.requires.reached c.find_line-index.ensures refl;
+      inside = inside-line c.find_line-index.result.1 (slice_get lines c.find_line-index.result.0)
+          c.in_ok-try_clone.field-0 get c.find_line-index.ensures.inside;
     }

@@ -7,24 +7,36 @@ use Rattle.line_lists.proofs.drafts.Draft.copy_rest.Goals as goal
 
 pub find_line-index-requires-clause-within : goal.find_line-index-requires-clause-within
 find_line-index-requires-clause-within g c =
-    rest-within (g.L.LineList.lines c.args.self.now.list.now) c.args.self.now.front.items c.args.reached c.args.offset c.requires.reached c.requires.within
+    rest-within (g.L.LineList.lines c.args.self.now.list.now) c.args.self.now.front.items c.args.reached c.args.offset
+    c.requires.reached c.requires.within
 
 pub returns-clause-same : goal.returns-clause-same
 returns-clause-same g c =
     let lines = g.L.LineList.lines c.args.self.now.list.now in
     let front = c.args.self.now.front.items in
-    let copy : Copied = record { kept = c.find_line-index.result.0 - c.args.reached.used; gone = 1; line = c.in_ok-try_clone.field-0 } in
+    let copy : Copied = record {
+      kept = c.find_line-index.result.0 - c.args.reached.used;
+      gone = 1;
+      line = c.in_ok-try_clone.field-0;
+    } in
     let get = c.line.ensures ∙ ap Some (sym c.in_ok-try_clone.ensures) in
     ap (λ back. taken_lines lines front back copy) c.requires.back
-    ∙ opened-rest lines front copy refl (found-line lines front c.args.reached c.find_line-index.result.0 c.in_ok-try_clone.field-0 c.requires.reached c.find_line-index.ensures.first get)
+    ∙ opened-rest lines front copy refl (found-line lines front c.args.reached c.find_line-index.result.0
+    c.in_ok-try_clone.field-0 c.requires.reached c.find_line-index.ensures.first get)
 
 pub returns-clause-place : goal.returns-clause-place
 returns-clause-place g c =
     let lines = g.L.LineList.lines c.args.self.now.list.now in
     let front = c.args.self.now.front.items in
-    let copy : Copied = record { kept = c.find_line-index.result.0 - c.args.reached.used; gone = 1; line = c.in_ok-try_clone.field-0 } in
+    let copy : Copied = record {
+      kept = c.find_line-index.result.0 - c.args.reached.used;
+      gone = 1;
+      line = c.in_ok-try_clone.field-0;
+    } in
     let get = c.line.ensures ∙ ap Some (sym c.in_ok-try_clone.ensures) in
     record {
-      place = opened-place lines front c.args.reached copy c.args.offset c.find_line-index.result.0 c.find_line-index.result.1 c.requires.reached c.find_line-index.ensures refl;
-      inside = inside-line c.find_line-index.result.1 (slice_get lines c.find_line-index.result.0) c.in_ok-try_clone.field-0 get c.find_line-index.ensures.inside;
+      place = opened-place lines front c.args.reached copy c.args.offset c.find_line-index.result.0
+          c.find_line-index.result.1 c.requires.reached c.find_line-index.ensures refl;
+      inside = inside-line c.find_line-index.result.1 (slice_get lines c.find_line-index.result.0)
+          c.in_ok-try_clone.field-0 get c.find_line-index.ensures.inside;
     }

@@ -7,5 +7,6 @@ use Rattle.line_lists.proofs.drafts.Draft.count.Given as goal
 
 abbrev pub invariant-loop-stop : goal.invariant-loop-stop
 invariant-loop-stop g l =
-    (l.sum ≡ plus (count_of (g.L.LineList.lines l.self.list.now)) (count_of (copied_lines (copies_of (take l.stop-index l.self.front.items)))))
+    (l.sum ≡ plus (count_of (g.L.LineList.lines l.self.list.now))
+    (count_of (copied_lines (copies_of (take l.stop-index l.self.front.items)))))
     × IsCounted l.sum

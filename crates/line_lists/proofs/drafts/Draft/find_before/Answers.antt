@@ -47,8 +47,14 @@ overflow_add-result g c =
     let within : i < length front = omega (arith, c.loop-stop-test.true, ap length stops) in
     let is : stop ≡ get_or front i stop = c.stop-item.is ∙ ap (λ xs. get_or xs i stop) stops in
     let at = at-front lines front back i stop c.requires.is within is in
-    let stands = stands-at c.args.number.0 c.in-Some.offset lines front back (copies_of (take i front)) stop.reached stop.copy at c.in-Some.ensures.some in
-    omega (arith, (stands-found c.args.number.0 (stop.reached.characters + c.in-Some.offset) (drafted_at lines front back) c.requires.is.rows stands).0, c.requires.is.draft.counted)
+    let stands = stands-at c.args.number.0 c.in-Some.offset lines front back (copies_of (take i front)) stop.reached
+    stop.copy at c.in-Some.ensures.some in
+    omega (
+      arith,
+      (stands-found c.args.number.0 (stop.reached.characters + c.in-Some.offset)
+          (drafted_at lines front back) c.requires.is.rows stands).0,
+      c.requires.is.draft.counted,
+    )
 
 pub returns-in-Some-clause-some : goal.returns-in-Some-clause-some
 returns-in-Some-clause-some g c =
@@ -61,7 +67,8 @@ returns-in-Some-clause-some g c =
     let within : i < length front = omega (arith, c.loop-stop-test.true, ap length stops) in
     let is : stop ≡ get_or front i stop = c.stop-item.is ∙ ap (λ xs. get_or xs i stop) stops in
     let at = at-front lines front back i stop c.requires.is within is in
-    stands-at c.args.number.0 c.in-Some.offset lines front back (copies_of (take i front)) stop.reached stop.copy at c.in-Some.ensures.some
+    stands-at c.args.number.0 c.in-Some.offset lines front back (copies_of (take i front)) stop.reached stop.copy at
+    c.in-Some.ensures.some
 
 pub loop-stop-preserved : goal.loop-stop-preserved
 loop-stop-preserved g c =
@@ -74,7 +81,8 @@ loop-stop-preserved g c =
     let within : i < length front = omega (arith, c.loop-stop-test.true, ap length stops) in
     let is : stop ≡ get_or front i stop = c.stop-item.is ∙ ap (λ xs. get_or xs i stop) stops in
     let at = at-front lines front back i stop c.requires.is within is in
-    none-more c.args.number.0 lines front back (copies_of (take i front)) (copies_of (take (i + 1) front)) stop.reached stop.copy at (front-more front i stop within is) c.loop-stop.invariant
+    none-more c.args.number.0 lines front back (copies_of (take i front)) (copies_of (take (i + 1) front)) stop.reached
+    stop.copy at (front-more front i stop within is) c.loop-stop.invariant
     (c.find_copied.ensures.none c.in_default.is)
 
 pub returns-clause-none : goal.returns-clause-none
@@ -82,5 +90,7 @@ returns-clause-none g c =
     let lines = g.L.LineList.lines c.args.self.now.list.now in
     let front = c.args.self.now.front.items in
     let stops = c.deref-stop-items.ensures.value in
-    let all : take c.loop-stop.stop-index front ≡ front = take_all c.loop-stop.stop-index front (omega (arith, c.loop-stop-test.false, ap length stops)) in
-    λ _. subst (λ xs. finite.get (whole (made_lines (copies_of xs) lines)).marks c.args.number.0 ≡ None) all c.loop-stop.invariant
+    let all : take c.loop-stop.stop-index front
+    ≡ front = take_all c.loop-stop.stop-index front (omega (arith, c.loop-stop-test.false, ap length stops)) in
+    λ _. subst (λ xs. finite.get (whole (made_lines (copies_of xs) lines)).marks c.args.number.0
+    ≡ None) all c.loop-stop.invariant

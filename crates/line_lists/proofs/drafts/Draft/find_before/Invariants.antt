@@ -6,4 +6,5 @@ use Rattle.line_lists.proofs.drafts.Draft.find_before.Given as goal
 
 abbrev pub invariant-loop-stop : goal.invariant-loop-stop
 invariant-loop-stop g l =
-    finite.get (whole (made_lines (copies_of (take l.stop-index l.self.front.items)) (g.L.LineList.lines l.self.list.now))).marks l.number.0 ≡ None
+    finite.get (whole (made_lines (copies_of (take l.stop-index l.self.front.items))
+    (g.L.LineList.lines l.self.list.now))).marks l.number.0 ≡ None

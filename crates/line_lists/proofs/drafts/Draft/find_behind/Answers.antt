@@ -2,13 +2,15 @@ use Rattle.std.proofs.Common.{◌≡◌, ◌+◌, ◌-◌, ◌<◌, None, length
 use Rattle.std.specs.FinMap as finite
 use Rattle.line_lists.specs.Drafts.{IsReached, drafted_at, made_lines}
 use Rattle.line_lists.specs.Texts.{whole}
-use Rattle.line_lists.proofs.StandLaws.{at-back, back-more, back-none, copies_to, none-more, none-rest, stands-at, stands-found, stands-rest}
+use Rattle.line_lists.proofs.StandLaws.{at-back, back-more, back-none, copies_to, none-more, none-rest, stands-at}
+use Rattle.line_lists.proofs.StandLaws.{stands-found, stands-rest}
 use Rattle.line_lists.proofs.drafts.Draft.find_behind.Goals as goal
 
 pub loop-index-init : goal.loop-index-init
 loop-index-init g c =
     let lines = g.L.LineList.lines c.args.self.now.list.now in
-    let same = back-none c.args.self.now.front.items c.args.self.now.back.items c.len-index.result (omega (arith, c.len-index.ensures, c.args.self.now.back.ok.0)) in (
+    let same = back-none c.args.self.now.front.items c.args.self.now.back.items c.len-index.result
+    (omega (arith, c.len-index.ensures, c.args.self.now.back.ok.0)) in (
       subst (λ copies. IsReached c.reached-reached.result copies lines) same c.reached-reached.ensures,
       subst (λ copies. finite.get (whole (made_lines copies lines)).marks c.args.number.0 ≡ None) same c.requires.none,
     )
@@ -20,9 +22,16 @@ find_copied-requires-clause-follows g c =
     let back = c.args.self.now.back.items in
     let n = c.loop-index.index in
     let copy = c.index-copy.result.now in
-    let within : n - 1 < length back = omega (arith, c.loop-index-test.true, c.loop-index.auto.index, c.len-index.ensures, c.args.self.now.back.ok.0) in
+    let within : n - 1 < length back = omega (
+      arith,
+      c.loop-index-test.true,
+      c.loop-index.auto.index,
+      c.len-index.ensures,
+      c.args.self.now.back.ok.0,
+    ) in
     let next : n ≡ (n - 1) + 1 = omega (arith, c.loop-index-test.true) in
-    let at = at-back lines front back (n - 1) n c.loop-index.reached copy c.requires.is next within c.index-copy.ensures c.loop-index.invariant.0 in
+    let at = at-back lines front back (n - 1) n c.loop-index.reached copy c.requires.is next within c.index-copy.ensures
+    c.loop-index.invariant.0 in
     at.follows
 
 pub find_copied-requires-clause-some : goal.find_copied-requires-clause-some
@@ -32,9 +41,16 @@ find_copied-requires-clause-some g c =
     let back = c.args.self.now.back.items in
     let n = c.loop-index.index in
     let copy = c.index-copy.result.now in
-    let within : n - 1 < length back = omega (arith, c.loop-index-test.true, c.loop-index.auto.index, c.len-index.ensures, c.args.self.now.back.ok.0) in
+    let within : n - 1 < length back = omega (
+      arith,
+      c.loop-index-test.true,
+      c.loop-index.auto.index,
+      c.len-index.ensures,
+      c.args.self.now.back.ok.0,
+    ) in
     let next : n ≡ (n - 1) + 1 = omega (arith, c.loop-index-test.true) in
-    let at = at-back lines front back (n - 1) n c.loop-index.reached copy c.requires.is next within c.index-copy.ensures c.loop-index.invariant.0 in
+    let at = at-back lines front back (n - 1) n c.loop-index.reached copy c.requires.is next within c.index-copy.ensures
+    c.loop-index.invariant.0 in
     at.some
 
 pub overflow_add-result : goal.overflow_add-result
@@ -44,11 +60,24 @@ overflow_add-result g c =
     let back = c.args.self.now.back.items in
     let n = c.loop-index.index in
     let copy = c.index-copy.result.now in
-    let within : n - 1 < length back = omega (arith, c.loop-index-test.true, c.loop-index.auto.index, c.len-index.ensures, c.args.self.now.back.ok.0) in
+    let within : n - 1 < length back = omega (
+      arith,
+      c.loop-index-test.true,
+      c.loop-index.auto.index,
+      c.len-index.ensures,
+      c.args.self.now.back.ok.0,
+    ) in
     let next : n ≡ (n - 1) + 1 = omega (arith, c.loop-index-test.true) in
-    let at = at-back lines front back (n - 1) n c.loop-index.reached copy c.requires.is next within c.index-copy.ensures c.loop-index.invariant.0 in
-    let stands = stands-at c.args.number.0 c.in-Some.offset lines front back (copies_to front back n) c.loop-index.reached copy at c.in-Some.ensures.some in
-    omega (arith, (stands-found c.args.number.0 (c.loop-index.reached.characters + c.in-Some.offset) (drafted_at lines front back) c.requires.is.rows stands).0, c.requires.is.draft.counted)
+    let at = at-back lines front back (n - 1) n c.loop-index.reached copy c.requires.is next within c.index-copy.ensures
+    c.loop-index.invariant.0 in
+    let stands = stands-at c.args.number.0 c.in-Some.offset lines front back (copies_to front back n)
+    c.loop-index.reached copy at c.in-Some.ensures.some in
+    omega (
+      arith,
+      (stands-found c.args.number.0 (c.loop-index.reached.characters + c.in-Some.offset)
+          (drafted_at lines front back) c.requires.is.rows stands).0,
+      c.requires.is.draft.counted,
+    )
 
 pub returns-in-Some-clause-some : goal.returns-in-Some-clause-some
 returns-in-Some-clause-some g c =
@@ -57,10 +86,18 @@ returns-in-Some-clause-some g c =
     let back = c.args.self.now.back.items in
     let n = c.loop-index.index in
     let copy = c.index-copy.result.now in
-    let within : n - 1 < length back = omega (arith, c.loop-index-test.true, c.loop-index.auto.index, c.len-index.ensures, c.args.self.now.back.ok.0) in
+    let within : n - 1 < length back = omega (
+      arith,
+      c.loop-index-test.true,
+      c.loop-index.auto.index,
+      c.len-index.ensures,
+      c.args.self.now.back.ok.0,
+    ) in
     let next : n ≡ (n - 1) + 1 = omega (arith, c.loop-index-test.true) in
-    let at = at-back lines front back (n - 1) n c.loop-index.reached copy c.requires.is next within c.index-copy.ensures c.loop-index.invariant.0 in
-    stands-at c.args.number.0 c.in-Some.offset lines front back (copies_to front back n) c.loop-index.reached copy at c.in-Some.ensures.some
+    let at = at-back lines front back (n - 1) n c.loop-index.reached copy c.requires.is next within c.index-copy.ensures
+    c.loop-index.invariant.0 in
+    stands-at c.args.number.0 c.in-Some.offset lines front back (copies_to front back n) c.loop-index.reached copy at
+    c.in-Some.ensures.some
 
 pub with-reached-requires : goal.with-reached-requires
 with-reached-requires g c =
@@ -69,9 +106,16 @@ with-reached-requires g c =
     let back = c.args.self.now.back.items in
     let n = c.loop-index.index in
     let copy = c.index-copy.result.now in
-    let within : n - 1 < length back = omega (arith, c.loop-index-test.true, c.loop-index.auto.index, c.len-index.ensures, c.args.self.now.back.ok.0) in
+    let within : n - 1 < length back = omega (
+      arith,
+      c.loop-index-test.true,
+      c.loop-index.auto.index,
+      c.len-index.ensures,
+      c.args.self.now.back.ok.0,
+    ) in
     let next : n ≡ (n - 1) + 1 = omega (arith, c.loop-index-test.true) in
-    let at = at-back lines front back (n - 1) n c.loop-index.reached copy c.requires.is next within c.index-copy.ensures c.loop-index.invariant.0 in
+    let at = at-back lines front back (n - 1) n c.loop-index.reached copy c.requires.is next within c.index-copy.ensures
+    c.loop-index.invariant.0 in
     at.follows
 
 pub loop-index-preserved : goal.loop-index-preserved
@@ -81,12 +125,21 @@ loop-index-preserved g c =
     let back = c.args.self.now.back.items in
     let n = c.loop-index.index in
     let copy = c.index-copy.result.now in
-    let within : n - 1 < length back = omega (arith, c.loop-index-test.true, c.loop-index.auto.index, c.len-index.ensures, c.args.self.now.back.ok.0) in
+    let within : n - 1 < length back = omega (
+      arith,
+      c.loop-index-test.true,
+      c.loop-index.auto.index,
+      c.len-index.ensures,
+      c.args.self.now.back.ok.0,
+    ) in
     let next : n ≡ (n - 1) + 1 = omega (arith, c.loop-index-test.true) in
-    let at = at-back lines front back (n - 1) n c.loop-index.reached copy c.requires.is next within c.index-copy.ensures c.loop-index.invariant.0 in
+    let at = at-back lines front back (n - 1) n c.loop-index.reached copy c.requires.is next within c.index-copy.ensures
+    c.loop-index.invariant.0 in
     let more = back-more front back (n - 1) n copy next within c.index-copy.ensures in (
-      subst (λ copies. IsReached c.with-reached.result copies lines) more (c.with-reached.ensures (copies_to front back n) c.loop-index.invariant.0),
-      none-more c.args.number.0 lines front back (copies_to front back n) (copies_to front back (n - 1)) c.loop-index.reached copy at more c.loop-index.invariant.1 (c.find_copied.ensures.none c.in_default.is),
+      subst (λ copies. IsReached c.with-reached.result copies lines) more
+          (c.with-reached.ensures (copies_to front back n) c.loop-index.invariant.0),
+      none-more c.args.number.0 lines front back (copies_to front back n) (copies_to front back (n - 1))
+          c.loop-index.reached copy at more c.loop-index.invariant.1 (c.find_copied.ensures.none c.in_default.is),
     )
 
 pub returns-in_err-offset-clause-none : goal.returns-in_err-offset-clause-none
@@ -97,8 +150,10 @@ returns-in_err-offset-clause-none g c =
     let reached = c.loop-index.reached in
     let none : c.loop-index.index ≡ 0 = omega (arith, c.loop-index-test.false) in
     let is = subst (λ n. IsReached reached (copies_to front back n) lines) none c.loop-index.invariant.0 in
-    let free = subst (λ n. finite.get (whole (made_lines (copies_to front back n) lines)).marks c.args.number.0 ≡ None) none c.loop-index.invariant.1 in
-    λ _. none-rest c.args.number.0 c.len.result lines front back reached is c.len.ensures free (c.find_kept.ensures.none c.in_err-offset.was)
+    let free = subst (λ n. finite.get (whole (made_lines (copies_to front back n) lines)).marks c.args.number.0
+    ≡ None) none c.loop-index.invariant.1 in
+    λ _. none-rest c.args.number.0 c.len.result lines front back reached is c.len.ensures free
+    (c.find_kept.ensures.none c.in_err-offset.was)
 
 pub overflow_add-result-2 : goal.overflow_add-result-2
 overflow_add-result-2 g c =
@@ -108,8 +163,14 @@ overflow_add-result-2 g c =
     let reached = c.loop-index.reached in
     let none : c.loop-index.index ≡ 0 = omega (arith, c.loop-index-test.false) in
     let is = subst (λ n. IsReached reached (copies_to front back n) lines) none c.loop-index.invariant.0 in
-    let stands = stands-rest c.args.number.0 c.in_ok-offset.offset c.len.result lines front back reached is c.len.ensures c.in_ok-offset.ensures.some in
-    omega (arith, (stands-found c.args.number.0 (reached.characters + c.in_ok-offset.offset) (drafted_at lines front back) c.requires.is.rows stands).0, c.requires.is.draft.counted)
+    let stands = stands-rest c.args.number.0 c.in_ok-offset.offset c.len.result lines front back reached is
+    c.len.ensures c.in_ok-offset.ensures.some in
+    omega (
+      arith,
+      (stands-found c.args.number.0 (reached.characters + c.in_ok-offset.offset)
+          (drafted_at lines front back) c.requires.is.rows stands).0,
+      c.requires.is.draft.counted,
+    )
 
 pub returns-clause-some : goal.returns-clause-some
 returns-clause-some g c =
@@ -119,4 +180,5 @@ returns-clause-some g c =
     let reached = c.loop-index.reached in
     let none : c.loop-index.index ≡ 0 = omega (arith, c.loop-index-test.false) in
     let is = subst (λ n. IsReached reached (copies_to front back n) lines) none c.loop-index.invariant.0 in
-    stands-rest c.args.number.0 c.in_ok-offset.offset c.len.result lines front back reached is c.len.ensures c.in_ok-offset.ensures.some
+    stands-rest c.args.number.0 c.in_ok-offset.offset c.len.result lines front back reached is c.len.ensures
+    c.in_ok-offset.ensures.some

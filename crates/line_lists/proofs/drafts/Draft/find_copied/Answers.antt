@@ -17,7 +17,8 @@ returns-in_default-clause-some g c =
 pub returns-in_default-clause-none : goal.returns-in_default-clause-none
 returns-in_default-clause-none g c =
     let lines = g.L.LineList.lines c.args.self.now.list.now in
-    λ none. copied-none c.args.number.0 c.args.reached.now c.args.copy.now lines (c.mark_column.ensures.none c.in_default.is)
+    λ none. copied-none c.args.number.0 c.args.reached.now c.args.copy.now lines
+    (c.mark_column.ensures.none c.in_default.is)
     (kept-nowhere c.args.number.0 c.args.reached.now c.args.copy.now lines (c.find_kept.ensures.none none))
 
 pub span-requires : goal.span-requires
@@ -29,4 +30,5 @@ overflow_add-result g c =
 
 pub returns-clause-some : goal.returns-clause-some
 returns-clause-some g c =
-    stands-copied c.args.number.0 c.in-Some.column c.span.result c.args.reached.now c.args.copy.now (g.L.LineList.lines c.args.self.now.list.now) c.span.ensures c.in-Some.ensures.some
+    stands-copied c.args.number.0 c.in-Some.column c.span.result c.args.reached.now c.args.copy.now
+    (g.L.LineList.lines c.args.self.now.list.now) c.span.ensures c.in-Some.ensures.some

@@ -20,4 +20,5 @@ pub returns : goal.returns
 returns g c =
     let lines = g.L.LineList.lines c.args.self.now.list.now in
     let before = c.start-before.ensures in
-    found c.args.reached.now lines c.args.offset _ _ _ c.requires.behind (ap (λ n. (c.args.offset - c.args.reached.now.characters) + n) before) c.locate.ensures
+    found c.args.reached.now lines c.args.offset _ _ _ c.requires.behind
+    (ap (λ n. (c.args.offset - c.args.reached.now.characters) + n) before) c.locate.ensures

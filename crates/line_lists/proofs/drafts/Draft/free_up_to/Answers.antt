@@ -7,7 +7,8 @@ use Rattle.line_lists.proofs.ClearingLaws.{end-kept, end-passed, end-rest, end-w
 use Rattle.line_lists.proofs.CountRows.{count-lines}
 use Rattle.line_lists.proofs.DraftLaws.{can-follow-next, last_is, no_last}
 use Rattle.line_lists.proofs.drafts.Draft.free_up_to.Goals as goal
-use Rattle.line_lists.proofs.drafts.Draft.free_up_to.Goals.{then-index-end-via-then-index-end, then-index-end-via-else-index-end+then-has}
+use Rattle.line_lists.proofs.drafts.Draft.free_up_to.Goals.{then-index-end-via-then-index-end}
+use Rattle.line_lists.proofs.drafts.Draft.free_up_to.Goals.{then-index-end-via-else-index-end+then-has}
 
 pub characters_behind-requires-clause-counted : goal.characters_behind-requires-clause-counted
 characters_behind-requires-clause-counted g c =
@@ -18,7 +19,8 @@ characters_behind-requires-clause-counted g c =
     let reached = c.args.reached.now in
     let none = no_last back (c.in-None.ensures.value ∙ ap (λ xs. slice_get xs (length xs - 1)) c.deref.ensures.value) in
     let index = c.next_below-index in
-    let end = end-rest slot lines front reached c.requires.reached index.result index.ensures.above index.ensures.free back none (λ small. index.ensures.stops (omega (arith, small, c.len.ensures))) in
+    let end = end-rest slot lines front reached c.requires.reached index.result index.ensures.above index.ensures.free
+    back none (λ small. index.ensures.stops (omega (arith, small, c.len.ensures))) in
     omega (arith, end, end-within slot lines front back, c.requires.is.counted)
 
 pub returns-in-None-clause-some : goal.returns-in-None-clause-some
@@ -30,7 +32,8 @@ returns-in-None-clause-some g c =
     let reached = c.args.reached.now in
     let none = no_last back (c.in-None.ensures.value ∙ ap (λ xs. slice_get xs (length xs - 1)) c.deref.ensures.value) in
     let index = c.next_below-index in
-    let end = end-rest slot lines front reached c.requires.reached index.result index.ensures.above index.ensures.free back none (λ small. index.ensures.stops (omega (arith, small, c.len.ensures))) in
+    let end = end-rest slot lines front reached c.requires.reached index.result index.ensures.above index.ensures.free
+    back none (λ small. index.ensures.stops (omega (arith, small, c.len.ensures))) in
     c.characters_behind.ensures ∙ end
 
 pub overflow_add-end : goal.overflow_add-end
@@ -42,7 +45,8 @@ overflow_add-end g c =
     let reached = c.args.reached.now in
     let copy = c.in-Some.copy.now in
     let last = c.in-Some.ensures.value ∙ ap (λ xs. slice_get xs (length xs - 1)) c.deref.ensures.value in
-    let follows = can-follow-next lines front back (take (length back - 1) back) reached copy c.requires.is c.requires.reached (last_is back copy last) in
+    let follows = can-follow-next lines front back (take (length back - 1) back) reached copy c.requires.is
+    c.requires.reached (last_is back copy last) in
     let few = (g.L.LineList.are_lines c.args.self.now.list.now).counted.lines in
     omega (arith, few, count-lines lines, follows.there)
 
@@ -55,7 +59,8 @@ next_below-index-requires-in-Some-clause-within g c =
     let reached = c.args.reached.now in
     let copy = c.in-Some.copy.now in
     let last = c.in-Some.ensures.value ∙ ap (λ xs. slice_get xs (length xs - 1)) c.deref.ensures.value in
-    let follows = can-follow-next lines front back (take (length back - 1) back) reached copy c.requires.is c.requires.reached (last_is back copy last) in
+    let follows = can-follow-next lines front back (take (length back - 1) back) reached copy c.requires.is
+    c.requires.reached (last_is back copy last) in
     omega (arith, follows.there)
 
 pub characters_behind-requires-then-index-end-clause-there : goal.characters_behind-requires-then-index-end-clause-there
@@ -67,11 +72,13 @@ characters_behind-requires-then-index-end-clause-there g c =
     let reached = c.args.reached.now in
     let copy = c.in-Some.copy.now in
     let last = c.in-Some.ensures.value ∙ ap (λ xs. slice_get xs (length xs - 1)) c.deref.ensures.value in
-    let follows = can-follow-next lines front back (take (length back - 1) back) reached copy c.requires.is c.requires.reached (last_is back copy last) in
+    let follows = can-follow-next lines front back (take (length back - 1) back) reached copy c.requires.is
+    c.requires.reached (last_is back copy last) in
     let index = c.next_below-index-in-Some in
     omega (arith, follows.there, index.ensures.above, index.ensures.bound)
 
-pub characters_behind-requires-then-index-end-clause-counted : goal.characters_behind-requires-then-index-end-clause-counted
+pub characters_behind-requires-then-index-end-clause-counted :
+    goal.characters_behind-requires-then-index-end-clause-counted
 characters_behind-requires-then-index-end-clause-counted g c =
     let lines = g.L.LineList.lines c.args.self.now.list.now in
     let slot = c.args.slot.0 in
@@ -80,13 +87,17 @@ characters_behind-requires-then-index-end-clause-counted g c =
     let reached = c.args.reached.now in
     let copy = c.in-Some.copy.now in
     let last = c.in-Some.ensures.value ∙ ap (λ xs. slice_get xs (length xs - 1)) c.deref.ensures.value in
-    let follows = can-follow-next lines front back (take (length back - 1) back) reached copy c.requires.is c.requires.reached (last_is back copy last) in
+    let follows = can-follow-next lines front back (take (length back - 1) back) reached copy c.requires.is
+    c.requires.reached (last_is back copy last) in
     let index = c.next_below-index-in-Some in
-    let has : index.result ≡ reached.used + copy.kept → has_toggle slot copy.line ≡ true = λ same. elim c.then-index-end.branch [
+    let has : index.result ≡ reached.used + copy.kept → has_toggle slot copy.line
+    ≡ true = λ same. elim c.then-index-end.branch [
       | then-index-end-via-then-index-end w ↦ absurd (omega (arith, same, w.if-index-end.true))
-      | then-index-end-via-else-index-end+then-has w ↦ sym (w.has.ensures ∙ ap (λ (n : Count). set.contains n.presence slot) w.sum.ensures) ∙ w.if-has.true
+      | then-index-end-via-else-index-end+then-has w ↦ sym (w.has.ensures
+          ∙ ap (λ (n : Count). set.contains n.presence slot) w.sum.ensures) ∙ w.if-has.true
     ] in
-    let end = end-kept slot lines front reached c.requires.reached index.result index.ensures.above index.ensures.free back copy last index.ensures.bound (omega (arith, follows.there)) index.ensures.stops has in
+    let end = end-kept slot lines front reached c.requires.reached index.result index.ensures.above index.ensures.free
+    back copy last index.ensures.bound (omega (arith, follows.there)) index.ensures.stops has in
     omega (arith, end, end-within slot lines front back, c.requires.is.counted)
 
 pub returns-then-index-end-clause-some : goal.returns-then-index-end-clause-some
@@ -98,13 +109,17 @@ returns-then-index-end-clause-some g c =
     let reached = c.args.reached.now in
     let copy = c.in-Some.copy.now in
     let last = c.in-Some.ensures.value ∙ ap (λ xs. slice_get xs (length xs - 1)) c.deref.ensures.value in
-    let follows = can-follow-next lines front back (take (length back - 1) back) reached copy c.requires.is c.requires.reached (last_is back copy last) in
+    let follows = can-follow-next lines front back (take (length back - 1) back) reached copy c.requires.is
+    c.requires.reached (last_is back copy last) in
     let index = c.next_below-index-in-Some in
-    let has : index.result ≡ reached.used + copy.kept → has_toggle slot copy.line ≡ true = λ same. elim c.then-index-end.branch [
+    let has : index.result ≡ reached.used + copy.kept → has_toggle slot copy.line
+    ≡ true = λ same. elim c.then-index-end.branch [
       | then-index-end-via-then-index-end w ↦ absurd (omega (arith, same, w.if-index-end.true))
-      | then-index-end-via-else-index-end+then-has w ↦ sym (w.has.ensures ∙ ap (λ (n : Count). set.contains n.presence slot) w.sum.ensures) ∙ w.if-has.true
+      | then-index-end-via-else-index-end+then-has w ↦ sym (w.has.ensures
+          ∙ ap (λ (n : Count). set.contains n.presence slot) w.sum.ensures) ∙ w.if-has.true
     ] in
-    let end = end-kept slot lines front reached c.requires.reached index.result index.ensures.above index.ensures.free back copy last index.ensures.bound (omega (arith, follows.there)) index.ensures.stops has in
+    let end = end-kept slot lines front reached c.requires.reached index.result index.ensures.above index.ensures.free
+    back copy last index.ensures.bound (omega (arith, follows.there)) index.ensures.stops has in
     c.characters_behind-then-index-end.ensures ∙ end
 
 pub returns-else-has-clause-none : goal.returns-else-has-clause-none
@@ -116,8 +131,11 @@ returns-else-has-clause-none g c =
     let reached = c.args.reached.now in
     let copy = c.in-Some.copy.now in
     let last = c.in-Some.ensures.value ∙ ap (λ xs. slice_get xs (length xs - 1)) c.deref.ensures.value in
-    let follows = can-follow-next lines front back (take (length back - 1) back) reached copy c.requires.is c.requires.reached (last_is back copy last) in
+    let follows = can-follow-next lines front back (take (length back - 1) back) reached copy c.requires.is
+    c.requires.reached (last_is back copy last) in
     let index = c.next_below-index-in-Some in
     let all : index.result ≡ reached.used + copy.kept = omega (arith, index.ensures.bound, c.if-index-end.false) in
-    let hasn't = sym (c.has.ensures ∙ ap (λ (n : Count). set.contains n.presence slot) c.sum.ensures) ∙ c.if-has.false in
-    λ none. end-passed slot lines front reached c.requires.reached index.result index.ensures.above index.ensures.free back copy last all hasn't
+    let hasn't = sym (c.has.ensures ∙ ap (λ (n : Count). set.contains n.presence slot) c.sum.ensures)
+    ∙ c.if-has.false in
+    λ none. end-passed slot lines front reached c.requires.reached index.result index.ensures.above index.ensures.free
+    back copy last all hasn't

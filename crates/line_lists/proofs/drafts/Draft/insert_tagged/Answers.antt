@@ -11,49 +11,77 @@ use Rattle.line_lists.proofs.drafts.Draft.insert_tagged.Goals as goal
 pub insert-requires-clause-counted : goal.insert-requires-clause-counted
 insert-requires-clause-counted g c =
     let counted : c.count-count.result ≡ length (chars c.args.text.now) =
-    count_from_yields_List c.chars.result c.count-count.result c.count-count.ensures.ran (YieldsList-from_chars c.args.text.now c.utf8.text cc) in
-    let more = more-there c.checked_add.result _ (2 ^ 64) c.args.len c.count-count.result (length (chars c.args.text.now)) c.in_ok-longer.longer c.checked_add.ensures c.in_ok-longer.ensures.value counted in
+    count_from_yields_List c.chars.result c.count-count.result c.count-count.ensures.ran
+    (YieldsList-from_chars c.args.text.now c.utf8.text cc) in
+    let more = more-there c.checked_add.result _ (2 ^ 64) c.args.len c.count-count.result
+    (length (chars c.args.text.now)) c.in_ok-longer.longer c.checked_add.ensures c.in_ok-longer.ensures.value
+    counted in
     omega (arith, more.0, c.requires.len, ap (λ lines. length (whole lines).columns) c.in_ok-before.ensures.same)
 
 pub toggle_before-requires-clause-len : goal.toggle_before-requires-clause-len
 toggle_before-requires-clause-len g c =
-    let old = text_at (g.L.LineList.lines c.args.self.now.list.now) c.args.self.now.front.items c.args.self.now.back.items in
-    let one = text_at (g.L.LineList.lines c.insert.new.self.list.now) c.insert.new.self.front.items c.insert.new.self.back.items in
+    let old = text_at (g.L.LineList.lines c.args.self.now.list.now) c.args.self.now.front.items
+    c.args.self.now.back.items in
+    let one = text_at (g.L.LineList.lines c.insert.new.self.list.now) c.insert.new.self.front.items
+    c.insert.new.self.back.items in
     let counted : c.count-count.result ≡ length (chars c.args.text.now) =
-    count_from_yields_List c.chars.result c.count-count.result c.count-count.ensures.ran (YieldsList-from_chars c.args.text.now c.utf8.text cc) in
-    let more = more-there c.checked_add.result _ (2 ^ 64) c.args.len c.count-count.result (length (chars c.args.text.now)) c.in_ok-longer.longer c.checked_add.ensures c.in_ok-longer.ensures.value counted in
-    let one_is = c.in_ok-insert.ensures.new ∙ ap (λ lines. after_text c.args.offset (chars c.args.text.now) (whole lines)) c.in_ok-before.ensures.same in
-    inserted-long c.args.offset (chars c.args.text.now) old one c.args.len c.in_ok-longer.longer c.requires.within c.requires.len more.1 one_is
+    count_from_yields_List c.chars.result c.count-count.result c.count-count.ensures.ran
+    (YieldsList-from_chars c.args.text.now c.utf8.text cc) in
+    let more = more-there c.checked_add.result _ (2 ^ 64) c.args.len c.count-count.result
+    (length (chars c.args.text.now)) c.in_ok-longer.longer c.checked_add.ensures c.in_ok-longer.ensures.value
+    counted in
+    let one_is = c.in_ok-insert.ensures.new
+    ∙ ap (λ lines. after_text c.args.offset (chars c.args.text.now) (whole lines)) c.in_ok-before.ensures.same in
+    inserted-long c.args.offset (chars c.args.text.now) old one c.args.len c.in_ok-longer.longer c.requires.within
+    c.requires.len more.1 one_is
 
 pub toggle_before-requires-2-clause-len : goal.toggle_before-requires-2-clause-len
 toggle_before-requires-2-clause-len g c =
-    let old = text_at (g.L.LineList.lines c.args.self.now.list.now) c.args.self.now.front.items c.args.self.now.back.items in
-    let one = text_at (g.L.LineList.lines c.insert.new.self.list.now) c.insert.new.self.front.items c.insert.new.self.back.items in
-    let two = text_at (g.L.LineList.lines c.toggle_before.new.self.list.now) c.toggle_before.new.self.front.items c.toggle_before.new.self.back.items in
+    let old = text_at (g.L.LineList.lines c.args.self.now.list.now) c.args.self.now.front.items
+    c.args.self.now.back.items in
+    let one = text_at (g.L.LineList.lines c.insert.new.self.list.now) c.insert.new.self.front.items
+    c.insert.new.self.back.items in
+    let two = text_at (g.L.LineList.lines c.toggle_before.new.self.list.now) c.toggle_before.new.self.front.items
+    c.toggle_before.new.self.back.items in
     let counted : c.count-count.result ≡ length (chars c.args.text.now) =
-    count_from_yields_List c.chars.result c.count-count.result c.count-count.ensures.ran (YieldsList-from_chars c.args.text.now c.utf8.text cc) in
-    let more = more-there c.checked_add.result _ (2 ^ 64) c.args.len c.count-count.result (length (chars c.args.text.now)) c.in_ok-longer.longer c.checked_add.ensures c.in_ok-longer.ensures.value counted in
-    let one_is = c.in_ok-insert.ensures.new ∙ ap (λ lines. after_text c.args.offset (chars c.args.text.now) (whole lines)) c.in_ok-before.ensures.same in
+    count_from_yields_List c.chars.result c.count-count.result c.count-count.ensures.ran
+    (YieldsList-from_chars c.args.text.now c.utf8.text cc) in
+    let more = more-there c.checked_add.result _ (2 ^ 64) c.args.len c.count-count.result
+    (length (chars c.args.text.now)) c.in_ok-longer.longer c.checked_add.ensures c.in_ok-longer.ensures.value
+    counted in
+    let one_is = c.in_ok-insert.ensures.new
+    ∙ ap (λ lines. after_text c.args.offset (chars c.args.text.now) (whole lines)) c.in_ok-before.ensures.same in
     toggled-long (c.args.offset + c.count-count.result) c.differing-differ.result one two c.in_ok-longer.longer
-    (inserted-long c.args.offset (chars c.args.text.now) old one c.args.len c.in_ok-longer.longer c.requires.within c.requires.len more.1 one_is)
+    (inserted-long c.args.offset (chars c.args.text.now) old one c.args.len c.in_ok-longer.longer c.requires.within
+    c.requires.len more.1 one_is)
     c.in_ok-toggle_before.ensures.new
 
 pub returns-clause-new : goal.returns-clause-new
 returns-clause-new g c =
-    let old = text_at (g.L.LineList.lines c.args.self.now.list.now) c.args.self.now.front.items c.args.self.now.back.items in
-    let one = text_at (g.L.LineList.lines c.insert.new.self.list.now) c.insert.new.self.front.items c.insert.new.self.back.items in
-    let two = text_at (g.L.LineList.lines c.toggle_before.new.self.list.now) c.toggle_before.new.self.front.items c.toggle_before.new.self.back.items in
+    let old = text_at (g.L.LineList.lines c.args.self.now.list.now) c.args.self.now.front.items
+    c.args.self.now.back.items in
+    let one = text_at (g.L.LineList.lines c.insert.new.self.list.now) c.insert.new.self.front.items
+    c.insert.new.self.back.items in
+    let two = text_at (g.L.LineList.lines c.toggle_before.new.self.list.now) c.toggle_before.new.self.front.items
+    c.toggle_before.new.self.back.items in
     let counted : c.count-count.result ≡ length (chars c.args.text.now) =
-    count_from_yields_List c.chars.result c.count-count.result c.count-count.ensures.ran (YieldsList-from_chars c.args.text.now c.utf8.text cc) in
-    let one_is = c.in_ok-insert.ensures.new ∙ ap (λ lines. after_text c.args.offset (chars c.args.text.now) (whole lines)) c.in_ok-before.ensures.same in
-    let differ_is = c.differing-differ.ensures ∙ ap (λ slots. differing slots c.args.slots.now) c.in_ok-before.ensures.value in
+    count_from_yields_List c.chars.result c.count-count.result c.count-count.ensures.ran
+    (YieldsList-from_chars c.args.text.now c.utf8.text cc) in
+    let one_is = c.in_ok-insert.ensures.new
+    ∙ ap (λ lines. after_text c.args.offset (chars c.args.text.now) (whole lines)) c.in_ok-before.ensures.same in
+    let differ_is = c.differing-differ.ensures
+    ∙ ap (λ slots. differing slots c.args.slots.now) c.in_ok-before.ensures.value in
     c.in_ok-toggle_before-2.ensures.new
-    ∙ inserted-made c.args.offset (c.args.offset + c.count-count.result) (chars c.args.text.now) c.args.slots.now c.differing-differ.result old one two
+    ∙ inserted-made c.args.offset (c.args.offset + c.count-count.result) (chars c.args.text.now) c.args.slots.now
+    c.differing-differ.result old one two
     (ap (λ n. c.args.offset + n) counted) differ_is one_is c.in_ok-toggle_before.ensures.new
 
 pub returns-clause-len : goal.returns-clause-len
 returns-clause-len g c =
     let counted : c.count-count.result ≡ length (chars c.args.text.now) =
-    count_from_yields_List c.chars.result c.count-count.result c.count-count.ensures.ran (YieldsList-from_chars c.args.text.now c.utf8.text cc) in
-    let more = more-there c.checked_add.result _ (2 ^ 64) c.args.len c.count-count.result (length (chars c.args.text.now)) c.in_ok-longer.longer c.checked_add.ensures c.in_ok-longer.ensures.value counted in
+    count_from_yields_List c.chars.result c.count-count.result c.count-count.ensures.ran
+    (YieldsList-from_chars c.args.text.now c.utf8.text cc) in
+    let more = more-there c.checked_add.result _ (2 ^ 64) c.args.len c.count-count.result
+    (length (chars c.args.text.now)) c.in_ok-longer.longer c.checked_add.ensures c.in_ok-longer.ensures.value
+    counted in
     more.1

@@ -17,9 +17,13 @@ put-requires-clause-counted g c =
     let behind = lines_behind copies copy c.take.new.self.back.items lines in
     let place = c.in_ok-stop.ensures.place in
     let text = chars c.args.text.now in
-    let makes = inserted-makes before behind _ copy.line c.insert_text.new.self c.args.offset found.column text c.in_ok-stop.ensures.same place.place place.inside c.requires.free c.requires.is.rows c.in_ok-insert_text.ensures.new in
-    let old = drafted_at (g.L.LineList.lines c.args.self.now.list.now) c.args.self.now.front.items c.args.self.now.back.items in
-    let long = ap (λ (line : LineContent). length line.columns) makes.whole ∙ length-text c.args.offset text (whole old).columns (omega (arith, c.requires.within)) in
+    let makes = inserted-makes before behind _ copy.line c.insert_text.new.self c.args.offset found.column text
+    c.in_ok-stop.ensures.same place.place place.inside c.requires.free c.requires.is.rows
+    c.in_ok-insert_text.ensures.new in
+    let old = drafted_at (g.L.LineList.lines c.args.self.now.list.now) c.args.self.now.front.items
+    c.args.self.now.back.items in
+    let long = ap (λ (line : LineContent). length line.columns) makes.whole
+    ∙ length-text c.args.offset text (whole old).columns (omega (arith, c.requires.within)) in
     omega (arith, long, c.requires.counted)
 
 pub returns-clause-is : goal.returns-clause-is
@@ -32,7 +36,9 @@ returns-clause-is g c =
     let behind = lines_behind copies copy c.take.new.self.back.items lines in
     let place = c.in_ok-stop.ensures.place in
     let text = chars c.args.text.now in
-    let makes = inserted-makes before behind _ copy.line c.insert_text.new.self c.args.offset found.column text c.in_ok-stop.ensures.same place.place place.inside c.requires.free c.requires.is.rows c.in_ok-insert_text.ensures.new in
+    let makes = inserted-makes before behind _ copy.line c.insert_text.new.self c.args.offset found.column text
+    c.in_ok-stop.ensures.same place.place place.inside c.requires.free c.requires.is.rows
+    c.in_ok-insert_text.ensures.new in
     record {
       draft = c.put.ensures.is;
       rows = subst AreRows (sym c.put.ensures.lines) (makes.rows c.requires.is.rows);
@@ -48,5 +54,7 @@ returns-clause-new g c =
     let behind = lines_behind copies copy c.take.new.self.back.items lines in
     let place = c.in_ok-stop.ensures.place in
     let text = chars c.args.text.now in
-    let makes = inserted-makes before behind _ copy.line c.insert_text.new.self c.args.offset found.column text c.in_ok-stop.ensures.same place.place place.inside c.requires.free c.requires.is.rows c.in_ok-insert_text.ensures.new in
+    let makes = inserted-makes before behind _ copy.line c.insert_text.new.self c.args.offset found.column text
+    c.in_ok-stop.ensures.same place.place place.inside c.requires.free c.requires.is.rows
+    c.in_ok-insert_text.ensures.new in
     ap whole c.put.ensures.lines ∙ makes.whole

@@ -12,7 +12,8 @@ start-requires g c =
     let back = c.args.self.now.back.items in
     let stop = c.in-Some.stop.now in
     can-follow lines (take (length front - 1) front) back stop
-    (subst (λ items. IsDraft lines items back) (last_is front stop (c.in-Some.ensures.value ∙ ap (λ xs. slice_get xs (length xs - 1)) c.deref.ensures.value)) c.requires)
+    (subst (λ items. IsDraft lines items back) (last_is front stop (c.in-Some.ensures.value
+    ∙ ap (λ xs. slice_get xs (length xs - 1)) c.deref.ensures.value)) c.requires)
 
 pub returns-in-Some-clause-yes : goal.returns-in-Some-clause-yes
 returns-in-Some-clause-yes g c = λ yes.
@@ -21,4 +22,5 @@ returns-in-Some-clause-yes g c = λ yes.
     let back = c.args.self.now.back.items in
     let stop = c.in-Some.stop.now in
     let small : c.start.result ≤ c.args.offset = grind (arith, nat_tests, yes) in
-    begins-by lines c.args.offset front back stop c.requires (c.in-Some.ensures.value ∙ ap (λ xs. slice_get xs (length xs - 1)) c.deref.ensures.value) (omega (arith, small, c.start.ensures))
+    begins-by lines c.args.offset front back stop c.requires (c.in-Some.ensures.value
+    ∙ ap (λ xs. slice_get xs (length xs - 1)) c.deref.ensures.value) (omega (arith, small, c.start.ensures))

@@ -13,7 +13,13 @@ pub join-requires : goal.join-requires
 join-requires g c =
     let lines = g.L.LineList.lines c.args.self.now.list.now in
     let few = (g.L.LineList.are_lines c.args.self.now.list.now).counted.lines in
-    omega (arith, few, count-lines lines, c.requires.taken.there, ap used (reverse-append c.args.self.now.back.items (c.args.next ∷ [])))
+    omega (
+      arith,
+      few,
+      count-lines lines,
+      c.requires.taken.there,
+      ap used (reverse-append c.args.self.now.back.items (c.args.next ∷ [])),
+    )
 
 pub returns-then-next-eq0-clause-joins : goal.returns-then-next-eq0-clause-joins
 returns-then-next-eq0-clause-joins g c =
@@ -25,7 +31,8 @@ returns-then-next-eq0-clause-joins g c =
     let new = c.join.new.self in
     let none : next.kept ≡ 0 = omega (arith, c.if-next-eq0.true) in
     both_ok c.join.result
-    (λ gone. joins stop.copy.line new.line next.line (lines_behind copies stop.copy (back ++ next ∷ []) lines) (lines_behind copies new back lines)
+    (λ gone. joins stop.copy.line new.line next.line (lines_behind copies stop.copy (back ++ next ∷ []) lines)
+    (lines_behind copies new back lines)
     (behind-copied lines copies back stop.copy new next none c.join.ensures.kept gone))
     c.join.ensures.gone c.join.ensures.line
 
@@ -41,8 +48,11 @@ returns-clause-joins g c =
     let new = c.join_kept.new.stop.copy in
     let some : 0 < next.kept = omega (arith, c.if-next-eq0.false) in
     let within = kept-there lines front back stop next c.requires.taken some in
-    let place : stop.reached.used + covered stop.copy ≡ used copies + covered stop.copy = omega (arith, c.requires.taken.reached.used) in
-    subst (λ items. JoinsNext stop.copy.line new.line (lines_behind copies stop.copy (back ++ next ∷ []) lines) (lines_behind copies new items lines)) (sym c.push_reserved.ensures.items)
+    let place : stop.reached.used + covered stop.copy
+    ≡ used copies + covered stop.copy = omega (arith, c.requires.taken.reached.used) in
+    subst (λ items. JoinsNext stop.copy.line new.line (lines_behind copies stop.copy (back ++ next ∷ []) lines)
+    (lines_behind copies new items lines)) (sym c.push_reserved.ensures.items)
     (joins stop.copy.line new.line (whole (take 1 (drop (used copies + covered stop.copy) lines))) _ _
-    (behind-kept lines copies back stop.copy new next less some (omega (arith, within, place)) refl refl refl c.join_kept.ensures.kept c.in_ok-join_kept.ensures.gone)
+    (behind-kept lines copies back stop.copy new next less some (omega (arith, within, place)) refl refl refl
+    c.join_kept.ensures.kept c.in_ok-join_kept.ensures.gone)
     (c.in_ok-join_kept.ensures.line ∙ ap (λ n. joined stop.copy.line (whole (take 1 (drop n lines)))) place))

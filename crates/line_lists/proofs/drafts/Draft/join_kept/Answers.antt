@@ -28,6 +28,9 @@ pub returns-clause-line : goal.returns-clause-line
 returns-clause-line g c =
     let lines = g.L.LineList.lines c.args.self.now.list.now in
     let stop = c.args.stop.now in
-    let index : stop.reached.used + stop.copy.kept + stop.copy.gone ≡ stop.reached.used + covered stop.copy = omega arith in
+    let index : stop.reached.used + stop.copy.kept + stop.copy.gone
+    ≡ stop.reached.used + covered stop.copy = omega arith in
     c.in_ok-join_copy.ensures.new
-    ∙ ap (joined stop.copy.line) (sym (first-line lines (stop.reached.used + covered stop.copy) c.line.result.now (ap (slice_get lines) (sym index) ∙ c.line.ensures)))
+    ∙ ap (joined stop.copy.line)
+    (sym (first-line lines (stop.reached.used + covered stop.copy) c.line.result.now
+    (ap (slice_get lines) (sym index) ∙ c.line.ensures)))

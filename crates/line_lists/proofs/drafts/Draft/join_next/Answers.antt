@@ -15,15 +15,20 @@ returns-in-None-clause-joins g c =
     let back = c.args.self.now.back.items in
     let copies = copies_of front in
     let new = c.join_kept.new.stop.copy in
-    let none = none_popped back (λ some. let no : None ≡ Some _ = c.in-None.ensures.value stop.copy (omega (arith, some, c.args.self.now.back.ok.0)) in absurd (cc)) in
+    let none = none_popped back (λ some. let no : None
+    ≡ Some _ = c.in-None.ensures.value stop.copy (omega (arith, some, c.args.self.now.back.ok.0)) in absurd (cc)) in
     let left : c.pop.new.self.items ≡ [] = sym (append-nil c.pop.new.self.items) ∙ sym c.in-None.ensures.items ∙ none in
     let taken = subst (λ items. IsTaken lines front items stop) none c.requires.taken in
-    let within = rest-there lines front stop taken (subst (λ items. 0 < length (lines_behind copies stop.copy items lines)) none c.requires.some) in
-    let place : stop.reached.used + covered stop.copy ≡ used copies + covered stop.copy = omega (arith, taken.reached.used) in
+    let within = rest-there lines front stop taken
+    (subst (λ items. 0 < length (lines_behind copies stop.copy items lines)) none c.requires.some) in
+    let place : stop.reached.used + covered stop.copy
+    ≡ used copies + covered stop.copy = omega (arith, taken.reached.used) in
     both_ok c.join_kept.result
     (λ gone line.
-    subst (λ items. JoinsNext stop.copy.line new.line (lines_behind copies stop.copy items lines) (lines_behind copies new c.pop.new.self.items lines)) (sym none)
-    (subst (λ items. JoinsNext stop.copy.line new.line (lines_behind copies stop.copy [] lines) (lines_behind copies new items lines)) (sym left)
+    subst (λ items. JoinsNext stop.copy.line new.line (lines_behind copies stop.copy items lines)
+    (lines_behind copies new c.pop.new.self.items lines)) (sym none)
+    (subst (λ items. JoinsNext stop.copy.line new.line (lines_behind copies stop.copy [] lines)
+    (lines_behind copies new items lines)) (sym left)
     (joins stop.copy.line new.line (whole (take 1 (drop (used copies + covered stop.copy) lines))) _ _
     (behind-rest lines copies stop.copy new (omega (arith, within, place)) c.join_kept.ensures.kept gone)
     (line ∙ ap (λ n. joined stop.copy.line (whole (take 1 (drop n lines)))) place))))

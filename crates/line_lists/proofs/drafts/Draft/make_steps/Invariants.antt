@@ -7,5 +7,7 @@ abbrev pub invariant-loop-step : goal.invariant-loop-step
 invariant-loop-step g l =
     (l.self.list.now ≡ l.initial.self.list.now)
     × IsText (g.L.LineList.lines l.self.list.now) l.self.front.items l.self.back.items
-    × Goes l.steps (text_at (g.L.LineList.lines l.initial.self.list.now) l.initial.self.front.items l.initial.self.back.items)
-    (drop l.step-index l.steps) (text_at (g.L.LineList.lines l.self.list.now) l.self.front.items l.self.back.items) l.len
+    × Goes l.steps (text_at (g.L.LineList.lines l.initial.self.list.now) l.initial.self.front.items
+    l.initial.self.back.items)
+    (drop l.step-index l.steps) (text_at (g.L.LineList.lines l.self.list.now) l.self.front.items l.self.back.items)
+    l.len

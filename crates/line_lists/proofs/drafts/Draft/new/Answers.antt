@@ -7,4 +7,5 @@ pub returns-clause-is : goal.returns-clause-is
 returns-clause-is g c =
     let lines = g.L.LineList.lines c.args.list.now in
     subst (λ front. IsDraft lines front c.new-2.result.items) (sym c.new.ensures.items)
-    (subst (λ back. IsDraft lines [] back) (sym c.new-2.ensures.items) (draft-none lines (g.L.LineList.are_lines c.args.list.now).counted))
+    (subst (λ back. IsDraft lines [] back) (sym c.new-2.ensures.items)
+    (draft-none lines (g.L.LineList.are_lines c.args.list.now).counted))

@@ -11,7 +11,8 @@ invariant-loop-reached g l =
     ≡ drafted_at (g.L.LineList.lines l.initial.self.list.now) l.initial.self.front.items l.initial.self.back.items)
     × IsReached l.reached (copies_of l.self.front.items) (g.L.LineList.lines l.self.list.now)
     × (free_end l.slot.0 (g.L.LineList.lines l.self.list.now) l.self.front.items l.self.back.items
-    ≡ free_end l.slot.0 (g.L.LineList.lines l.initial.self.list.now) l.initial.self.front.items l.initial.self.back.items)
+    ≡ free_end l.slot.0 (g.L.LineList.lines l.initial.self.list.now) l.initial.self.front.items
+    l.initial.self.back.items)
 
 abbrev pub decreases-loop-reached : goal.decreases-loop-reached
 decreases-loop-reached g l = vec_len l.self.back

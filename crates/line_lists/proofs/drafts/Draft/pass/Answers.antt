@@ -9,5 +9,7 @@ returns-in-Some-clause-is g c =
     let lines = g.L.LineList.lines c.args.self.now.list.now in
     let front = c.args.self.now.front.items in
     let stop : Stop = record { reached = c.args.reached; copy = c.in-Some.copy } in
-    subst (λ items. IsDraft lines items c.pop.new.self.items) (sym (c.push_reserved.ensures.items ∙ ap (λ items. items ++ stop ∷ []) c.in_ok-reserve.ensures.items))
-    (draft-forth lines front c.pop.new.self.items stop (subst (λ items. IsDraft lines front items) c.in-Some.ensures.items c.requires.is) c.requires.reached)
+    subst (λ items. IsDraft lines items c.pop.new.self.items)
+    (sym (c.push_reserved.ensures.items ∙ ap (λ items. items ++ stop ∷ []) c.in_ok-reserve.ensures.items))
+    (draft-forth lines front c.pop.new.self.items stop
+    (subst (λ items. IsDraft lines front items) c.in-Some.ensures.items c.requires.is) c.requires.reached)

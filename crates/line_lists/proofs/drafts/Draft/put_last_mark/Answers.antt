@@ -11,13 +11,15 @@ use Rattle.line_lists.proofs.drafts.Draft.put_last_mark.Goals as goal
 pub overflow_sub-place : goal.overflow_sub-place
 overflow_sub-place g c =
     let old = g.L.LineList.lines c.args.self.now.list.now in
-    let some = draft-some (in_order c.args.self.now.front.items c.args.self.now.back.items) old (g.L.LineList.are_lines c.args.self.now.list.now).some c.requires.is.rows in
+    let some = draft-some (in_order c.args.self.now.front.items c.args.self.now.back.items) old
+    (g.L.LineList.are_lines c.args.self.now.list.now).some c.requires.is.rows in
     omega (arith, some, c.requires.end)
 
 pub take-requires-clause-within : goal.take-requires-clause-within
 take-requires-clause-within g c =
     let old = g.L.LineList.lines c.args.self.now.list.now in
-    let some = draft-some (in_order c.args.self.now.front.items c.args.self.now.back.items) old (g.L.LineList.are_lines c.args.self.now.list.now).some c.requires.is.rows in
+    let some = draft-some (in_order c.args.self.now.front.items c.args.self.now.back.items) old
+    (g.L.LineList.are_lines c.args.self.now.list.now).some c.requires.is.rows in
     omega (arith, some, c.requires.end)
 
 pub put-requires-clause-counted : goal.put-requires-clause-counted
@@ -30,10 +32,14 @@ put-requires-clause-counted g c =
     let behind = lines_behind copies copy c.take.new.self.back.items lines in
     let place = c.in_ok-stop.ensures.place in
     let there : Place = record c.args.place { offset = found.column + 1 } in
-    let new_is : c.put_mark.new.self ≡ with_mark c.args.number.0 there copy.line = λ i. record { columns = c.put_mark.ensures.columns i; marks = c.in_ok-put_mark.ensures.marks i } in
+    let new_is : c.put_mark.new.self ≡ with_mark c.args.number.0 there copy.line = λ i.
+    record { columns = c.put_mark.ensures.columns i; marks = c.in_ok-put_mark.ensures.marks i } in
     let old = g.L.LineList.lines c.args.self.now.list.now in
-    let some = draft-some (in_order c.args.self.now.front.items c.args.self.now.back.items) old (g.L.LineList.are_lines c.args.self.now.list.now).some c.requires.is.rows in
-    let makes = last-makes before behind _ copy.line c.put_mark.new.self c.args.place c.args.number.0 found.column c.in_ok-stop.ensures.same c.requires.is.rows some c.requires.end place.place place.inside c.requires.free new_is in
+    let some = draft-some (in_order c.args.self.now.front.items c.args.self.now.back.items) old
+    (g.L.LineList.are_lines c.args.self.now.list.now).some c.requires.is.rows in
+    let makes = last-makes before behind _ copy.line c.put_mark.new.self c.args.place c.args.number.0 found.column
+    c.in_ok-stop.ensures.same c.requires.is.rows some c.requires.end place.place place.inside c.requires.free new_is
+    in
     omega (arith, ap (λ (line : LineContent). length line.columns) makes.whole, c.requires.is.draft.counted)
 
 pub returns-clause-is : goal.returns-clause-is
@@ -46,10 +52,14 @@ returns-clause-is g c =
     let behind = lines_behind copies copy c.take.new.self.back.items lines in
     let place = c.in_ok-stop.ensures.place in
     let there : Place = record c.args.place { offset = found.column + 1 } in
-    let new_is : c.put_mark.new.self ≡ with_mark c.args.number.0 there copy.line = λ i. record { columns = c.put_mark.ensures.columns i; marks = c.in_ok-put_mark.ensures.marks i } in
+    let new_is : c.put_mark.new.self ≡ with_mark c.args.number.0 there copy.line = λ i.
+    record { columns = c.put_mark.ensures.columns i; marks = c.in_ok-put_mark.ensures.marks i } in
     let old = g.L.LineList.lines c.args.self.now.list.now in
-    let some = draft-some (in_order c.args.self.now.front.items c.args.self.now.back.items) old (g.L.LineList.are_lines c.args.self.now.list.now).some c.requires.is.rows in
-    let makes = last-makes before behind _ copy.line c.put_mark.new.self c.args.place c.args.number.0 found.column c.in_ok-stop.ensures.same c.requires.is.rows some c.requires.end place.place place.inside c.requires.free new_is in
+    let some = draft-some (in_order c.args.self.now.front.items c.args.self.now.back.items) old
+    (g.L.LineList.are_lines c.args.self.now.list.now).some c.requires.is.rows in
+    let makes = last-makes before behind _ copy.line c.put_mark.new.self c.args.place c.args.number.0 found.column
+    c.in_ok-stop.ensures.same c.requires.is.rows some c.requires.end place.place place.inside c.requires.free new_is
+    in
     record {
       draft = c.put.ensures.is;
       rows = subst AreRows (sym c.put.ensures.lines) (makes.rows c.requires.is.rows);
@@ -65,8 +75,12 @@ returns-clause-new g c =
     let behind = lines_behind copies copy c.take.new.self.back.items lines in
     let place = c.in_ok-stop.ensures.place in
     let there : Place = record c.args.place { offset = found.column + 1 } in
-    let new_is : c.put_mark.new.self ≡ with_mark c.args.number.0 there copy.line = λ i. record { columns = c.put_mark.ensures.columns i; marks = c.in_ok-put_mark.ensures.marks i } in
+    let new_is : c.put_mark.new.self ≡ with_mark c.args.number.0 there copy.line = λ i.
+    record { columns = c.put_mark.ensures.columns i; marks = c.in_ok-put_mark.ensures.marks i } in
     let old = g.L.LineList.lines c.args.self.now.list.now in
-    let some = draft-some (in_order c.args.self.now.front.items c.args.self.now.back.items) old (g.L.LineList.are_lines c.args.self.now.list.now).some c.requires.is.rows in
-    let makes = last-makes before behind _ copy.line c.put_mark.new.self c.args.place c.args.number.0 found.column c.in_ok-stop.ensures.same c.requires.is.rows some c.requires.end place.place place.inside c.requires.free new_is in
+    let some = draft-some (in_order c.args.self.now.front.items c.args.self.now.back.items) old
+    (g.L.LineList.are_lines c.args.self.now.list.now).some c.requires.is.rows in
+    let makes = last-makes before behind _ copy.line c.put_mark.new.self c.args.place c.args.number.0 found.column
+    c.in_ok-stop.ensures.same c.requires.is.rows some c.requires.end place.place place.inside c.requires.free new_is
+    in
     ap whole c.put.ensures.lines ∙ makes.whole

@@ -13,6 +13,9 @@ returns-clause-opens g c =
     let text = chars c.args.text.now in
     let stop : Stop = record { reached = c.reached-reached.result; copy = new_copy c.in_ok-new.field-0 } in
     let same = c.in_ok-reserve.ensures.items in
-    subst (λ items. Opens lines items back (place_at lines front) text (text_at lines front back)) (sym (c.push_reserved.ensures.items ∙ ap (λ items. items ++ stop ∷ []) same))
-    (line-opens lines front back stop.reached c.in_ok-new.field-0 text c.requires.is (subst (λ items. IsReached stop.reached (copies_of items) lines) same c.reached-reached.ensures) c.in_ok-new.ensures
+    subst (λ items. Opens lines items back (place_at lines front) text (text_at lines front back))
+    (sym (c.push_reserved.ensures.items ∙ ap (λ items. items ++ stop ∷ []) same))
+    (line-opens lines front back stop.reached c.in_ok-new.field-0 text c.requires.is
+    (subst (λ items. IsReached stop.reached (copies_of items) lines) same c.reached-reached.ensures)
+    c.in_ok-new.ensures
     c.requires.line c.requires.counted)

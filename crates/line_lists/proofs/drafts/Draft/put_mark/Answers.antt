@@ -18,8 +18,10 @@ put-requires-clause-counted g c =
     let behind = lines_behind copies copy c.take.new.self.back.items lines in
     let place = c.in_ok-stop.ensures.place in
     let there : Place = record c.args.place { offset = found.column } in
-    let new_is : c.put_mark.new.self ≡ with_mark c.args.number.0 there copy.line = λ i. record { columns = c.put_mark.ensures.columns i; marks = c.in_ok-put_mark.ensures.marks i } in
-    let makes = marked-makes before behind _ copy.line c.put_mark.new.self c.args.place c.args.number.0 found.column c.in_ok-stop.ensures.same place.place place.inside c.requires.free new_is in
+    let new_is : c.put_mark.new.self ≡ with_mark c.args.number.0 there copy.line = λ i.
+    record { columns = c.put_mark.ensures.columns i; marks = c.in_ok-put_mark.ensures.marks i } in
+    let makes = marked-makes before behind _ copy.line c.put_mark.new.self c.args.place c.args.number.0 found.column
+    c.in_ok-stop.ensures.same place.place place.inside c.requires.free new_is in
     omega (arith, ap (λ (line : LineContent). length line.columns) makes.whole, c.requires.is.draft.counted)
 
 pub returns-clause-is : goal.returns-clause-is
@@ -32,8 +34,10 @@ returns-clause-is g c =
     let behind = lines_behind copies copy c.take.new.self.back.items lines in
     let place = c.in_ok-stop.ensures.place in
     let there : Place = record c.args.place { offset = found.column } in
-    let new_is : c.put_mark.new.self ≡ with_mark c.args.number.0 there copy.line = λ i. record { columns = c.put_mark.ensures.columns i; marks = c.in_ok-put_mark.ensures.marks i } in
-    let makes = marked-makes before behind _ copy.line c.put_mark.new.self c.args.place c.args.number.0 found.column c.in_ok-stop.ensures.same place.place place.inside c.requires.free new_is in
+    let new_is : c.put_mark.new.self ≡ with_mark c.args.number.0 there copy.line = λ i.
+    record { columns = c.put_mark.ensures.columns i; marks = c.in_ok-put_mark.ensures.marks i } in
+    let makes = marked-makes before behind _ copy.line c.put_mark.new.self c.args.place c.args.number.0 found.column
+    c.in_ok-stop.ensures.same place.place place.inside c.requires.free new_is in
     record {
       draft = c.put.ensures.is;
       rows = subst AreRows (sym c.put.ensures.lines) (makes.rows c.requires.is.rows);
@@ -49,6 +53,8 @@ returns-clause-new g c =
     let behind = lines_behind copies copy c.take.new.self.back.items lines in
     let place = c.in_ok-stop.ensures.place in
     let there : Place = record c.args.place { offset = found.column } in
-    let new_is : c.put_mark.new.self ≡ with_mark c.args.number.0 there copy.line = λ i. record { columns = c.put_mark.ensures.columns i; marks = c.in_ok-put_mark.ensures.marks i } in
-    let makes = marked-makes before behind _ copy.line c.put_mark.new.self c.args.place c.args.number.0 found.column c.in_ok-stop.ensures.same place.place place.inside c.requires.free new_is in
+    let new_is : c.put_mark.new.self ≡ with_mark c.args.number.0 there copy.line = λ i.
+    record { columns = c.put_mark.ensures.columns i; marks = c.in_ok-put_mark.ensures.marks i } in
+    let makes = marked-makes before behind _ copy.line c.put_mark.new.self c.args.place c.args.number.0 found.column
+    c.in_ok-stop.ensures.same place.place place.inside c.requires.free new_is in
     ap whole c.put.ensures.lines ∙ makes.whole

@@ -13,4 +13,5 @@ returns-then-is_empty-clause-new g c =
     let text = text_at lines c.put_lines.new.self.front.items c.put_lines.new.self.back.items in
     let last = c.in_ok-last.last.now in
     let none : length last ≡ 0 = eqb-true (length last) 0 (sym c.if-is_empty.ensures) in
-    sym (text-none offset text) ∙ ap (λ rest. after_text offset rest text) (sym (no-characters last none)) ∙ c.in_ok-last.ensures.partly.new
+    sym (text-none offset text) ∙ ap (λ rest. after_text offset rest text) (sym (no-characters last none))
+    ∙ c.in_ok-last.ensures.partly.new

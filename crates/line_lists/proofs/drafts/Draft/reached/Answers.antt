@@ -10,12 +10,17 @@ with-requires g c =
     let front = c.args.self.now.front.items in
     let back = c.args.self.now.back.items in
     let stop = c.in-Some.stop.now in
-    can-follow lines (take (length front - 1) front) back stop (subst (λ items. IsDraft lines items back) (last_is front stop (c.in-Some.ensures.value ∙ ap (λ xs. slice_get xs (length xs - 1)) c.deref.ensures.value)) c.requires)
+    can-follow lines (take (length front - 1) front) back stop
+    (subst (λ items. IsDraft lines items back)
+    (last_is front stop (c.in-Some.ensures.value ∙ ap (λ xs. slice_get xs (length xs - 1)) c.deref.ensures.value))
+    c.requires)
 
 pub returns-in-None : goal.returns-in-None
 returns-in-None g c =
     let lines = g.L.LineList.lines c.args.self.now.list.now in
-    subst (λ items. IsReached c.nothing.result (copies_of items) lines) (sym (no_last c.args.self.now.front.items (c.in-None.ensures.value ∙ ap (λ xs. slice_get xs (length xs - 1)) c.deref.ensures.value))) (c.nothing.ensures lines)
+    subst (λ items. IsReached c.nothing.result (copies_of items) lines)
+    (sym (no_last c.args.self.now.front.items (c.in-None.ensures.value
+    ∙ ap (λ xs. slice_get xs (length xs - 1)) c.deref.ensures.value))) (c.nothing.ensures lines)
 
 pub returns-in-Some : goal.returns-in-Some
 returns-in-Some g c =
@@ -24,6 +29,8 @@ returns-in-Some g c =
     let back = c.args.self.now.back.items in
     let stop = c.in-Some.stop.now in
     let before = take (length front - 1) front in
-    let is = last_is front stop (c.in-Some.ensures.value ∙ ap (λ xs. slice_get xs (length xs - 1)) c.deref.ensures.value) in
+    let is = last_is front stop (c.in-Some.ensures.value
+    ∙ ap (λ xs. slice_get xs (length xs - 1)) c.deref.ensures.value) in
     subst (λ copies. IsReached c.with.result copies lines) (sym (ap copies_of is ∙ copies-snoc before stop))
-    (c.with.ensures (copies_of before) (stops-last lines [] before stop (subst (λ items. IsDraft lines items back) is c.requires).stops))
+    (c.with.ensures (copies_of before) (stops-last lines [] before stop
+    (subst (λ items. IsDraft lines items back) is c.requires).stops))

@@ -13,7 +13,8 @@ invariant-loop-left g l =
     × IsHeld lines l.self.front.items l.self.back.items l.stop l.column
     × HoldsMore lines l.self.front.items l.self.back.items l.stop.copy l.column l.left
     × (after_removal at (at + l.left) (held_text lines l.self.front.items l.self.back.items l.stop.copy)
-    ≡ after_removal at (at + l.count) (held_text (g.L.LineList.lines l.initial.self.list.now) l.initial.self.front.items l.initial.self.back.items l.initial.stop.copy))
+    ≡ after_removal at (at + l.count) (held_text (g.L.LineList.lines l.initial.self.list.now) l.initial.self.front.items
+    l.initial.self.back.items l.initial.stop.copy))
 
 abbrev pub decreases-loop-left : goal.decreases-loop-left
 decreases-loop-left g l = l.left

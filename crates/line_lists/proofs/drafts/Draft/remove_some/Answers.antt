@@ -8,24 +8,30 @@ use Rattle.line_lists.proofs.drafts.Draft.remove_some.Goals as goal
 pub returns-then-left-rest-clause-held : goal.returns-then-left-rest-clause-held
 returns-then-left-rest-clause-held g c =
     let lines = g.L.LineList.lines c.args.self.now.list.now in
-    let few : c.args.left < length c.args.stop.now.copy.line.columns - c.args.column = omega (arith, c.if-left-rest.true, c.len.ensures) in
+    let few : c.args.left < length c.args.stop.now.copy.line.columns
+    - c.args.column = omega (arith, c.if-left-rest.true, c.len.ensures) in
     let leaves =
-    leaves-within lines c.args.self.now.front.items c.args.self.now.back.items c.args.stop.now c.remove_range.new.self c.args.column c.args.left c.requires.held few c.in_ok-remove_range.ensures.new in
+    leaves-within lines c.args.self.now.front.items c.args.self.now.back.items c.args.stop.now c.remove_range.new.self
+    c.args.column c.args.left c.requires.held few c.in_ok-remove_range.ensures.new in
     leaves.held
 
 pub returns-then-left-rest-clause-new : goal.returns-then-left-rest-clause-new
 returns-then-left-rest-clause-new g c =
     let lines = g.L.LineList.lines c.args.self.now.list.now in
-    let few : c.args.left < length c.args.stop.now.copy.line.columns - c.args.column = omega (arith, c.if-left-rest.true, c.len.ensures) in
+    let few : c.args.left < length c.args.stop.now.copy.line.columns
+    - c.args.column = omega (arith, c.if-left-rest.true, c.len.ensures) in
     let leaves =
-    leaves-within lines c.args.self.now.front.items c.args.self.now.back.items c.args.stop.now c.remove_range.new.self c.args.column c.args.left c.requires.held few c.in_ok-remove_range.ensures.new in
+    leaves-within lines c.args.self.now.front.items c.args.self.now.back.items c.args.stop.now c.remove_range.new.self
+    c.args.column c.args.left c.requires.held few c.in_ok-remove_range.ensures.new in
     leaves.text
 
 pub join_next-requires-clause-some : goal.join_next-requires-clause-some
 join_next-requires-clause-some g c =
     let lines = g.L.LineList.lines c.args.self.now.list.now in
-    let large : length c.args.stop.now.copy.line.columns - c.args.column ≤ c.args.left = omega (arith, c.if-left-rest.false, c.len.ensures) in
-    next-there lines c.args.self.now.front.items c.args.self.now.back.items c.args.stop.now c.args.column c.args.left c.requires.within large
+    let large : length c.args.stop.now.copy.line.columns - c.args.column
+    ≤ c.args.left = omega (arith, c.if-left-rest.false, c.len.ensures) in
+    next-there lines c.args.self.now.front.items c.args.self.now.back.items c.args.stop.now c.args.column c.args.left
+    c.requires.within large
 
 pub returns-clause-held : goal.returns-clause-held
 returns-clause-held g c =
@@ -36,11 +42,15 @@ returns-clause-held g c =
     let long : c.len.result ≡ length stop.copy.line.columns = c.len.ensures in
     let large : length stop.copy.line.columns - column ≤ c.args.left = omega (arith, c.if-left-rest.false, long) in
     let leaves =
-    leaves-joined lines (g.L.LineList.lines c.join_next.new.self.list.now) c.args.self.now.front.items c.join_next.new.self.front.items c.args.self.now.back.items c.join_next.new.self.back.items
+    leaves-joined lines (g.L.LineList.lines c.join_next.new.self.list.now) c.args.self.now.front.items
+    c.join_next.new.self.front.items c.args.self.now.back.items c.join_next.new.self.back.items
     stop joint c.remove_range-2.new.self column c.args.left
-    (ap g.L.LineList.lines c.join_next.ensures.list) (ap (λ (front : Vec Stop Global). front.items) c.join_next.ensures.front)
-    c.requires.held c.requires.within large c.join_next.ensures.kept c.in_ok-join_next.ensures.taken c.in_ok-join_next.ensures.joins
-    (c.in_ok-remove_range-2.ensures.new ∙ ap (λ n. after_removal column (column + (n - column)) joint.copy.line) long) in
+    (ap g.L.LineList.lines c.join_next.ensures.list)
+    (ap (λ (front : Vec Stop Global). front.items) c.join_next.ensures.front)
+    c.requires.held c.requires.within large c.join_next.ensures.kept c.in_ok-join_next.ensures.taken
+    c.in_ok-join_next.ensures.joins
+    (c.in_ok-remove_range-2.ensures.new ∙ ap (λ n. after_removal column (column + (n - column)) joint.copy.line) long)
+    in
     leaves.held
 
 pub returns-clause-new : goal.returns-clause-new
@@ -52,10 +62,16 @@ returns-clause-new g c =
     let long : c.len.result ≡ length stop.copy.line.columns = c.len.ensures in
     let large : length stop.copy.line.columns - column ≤ c.args.left = omega (arith, c.if-left-rest.false, long) in
     let leaves =
-    leaves-joined lines (g.L.LineList.lines c.join_next.new.self.list.now) c.args.self.now.front.items c.join_next.new.self.front.items c.args.self.now.back.items c.join_next.new.self.back.items
+    leaves-joined lines (g.L.LineList.lines c.join_next.new.self.list.now) c.args.self.now.front.items
+    c.join_next.new.self.front.items c.args.self.now.back.items c.join_next.new.self.back.items
     stop joint c.remove_range-2.new.self column c.args.left
-    (ap g.L.LineList.lines c.join_next.ensures.list) (ap (λ (front : Vec Stop Global). front.items) c.join_next.ensures.front)
-    c.requires.held c.requires.within large c.join_next.ensures.kept c.in_ok-join_next.ensures.taken c.in_ok-join_next.ensures.joins
-    (c.in_ok-remove_range-2.ensures.new ∙ ap (λ n. after_removal column (column + (n - column)) joint.copy.line) long) in
+    (ap g.L.LineList.lines c.join_next.ensures.list)
+    (ap (λ (front : Vec Stop Global). front.items) c.join_next.ensures.front)
+    c.requires.held c.requires.within large c.join_next.ensures.kept c.in_ok-join_next.ensures.taken
+    c.in_ok-join_next.ensures.joins
+    (c.in_ok-remove_range-2.ensures.new ∙ ap (λ n. after_removal column (column + (n - column)) joint.copy.line) long)
+    in
     leaves.text
-    ∙ ap (λ n. after_removal (held_at lines c.args.self.now.front.items stop.copy column) (held_at lines c.args.self.now.front.items stop.copy column + (n - column)) (held_text lines c.args.self.now.front.items c.args.self.now.back.items stop.copy)) (sym long)
+    ∙ ap (λ n. after_removal (held_at lines c.args.self.now.front.items stop.copy column)
+    (held_at lines c.args.self.now.front.items stop.copy column + (n - column))
+    (held_text lines c.args.self.now.front.items c.args.self.now.back.items stop.copy)) (sym long)

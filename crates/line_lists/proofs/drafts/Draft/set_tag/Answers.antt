@@ -10,24 +10,35 @@ use Rattle.line_lists.proofs.drafts.Draft.set_tag.Goals as goal
 
 pub toggle_before-requires-2-clause-len : goal.toggle_before-requires-2-clause-len
 toggle_before-requires-2-clause-len g c =
-    let old = text_at (g.L.LineList.lines c.args.self.now.list.now) c.args.self.now.front.items c.args.self.now.back.items in
-    let bare = text_at (g.L.LineList.lines c.clear.new.self.list.now) c.clear.new.self.front.items c.clear.new.self.back.items in
-    let text = text_at (g.L.LineList.lines c.toggle_before.new.self.list.now) c.toggle_before.new.self.front.items c.toggle_before.new.self.back.items in
+    let old = text_at (g.L.LineList.lines c.args.self.now.list.now) c.args.self.now.front.items
+    c.args.self.now.back.items in
+    let bare = text_at (g.L.LineList.lines c.clear.new.self.list.now) c.clear.new.self.front.items
+    c.clear.new.self.back.items in
+    let text = text_at (g.L.LineList.lines c.toggle_before.new.self.list.now) c.toggle_before.new.self.front.items
+    c.toggle_before.new.self.back.items in
     let same = c.in_ok-last.ensures.same ∙ c.in_ok-first.ensures.same in
-    let long = cleared-long c.args.slot.0 c.args.from c.args.to old bare c.args.len c.requires.ordered c.requires.within c.requires.len
+    let long = cleared-long c.args.slot.0 c.args.from c.args.to old bare c.args.len c.requires.ordered c.requires.within
+    c.requires.len
     (c.in_ok-clear.ensures.new ∙ ap (λ lines. with_cleared c.args.slot.0 c.args.from c.args.to (whole lines)) same) in
     toggled-long c.args.to c.in_ok-last.last bare text c.args.len long c.in_ok-toggle_before.ensures.new
 
 pub returns-clause-new : goal.returns-clause-new
 returns-clause-new g c =
-    let old = text_at (g.L.LineList.lines c.args.self.now.list.now) c.args.self.now.front.items c.args.self.now.back.items in
-    let bare = text_at (g.L.LineList.lines c.clear.new.self.list.now) c.clear.new.self.front.items c.clear.new.self.back.items in
-    let text = text_at (g.L.LineList.lines c.toggle_before.new.self.list.now) c.toggle_before.new.self.front.items c.toggle_before.new.self.back.items in
-    let new = text_at (g.L.LineList.lines c.toggle_before-2.new.self.list.now) c.toggle_before-2.new.self.front.items c.toggle_before-2.new.self.back.items in
+    let old = text_at (g.L.LineList.lines c.args.self.now.list.now) c.args.self.now.front.items
+    c.args.self.now.back.items in
+    let bare = text_at (g.L.LineList.lines c.clear.new.self.list.now) c.clear.new.self.front.items
+    c.clear.new.self.back.items in
+    let text = text_at (g.L.LineList.lines c.toggle_before.new.self.list.now) c.toggle_before.new.self.front.items
+    c.toggle_before.new.self.back.items in
+    let new = text_at (g.L.LineList.lines c.toggle_before-2.new.self.list.now) c.toggle_before-2.new.self.front.items
+    c.toggle_before-2.new.self.back.items in
     let same = c.in_ok-last.ensures.same ∙ c.in_ok-first.ensures.same in
     IfOk-equal c.toggle_before-2.result new _ _ c.toggle_before-2.ensures.new
-    (tagged-made c.args.from c.args.to c.args.slot c.args.is_on c.in_ok-first.first c.in_ok-last.last c.args.len old bare text c.requires.ordered c.requires.within c.requires.len
+    (tagged-made c.args.from c.args.to c.args.slot c.args.is_on c.in_ok-first.first c.in_ok-last.last c.args.len old
+    bare text c.requires.ordered c.requires.within c.requires.len
     c.in_ok-first.ensures.value
-    (λ before. c.in_ok-last.ensures.value before ∙ ap (λ lines. switched (set_slot c.args.slot.0 c.args.is_on) c.args.to (whole lines).columns) c.in_ok-first.ensures.same)
+    (λ before. c.in_ok-last.ensures.value before
+    ∙ ap (λ lines. switched (set_slot c.args.slot.0 c.args.is_on) c.args.to (whole lines).columns)
+    c.in_ok-first.ensures.same)
     (c.in_ok-clear.ensures.new ∙ ap (λ lines. with_cleared c.args.slot.0 c.args.from c.args.to (whole lines)) same)
     c.in_ok-toggle_before.ensures.new)

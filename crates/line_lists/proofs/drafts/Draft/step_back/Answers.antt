@@ -10,4 +10,5 @@ returns-in-Some-clause-is g c =
     let back = c.args.self.now.back.items in
     subst (λ items. IsDraft lines c.pop.new.self.items items)
     (sym (c.push_reserved.ensures.items ∙ ap (λ items. items ++ stop.copy ∷ []) c.in_ok-reserve.ensures.items))
-    (draft-back lines c.pop.new.self.items back stop (subst (λ items. IsDraft lines items back) c.in-Some.ensures.items c.requires))
+    (draft-back lines c.pop.new.self.items back stop
+    (subst (λ items. IsDraft lines items back) c.in-Some.ensures.items c.requires))

@@ -9,6 +9,8 @@ returns-clause-value g c =
     let lines = g.L.LineList.lines c.take.new.self.list.now in
     let found = c.in_ok-stop.field-0 in
     let taken = c.in_ok-stop.ensures in
-    let old = drafted_at (g.L.LineList.lines c.args.self.now.list.now) c.args.self.now.front.items c.args.self.now.back.items in
+    let old = drafted_at (g.L.LineList.lines c.args.self.now.list.now) c.args.self.now.front.items
+    c.args.self.now.back.items in
     c.differing-slots.ensures ∙ ap₂ differing c.tags_behind-before.ensures c.tags_before.ensures
-    ∙ sym (tags-taken lines old c.take.new.self.front.items c.take.new.self.back.items found.stop.reached found.stop.copy c.args.offset found.column taken.taken.reached taken.same taken.place)
+    ∙ sym (tags-taken lines old c.take.new.self.front.items c.take.new.self.back.items found.stop.reached
+    found.stop.copy c.args.offset found.column taken.taken.reached taken.same taken.place)

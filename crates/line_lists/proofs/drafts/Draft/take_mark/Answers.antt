@@ -6,15 +6,18 @@ use Rattle.line_lists.proofs.drafts.Draft.take_mark.Goals as goal
 
 pub take_mark_at-requires-clause-within : goal.take_mark_at-requires-clause-within
 take_mark_at-requires-clause-within g c =
-    let made = drafted_at (g.L.LineList.lines c.args.self.now.list.now) c.args.self.now.front.items c.args.self.now.back.items in
+    let made = drafted_at (g.L.LineList.lines c.args.self.now.list.now) c.args.self.now.front.items
+    c.args.self.now.back.items in
     (stands-found c.args.number.0 c.in-Some.offset made c.requires.is.rows c.in-Some.ensures.some).0
 
 pub take_mark_at-requires-clause-stands : goal.take_mark_at-requires-clause-stands
 take_mark_at-requires-clause-stands g c =
-    let made = drafted_at (g.L.LineList.lines c.args.self.now.list.now) c.args.self.now.front.items c.args.self.now.back.items in
+    let made = drafted_at (g.L.LineList.lines c.args.self.now.list.now) c.args.self.now.front.items
+    c.args.self.now.back.items in
     (stands-found c.args.number.0 c.in-Some.offset made c.requires.is.rows c.in-Some.ensures.some).1
 
 pub returns-in-None-clause-new : goal.returns-in-None-clause-new
 returns-in-None-clause-new g c =
-    let old = text_at (g.L.LineList.lines c.args.self.now.list.now) c.args.self.now.front.items c.args.self.now.back.items in
+    let old = text_at (g.L.LineList.lines c.args.self.now.list.now) c.args.self.now.front.items
+    c.args.self.now.back.items in
     sym (same-line c.args.number.0 old (c.find_mark.ensures.none c.in-None.is))

@@ -16,8 +16,10 @@ put-requires-clause-counted g c =
     let before = lines_before copies copy lines in
     let behind = lines_behind copies copy c.take.new.self.back.items lines in
     let place = c.in_ok-stop.ensures.place in
-    let new_is : c.take_mark.new.self ≡ without_mark c.args.number.0 copy.line = λ i. record { columns = c.take_mark.ensures.columns i; marks = c.take_mark.ensures.marks i } in
-    let makes = taken-makes before behind _ copy.line c.take_mark.new.self c.args.number.0 c.args.offset found.column c.in_ok-stop.ensures.same place.place place.inside c.requires.is.rows c.requires.stands new_is in
+    let new_is : c.take_mark.new.self ≡ without_mark c.args.number.0 copy.line = λ i.
+    record { columns = c.take_mark.ensures.columns i; marks = c.take_mark.ensures.marks i } in
+    let makes = taken-makes before behind _ copy.line c.take_mark.new.self c.args.number.0 c.args.offset found.column
+    c.in_ok-stop.ensures.same place.place place.inside c.requires.is.rows c.requires.stands new_is in
     omega (arith, ap (λ (line : LineContent). length line.columns) makes.whole, c.requires.is.draft.counted)
 
 pub returns-clause-is : goal.returns-clause-is
@@ -29,8 +31,10 @@ returns-clause-is g c =
     let before = lines_before copies copy lines in
     let behind = lines_behind copies copy c.take.new.self.back.items lines in
     let place = c.in_ok-stop.ensures.place in
-    let new_is : c.take_mark.new.self ≡ without_mark c.args.number.0 copy.line = λ i. record { columns = c.take_mark.ensures.columns i; marks = c.take_mark.ensures.marks i } in
-    let makes = taken-makes before behind _ copy.line c.take_mark.new.self c.args.number.0 c.args.offset found.column c.in_ok-stop.ensures.same place.place place.inside c.requires.is.rows c.requires.stands new_is in
+    let new_is : c.take_mark.new.self ≡ without_mark c.args.number.0 copy.line = λ i.
+    record { columns = c.take_mark.ensures.columns i; marks = c.take_mark.ensures.marks i } in
+    let makes = taken-makes before behind _ copy.line c.take_mark.new.self c.args.number.0 c.args.offset found.column
+    c.in_ok-stop.ensures.same place.place place.inside c.requires.is.rows c.requires.stands new_is in
     record {
       draft = c.put.ensures.is;
       rows = subst AreRows (sym c.put.ensures.lines) (makes.rows c.requires.is.rows);
@@ -45,6 +49,8 @@ returns-clause-new g c =
     let before = lines_before copies copy lines in
     let behind = lines_behind copies copy c.take.new.self.back.items lines in
     let place = c.in_ok-stop.ensures.place in
-    let new_is : c.take_mark.new.self ≡ without_mark c.args.number.0 copy.line = λ i. record { columns = c.take_mark.ensures.columns i; marks = c.take_mark.ensures.marks i } in
-    let makes = taken-makes before behind _ copy.line c.take_mark.new.self c.args.number.0 c.args.offset found.column c.in_ok-stop.ensures.same place.place place.inside c.requires.is.rows c.requires.stands new_is in
+    let new_is : c.take_mark.new.self ≡ without_mark c.args.number.0 copy.line = λ i.
+    record { columns = c.take_mark.ensures.columns i; marks = c.take_mark.ensures.marks i } in
+    let makes = taken-makes before behind _ copy.line c.take_mark.new.self c.args.number.0 c.args.offset found.column
+    c.in_ok-stop.ensures.same place.place place.inside c.requires.is.rows c.requires.stands new_is in
     ap whole c.put.ensures.lines ∙ makes.whole

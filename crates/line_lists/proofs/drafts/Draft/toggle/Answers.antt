@@ -17,11 +17,16 @@ put-requires-clause-counted g c =
     let before = lines_before copies copy lines in
     let behind = lines_behind copies copy c.take.new.self.back.items lines in
     let place = c.in_ok-stop.ensures.place in
-    let columns = c.in_ok-toggle.ensures.columns ∙ toggled-line found.column c.args.slots.now copy.line.columns place.inside in
-    let new_is : c.toggle.new.self ≡ with_toggled found.column c.args.slots.now copy.line = λ i. record { columns = columns i; marks = c.toggle.ensures.marks i } in
-    let makes = toggled-makes before behind _ copy.line c.toggle.new.self c.args.offset found.column c.args.slots.now c.in_ok-stop.ensures.same place.place place.inside new_is in
-    let old = drafted_at (g.L.LineList.lines c.args.self.now.list.now) c.args.self.now.front.items c.args.self.now.back.items in
-    let long = ap (λ (line : LineContent). length line.columns) makes.whole ∙ length-toggled c.args.offset c.args.slots.now (whole old).columns in
+    let columns = c.in_ok-toggle.ensures.columns
+    ∙ toggled-line found.column c.args.slots.now copy.line.columns place.inside in
+    let new_is : c.toggle.new.self ≡ with_toggled found.column c.args.slots.now copy.line = λ i.
+    record { columns = columns i; marks = c.toggle.ensures.marks i } in
+    let makes = toggled-makes before behind _ copy.line c.toggle.new.self c.args.offset found.column c.args.slots.now
+    c.in_ok-stop.ensures.same place.place place.inside new_is in
+    let old = drafted_at (g.L.LineList.lines c.args.self.now.list.now) c.args.self.now.front.items
+    c.args.self.now.back.items in
+    let long = ap (λ (line : LineContent). length line.columns) makes.whole
+    ∙ length-toggled c.args.offset c.args.slots.now (whole old).columns in
     omega (arith, long, c.requires.is.draft.counted)
 
 pub returns-clause-is : goal.returns-clause-is
@@ -33,9 +38,12 @@ returns-clause-is g c =
     let before = lines_before copies copy lines in
     let behind = lines_behind copies copy c.take.new.self.back.items lines in
     let place = c.in_ok-stop.ensures.place in
-    let columns = c.in_ok-toggle.ensures.columns ∙ toggled-line found.column c.args.slots.now copy.line.columns place.inside in
-    let new_is : c.toggle.new.self ≡ with_toggled found.column c.args.slots.now copy.line = λ i. record { columns = columns i; marks = c.toggle.ensures.marks i } in
-    let makes = toggled-makes before behind _ copy.line c.toggle.new.self c.args.offset found.column c.args.slots.now c.in_ok-stop.ensures.same place.place place.inside new_is in
+    let columns = c.in_ok-toggle.ensures.columns
+    ∙ toggled-line found.column c.args.slots.now copy.line.columns place.inside in
+    let new_is : c.toggle.new.self ≡ with_toggled found.column c.args.slots.now copy.line = λ i.
+    record { columns = columns i; marks = c.toggle.ensures.marks i } in
+    let makes = toggled-makes before behind _ copy.line c.toggle.new.self c.args.offset found.column c.args.slots.now
+    c.in_ok-stop.ensures.same place.place place.inside new_is in
     record {
       draft = c.put.ensures.is;
       rows = subst AreRows (sym c.put.ensures.lines) (makes.rows c.requires.is.rows);
@@ -50,7 +58,10 @@ returns-clause-new g c =
     let before = lines_before copies copy lines in
     let behind = lines_behind copies copy c.take.new.self.back.items lines in
     let place = c.in_ok-stop.ensures.place in
-    let columns = c.in_ok-toggle.ensures.columns ∙ toggled-line found.column c.args.slots.now copy.line.columns place.inside in
-    let new_is : c.toggle.new.self ≡ with_toggled found.column c.args.slots.now copy.line = λ i. record { columns = columns i; marks = c.toggle.ensures.marks i } in
-    let makes = toggled-makes before behind _ copy.line c.toggle.new.self c.args.offset found.column c.args.slots.now c.in_ok-stop.ensures.same place.place place.inside new_is in
+    let columns = c.in_ok-toggle.ensures.columns
+    ∙ toggled-line found.column c.args.slots.now copy.line.columns place.inside in
+    let new_is : c.toggle.new.self ≡ with_toggled found.column c.args.slots.now copy.line = λ i.
+    record { columns = columns i; marks = c.toggle.ensures.marks i } in
+    let makes = toggled-makes before behind _ copy.line c.toggle.new.self c.args.offset found.column c.args.slots.now
+    c.in_ok-stop.ensures.same place.place place.inside new_is in
     ap whole c.put.ensures.lines ∙ makes.whole

@@ -10,7 +10,8 @@ use Rattle.line_lists.proofs.drafts.Reached.tags_behind.Goals as goal
 pub returns-then-count-eq0 : goal.returns-then-count-eq0
 returns-then-count-eq0 g c =
     let lines = g.L.LineList.lines c.args.list.now in let self = c.args.self.now in
-    sym (ap (λ n. differing self.tags (tags_behind (whole (take n (drop self.used lines))).columns)) c.if-count-eq0.true ∙ differing-empty self.tags)
+    sym (ap (λ n. differing self.tags (tags_behind (whole (take n (drop self.used lines))).columns)) c.if-count-eq0.true
+    ∙ differing-empty self.tags)
 
 pub overflow_add-self : goal.overflow_add-self
 overflow_add-self g c =
@@ -22,4 +23,6 @@ pub returns : goal.returns
 returns g c =
     let lines = g.L.LineList.lines c.args.list.now in
     c.differing-2.ensures
-    ∙ ap (differing c.args.self.now.tags) (c.differing.ensures ∙ ap₂ differing c.odd_slots-start.ensures c.odd_slots-kept.ensures ∙ parity-between c.args.self.now.used c.args.count lines)
+    ∙ ap (differing c.args.self.now.tags) (c.differing.ensures
+    ∙ ap₂ differing c.odd_slots-start.ensures c.odd_slots-kept.ensures
+    ∙ parity-between c.args.self.now.used c.args.count lines)

@@ -9,12 +9,14 @@ returns-clause-lines c =
     let start = c.args.from + c.len.result in
     c.drop_lines.ensures.items
     ∙ ap (removed start (start + c.args.count)) c.put_lines.ensures.items
-    ∙ spliced-made c.args.from c.args.count c.len.result c.args.new.items c.args.self.now.lines.items (omega (arith, c.requires.within)) (omega (arith, c.len.ensures, c.args.new.ok.0))
+    ∙ spliced-made c.args.from c.args.count c.len.result c.args.new.items c.args.self.now.lines.items
+    (omega (arith, c.requires.within)) (omega (arith, c.len.ensures, c.args.new.ok.0))
 
 pub invariant_of-self : goal.invariant_of-self
 invariant_of-self c =
     let start = c.args.from + c.len.result in
     let made = c.drop_lines.ensures.items
     ∙ ap (removed start (start + c.args.count)) c.put_lines.ensures.items
-    ∙ spliced-made c.args.from c.args.count c.len.result c.args.new.items c.args.self.now.lines.items (omega (arith, c.requires.within)) (omega (arith, c.len.ensures, c.args.new.ok.0)) in
+    ∙ spliced-made c.args.from c.args.count c.len.result c.args.new.items c.args.self.now.lines.items
+    (omega (arith, c.requires.within)) (omega (arith, c.len.ensures, c.args.new.ok.0)) in
     record { are_lines = subst AreLines (sym made) c.requires.lines }

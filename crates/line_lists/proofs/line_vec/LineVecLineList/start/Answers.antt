@@ -6,8 +6,11 @@ use Rattle.line_lists.proofs.VecLaws.{counted-front}
 use Rattle.line_lists.proofs.line_vec.LineVecLineList.start.Goals as goal
 
 pub sum_of-requires : goal.sum_of-requires
-sum_of-requires c = rw c.deref.ensures.value (counted-front c.args.line c.args.self.now.lines.items c.args.self.now.are_lines.counted)
+sum_of-requires c =
+    rw c.deref.ensures.value (counted-front c.args.line c.args.self.now.lines.items c.args.self.now.are_lines.counted)
 
 pub returns : goal.returns
 returns c =
-    c.characters.ensures ∙ ap (λ (s : Count). s.characters) (c.sum_of.ensures ∙ ap (λ xs. count_of (take c.args.line xs)) c.deref.ensures.value) ∙ count-characters (take c.args.line c.args.self.now.lines.items)
+    c.characters.ensures ∙ ap (λ (s : Count). s.characters) (c.sum_of.ensures
+    ∙ ap (λ xs. count_of (take c.args.line xs)) c.deref.ensures.value)
+    ∙ count-characters (take c.args.line c.args.self.now.lines.items)

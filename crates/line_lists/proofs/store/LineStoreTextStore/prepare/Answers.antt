@@ -12,8 +12,11 @@ returns-clause-ready g c =
     let numbers = c.deref.ensures.value in
     let below = subst (λ xs. All (λ n. n < c.bound_of.result) (named xs)) numbers c.bound_of.ensures in
     record {
-      can = subst (λ lines. CanPlace pieces (freed (named change.numbers.items) lines)) (sym c.in_ok-reserve.ensures.same) made.can;
+      can = subst (λ lines. CanPlace pieces (freed (named change.numbers.items) lines))
+          (sym c.in_ok-reserve.ensures.same) made.can;
       few = omega (arith, made.count, c.in_ok-reserve.ensures.room);
-      below = below-lines c.bound_of.result (g.L.LineList.mark_room c.reserve.new.self) c.in_ok-reserve.ensures.numbers (piece_lines pieces)
-          (all-names (λ n. n < c.bound_of.result) (numbers_in (piece_lines pieces)) (subst (All (λ n. n < c.bound_of.result)) made.numbers below));
+      below = below-lines c.bound_of.result (g.L.LineList.mark_room c.reserve.new.self) c.in_ok-reserve.ensures.numbers
+          (piece_lines pieces)
+          (all-names (λ n. n < c.bound_of.result) (numbers_in (piece_lines pieces))
+          (subst (All (λ n. n < c.bound_of.result)) made.numbers below));
     }

@@ -7,7 +7,8 @@ use Rattle.line_tree.proofs.RoomLaws.{len-within}
 use Rattle.line_tree.proofs.tree.LineTree.nodes_with.Goals as goal
 
 pub returns : goal.returns
-returns g c = let m = records c.self.inside.store in let h = c.self.inside.height in let r = c.self.inside.root in let alone = c.self.invariant.0 in
+returns g c = let m = records c.self.inside.store in let h = c.self.inside.height in let r = c.self.inside.root in
+    let alone = c.self.invariant.0 in
     let count = c.self.invariant.1 in
     let n = len-within (names h (tree_at m h r)) m alone.whole in
     let few = names-few-root m h (tree_at m h r) alone.stands.tree alone.stands.balanced in

@@ -8,4 +8,5 @@ use Rattle.line_tree.proofs.tree.LineTree.prefix.Goals as goal
 
 pub returns : goal.returns
 returns g c = let ls = lines_in (records c.self.inside.store) c.self.inside.height c.self.inside.root in
-    c.prefix.ensures ∙ sym (count-first c.args.k ls) ∙ ap (λ v. count_of (take c.args.k (contents v.lines))) c.self.view_is
+    c.prefix.ensures ∙ sym (count-first c.args.k ls)
+    ∙ ap (λ v. count_of (take c.args.k (contents v.lines))) c.self.view_is

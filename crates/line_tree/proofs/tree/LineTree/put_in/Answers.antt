@@ -20,7 +20,8 @@ prove-unreachable-requires g c = omega arith
 
 pub insert-requires-clause-place : goal.insert-requires-clause-place
 insert-requires-clause-place g c = let l = c.loop-line in
-    let now = in-length c.args.self.now.lines l.self.lines c.args.k l.yielded l.invariant.lines in let at = l.invariant.place in let within = c.requires.within in omega (arith, now, at, within)
+    let now = in-length c.args.self.now.lines l.self.lines c.args.k l.yielded l.invariant.lines in
+    let at = l.invariant.place in let within = c.requires.within in omega (arith, now, at, within)
 
 pub insert-requires-clause-fits : goal.insert-requires-clause-fits
 insert-requires-clause-fits g c = let l = c.loop-line in let old = c.args.self.now.lines in
@@ -46,7 +47,8 @@ pub overflow_add-at : goal.overflow_add-at
 overflow_add-at g c = let l = c.loop-line in
     let whole = ap length (l.invariant.whole ∙ ap (λ ls. l.yielded ++ ls) c.in-Some.ensures.steps.0) in
     let long = length-append l.yielded (c.in-Some.line ∷ c.next.new.self.rest.items) in
-    let few = few-lines c.args.self.now.lines c.args.lines.items c.requires.fits in let within = c.requires.within in let at = l.invariant.place in
+    let few = few-lines c.args.self.now.lines c.args.lines.items c.requires.fits in let within = c.requires.within in
+    let at = l.invariant.place in
     omega (arith, whole, long, few, within, at)
 
 pub loop-line-preserved : goal.loop-line-preserved
@@ -57,18 +59,22 @@ loop-line-preserved g c = let l = c.loop-line in
     record {
       whole = whole ∙ sym (append_assoc l.yielded (c.in-Some.line ∷ []) c.next.new.self.rest.items);
       place = omega (arith, more, at);
-      lines = more-in c.args.self.now.lines l.self.lines c.insert.new.self.lines c.args.k l.at l.yielded c.insert.result c.in-Some.line c.requires.within l.invariant.lines l.invariant.place c.insert.ensures.lines;
+      lines = more-in c.args.self.now.lines l.self.lines c.insert.new.self.lines c.args.k l.at l.yielded c.insert.result
+          c.in-Some.line c.requires.within l.invariant.lines l.invariant.place c.insert.ensures.lines;
       room = omega (arith, more, room, falls);
     }
 
 pub returns-clause-lines : goal.returns-clause-lines
 returns-clause-lines g c = let l = c.loop-line in let s = l.invariant.lines in
-    let none = nil_from_length l.line-iterator.rest.items (omega (arith, c.in-None.ensures.steps.0, l.line-iterator.rest.ok.0)) in
+    let none = nil_from_length l.line-iterator.rest.items
+    (omega (arith, c.in-None.ensures.steps.0, l.line-iterator.rest.ok.0)) in
     let whole = l.invariant.whole ∙ ap (λ ls. l.yielded ++ ls) none ∙ append-nil l.yielded in
     (s.added, s.contents_of ∙ sym whole, s.is)
 
 pub returns-clause-room : goal.returns-clause-room
 returns-clause-room g c = let l = c.loop-line in
-    let none = nil_from_length l.line-iterator.rest.items (omega (arith, c.in-None.ensures.steps.0, l.line-iterator.rest.ok.0)) in
-    let whole = ap length (l.invariant.whole ∙ ap (λ ls. l.yielded ++ ls) none ∙ append-nil l.yielded) in let room = l.invariant.room in
+    let none = nil_from_length l.line-iterator.rest.items
+    (omega (arith, c.in-None.ensures.steps.0, l.line-iterator.rest.ok.0)) in
+    let whole = ap length (l.invariant.whole ∙ ap (λ ls. l.yielded ++ ls) none ∙ append-nil l.yielded) in
+    let room = l.invariant.room in
     omega (arith, whole, room)

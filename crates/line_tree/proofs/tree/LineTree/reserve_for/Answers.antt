@@ -28,9 +28,12 @@ returns-then-steep-rooms-clause-room g c =
     let low = c.levels.ensures.low in
     let less : c.args.count * (c.levels.result + 2) ≤ c.args.count * 27 = mul-le-mul_left c.args.count (omega arith) in
     let most = c.reserve.ensures.most in
-    let few : spares new + finite.len (records new) ≤ c.in_ok-nodes.nodes = omega (arith, is, all, was, same, less, most) in
-    let high = subst (λ l. levels_at_most (spares new + finite.len (records new)) ≤ l) (sym c.levels.ensures.value) (more-lines _ _ few) in
-    on_ok_two c.reserve.result (λ s r. steep-room _ c.args.count c.levels.result high s r) c.reserve.ensures.spares c.reserve.ensures.rooms
+    let few : spares new + finite.len (records new)
+    ≤ c.in_ok-nodes.nodes = omega (arith, is, all, was, same, less, most) in
+    let high = subst (λ l. levels_at_most (spares new + finite.len (records new))
+    ≤ l) (sym c.levels.ensures.value) (more-lines _ _ few) in
+    on_ok_two c.reserve.result (λ s r. steep-room _ c.args.count c.levels.result high s r) c.reserve.ensures.spares
+    c.reserve.ensures.rooms
 
 pub returns-clause-room : goal.returns-clause-room
 returns-clause-room g c =
@@ -40,5 +43,6 @@ returns-clause-room g c =
     let lines = c.self.invariant.1 ∙ ap (λ z. length (lines_in z h r)) (sym same) in
     let inner = c.in_ok-reserve.ensures.rooms in let kept = c.reserve_lines.ensures.rooms in
     on_ok_weaker c.reserve_lines.result
-    (λ s. wide-room _ c.args.count (c.self.inside.count / 5 + c.args.count / 5 + 27) c.self.inside.count lines (omega arith) (omega (arith, inner, kept)) s (omega (arith, many)))
+    (λ s. wide-room _ c.args.count (c.self.inside.count / 5 + c.args.count / 5 + 27) c.self.inside.count lines
+    (omega arith) (omega (arith, inner, kept)) s (omega (arith, many)))
     c.reserve_lines.ensures.spares

@@ -5,10 +5,16 @@ use Rattle.line_tree.proofs.SpliceLaws.{few-lines, taken-behind}
 use Rattle.line_tree.proofs.tree.LineTree.splice.Goals as goal
 
 pub overflow_add-behind : goal.overflow_add-behind
-overflow_add-behind g c = let few = few-lines c.args.self.now.lines c.args.lines.items c.requires.fits in let within = c.requires.within in omega (arith, few, within)
+overflow_add-behind g c = let few = few-lines c.args.self.now.lines c.args.lines.items c.requires.fits in
+    let within = c.requires.within in omega (arith, few, within)
 
 pub returns-clause-lines : goal.returns-clause-lines
-returns-clause-lines g c = let old = c.args.self.now.lines in let now = c.put_in.new.self.lines in let put = c.put_in.ensures.lines in let k = c.args.k in let gone = c.args.gone in
+returns-clause-lines g c = let old = c.args.self.now.lines in let now = c.put_in.new.self.lines in
+    let put = c.put_in.ensures.lines in let k = c.args.k in let gone = c.args.gone in
     let long = ap length put.1 in let same = length-map put.0 (λ l. l.1) in
-    let e : k + c.len.result ≡ k + length put.0 = omega (arith, long, same) in
-    (put.0, put.1, c.take_out.ensures.lines ∙ ap (λ n. take n now ++ drop (n + gone) now) e ∙ taken-behind old now k gone put.0 c.requires.within put.2)
+    let e : k + c.len.result ≡ k + length put.0 = omega (arith, long, same) in (
+      put.0,
+      put.1,
+      c.take_out.ensures.lines ∙ ap (λ n. take n now ++ drop (n + gone) now) e
+          ∙ taken-behind old now k gone put.0 c.requires.within put.2,
+    )

@@ -10,5 +10,6 @@ use Rattle.line_tree.proofs.tree.LineTree.start.Goals as goal
 
 pub returns : goal.returns
 returns g c = let ls = lines_in (records c.self.inside.store) c.self.inside.height c.self.inside.root in
-    c.start.ensures ∙ ap (λ (s : Count). s.characters) (sym (count-first c.args.k ls)) ∙ count-characters (take c.args.k (contents ls))
+    c.start.ensures ∙ ap (λ (s : Count). s.characters) (sym (count-first c.args.k ls))
+    ∙ count-characters (take c.args.k (contents ls))
     ∙ ap (λ v. length (whole (take c.args.k (contents v.lines))).columns) c.self.view_is

@@ -19,19 +19,25 @@ take_in-requires g c = let s = c.self.invariant.0.stands in record {
 
 pub invariant_of-self : goal.invariant_of-self
 invariant_of-self g c =
-    let m = records c.self.inside.store in let n = records c.take_in.new.store in let h = c.self.inside.height in let r = c.self.inside.root in
-    let taken = c.take_in.ensures.takes in let place = subst (λ ls. c.args.k < length ls) (sym (ap (λ v. v.lines) c.self.view_is)) c.requires in (
+    let m = records c.self.inside.store in let n = records c.take_in.new.store in let h = c.self.inside.height in
+    let r = c.self.inside.root in
+    let taken = c.take_in.ensures.takes in
+    let place = subst (λ ls. c.args.k < length ls) (sym (ap (λ v. v.lines) c.self.view_is)) c.requires in (
       stands-taken m n h r c.args.k c.args.number.0 c.take_in.result c.self.invariant.0 taken,
-      c.self.invariant.1 ∙ sym (ap length taken.lines ∙ length-changed (lines_in m h r) c.args.k (without_mark c.args.number.0) place),
+      c.self.invariant.1 ∙ sym (ap length taken.lines
+          ∙ length-changed (lines_in m h r) c.args.k (without_mark c.args.number.0) place),
     )
 
 pub returns-clause-lines : goal.returns-clause-lines
-returns-clause-lines g c = c.take_in.ensures.takes.lines ∙ ap (λ v. changed c.args.k (without_mark c.args.number.0) v.lines) c.self.view_is
+returns-clause-lines g c =
+    c.take_in.ensures.takes.lines ∙ ap (λ v. changed c.args.k (without_mark c.args.number.0) v.lines) c.self.view_is
 
 pub returns-clause-room : goal.returns-clause-room
 returns-clause-room g c =
     let m = records c.self.inside.store in let h = c.self.inside.height in let r = c.self.inside.root in
-    let taken = c.take_in.ensures.takes in let place = subst (λ ls. c.args.k < length ls) (sym (ap (λ v. v.lines) c.self.view_is)) c.requires in
-    room-stays _ _ (λ i. c.take_in.ensures.spares i + taken.count i) (ap length taken.lines ∙ length-changed (lines_in m h r) c.args.k (without_mark c.args.number.0) place)
+    let taken = c.take_in.ensures.takes in
+    let place = subst (λ ls. c.args.k < length ls) (sym (ap (λ v. v.lines) c.self.view_is)) c.requires in
+    room-stays _ _ (λ i. c.take_in.ensures.spares i + taken.count i) (ap length taken.lines
+    ∙ length-changed (lines_in m h r) c.args.k (without_mark c.args.number.0) place)
     c.take_in.ensures.spares c.take_in.ensures.rooms
     ∙ ap line_room c.self.view_is

@@ -9,13 +9,15 @@ use Rattle.mark_table.proofs.marks.MarkTable.first_at.Goals as goal
 
 pub overflow_add-index : goal.overflow_add-index
 overflow_add-index g c =
-    let low = mark_at_index c.args.offset c.loop-number.index (g.S.TextStore.content c.args.store.now).marks c.in-Some.number (sym c.mark_at.ensures ∙ c.in-Some.is) in
+    let low = mark_at_index c.args.offset c.loop-number.index (g.S.TextStore.content c.args.store.now).marks
+    c.in-Some.number (sym c.mark_at.ensures ∙ c.in-Some.is) in
     let small = c.place_from.ensures.fits in
     omega arith
 
 pub loop-number-smaller : goal.loop-number-smaller
 loop-number-smaller g c =
-    let within = slice_get_within (marks_at c.args.offset (g.S.TextStore.content c.args.store.now).marks) c.loop-number.index c.in-Some.number (sym c.mark_at.ensures ∙ c.in-Some.is) in
+    let within = slice_get_within (marks_at c.args.offset (g.S.TextStore.content c.args.store.now).marks)
+    c.loop-number.index c.in-Some.number (sym c.mark_at.ensures ∙ c.in-Some.is) in
     omega arith
 
 pub loop-number-preserved : goal.loop-number-preserved
@@ -28,8 +30,10 @@ loop-number-preserved g c =
     let within = i.within in
     rw c.min-first.ensures (record {
       within = omega arith;
-      found = Found-more at numbers c.args.from (length c.args.self.now.marks) c.loop-number.first c.place_from.result c.loop-number.index c.in-Some.number is i.found p.found;
-      least = Least-more at numbers c.args.from c.loop-number.first c.place_from.result c.loop-number.index c.in-Some.number is i.least p.least;
+      found = Found-more at numbers c.args.from (length c.args.self.now.marks) c.loop-number.first c.place_from.result
+          c.loop-number.index c.in-Some.number is i.found p.found;
+      least = Least-more at numbers c.args.from c.loop-number.first c.place_from.result c.loop-number.index
+          c.in-Some.number is i.least p.least;
     })
 
 pub returns-clause-first : goal.returns-clause-first
@@ -38,4 +42,6 @@ returns-clause-first g c =
     let numbers = numbers_of c.args.self.now.marks in
     let i = c.loop-number.invariant in
     let len = c.len-len.ensures.value in
-    rw (c.then_some.ensures, len) (IsFirstAt-all at numbers c.args.from (length c.args.self.now.marks) c.loop-number.first c.loop-number.index (length-map c.args.self.now.marks (λ (m : Mark). m.number)) (sym c.mark_at.ensures ∙ c.in_default.is) i.within i.found i.least)
+    rw (c.then_some.ensures, len) (IsFirstAt-all at numbers c.args.from (length c.args.self.now.marks)
+    c.loop-number.first c.loop-number.index (length-map c.args.self.now.marks (λ (m : Mark). m.number))
+    (sym c.mark_at.ensures ∙ c.in_default.is) i.within i.found i.least)

@@ -9,13 +9,15 @@ use Rattle.mark_table.proofs.marks.MarkTable.last_at.Goals as goal
 
 pub overflow_add-index : goal.overflow_add-index
 overflow_add-index g c =
-    let low = mark_at_index c.args.offset c.loop-number.index (g.S.TextStore.content c.args.store.now).marks c.in-Some.number (sym c.mark_at.ensures ∙ c.in-Some.is) in
+    let low = mark_at_index c.args.offset c.loop-number.index (g.S.TextStore.content c.args.store.now).marks
+    c.in-Some.number (sym c.mark_at.ensures ∙ c.in-Some.is) in
     let small = c.places_before.ensures.fits in
     omega arith
 
 pub loop-number-smaller : goal.loop-number-smaller
 loop-number-smaller g c =
-    let within = slice_get_within (marks_at c.args.offset (g.S.TextStore.content c.args.store.now).marks) c.loop-number.index c.in-Some.number (sym c.mark_at.ensures ∙ c.in-Some.is) in
+    let within = slice_get_within (marks_at c.args.offset (g.S.TextStore.content c.args.store.now).marks)
+    c.loop-number.index c.in-Some.number (sym c.mark_at.ensures ∙ c.in-Some.is) in
     omega arith
 
 pub loop-number-preserved : goal.loop-number-preserved
@@ -26,15 +28,18 @@ loop-number-preserved g c =
     let p = c.places_before.ensures in
     let is = sym c.mark_at.ensures ∙ c.in-Some.is in
     rw c.max-places.ensures (record {
-      found = FoundBack-more at numbers c.args.upto c.loop-number.places c.places_before.result c.loop-number.index c.in-Some.number is i.found p.found;
-      greatest = Greatest-more at numbers c.args.upto c.loop-number.places c.places_before.result c.loop-number.index c.in-Some.number is i.greatest p.greatest;
+      found = FoundBack-more at numbers c.args.upto c.loop-number.places c.places_before.result c.loop-number.index
+          c.in-Some.number is i.found p.found;
+      greatest = Greatest-more at numbers c.args.upto c.loop-number.places c.places_before.result c.loop-number.index
+          c.in-Some.number is i.greatest p.greatest;
     })
 
 pub returns-clause-last : goal.returns-clause-last
 returns-clause-last g c =
     let at = marks_at c.args.offset (g.S.TextStore.content c.args.store.now).marks in
     let i = c.loop-number.invariant in
-    Greatest-all at (numbers_of c.args.self.now.marks) c.args.upto c.loop-number.places c.loop-number.index c.checked_sub.result c.checked_sub.ensures (sym c.mark_at.ensures ∙ c.in_default.is) i.found i.greatest
+    Greatest-all at (numbers_of c.args.self.now.marks) c.args.upto c.loop-number.places c.loop-number.index
+    c.checked_sub.result c.checked_sub.ensures (sym c.mark_at.ensures ∙ c.in_default.is) i.found i.greatest
 
 pub returns-clause-small : goal.returns-clause-small
 returns-clause-small g c =
@@ -44,4 +49,5 @@ returns-clause-small g c =
     let few = c.len-len.ensures.sound.limit in
     let count = length-map c.args.self.now.marks (λ (m : Mark). m.number) in
     last_within at (numbers_of c.args.self.now.marks) c.args.upto 4096 c.checked_sub.result (omega arith)
-    (Greatest-all at (numbers_of c.args.self.now.marks) c.args.upto c.loop-number.places c.loop-number.index c.checked_sub.result c.checked_sub.ensures (sym c.mark_at.ensures ∙ c.in_default.is) i.found i.greatest)
+    (Greatest-all at (numbers_of c.args.self.now.marks) c.args.upto c.loop-number.places c.loop-number.index
+    c.checked_sub.result c.checked_sub.ensures (sym c.mark_at.ensures ∙ c.in_default.is) i.found i.greatest)

@@ -7,8 +7,10 @@ use Rattle.mark_table.proofs.marks.MarkTable.last_at.Given as goal
 
 abbrev pub invariant-loop-number : goal.invariant-loop-number
 invariant-loop-number g l = record {
-  found : 0 < l.places → (l.places ≤ l.upto) × IsAt (marks_at l.offset (g.S.TextStore.content l.store).marks) (numbers_of l.self.marks) (l.places - 1);
-  greatest : (index place : ℕ) (number : MarkNo) → index < l.index → slice_get (marks_at l.offset (g.S.TextStore.content l.store).marks) index ≡ Some number
+  found : 0 < l.places → (l.places ≤ l.upto)
+      × IsAt (marks_at l.offset (g.S.TextStore.content l.store).marks) (numbers_of l.self.marks) (l.places - 1);
+  greatest : (index place : ℕ) (number : MarkNo) → index < l.index →
+      slice_get (marks_at l.offset (g.S.TextStore.content l.store).marks) index ≡ Some number
       → slice_get (numbers_of l.self.marks) place ≡ Some number.0 → place < l.upto → place < l.places;
 }
 

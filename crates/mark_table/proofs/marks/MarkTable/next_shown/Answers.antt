@@ -7,9 +7,12 @@ use Rattle.mark_table.proofs.marks.MarkTable.next_shown.Goals as goal
 pub returns-in-Place : goal.returns-in-Place
 returns-in-Place g c =
     let marks = usable c.args.view (g.S.TextStore.content c.args.store.now).marks (numbers_of c.args.self.now.marks) in
-    sym (ap (λ o. next_shown o marks) c.in-Place.is ∙ next_from_place marks c.in-Place.place c.first_from.result c.first_from.ensures)
+    sym (ap (λ o. next_shown o marks) c.in-Place.is
+    ∙ next_from_place marks c.in-Place.place c.first_from.result c.first_from.ensures)
 
 pub returns-in_ok-from-in-Mark : goal.returns-in_ok-from-in-Mark
 returns-in_ok-from-in-Mark g c =
     let marks = usable c.args.view (g.S.TextStore.content c.args.store.now).marks (numbers_of c.args.self.now.marks) in
-    sym (ap (λ o. next_shown o marks) c.in-Mark.is ∙ next_from_mark marks c.in-Mark.mark c.in_ok-from-in-Mark.from c.first_from-in-Mark.result (sym c.shown.ensures.mark ∙ c.in_ok-from-in-Mark.was {u = tt}) c.first_from-in-Mark.ensures)
+    sym (ap (λ o. next_shown o marks) c.in-Mark.is
+    ∙ next_from_mark marks c.in-Mark.mark c.in_ok-from-in-Mark.from c.first_from-in-Mark.result
+    (sym c.shown.ensures.mark ∙ c.in_ok-from-in-Mark.was {u = tt}) c.first_from-in-Mark.ensures)

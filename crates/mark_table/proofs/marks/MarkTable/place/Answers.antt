@@ -6,11 +6,16 @@ use Rattle.mark_table.proofs.marks.MarkTable.place.Goals as goal
 
 pub returns-in_err-number : goal.returns-in_err-number
 returns-in_err-number c =
-    let below = not_taken_off c.args.number.0 c.checked_sub.result c.checked_sub.ensures (c.in_err-number.was {u = tt}) in
-    rw c.from_residual.ensures (subst (λ (ms : SharedMarks). ¬ Contains (numbers_of ms.marks) c.args.number.0) c.self.view_is (no_mark_with c.self.inside.gravities.items c.self.inside.names.entries c.args.number.0 below))
+    let below = not_taken_off c.args.number.0 c.checked_sub.result c.checked_sub.ensures (c.in_err-number.was {u = tt})
+    in
+    rw c.from_residual.ensures (subst (λ (ms : SharedMarks). ¬ Contains (numbers_of ms.marks) c.args.number.0)
+    c.self.view_is (no_mark_with c.self.inside.gravities.items c.self.inside.names.entries c.args.number.0 below))
 
 pub returns : goal.returns
 returns c =
-    let same = taken_off c.args.number.0 c.checked_sub.result c.checked_sub.ensures c.in_ok-number.number (c.in_ok-number.was {u = tt}) in
-    subst (λ (ms : SharedMarks). MatchOption c.place_with.result (¬ Contains (numbers_of ms.marks) c.args.number.0) (λ place. slice_get (numbers_of ms.marks) place ≡ Some c.args.number.0)) c.self.view_is
-    (mark_with c.self.inside.gravities.items c.self.inside.names.entries c.args.number.0 c.in_ok-number.number c.place_with.result same c.place_with.ensures)
+    let same = taken_off c.args.number.0 c.checked_sub.result c.checked_sub.ensures c.in_ok-number.number
+    (c.in_ok-number.was {u = tt}) in
+    subst (λ (ms : SharedMarks). MatchOption c.place_with.result (¬ Contains (numbers_of ms.marks) c.args.number.0)
+    (λ place. slice_get (numbers_of ms.marks) place ≡ Some c.args.number.0)) c.self.view_is
+    (mark_with c.self.inside.gravities.items c.self.inside.names.entries c.args.number.0 c.in_ok-number.number
+    c.place_with.result same c.place_with.ensures)

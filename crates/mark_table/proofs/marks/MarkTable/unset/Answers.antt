@@ -9,9 +9,15 @@ use Rattle.mark_table.proofs.marks.MarkTable.unset.Goals as goal
 pub returns-in-Some : goal.returns-in-Some
 returns-in-Some c =
     ap (λ names. marks_kept names c.self.inside.gravities.items) c.remove.ensures
-    ∙ ap (λ marks. record { marks = marks; limit = c.self.inside.names.limit }) (marks-remove c.self.inside.gravities.items c.self.inside.names.entries (chars c.args.name.now) c.in-Some.place (sym c.place.ensures.value ∙ c.in-Some.is))
-    ∙ ap (λ (ms : SharedMarks). record ms { marks = without (is_named (chars c.args.name.now)) ms.marks }) c.self.view_is
+    ∙ ap (λ marks. record { marks = marks; limit = c.self.inside.names.limit })
+    (marks-remove c.self.inside.gravities.items c.self.inside.names.entries (chars c.args.name.now) c.in-Some.place
+    (sym c.place.ensures.value ∙ c.in-Some.is))
+    ∙ ap (λ (ms : SharedMarks). record ms { marks = without (is_named (chars c.args.name.now)) ms.marks })
+    c.self.view_is
 
 pub returns-in_default : goal.returns-in_default
 returns-in_default c =
-    ap (λ marks. record c.args.self.now { marks = marks }) (marks-keep c.args.self.now.marks (chars c.args.name.now) (place_of_mark (chars c.args.name.now) c.self.inside.names c.self.inside.gravities.items c.args.self.now _ c.self.view_is c.place.ensures.value ∙ c.in_default.is))
+    ap (λ marks. record c.args.self.now { marks = marks })
+    (marks-keep c.args.self.now.marks (chars c.args.name.now)
+    (place_of_mark (chars c.args.name.now) c.self.inside.names c.self.inside.gravities.items c.args.self.now _
+    c.self.view_is c.place.ensures.value ∙ c.in_default.is))

@@ -2,7 +2,8 @@ use Rattle.std.proofs.Common.{◌≡◌, length, sym, ap, ap₂, ◌∙◌, subs
 use Rattle.std.specs.Map.{values_of}
 use Rattle.name_list.specs.Names.{AreApart}
 use Rattle.name_list.specs.Places.{AreKept, IsIndex, IsIndexTo, named}
-use Rattle.name_list.proofs.PlaceLaws.{AreApart-index, AreApart-move, within_index, stood_before_move, IsIndexTo-move, AreKept-move, whole_written}
+use Rattle.name_list.proofs.PlaceLaws.{AreApart-index, AreApart-move, within_index, stood_before_move, IsIndexTo-move}
+use Rattle.name_list.proofs.PlaceLaws.{AreKept-move, whole_written}
 use Rattle.name_list.proofs.ViewLaws.{map-move_index, number_at}
 use Rattle.name_list.proofs.names.NameList.move_to.Goals as goal
 
@@ -11,16 +12,23 @@ note_places-requires-clause-apart c =
     let inside = c.self.inside in
     let from = number_at inside.numbers.entries _ c.args.self.now c.args.from c.self.view_is c.requires.from in
     let to = number_at inside.numbers.entries _ c.args.self.now c.args.to c.self.view_is c.requires.to in
-    let moved = ap values_of c.move_index.ensures.entries ∙ map-move_index (λ e. e.1) inside.numbers.entries c.args.from c.args.to in
-    subst AreApart (sym moved) (AreApart-move _ c.args.from c.args.to _ from.1 to.0 (AreApart-index _ inside.places.items c.self.invariant.index))
+    let moved = ap values_of c.move_index.ensures.entries
+    ∙ map-move_index (λ e. e.1) inside.numbers.entries c.args.from c.args.to in
+    subst AreApart (sym moved) (AreApart-move _ c.args.from c.args.to _ from.1 to.0
+    (AreApart-index _ inside.places.items c.self.invariant.index))
 
 pub note_places-requires-clause-within : goal.note_places-requires-clause-within
 note_places-requires-clause-within c = λ at number is.
     let inside = c.self.inside in
     let from = number_at inside.numbers.entries _ c.args.self.now c.args.from c.self.view_is c.requires.from in
     let to = number_at inside.numbers.entries _ c.args.self.now c.args.to c.self.view_is c.requires.to in
-    let moved = ap values_of c.move_index.ensures.entries ∙ map-move_index (λ e. e.1) inside.numbers.entries c.args.from c.args.to in
-    let old = stood_before_move _ c.args.from c.args.to _ from.1 to.0 number (at, ap (λ ns. slice_get ns at) (sym moved) ∙ is) in
+    let moved = ap values_of c.move_index.ensures.entries
+    ∙ map-move_index (λ e. e.1) inside.numbers.entries c.args.from c.args.to in
+    let old = stood_before_move _ c.args.from c.args.to _ from.1 to.0 number (
+      at,
+      ap (λ ns. slice_get ns at) (sym moved)
+          ∙ is,
+    ) in
     rw c.deref_mut.ensures.value (within_index _ inside.places.items c.self.invariant.index old.0 number old.1)
 
 pub note_places-requires-clause-front : goal.note_places-requires-clause-front
@@ -28,24 +36,32 @@ note_places-requires-clause-front c =
     let inside = c.self.inside in
     let from = number_at inside.numbers.entries _ c.args.self.now c.args.from c.self.view_is c.requires.from in
     let to = number_at inside.numbers.entries _ c.args.self.now c.args.to c.self.view_is c.requires.to in
-    let moved = ap values_of c.move_index.ensures.entries ∙ map-move_index (λ e. e.1) inside.numbers.entries c.args.from c.args.to in
-    rw c.deref_mut.ensures.value (subst (λ ns. IsIndexTo ns 0 inside.places.items) (sym moved) (IsIndexTo-move _ c.args.from c.args.to _ from.1 to.0 inside.places.items c.self.invariant.index))
+    let moved = ap values_of c.move_index.ensures.entries
+    ∙ map-move_index (λ e. e.1) inside.numbers.entries c.args.from c.args.to in
+    rw c.deref_mut.ensures.value (subst (λ ns. IsIndexTo ns 0 inside.places.items) (sym moved)
+    (IsIndexTo-move _ c.args.from c.args.to _ from.1 to.0 inside.places.items c.self.invariant.index))
 
 pub invariant_of-self : goal.invariant_of-self
 invariant_of-self c =
     let inside = c.self.inside in
     let from = number_at inside.numbers.entries _ c.args.self.now c.args.from c.self.view_is c.requires.from in
     let to = number_at inside.numbers.entries _ c.args.self.now c.args.to c.self.view_is c.requires.to in
-    let moved = ap values_of c.move_index.ensures.entries ∙ map-move_index (λ e. e.1) inside.numbers.entries c.args.from c.args.to in
-    let same : length c.note_places.new.places ≡ length inside.places.items = c.note_places.auto.places ∙ ap length c.deref_mut.ensures.value in
-    rw (whole_written inside.places.items c.note_places.new.places inside.places.len same (omega (arith, inside.places.ok.0)))
+    let moved = ap values_of c.move_index.ensures.entries
+    ∙ map-move_index (λ e. e.1) inside.numbers.entries c.args.from c.args.to in
+    let same : length c.note_places.new.places ≡ length inside.places.items = c.note_places.auto.places
+    ∙ ap length c.deref_mut.ensures.value in
+    rw (whole_written inside.places.items c.note_places.new.places inside.places.len same
+    (omega (arith, inside.places.ok.0)))
     (subst (λ ns. AreKept ns c.note_places.new.places inside.free) (sym moved)
-    (AreKept-move _ inside.places.items c.note_places.new.places c.args.from c.args.to _ inside.free c.self.invariant from.1 to.0 (subst (λ ns. IsIndex ns c.note_places.new.places) moved c.note_places.ensures) same))
+    (AreKept-move _ inside.places.items c.note_places.new.places c.args.from c.args.to _ inside.free c.self.invariant
+    from.1 to.0 (subst (λ ns. IsIndex ns c.note_places.new.places) moved c.note_places.ensures) same))
 
 pub returns : goal.returns
 returns c =
     let inside = c.self.inside in
-    let same : length c.note_places.new.places ≡ length inside.places.items = c.note_places.auto.places ∙ ap length c.deref_mut.ensures.value in
+    let same : length c.note_places.new.places ≡ length inside.places.items = c.note_places.auto.places
+    ∙ ap length c.deref_mut.ensures.value in
     rw (← c.self.view_is) (ap₂ (λ entries limit. record { entries = entries; limit = limit })
     (ap (map named) c.move_index.ensures.entries ∙ map-move_index named inside.numbers.entries c.args.from c.args.to)
-    (ap length (whole_written inside.places.items c.note_places.new.places inside.places.len same (omega (arith, inside.places.ok.0))) ∙ same))
+    (ap length (whole_written inside.places.items c.note_places.new.places inside.places.len same
+    (omega (arith, inside.places.ok.0))) ∙ same))

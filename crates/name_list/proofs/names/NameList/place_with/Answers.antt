@@ -14,14 +14,17 @@ returns-in_err-place c =
 pub returns-in_err-place-2 : goal.returns-in_err-place-2
 returns-in_err-place-2 c =
     let found = c.in_ok-place.ensures.lookup in
-    let read = slice_get-get_or c.deref.result.now c.args.number None found.3.0 ∙ ap (λ p. Some p) (sym (found.3.1 None) ∙ c.in_err-place-2.was {u = tt}) in
+    let read = slice_get-get_or c.deref.result.now c.args.number None found.3.0
+    ∙ ap (λ p. Some p) (sym (found.3.1 None) ∙ c.in_err-place-2.was {u = tt}) in
     let free = rw c.deref.ensures.value at read in
     rw (c.from_residual-in_err-place-2.ensures, ← c.self.view_is, numbers_seen)
-    (unnoted _ c.self.inside.places.items c.args.number c.self.invariant.index (λ at is. none-some _ (same_Some _ _ (sym free ∙ is))))
+    (unnoted _ c.self.inside.places.items c.args.number c.self.invariant.index (λ at is.
+    none-some _ (same_Some _ _ (sym free ∙ is))))
 
 pub returns : goal.returns
 returns c =
     let found = c.in_ok-place.ensures.lookup in
-    let read = slice_get-get_or c.deref.result.now c.args.number None found.3.0 ∙ ap (λ p. Some p) (sym (found.3.1 None) ∙ c.in_ok-place-2.was {u = tt}) in
+    let read = slice_get-get_or c.deref.result.now c.args.number None found.3.0
+    ∙ ap (λ p. Some p) (sym (found.3.1 None) ∙ c.in_ok-place-2.was {u = tt}) in
     let noted = rw c.deref.ensures.value at read in
     rw (← c.self.view_is, numbers_seen) (c.self.invariant.index.there _ c.args.number noted)

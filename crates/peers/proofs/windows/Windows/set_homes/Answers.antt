@@ -9,5 +9,6 @@ loop-index-preserved c =
     let old = c.self.inside.homes.entries in
     let long = ap length c.self.view_is in
     let count = length-map old home_kept in
-    fills-more c.args.from c.loop-index.index c.args.home old c.loop-index.self-inside.homes.entries c.loop-index.auto.index
+    fills-more c.args.from c.loop-index.index c.args.home old c.loop-index.self-inside.homes.entries
+    c.loop-index.auto.index
     (omega (arith, c.loop-index-test.true, c.requires.within, long, count)) c.loop-index.invariant

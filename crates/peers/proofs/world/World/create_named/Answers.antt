@@ -8,39 +8,48 @@ use Rattle.peers.proofs.world.World.create_named.Goals as goal
 
 pub returns-then-has_widget-clause-reply : goal.returns-then-has_widget-clause-reply
 returns-then-has_widget-clause-reply g c = λ _.
-    sym (ap (λ (o : Outcome). o.reply) (named-taken c.args.self.now (chars c.args.name.now) c.args.settings (sym c.has_widget.ensures ∙ c.if-has_widget.true)))
+    sym (ap (λ (o : Outcome). o.reply) (named-taken c.args.self.now (chars c.args.name.now) c.args.settings
+    (sym c.has_widget.ensures ∙ c.if-has_widget.true)))
 
 pub returns-then-has_widget-clause-world : goal.returns-then-has_widget-clause-world
 returns-then-has_widget-clause-world g c = λ _.
-    sym (ap (λ (o : Outcome). o.world) (named-taken c.args.self.now (chars c.args.name.now) c.args.settings (sym c.has_widget.ensures ∙ c.if-has_widget.true)))
+    sym (ap (λ (o : Outcome). o.world) (named-taken c.args.self.now (chars c.args.name.now) c.args.settings
+    (sym c.has_widget.ensures ∙ c.if-has_widget.true)))
 
 pub returns-then-is_full-clause-reply : goal.returns-then-is_full-clause-reply
 returns-then-is_full-clause-reply g c = λ _.
-    sym (ap (λ (o : Outcome). o.reply) (named-many c.args.self.now (chars c.args.name.now) c.args.settings (sym c.has_widget.ensures ∙ c.if-has_widget.false)
+    sym (ap (λ (o : Outcome). o.reply) (named-many c.args.self.now (chars c.args.name.now) c.args.settings
+    (sym c.has_widget.ensures ∙ c.if-has_widget.false)
     (sym c.is_full.ensures ∙ c.if-is_full.true)))
 
 pub returns-then-is_full-clause-world : goal.returns-then-is_full-clause-world
 returns-then-is_full-clause-world g c = λ _.
-    sym (ap (λ (o : Outcome). o.world) (named-many c.args.self.now (chars c.args.name.now) c.args.settings (sym c.has_widget.ensures ∙ c.if-has_widget.false)
+    sym (ap (λ (o : Outcome). o.world) (named-many c.args.self.now (chars c.args.name.now) c.args.settings
+    (sym c.has_widget.ensures ∙ c.if-has_widget.false)
     (sym c.is_full.ensures ∙ c.if-is_full.true)))
 
 pub add-requires-clause-new : goal.add-requires-clause-new
 add-requires-clause-new g c =
-    subst (λ (w : World). is_among (chars c.args.name.now) (all_windows w) ≡ false) (sym c.self.view_is) (sym c.has_widget.ensures ∙ c.if-has_widget.false)
+    subst (λ (w : World). is_among (chars c.args.name.now) (all_windows w)
+    ≡ false) (sym c.self.view_is) (sym c.has_widget.ensures ∙ c.if-has_widget.false)
 
 pub invariant_of-self-2 : goal.invariant_of-self-2
 invariant_of-self-2 g c =
     let documents = c.self.inside.documents.list.items in
     let few : nat_le c.self.inside.limits.widgets (length (windows_of documents)) ≡ false =
-    subst (λ (w : World). nat_le w.limits.widgets (length (all_windows w)) ≡ false) (sym c.self.view_is) (sym c.is_full.ensures ∙ c.if-is_full.false) in (
-      formed-added c.self.inside.limits (chars c.args.name.now) c.args.settings documents c.add.new.self.list.items c.add.result c.self.invariant.0 few c.add.ensures.ok c.add.ensures.err
-          c.add.ensures.distinct (c.add.ensures.well_formed c.self.inside.limits c.self.invariant.0.limits c.self.invariant.0.documents),
+    subst (λ (w : World). nat_le w.limits.widgets (length (all_windows w))
+    ≡ false) (sym c.self.view_is) (sym c.is_full.ensures ∙ c.if-is_full.false) in (
+      formed-added c.self.inside.limits (chars c.args.name.now) c.args.settings documents c.add.new.self.list.items
+          c.add.result c.self.invariant.0 few c.add.ensures.ok c.add.ensures.err
+          c.add.ensures.distinct (c.add.ensures.well_formed c.self.inside.limits c.self.invariant.0.limits
+          c.self.invariant.0.documents),
       c.add.ensures.found,
     )
 
 pub returns-clause-reply : goal.returns-clause-reply
 returns-clause-reply g c = λ _.
-    sym (ap (λ (o : Outcome). o.reply) (named-new c.args.self.now (chars c.args.name.now) c.args.settings (sym c.has_widget.ensures ∙ c.if-has_widget.false)
+    sym (ap (λ (o : Outcome). o.reply) (named-new c.args.self.now (chars c.args.name.now) c.args.settings
+    (sym c.has_widget.ensures ∙ c.if-has_widget.false)
     (sym c.is_full.ensures ∙ c.if-is_full.false)))
 
 pub returns-clause-world : goal.returns-clause-world
@@ -48,15 +57,22 @@ returns-clause-world g c = λ _.
     let name = chars c.args.name.now in
     let documents = c.self.inside.documents.list.items in
     let new : is_among name (windows_of documents) ≡ false =
-    subst (λ (w : World). is_among name (all_windows w) ≡ false) (sym c.self.view_is) (sym c.has_widget.ensures ∙ c.if-has_widget.false) in
+    subst (λ (w : World). is_among name (all_windows w) ≡ false) (sym c.self.view_is) (sym c.has_widget.ensures
+    ∙ c.if-has_widget.false) in
     let few : nat_le c.self.inside.limits.widgets (length (windows_of documents)) ≡ false =
-    subst (λ (w : World). nat_le w.limits.widgets (length (all_windows w)) ≡ false) (sym c.self.view_is) (sym c.is_full.ensures ∙ c.if-is_full.false) in
-    rw (← c.self.view_is) (ap (with_all c.self.inside.limits) c.in_ok-add.ensures.ok ∙ sym (ap (λ (o : Outcome). o.world) (named-new (with_all c.self.inside.limits documents) name c.args.settings new few)))
+    subst (λ (w : World). nat_le w.limits.widgets (length (all_windows w))
+    ≡ false) (sym c.self.view_is) (sym c.is_full.ensures ∙ c.if-is_full.false) in
+    rw (← c.self.view_is) (ap (with_all c.self.inside.limits) c.in_ok-add.ensures.ok
+    ∙ sym (ap (λ (o : Outcome). o.world)
+    (named-new (with_all c.self.inside.limits documents) name c.args.settings new few)))
 
 pub returns-clause-well_formed : goal.returns-clause-well_formed
 returns-clause-well_formed g c =
     let documents = c.self.inside.documents.list.items in
     let few : nat_le c.self.inside.limits.widgets (length (windows_of documents)) ≡ false =
-    subst (λ (w : World). nat_le w.limits.widgets (length (all_windows w)) ≡ false) (sym c.self.view_is) (sym c.is_full.ensures ∙ c.if-is_full.false) in
-    formed-added c.self.inside.limits (chars c.args.name.now) c.args.settings documents c.add.new.self.list.items c.add.result c.self.invariant.0 few c.add.ensures.ok c.add.ensures.err
-    c.add.ensures.distinct (c.add.ensures.well_formed c.self.inside.limits c.self.invariant.0.limits c.self.invariant.0.documents)
+    subst (λ (w : World). nat_le w.limits.widgets (length (all_windows w))
+    ≡ false) (sym c.self.view_is) (sym c.is_full.ensures ∙ c.if-is_full.false) in
+    formed-added c.self.inside.limits (chars c.args.name.now) c.args.settings documents c.add.new.self.list.items
+    c.add.result c.self.invariant.0 few c.add.ensures.ok c.add.ensures.err
+    c.add.ensures.distinct (c.add.ensures.well_formed c.self.inside.limits c.self.invariant.0.limits
+    c.self.invariant.0.documents)

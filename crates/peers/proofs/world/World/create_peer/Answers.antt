@@ -17,10 +17,14 @@ returns-in-Err-peer_settings-clause-reply g c = λ _.
     let world = c.args.self.now in let document = document_at world.documents c.args.place in
     let options = texts_of c.in-Ok.parts.1.now in
     let within = subst (λ (w : World). c.args.place < length w.documents) (sym c.self.view_is) c.requires.place in
-    let read = read-is c.self.inside.documents.list.items c.args.place c.index-document.result.now within c.index-document.ensures ∙ ap (λ (w : World). document_at w.documents c.args.place) c.self.view_is in
-    let given = ap (λ (d : Document). settings_given d (c.args.at + 1) options (peer_settings d (widget_at d c.args.widget))) (sym read) ∙ sym c.peer_settings.ensures.value in
-    let named : is_window_name (chars c.in-Ok.parts.0.now) ≡ true = sym c.is_window_name.ensures ∙ c.if-not-is_window_name.false in
-    let change = bad-peer world.limits (all_windows world) document (widget_at document c.args.widget) c.args.at (texts_of c.args.arguments.now) (chars c.in-Ok.parts.0.now) options c.in-Ok.ensures.ok
+    let read = read-is c.self.inside.documents.list.items c.args.place c.index-document.result.now within
+    c.index-document.ensures ∙ ap (λ (w : World). document_at w.documents c.args.place) c.self.view_is in
+    let given = ap (λ (d : Document). settings_given d (c.args.at + 1) options
+    (peer_settings d (widget_at d c.args.widget))) (sym read) ∙ sym c.peer_settings.ensures.value in
+    let named : is_window_name (chars c.in-Ok.parts.0.now) ≡ true = sym c.is_window_name.ensures
+    ∙ c.if-not-is_window_name.false in
+    let change = bad-peer world.limits (all_windows world) document (widget_at document c.args.widget) c.args.at
+    (texts_of c.args.arguments.now) (chars c.in-Ok.parts.0.now) options c.in-Ok.ensures.ok
     c.in-Err-peer_settings.fault named (given ∙ c.in-Err-peer_settings.is) in
     sym (ap (λ (x : Change). x.reply) change)
 
@@ -29,22 +33,32 @@ returns-in-Err-peer_settings-clause-world g c = λ _.
     let world = c.args.self.now in let document = document_at world.documents c.args.place in
     let options = texts_of c.in-Ok.parts.1.now in
     let within = subst (λ (w : World). c.args.place < length w.documents) (sym c.self.view_is) c.requires.place in
-    let read = read-is c.self.inside.documents.list.items c.args.place c.index-document.result.now within c.index-document.ensures ∙ ap (λ (w : World). document_at w.documents c.args.place) c.self.view_is in
-    let given = ap (λ (d : Document). settings_given d (c.args.at + 1) options (peer_settings d (widget_at d c.args.widget))) (sym read) ∙ sym c.peer_settings.ensures.value in
-    let named : is_window_name (chars c.in-Ok.parts.0.now) ≡ true = sym c.is_window_name.ensures ∙ c.if-not-is_window_name.false in
-    let change = bad-peer world.limits (all_windows world) document (widget_at document c.args.widget) c.args.at (texts_of c.args.arguments.now) (chars c.in-Ok.parts.0.now) options c.in-Ok.ensures.ok
+    let read = read-is c.self.inside.documents.list.items c.args.place c.index-document.result.now within
+    c.index-document.ensures ∙ ap (λ (w : World). document_at w.documents c.args.place) c.self.view_is in
+    let given = ap (λ (d : Document). settings_given d (c.args.at + 1) options
+    (peer_settings d (widget_at d c.args.widget))) (sym read) ∙ sym c.peer_settings.ensures.value in
+    let named : is_window_name (chars c.in-Ok.parts.0.now) ≡ true = sym c.is_window_name.ensures
+    ∙ c.if-not-is_window_name.false in
+    let change = bad-peer world.limits (all_windows world) document (widget_at document c.args.widget) c.args.at
+    (texts_of c.args.arguments.now) (chars c.in-Ok.parts.0.now) options c.in-Ok.ensures.ok
     c.in-Err-peer_settings.fault named (given ∙ c.in-Err-peer_settings.is) in
-    sym (ap (λ (x : Change). (changed world c.args.place x).world) change ∙ changed-refused world.limits world.documents c.args.place (refused document c.in-Err-peer_settings.fault) refl)
+    sym (ap (λ (x : Change). (changed world c.args.place x).world) change
+    ∙ changed-refused world.limits world.documents c.args.place (refused document c.in-Err-peer_settings.fault)
+    refl)
 
 pub returns-in-Ok-peer_settings-clause-reply : goal.returns-in-Ok-peer_settings-clause-reply
 returns-in-Ok-peer_settings-clause-reply g c = λ other.
     let world = c.args.self.now in let document = document_at world.documents c.args.place in
     let options = texts_of c.in-Ok.parts.1.now in
     let within = subst (λ (w : World). c.args.place < length w.documents) (sym c.self.view_is) c.requires.place in
-    let read = read-is c.self.inside.documents.list.items c.args.place c.index-document.result.now within c.index-document.ensures ∙ ap (λ (w : World). document_at w.documents c.args.place) c.self.view_is in
-    let given = ap (λ (d : Document). settings_given d (c.args.at + 1) options (peer_settings d (widget_at d c.args.widget))) (sym read) ∙ sym c.peer_settings.ensures.value in
-    let named : is_window_name (chars c.in-Ok.parts.0.now) ≡ true = sym c.is_window_name.ensures ∙ c.if-not-is_window_name.false in
-    let change = good-peer world.limits (all_windows world) document (widget_at document c.args.widget) c.args.at (texts_of c.args.arguments.now) (chars c.in-Ok.parts.0.now) options c.in-Ok.ensures.ok
+    let read = read-is c.self.inside.documents.list.items c.args.place c.index-document.result.now within
+    c.index-document.ensures ∙ ap (λ (w : World). document_at w.documents c.args.place) c.self.view_is in
+    let given = ap (λ (d : Document). settings_given d (c.args.at + 1) options
+    (peer_settings d (widget_at d c.args.widget))) (sym read) ∙ sym c.peer_settings.ensures.value in
+    let named : is_window_name (chars c.in-Ok.parts.0.now) ≡ true = sym c.is_window_name.ensures
+    ∙ c.if-not-is_window_name.false in
+    let change = good-peer world.limits (all_windows world) document (widget_at document c.args.widget) c.args.at
+    (texts_of c.args.arguments.now) (chars c.in-Ok.parts.0.now) options c.in-Ok.ensures.ok
     c.in-Ok-peer_settings.settings named (given ∙ c.in-Ok-peer_settings.is) in
     c.add_peer.ensures.reply other ∙ sym (ap (λ (x : Change). (changed world c.args.place x).reply) change)
 
@@ -53,9 +67,13 @@ returns-in-Ok-peer_settings-clause-world g c = λ other.
     let world = c.args.self.now in let document = document_at world.documents c.args.place in
     let options = texts_of c.in-Ok.parts.1.now in
     let within = subst (λ (w : World). c.args.place < length w.documents) (sym c.self.view_is) c.requires.place in
-    let read = read-is c.self.inside.documents.list.items c.args.place c.index-document.result.now within c.index-document.ensures ∙ ap (λ (w : World). document_at w.documents c.args.place) c.self.view_is in
-    let given = ap (λ (d : Document). settings_given d (c.args.at + 1) options (peer_settings d (widget_at d c.args.widget))) (sym read) ∙ sym c.peer_settings.ensures.value in
-    let named : is_window_name (chars c.in-Ok.parts.0.now) ≡ true = sym c.is_window_name.ensures ∙ c.if-not-is_window_name.false in
-    let change = good-peer world.limits (all_windows world) document (widget_at document c.args.widget) c.args.at (texts_of c.args.arguments.now) (chars c.in-Ok.parts.0.now) options c.in-Ok.ensures.ok
+    let read = read-is c.self.inside.documents.list.items c.args.place c.index-document.result.now within
+    c.index-document.ensures ∙ ap (λ (w : World). document_at w.documents c.args.place) c.self.view_is in
+    let given = ap (λ (d : Document). settings_given d (c.args.at + 1) options
+    (peer_settings d (widget_at d c.args.widget))) (sym read) ∙ sym c.peer_settings.ensures.value in
+    let named : is_window_name (chars c.in-Ok.parts.0.now) ≡ true = sym c.is_window_name.ensures
+    ∙ c.if-not-is_window_name.false in
+    let change = good-peer world.limits (all_windows world) document (widget_at document c.args.widget) c.args.at
+    (texts_of c.args.arguments.now) (chars c.in-Ok.parts.0.now) options c.in-Ok.ensures.ok
     c.in-Ok-peer_settings.settings named (given ∙ c.in-Ok-peer_settings.is) in
     c.add_peer.ensures.world other ∙ sym (ap (λ (x : Change). (changed world c.args.place x).world) change)

@@ -6,4 +6,5 @@ use Rattle.peers.proofs.world.World.has_widget.Goals as goal
 pub returns : goal.returns
 returns g c = rw (← c.self.view_is) (
     c.is_some.ensures ∙ ap is_some c.home.ensures
-    ∙ some-home (chars c.args.name.now) c.self.inside.documents.list.items c.self.inside.documents.windows c.self.invariant.1)
+    ∙ some-home (chars c.args.name.now) c.self.inside.documents.list.items c.self.inside.documents.windows
+    c.self.invariant.1)

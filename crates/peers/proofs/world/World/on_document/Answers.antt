@@ -1,4 +1,5 @@
-use Rattle.std.proofs.Common.{◌≡◌, ◌<◌, Some, None, true, false, is_some, length, slice_set, refl, sym, ap, subst, ◌∙◌, arith}
+use Rattle.std.proofs.Common.{◌≡◌, ◌<◌, Some, None, true, false, is_some, length, slice_set, refl, sym, ap, subst, ◌∙◌}
+use Rattle.std.proofs.Common.{arith}
 use Rattle.std.specs.Prelude.{IfErr, chars}
 use Rattle.tcl_words.specs.Unread.{texts_of}
 use Rattle.command_parts.specs.Words.{is_among}
@@ -11,53 +12,64 @@ use Rattle.peers.specs.Peers.{peer_create}
 use Rattle.peers.specs.Step.{Outcome, changed, on_found}
 use Rattle.peers.specs.World.{World, all_windows, document_at, home, windows_of}
 use Rattle.peers.proofs.ArgumentLaws.{arguments-part}
-use Rattle.peers.proofs.HomeStepLaws.{does-form, does-homes, does-refuse, does-world, found-change, home-is, peer-command}
+use Rattle.peers.proofs.HomeStepLaws.{does-form, does-homes, does-refuse, does-world, found-change, home-is}
+use Rattle.peers.proofs.HomeStepLaws.{peer-command}
 use Rattle.peers.proofs.WorldLaws.{all-at, read-is, with_all}
 use Rattle.peers.proofs.world.World.on_document.Goals as goal
 
 pub index-requires : goal.index-requires
 index-requires g c =
     let documents = c.self.inside.documents.list.items in let name = chars c.args.name.now in
-    let found = home-is name documents c.args.place (subst (λ (w : World). home name w.documents ≡ Some c.args.place) (sym c.self.view_is) c.requires.home) in
+    let found = home-is name documents c.args.place
+    (subst (λ (w : World). home name w.documents ≡ Some c.args.place) (sym c.self.view_is) c.requires.home) in
     omega (arith, found.0, c.self.inside.documents.list.ok.0)
 
 pub unreachable-requires : goal.unreachable-requires
 unreachable-requires g c =
     let documents = c.self.inside.documents.list.items in let name = chars c.args.name.now in
-    let found = home-is name documents c.args.place (subst (λ (w : World). home name w.documents ≡ Some c.args.place) (sym c.self.view_is) c.requires.home) in
+    let found = home-is name documents c.args.place
+    (subst (λ (w : World). home name w.documents ≡ Some c.args.place) (sym c.self.view_is) c.requires.home) in
     let read = read-is documents c.args.place c.index.result.now found.0 c.index.ensures in
-    let no : false ≡ true = ap is_some (sym c.in_default.is) ∙ c.find_widget.ensures.named ∙ ap (λ (d : Document). is_among name (window_names d)) read ∙ found.1 in
+    let no : false ≡ true = ap is_some (sym c.in_default.is) ∙ c.find_widget.ensures.named
+    ∙ ap (λ (d : Document). is_among name (window_names d)) read ∙ found.1 in
     absurd (cc)
 
 pub create_peer-requires-clause-place : goal.create_peer-requires-clause-place
 create_peer-requires-clause-place g c =
     let documents = c.self.inside.documents.list.items in let name = chars c.args.name.now in
-    let found = home-is name documents c.args.place (subst (λ (w : World). home name w.documents ≡ Some c.args.place) (sym c.self.view_is) c.requires.home) in
+    let found = home-is name documents c.args.place
+    (subst (λ (w : World). home name w.documents ≡ Some c.args.place) (sym c.self.view_is) c.requires.home) in
     subst (λ (w : World). c.args.place < length w.documents) c.self.view_is found.0
 
 pub create_peer-requires-clause-shown : goal.create_peer-requires-clause-shown
 create_peer-requires-clause-shown g c =
     let documents = c.self.inside.documents.list.items in let name = chars c.args.name.now in
-    let found = home-is name documents c.args.place (subst (λ (w : World). home name w.documents ≡ Some c.args.place) (sym c.self.view_is) c.requires.home) in
+    let found = home-is name documents c.args.place
+    (subst (λ (w : World). home name w.documents ≡ Some c.args.place) (sym c.self.view_is) c.requires.home) in
     let read = read-is documents c.args.place c.index.result.now found.0 c.index.ensures in
-    subst (λ (d : Document). c.in-Some.widget < length d.widgets) (read ∙ ap (λ (w : World). document_at w.documents c.args.place) c.self.view_is) c.in-Some.ensures.within
+    subst (λ (d : Document). c.in-Some.widget < length d.widgets) (read
+    ∙ ap (λ (w : World). document_at w.documents c.args.place) c.self.view_is) c.in-Some.ensures.within
 
 pub index_mut-requires : goal.index_mut-requires
 index_mut-requires g c =
     let documents = c.self.inside.documents.list.items in let name = chars c.args.name.now in
-    let found = home-is name documents c.args.place (subst (λ (w : World). home name w.documents ≡ Some c.args.place) (sym c.self.view_is) c.requires.home) in
+    let found = home-is name documents c.args.place
+    (subst (λ (w : World). home name w.documents ≡ Some c.args.place) (sym c.self.view_is) c.requires.home) in
     omega (arith, found.0, c.self.inside.documents.list.ok.0)
 
 pub command-requires : goal.command-requires
 command-requires g c =
     let documents = c.self.inside.documents.list.items in let name = chars c.args.name.now in
-    let found = home-is name documents c.args.place (subst (λ (w : World). home name w.documents ≡ Some c.args.place) (sym c.self.view_is) c.requires.home) in
+    let found = home-is name documents c.args.place
+    (subst (λ (w : World). home name w.documents ≡ Some c.args.place) (sym c.self.view_is) c.requires.home) in
     let read = read-is documents c.args.place c.index.result.now found.0 c.index.ensures in
-    let limits = c.self.inside.limits in let widget = c.in-Some.widget in let words = texts_of c.args.words.now in let old = document_at documents c.args.place in
+    let limits = c.self.inside.limits in let widget = c.in-Some.widget in let words = texts_of c.args.words.now in
+    let old = document_at documents c.args.place in
     let lent = read-is documents c.args.place c.index_mut.result.now found.0 c.index_mut.ensures.value in
     record {
       shown = subst (λ (d : Document). widget < length d.widgets) (read ∙ sym lent) c.in-Some.ensures.within;
-      formed = subst (IsWellFormedDocument limits) (sym lent) (all-at (IsWellFormedDocument limits) documents c.args.place c.self.invariant.0.documents found.0);
+      formed = subst (IsWellFormedDocument limits) (sym lent)
+          (all-at (IsWellFormedDocument limits) documents c.args.place c.self.invariant.0.documents found.0);
       shape = c.requires.shape;
       within = c.requires.within;
       ordered = c.requires.ordered;
@@ -67,70 +79,96 @@ command-requires g c =
 pub invariant_of-self : goal.invariant_of-self
 invariant_of-self g c =
     let documents = c.self.inside.documents.list.items in let name = chars c.args.name.now in
-    let found = home-is name documents c.args.place (subst (λ (w : World). home name w.documents ≡ Some c.args.place) (sym c.self.view_is) c.requires.home) in
-    let limits = c.self.inside.limits in let widget = c.in-Some.widget in let words = texts_of c.args.words.now in let old = document_at documents c.args.place in
+    let found = home-is name documents c.args.place
+    (subst (λ (w : World). home name w.documents ≡ Some c.args.place) (sym c.self.view_is) c.requires.home) in
+    let limits = c.self.inside.limits in let widget = c.in-Some.widget in let words = texts_of c.args.words.now in
+    let old = document_at documents c.args.place in
     let lent = read-is documents c.args.place c.index_mut.result.now found.0 c.index_mut.ensures.value in
     let change = command limits (windows_of documents) old (widget_at old widget) words in
     let does : Does limits old c.command.new.document c.command.result change =
-    subst (λ (d : Document). Does limits d c.command.new.document c.command.result (command limits (windows_of documents) d (widget_at d widget) words)) lent
+    subst (λ (d : Document). Does limits d c.command.new.document c.command.result
+    (command limits (windows_of documents) d (widget_at d widget) words)) lent
     (c.command.ensures.does (windows_of documents)) in (
-      does-form limits documents c.args.place c.command.new.document c.command.result change does c.self.invariant.0 found.0,
-      c.self.invariant.1 ∙ sym (does-homes limits documents c.args.place c.command.new.document c.command.result change does),
+      does-form limits documents c.args.place c.command.new.document c.command.result change does c.self.invariant.0
+          found.0,
+      c.self.invariant.1
+          ∙ sym (does-homes limits documents c.args.place c.command.new.document c.command.result change does),
     )
 
 pub returns-in-PeerCreate-clause-reply : goal.returns-in-PeerCreate-clause-reply
 returns-in-PeerCreate-clause-reply g c = λ other.
     let documents = c.self.inside.documents.list.items in let name = chars c.args.name.now in
-    let found = home-is name documents c.args.place (subst (λ (w : World). home name w.documents ≡ Some c.args.place) (sym c.self.view_is) c.requires.home) in
+    let found = home-is name documents c.args.place
+    (subst (λ (w : World). home name w.documents ≡ Some c.args.place) (sym c.self.view_is) c.requires.home) in
     let read = read-is documents c.args.place c.index.result.now found.0 c.index.ensures in
-    let world = c.args.self.now in let document = document_at world.documents c.args.place in let widget = c.in-Some.widget in let words = texts_of c.args.words.now in
+    let world = c.args.self.now in let document = document_at world.documents c.args.place in
+    let widget = c.in-Some.widget in let words = texts_of c.args.words.now in
     let here = read ∙ ap (λ (w : World). document_at w.documents c.args.place) c.self.view_is in
     let named : widget_named name document ≡ Some (widget_at document widget) =
     subst (λ (d : Document). widget_named name d ≡ Some (widget_at d widget)) here c.in-Some.ensures.some in
-    let change = peer-command world.limits (all_windows world) document (widget_at document widget) words c.args.shape c.requires.shape c.in-PeerCreate.is in
-    let step = found-change world c.args.place document words (widget_named name document) (widget_at document widget) named in
+    let change = peer-command world.limits (all_windows world) document (widget_at document widget) words c.args.shape
+    c.requires.shape c.in-PeerCreate.is in
+    let step = found-change world c.args.place document words (widget_named name document) (widget_at document widget)
+    named in
     c.create_peer.ensures.reply other
-    ∙ ap (λ arguments. (changed world c.args.place (peer_create world.limits (all_windows world) document (widget_at document widget) c.args.shape.arguments arguments)).reply)
+    ∙ ap (λ arguments.
+    (changed world c.args.place (peer_create world.limits (all_windows world) document (widget_at document widget)
+    c.args.shape.arguments arguments)).reply)
     (arguments-part c.args.words.now c.args.shape)
     ∙ sym (ap (λ (x : Change). (changed world c.args.place x).reply) change) ∙ sym (ap (λ (o : Outcome). o.reply) step)
 
 pub returns-in-PeerCreate-clause-world : goal.returns-in-PeerCreate-clause-world
 returns-in-PeerCreate-clause-world g c = λ other.
     let documents = c.self.inside.documents.list.items in let name = chars c.args.name.now in
-    let found = home-is name documents c.args.place (subst (λ (w : World). home name w.documents ≡ Some c.args.place) (sym c.self.view_is) c.requires.home) in
+    let found = home-is name documents c.args.place
+    (subst (λ (w : World). home name w.documents ≡ Some c.args.place) (sym c.self.view_is) c.requires.home) in
     let read = read-is documents c.args.place c.index.result.now found.0 c.index.ensures in
-    let world = c.args.self.now in let document = document_at world.documents c.args.place in let widget = c.in-Some.widget in let words = texts_of c.args.words.now in
+    let world = c.args.self.now in let document = document_at world.documents c.args.place in
+    let widget = c.in-Some.widget in let words = texts_of c.args.words.now in
     let here = read ∙ ap (λ (w : World). document_at w.documents c.args.place) c.self.view_is in
     let named : widget_named name document ≡ Some (widget_at document widget) =
     subst (λ (d : Document). widget_named name d ≡ Some (widget_at d widget)) here c.in-Some.ensures.some in
-    let change = peer-command world.limits (all_windows world) document (widget_at document widget) words c.args.shape c.requires.shape c.in-PeerCreate.is in
-    let step = found-change world c.args.place document words (widget_named name document) (widget_at document widget) named in
+    let change = peer-command world.limits (all_windows world) document (widget_at document widget) words c.args.shape
+    c.requires.shape c.in-PeerCreate.is in
+    let step = found-change world c.args.place document words (widget_named name document) (widget_at document widget)
+    named in
     c.create_peer.ensures.world other
-    ∙ ap (λ arguments. (changed world c.args.place (peer_create world.limits (all_windows world) document (widget_at document widget) c.args.shape.arguments arguments)).world)
+    ∙ ap (λ arguments.
+    (changed world c.args.place (peer_create world.limits (all_windows world) document (widget_at document widget)
+    c.args.shape.arguments arguments)).world)
     (arguments-part c.args.words.now c.args.shape)
     ∙ sym (ap (λ (x : Change). (changed world c.args.place x).world) change) ∙ sym (ap (λ (o : Outcome). o.world) step)
 
 pub returns-in_default-command : goal.returns-in_default-command
 returns-in_default-command g c =
     let documents = c.self.inside.documents.list.items in let name = chars c.args.name.now in
-    let found = home-is name documents c.args.place (subst (λ (w : World). home name w.documents ≡ Some c.args.place) (sym c.self.view_is) c.requires.home) in
+    let found = home-is name documents c.args.place
+    (subst (λ (w : World). home name w.documents ≡ Some c.args.place) (sym c.self.view_is) c.requires.home) in
     let read = read-is documents c.args.place c.index.result.now found.0 c.index.ensures in
-    let limits = c.self.inside.limits in let widget = c.in-Some.widget in let words = texts_of c.args.words.now in let old = document_at documents c.args.place in
+    let limits = c.self.inside.limits in let widget = c.in-Some.widget in let words = texts_of c.args.words.now in
+    let old = document_at documents c.args.place in
     let lent = read-is documents c.args.place c.index_mut.result.now found.0 c.index_mut.ensures.value in
     let change = command limits (windows_of documents) old (widget_at old widget) words in
     let does : Does limits old c.command.new.document c.command.result change =
-    subst (λ (d : Document). Does limits d c.command.new.document c.command.result (command limits (windows_of documents) d (widget_at d widget) words)) lent
+    subst (λ (d : Document). Does limits d c.command.new.document c.command.result
+    (command limits (windows_of documents) d (widget_at d widget) words)) lent
     (c.command.ensures.does (windows_of documents)) in
     let named : widget_named name old ≡ Some (widget_at old widget) =
     subst (λ (d : Document). widget_named name d ≡ Some (widget_at d widget)) read c.in-Some.ensures.some in
-    let step = found-change (with_all limits documents) c.args.place old words (widget_named name old) (widget_at old widget) named in
-    let after : World → Outcome = λ w. on_found w c.args.place (document_at w.documents c.args.place) words (widget_named name (document_at w.documents c.args.place)) in
+    let step = found-change (with_all limits documents) c.args.place old words (widget_named name old)
+    (widget_at old widget) named in
+    let after : World → Outcome = λ w. on_found w c.args.place (document_at w.documents c.args.place) words
+    (widget_named name (document_at w.documents c.args.place)) in
     record {
-      reply = λ other. does.reply other ∙ sym (ap (λ (o : Outcome). o.reply) step) ∙ ap (λ (w : World). (after w).reply) c.self.view_is;
+      reply = λ other. does.reply other ∙ sym (ap (λ (o : Outcome). o.reply) step)
+          ∙ ap (λ (w : World). (after w).reply) c.self.view_is;
       world = λ other.
-          does-world limits documents c.args.place c.command.new.document c.command.result change does other ∙ sym (ap (λ (o : Outcome). o.world) step) ∙ ap (λ (w : World). (after w).world) c.self.view_is;
-      refused = subst (λ (w : World). IfErr c.command.result (λ _. with_all limits (slice_set documents c.args.place c.command.new.document) ≡ w)) c.self.view_is
+          does-world limits documents c.args.place c.command.new.document c.command.result change does other
+          ∙ sym (ap (λ (o : Outcome). o.world) step) ∙ ap (λ (w : World). (after w).world) c.self.view_is;
+      refused = subst (λ (w : World). IfErr c.command.result (λ _.
+          with_all limits (slice_set documents c.args.place c.command.new.document) ≡ w)) c.self.view_is
           (does-refuse limits documents c.args.place c.command.new.document c.command.result change does);
       sure = c.command.ensures.sure;
-      well_formed = does-form limits documents c.args.place c.command.new.document c.command.result change does c.self.invariant.0 found.0;
+      well_formed = does-form limits documents c.args.place c.command.new.document c.command.result change does
+          c.self.invariant.0 found.0;
     }

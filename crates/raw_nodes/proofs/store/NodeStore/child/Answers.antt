@@ -16,7 +16,8 @@ returns-in-Inner-clause-value g c =
     let h = c.args.self.now.heap in let p = c.args.name in let x = c.node.result.now in let e = c.node.ensures in
     let used = in_use h.places h.values p x h.paired c.requires.name e in
     read_entry h.places h.values p x h.paired c.requires.name e (λ r. c.child.result ≡ get_or r.children c.args.i None)
-    (c.child.ensures ∙ ap (λ (z : Room). get_or (map link_name z.children) c.args.i None) c.deref.ensures ∙ sym (ap (λ k. get_or (record_in k (link_name x.parent) x.slot).children c.args.i None) c.in-Inner.is))
+    (c.child.ensures ∙ ap (λ (z : Room). get_or (map link_name z.children) c.args.i None) c.deref.ensures
+    ∙ sym (ap (λ k. get_or (record_in k (link_name x.parent) x.slot).children c.args.i None) c.in-Inner.is))
 
 pub returns-in_default : goal.returns-in_default
 unfolding records
@@ -24,6 +25,8 @@ returns-in_default g c =
     let h = c.args.self.now.heap in let p = c.args.name in let x = c.node.result.now in let e = c.node.ensures in
     let used = in_use h.places h.values p x h.paired c.requires.name e in
     record {
-      value = read_entry h.places h.values p x h.paired c.requires.name e (λ r. None ≡ get_or r.children c.args.i None) (none_at _ c.args.i (childless x.held _ x.slot used c.in_default.not-Inner));
+      value = read_entry h.places h.values p x h.paired c.requires.name e (λ r. None
+          ≡ get_or r.children c.args.i None)
+          (none_at _ c.args.i (childless x.held _ x.slot used c.in_default.not-Inner));
       tick = c.tick.ensures;
     }

@@ -16,18 +16,27 @@ unfolding records
 returns-in-Line-clause-value g c =
     let h = c.args.self.now.heap in let p = c.args.name in let x = c.node.result.now in let e = c.node.ensures in
     let used = in_use h.places h.values p x h.paired c.requires.name e in
-    read_entry h.places h.values p x h.paired c.requires.name e (λ r. c.has.result ≡ set.contains r.sum.presence c.args.slot.0) (c.has.ensures ∙ ap (λ s. set.contains s.presence c.args.slot.0) c.sum.ensures ∙ sym (ap (λ k. set.contains (record_in k (link_name x.parent) x.slot).sum.presence c.args.slot.0) c.in-Line.is))
+    read_entry h.places h.values p x h.paired c.requires.name e (λ r. c.has.result
+    ≡ set.contains r.sum.presence c.args.slot.0) (c.has.ensures
+    ∙ ap (λ s. set.contains s.presence c.args.slot.0) c.sum.ensures
+    ∙ sym (ap (λ k. set.contains (record_in k (link_name x.parent) x.slot).sum.presence c.args.slot.0)
+    c.in-Line.is))
 
 pub returns-in-Inner-clause-value : goal.returns-in-Inner-clause-value
 unfolding records
 returns-in-Inner-clause-value g c =
     let h = c.args.self.now.heap in let p = c.args.name in let x = c.node.result.now in let e = c.node.ensures in
     let used = in_use h.places h.values p x h.paired c.requires.name e in
-    read_entry h.places h.values p x h.paired c.requires.name e (λ r. c.has-in-Inner.result ≡ set.contains r.sum.presence c.args.slot.0) (c.has-in-Inner.ensures ∙ ap (λ z. set.contains z.sum.presence c.args.slot.0) c.deref.ensures ∙ sym (ap (λ k. set.contains (record_in k (link_name x.parent) x.slot).sum.presence c.args.slot.0) c.in-Inner.is))
+    read_entry h.places h.values p x h.paired c.requires.name e (λ r. c.has-in-Inner.result
+    ≡ set.contains r.sum.presence c.args.slot.0) (c.has-in-Inner.ensures
+    ∙ ap (λ z. set.contains z.sum.presence c.args.slot.0) c.deref.ensures
+    ∙ sym (ap (λ k. set.contains (record_in k (link_name x.parent) x.slot).sum.presence c.args.slot.0)
+    c.in-Inner.is))
 
 pub returns-in-Spare-clause-value : goal.returns-in-Spare-clause-value
 unfolding records
 returns-in-Spare-clause-value g c =
     let h = c.args.self.now.heap in let p = c.args.name in let x = c.node.result.now in let e = c.node.ensures in
     let used = in_use h.places h.values p x h.paired c.requires.name e in
-    read_entry h.places h.values p x h.paired c.requires.name e (λ r. false ≡ set.contains r.sum.presence c.args.slot.0) (absurd (false≢true (sym (ap is_used c.in-Spare.is) ∙ used)))
+    read_entry h.places h.values p x h.paired c.requires.name e (λ r. false
+    ≡ set.contains r.sum.presence c.args.slot.0) (absurd (false≢true (sym (ap is_used c.in-Spare.is) ∙ used)))

@@ -5,7 +5,9 @@ use Rattle.std.specs.Prelude.{is_some}
 use Rattle.raw_nodes.specs.Names.{records}
 use Rattle.raw_nodes.specs.declared.nodes.Node.{Node}
 use Rattle.raw_nodes.specs.Records.{line_in, record_in, with_line}
-use Rattle.raw_nodes.proofs.NameLaws.{listed_kept, whole_kept, chain_kept, count_kept, in_use, line_if, line_said, lined, name_place, name_within, no_line, numbers_kept, read_entry, rewritten, rooms_kept, same_node}
+use Rattle.raw_nodes.proofs.NameLaws.{listed_kept, whole_kept, chain_kept, count_kept, in_use, line_if, line_said}
+use Rattle.raw_nodes.proofs.NameLaws.{lined, name_place, name_within, no_line, numbers_kept, read_entry, rewritten}
+use Rattle.raw_nodes.proofs.NameLaws.{rooms_kept, same_node}
 use Rattle.raw_nodes.proofs.store.NodeStore.line_mut.Goals as goal
 
 pub node-requires : goal.node-requires
@@ -32,14 +34,17 @@ returns-then-not-is_line g c =
 pub line_mut-requires : goal.line_mut-requires
 unfolding records
 line_mut-requires g c =
-    let h = c.args.self.now.heap in let p = c.args.name in let x = c.node_mut.result.now in let y = c.node.result.now in let e = c.node_mut.ensures.value in
-    let same = same_node h.places h.values p y x (name_within h.places h.values p x h.paired c.requires e) c.node.ensures e in
+    let h = c.args.self.now.heap in let p = c.args.name in let x = c.node_mut.result.now in let y = c.node.result.now in
+    let e = c.node_mut.ensures.value in
+    let same = same_node h.places h.values p y x (name_within h.places h.values p x h.paired c.requires e)
+    c.node.ensures e in
     line_if x.held (sym (ap (λ (z : Node). is_some (line_in z.held)) same) ∙ sym c.if-not-is_line.ensures)
 
 pub invariant_of-self-lent : goal.invariant_of-self-lent
 unfolding records
 invariant_of-self-lent g c = λ w.
-    let a = c.args.self.now in let h = a.heap in let p = c.args.name in let x = c.node_mut.result.now in let e = c.node_mut.ensures.value in (
+    let a = c.args.self.now in let h = a.heap in let p = c.args.name in let x = c.node_mut.result.now in
+    let e = c.node_mut.ensures.value in (
       listed_kept h.places h.values p x _ h.paired c.requires e refl a.last refl a.listed,
       (
         whole_kept h.places h.values p x _ h.paired c.requires e refl a.count a.whole,
@@ -52,7 +57,8 @@ invariant_of-self-lent g c = λ w.
               (
                 numbers_kept h.places h.values p x _ h.paired c.requires e refl refl a.numbered,
                 (
-                  rooms_kept h.places h.values p x _ h.paired c.requires e refl _ a.room_count (sym (ap room_in c.line_mut.ensures.value)) a.roomed,
+                  rooms_kept h.places h.values p x _ h.paired c.requires e refl _ a.room_count
+                      (sym (ap room_in c.line_mut.ensures.value)) a.roomed,
                   (a.fitting, tt),
                 ),
               ),
@@ -65,14 +71,21 @@ invariant_of-self-lent g c = λ w.
 pub returns : goal.returns
 unfolding records
 returns g c =
-    let a = c.args.self.now in let h = a.heap in let p = c.args.name in let x = c.node_mut.result.now in let e = c.node_mut.ensures.value in (
+    let a = c.args.self.now in let h = a.heap in let p = c.args.name in let x = c.node_mut.result.now in
+    let e = c.node_mut.ensures.value in (
       (
         refl,
-        (λ w. record { records = rewritten h.places h.values p x _ h.paired c.requires e refl (λ r. with_line r w) (lined x.held _ w _ x.slot c.line_mut.ensures.value); spares = refl; rooms = refl }),
+        (λ w. record {
+          records = rewritten h.places h.values p x _ h.paired c.requires e refl (λ r. with_line r w)
+              (lined x.held _ w _ x.slot c.line_mut.ensures.value);
+          spares = refl;
+          rooms = refl;
+        }),
         refl,
       ),
       record {
         writes_back = tt;
-        value = read_entry h.places h.values p x h.paired c.requires e (λ r. Some c.line_mut.result.now ≡ r.line) (sym (ap (λ k. (record_in k (link_name x.parent) x.slot).line) c.line_mut.ensures.value));
+        value = read_entry h.places h.values p x h.paired c.requires e (λ r. Some c.line_mut.result.now
+            ≡ r.line) (sym (ap (λ k. (record_in k (link_name x.parent) x.slot).line) c.line_mut.ensures.value));
       },
     )

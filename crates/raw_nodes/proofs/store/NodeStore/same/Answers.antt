@@ -18,17 +18,24 @@ node-requires-2 g c = let h = c.args.self.now.heap in name_place h.places h.valu
 pub returns-clause-yes : goal.returns-clause-yes
 unfolding records
 returns-clause-yes g c told =
-    let s = c.args.self.now in let h = s.heap in let a = c.args.a in let b = c.args.b in let x = c.node.result.now in let y = c.node-2.result.now in
-    let one = number_is h.values (number_in h.places a) x (name_within h.places h.values a x h.paired c.requires.names.0 c.node.ensures) c.node.ensures s.numbered in
-    let two = number_is h.values (number_in h.places b) y (name_within h.places h.values b y h.paired c.requires.names.1 c.node-2.ensures) c.node-2.ensures s.numbered in
+    let s = c.args.self.now in let h = s.heap in let a = c.args.a in let b = c.args.b in let x = c.node.result.now in
+    let y = c.node-2.result.now in
+    let one = number_is h.values (number_in h.places a) x
+    (name_within h.places h.values a x h.paired c.requires.names.0 c.node.ensures) c.node.ensures s.numbered in
+    let two = number_is h.values (number_in h.places b) y
+    (name_within h.places h.values b y h.paired c.requires.names.1 c.node-2.ensures) c.node-2.ensures s.numbered in
     let alike : x.number ≡ y.number = grind (arith, nat_tests, told) in
-    same_number h.places a b (name_place h.places h.values a h.paired c.requires.names.0) (name_place h.places h.values b h.paired c.requires.names.1) (sym one ∙ alike ∙ two)
+    same_number h.places a b (name_place h.places h.values a h.paired c.requires.names.0)
+    (name_place h.places h.values b h.paired c.requires.names.1) (sym one ∙ alike ∙ two)
 
 pub returns-clause-no : goal.returns-clause-no
 unfolding records
 returns-clause-no g c told one_name =
-    let s = c.args.self.now in let h = s.heap in let a = c.args.a in let b = c.args.b in let x = c.node.result.now in let y = c.node-2.result.now in
-    let one = number_is h.values (number_in h.places a) x (name_within h.places h.values a x h.paired c.requires.names.0 c.node.ensures) c.node.ensures s.numbered in
-    let two = number_is h.values (number_in h.places b) y (name_within h.places h.values b y h.paired c.requires.names.1 c.node-2.ensures) c.node-2.ensures s.numbered in
+    let s = c.args.self.now in let h = s.heap in let a = c.args.a in let b = c.args.b in let x = c.node.result.now in
+    let y = c.node-2.result.now in
+    let one = number_is h.values (number_in h.places a) x
+    (name_within h.places h.values a x h.paired c.requires.names.0 c.node.ensures) c.node.ensures s.numbered in
+    let two = number_is h.values (number_in h.places b) y
+    (name_within h.places h.values b y h.paired c.requires.names.1 c.node-2.ensures) c.node-2.ensures s.numbered in
     let alike : x.number ≡ y.number = one ∙ ap (number_in h.places) one_name ∙ sym two in
     grind (arith, nat_tests, told, alike)

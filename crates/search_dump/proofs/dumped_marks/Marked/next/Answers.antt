@@ -9,5 +9,7 @@ returns g c =
     let view = c.args.view.now in
     let names = c.args.names.now in
     let content = g.S.TextStore.content view.store.now in
-    mark-behind (usable_by content view.s view.e names.marks.now.marks names.widget.0) c.args.self.mark (shown_of view.s c.args.self) (option_map (shown_of view.s) c.next_mark.result)
-    (usable-rising content view.s view.e names.marks.now.marks names.widget.0) c.requires.usable refl (sym c.next_mark.ensures)
+    mark-behind (usable_by content view.s view.e names.marks.now.marks names.widget.0) c.args.self.mark
+    (shown_of view.s c.args.self) (option_map (shown_of view.s) c.next_mark.result)
+    (usable-rising content view.s view.e names.marks.now.marks names.widget.0) c.requires.usable refl
+    (sym c.next_mark.ensures)

@@ -12,5 +12,8 @@ returns c =
     let character = c.first_character.result in
     let found = c.first_character.ensures in
     let is : drop byte text ≡ encode_utf8 character ++ found.0 = sym c.range_from.ensures.value ∙ found.1 in
-    let here : drop column (chars text) ≡ character ∷ chars found.0 = sym c.byte_of.ensures.behind ∙ chars_past_char (drop byte text) found.0 character (IsUtf8-drop text byte c.as_str-text.utf8 c.byte_of.ensures.boundary) is in
-    ap (λ characters. slice_get characters column) (sym c.self.view_is ∙ ap chars (sym c.as_str-text.ensures.value)) ∙ found_at (chars text) _ column character here
+    let here : drop column (chars text) ≡ character ∷ chars found.0 = sym c.byte_of.ensures.behind
+    ∙ chars_past_char (drop byte text) found.0 character
+    (IsUtf8-drop text byte c.as_str-text.utf8 c.byte_of.ensures.boundary) is in
+    ap (λ characters. slice_get characters column) (sym c.self.view_is ∙ ap chars (sym c.as_str-text.ensures.value))
+    ∙ found_at (chars text) _ column character here

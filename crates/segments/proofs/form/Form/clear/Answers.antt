@@ -12,4 +12,7 @@ returns-in-Plain-clause-columns c =
     let same = ap content c.in-Plain.is in
     let long = ap (λ (line : LineContent). length line.columns) same in
     let within : c.args.to ≤ length text = omega (arith, c.requires.within, long, length-plain text) in
-    ap (λ (line : LineContent). line.columns) same ∙ cleared-plain c.args.slot.0 c.args.from c.args.to text c.requires.ordered within ∙ ap (λ (line : LineContent). changed (with_toggle c.args.slot.0 false) c.args.from c.args.to line.columns) (sym same)
+    ap (λ (line : LineContent). line.columns) same
+    ∙ cleared-plain c.args.slot.0 c.args.from c.args.to text c.requires.ordered within
+    ∙ ap (λ (line : LineContent). changed (with_toggle c.args.slot.0 false) c.args.from c.args.to line.columns)
+    (sym same)

@@ -7,4 +7,5 @@ use Rattle.segments.proofs.form.Form.remove_range.Goals as goal
 
 pub returns-in-Plain-clause-new : goal.returns-in-Plain-clause-new
 returns-in-Plain-clause-new c =
-    on_ok_weaker c.remove.result (λ is. ap plain_line is ∙ removed-plain c.args.from c.args.to c.in-Plain.text ∙ ap (after_removal c.args.from c.args.to) (sym (ap content c.in-Plain.is))) c.remove.ensures.new
+    on_ok_weaker c.remove.result (λ is. ap plain_line is ∙ removed-plain c.args.from c.args.to c.in-Plain.text
+    ∙ ap (after_removal c.args.from c.args.to) (sym (ap content c.in-Plain.is))) c.remove.ensures.new

@@ -18,5 +18,8 @@ returns-in-Plain-clause-columns c =
     let long = ap (λ (line : LineContent). length line.columns) same in
     let within : c.args.column < length text = omega (arith, c.requires.within, long, length-plain text) in
     let none = sym (off c.args.is_toggled (is_plain c.args.self.now) c.requires.room (ap is_plain c.in-Plain.is)) in
-    ap (λ (line : LineContent). line.columns) same ∙ set-plain c.args.slot.0 c.args.column text within ∙ ap (λ (line : LineContent). changed (with_toggle c.args.slot.0 false) c.args.column (c.args.column + 1) line.columns) (sym same)
-    ∙ ap (λ on. changed (with_toggle c.args.slot.0 on) c.args.column (c.args.column + 1) (content c.args.self.now).columns) none
+    ap (λ (line : LineContent). line.columns) same ∙ set-plain c.args.slot.0 c.args.column text within
+    ∙ ap (λ (line : LineContent). changed (with_toggle c.args.slot.0 false) c.args.column (c.args.column + 1)
+    line.columns) (sym same)
+    ∙ ap (λ on. changed (with_toggle c.args.slot.0 on) c.args.column (c.args.column + 1)
+    (content c.args.self.now).columns) none

@@ -13,4 +13,6 @@ returns-in-Plain-clause-columns c =
     let long = ap (λ (line : LineContent). length line.columns) same in
     let within : c.args.column < length text = omega (arith, c.requires.within, long, length-plain text) in
     let none = c.requires.room (ap is_plain c.in-Plain.is) in
-    ap (λ (line : LineContent). line.columns) same ∙ toggled-plain c.args.slots.now c.args.column text none within ∙ ap (λ (line : LineContent). changed (toggled_more c.args.slots.now) c.args.column (c.args.column + 1) line.columns) (sym same)
+    ap (λ (line : LineContent). line.columns) same ∙ toggled-plain c.args.slots.now c.args.column text none within
+    ∙ ap (λ (line : LineContent). changed (toggled_more c.args.slots.now) c.args.column (c.args.column + 1)
+    line.columns) (sym same)

@@ -7,5 +7,7 @@ use Rattle.segments.proofs.line.Line.copy_text.Goals as goal
 
 pub returns-in-Plain : goal.returns-in-Plain
 returns-in-Plain c =
-    let same = sym (characters-plain c.in-Plain.text) ∙ ap (λ (line : LineContent). characters line.columns) (ap content (sym c.in-Plain.is) ∙ c.self.view_is) in
-    subst (λ xs. IfOk c.copy.result (λ text. chars (string_bytes text) ≡ slice_range xs c.args.from c.args.to)) same c.copy.ensures
+    let same = sym (characters-plain c.in-Plain.text)
+    ∙ ap (λ (line : LineContent). characters line.columns) (ap content (sym c.in-Plain.is) ∙ c.self.view_is) in
+    subst (λ xs. IfOk c.copy.result (λ text. chars (string_bytes text) ≡ slice_range xs c.args.from c.args.to)) same
+    c.copy.ensures

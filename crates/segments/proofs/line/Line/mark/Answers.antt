@@ -7,4 +7,6 @@ use Rattle.segments.proofs.PlainLaws.{mark-none}
 use Rattle.segments.proofs.line.Line.mark.Goals as goal
 
 pub returns-in-Plain-clause-value : goal.returns-in-Plain-clause-value
-returns-in-Plain-clause-value c = sym (mark-none c.args.index) ∙ ap (λ (line : LineContent). slice_get (finite.entries line.marks) c.args.index) (ap content (sym c.in-Plain.is) ∙ c.self.view_is)
+returns-in-Plain-clause-value c = sym (mark-none c.args.index)
+    ∙ ap (λ (line : LineContent). slice_get (finite.entries line.marks) c.args.index) (ap content (sym c.in-Plain.is)
+    ∙ c.self.view_is)

@@ -6,4 +6,5 @@ use Rattle.segments.proofs.PlainLaws.{sum-plain}
 use Rattle.segments.proofs.line.Line.sum.Goals as goal
 
 pub returns-in-Plain : goal.returns-in-Plain
-returns-in-Plain c = c.counting.ensures ∙ ap (λ n. counting 1 n 0) c.len.ensures ∙ sym (sum-plain c.in-Plain.text) ∙ ap line_count (ap content (sym c.in-Plain.is) ∙ c.self.view_is)
+returns-in-Plain c = c.counting.ensures ∙ ap (λ n. counting 1 n 0) c.len.ensures ∙ sym (sum-plain c.in-Plain.text)
+    ∙ ap line_count (ap content (sym c.in-Plain.is) ∙ c.self.view_is)

@@ -6,7 +6,12 @@ use Rattle.segments.proofs.rich.RichLine.char_at.Goals as goal
 
 pub at-requires : goal.at-requires
 at-requires c =
-    omega (arith, c.requires, ap (λ (line : LineContent). length line.columns) c.self.view_is, length-columns 0 c.self.inside.text c.self.inside.toggles.items)
+    omega (
+      arith,
+      c.requires,
+      ap (λ (line : LineContent). length line.columns) c.self.view_is,
+      length-columns 0 c.self.inside.text c.self.inside.toggles.items,
+    )
 
 pub returns : goal.returns
 returns c =

@@ -9,7 +9,14 @@ pub returns-clause-columns : goal.returns-clause-columns
 returns-clause-columns c =
     let text = c.self.inside.text in
     let within : c.args.to ≤ length text =
-    omega (arith, c.requires.within, ap (λ (line : LineContent). length line.columns) c.self.view_is, length-columns 0 text c.self.inside.toggles.items) in
-    columns_cleared c.args.slot.0 c.args.from c.args.to text c.clear.new.toggles.items c.self.inside.toggles.items c.requires.ordered within
+    omega (
+      arith,
+      c.requires.within,
+      ap (λ (line : LineContent). length line.columns) c.self.view_is,
+      length-columns 0 text c.self.inside.toggles.items,
+    ) in
+    columns_cleared c.args.slot.0 c.args.from c.args.to text c.clear.new.toggles.items c.self.inside.toggles.items
+    c.requires.ordered within
     (λ at. c.clear.ensures.slots 0 (length text) at c.self.invariant.0)
-    ∙ ap (λ (line : LineContent). changed (with_toggle c.args.slot.0 false) c.args.from c.args.to line.columns) c.self.view_is
+    ∙ ap (λ (line : LineContent). changed (with_toggle c.args.slot.0 false) c.args.from c.args.to line.columns)
+    c.self.view_is

@@ -18,35 +18,56 @@ use Rattle.segments.proofs.rich.RichLine.insert_text.Goals.{After-count_before-s
 
 within : (c : After-len-len) → c.args.column ≤ length c.self.inside.text
 within c =
-    omega (arith, c.requires, ap (λ (line : LineContent). length line.columns) c.self.view_is, length-columns 0 c.self.inside.text c.self.inside.toggles.items)
+    omega (
+      arith,
+      c.requires,
+      ap (λ (line : LineContent). length line.columns) c.self.view_is,
+      length-columns 0 c.self.inside.text c.self.inside.toggles.items,
+    )
 
 pub insert-requires : goal.insert-requires
 insert-requires c =
-    omega (arith, c.requires, ap (λ (line : LineContent). length line.columns) c.self.view_is, length-columns 0 c.self.inside.text c.self.inside.toggles.items)
+    omega (
+      arith,
+      c.requires,
+      ap (λ (line : LineContent). length line.columns) c.self.view_is,
+      length-columns 0 c.self.inside.text c.self.inside.toggles.items,
+    )
 
 -- how many characters there are then
-longer : (c : After-count_before-start) → c.args.column ≤ length c.self.inside.text → length c.insert.new.self ≡ length c.self.inside.text + length (chars c.args.text.now)
-longer c small = ap length c.in_ok-insert.ensures.new ∙ length-inserted c.args.column (chars c.args.text.now) c.self.inside.text small
+longer : (c : After-count_before-start) → c.args.column ≤ length c.self.inside.text →
+    length c.insert.new.self ≡ length c.self.inside.text + length (chars c.args.text.now)
+longer c small = ap length c.in_ok-insert.ensures.new
+    ∙ length-inserted c.args.column (chars c.args.text.now) c.self.inside.text small
 
-before : (c : After-count_before-start) → LieIn 0 c.args.column (take c.count_before-start.result c.self.inside.toggles.items)
-before c = (rw c.deref.ensures.value at (c.count_before-start.ensures.before 0 (length c.self.inside.text))) c.self.invariant.0
+before : (c : After-count_before-start) →
+    LieIn 0 c.args.column (take c.count_before-start.result c.self.inside.toggles.items)
+before c =
+    (rw c.deref.ensures.value at (c.count_before-start.ensures.before 0 (length c.self.inside.text))) c.self.invariant.0
 
-behind : (c : After-count_before-start) → LieIn c.args.column (length c.self.inside.text) (drop c.count_before-start.result c.self.inside.toggles.items)
-behind c = (rw c.deref.ensures.value at (c.count_before-start.ensures.behind 0 (length c.self.inside.text))) c.self.invariant.0 (omega arith)
+behind : (c : After-count_before-start) →
+    LieIn c.args.column (length c.self.inside.text) (drop c.count_before-start.result c.self.inside.toggles.items)
+behind c = (rw c.deref.ensures.value at (c.count_before-start.ensures.behind 0 (length c.self.inside.text)))
+    c.self.invariant.0 (omega arith)
 
 pub move_rest_on-requires-clause-room : goal.move_rest_on-requires-clause-room
 move_rest_on-requires-clause-room c =
     let place = (goal.at.move_rest_on-requires-clause-room c).After-count_before-start in
     let small = within (goal.at.move_rest_on-requires-clause-room c).After-len-len in
-    can_move_on c.args.column (length c.self.inside.text) (c.len.result - c.len-len.result) (drop c.count_before-start.result c.self.inside.toggles.items) (behind place)
+    can_move_on c.args.column (length c.self.inside.text) (c.len.result - c.len-len.result)
+    (drop c.count_before-start.result c.self.inside.toggles.items) (behind place)
     (omega (arith, c.len.ensures, c.len-len.ensures, c.len.type_inv, longer place small))
 
 -- the marks are all written anew
-marks_are : (c : After-move_marks) → take c.self.inside.marks.len (c.move_marks.new.marks ++ drop (length c.move_marks.new.marks) c.self.inside.marks.items) ≡ map (with_place (moved c.args.column (c.len.result - c.len-len.result))) c.self.inside.marks.items
+marks_are : (c : After-move_marks) → take c.self.inside.marks.len
+    (c.move_marks.new.marks ++ drop (length c.move_marks.new.marks) c.self.inside.marks.items)
+    ≡ map (with_place (moved c.args.column (c.len.result - c.len-len.result))) c.self.inside.marks.items
 marks_are c =
     let f = with_place (moved c.args.column (c.len.result - c.len-len.result)) in
-    let new : c.move_marks.new.marks ≡ map f c.self.inside.marks.items = c.move_marks.ensures ∙ ap (map f) c.deref_mut.ensures.value in
-    written_over c.self.inside.marks.len c.move_marks.new.marks c.self.inside.marks.items (ap length new ∙ length-map c.self.inside.marks.items f ∙ sym c.self.inside.marks.ok.0) ∙ new
+    let new : c.move_marks.new.marks ≡ map f c.self.inside.marks.items = c.move_marks.ensures
+    ∙ ap (map f) c.deref_mut.ensures.value in
+    written_over c.self.inside.marks.len c.move_marks.new.marks c.self.inside.marks.items (ap length new
+    ∙ length-map c.self.inside.marks.items f ∙ sym c.self.inside.marks.ok.0) ∙ new
 
 pub invariant_of-self-2 : goal.invariant_of-self-2
 invariant_of-self-2 c =
@@ -54,13 +75,20 @@ invariant_of-self-2 c =
     let small = within (goal.at.invariant_of-self-2 c).After-len-len in
     let len = length c.self.inside.text in
     let count = c.len.result - c.len-len.result in
-    let long : len + count ≡ length c.insert.new.self = omega (arith, c.len.ensures, c.len-len.ensures, longer place small) in (
+    let long : len + count ≡ length c.insert.new.self = omega (
+      arith,
+      c.len.ensures,
+      c.len-len.ensures,
+      longer place small,
+    ) in (
       subst (λ n. LieIn 0 n c.move_rest_on.new.toggles.items) long
           (subst (LieIn 0 (len + count)) (sym c.move_rest_on.ensures)
-          (moved_lie c.args.column len c.count_before-start.result count c.self.inside.toggles.items (before place) (behind place) small)),
+          (moved_lie c.args.column len c.count_before-start.result count c.self.inside.toggles.items (before place)
+          (behind place) small)),
       subst (AreMarks (length c.insert.new.self)) (sym (marks_are (goal.at.invariant_of-self-2 c).After-move_marks))
           (AreMarks-placed (moved c.args.column count) c.self.inside.marks.items len (length c.insert.new.self)
-          (λ mark there. subst (λ n. (moved c.args.column count mark).offset ≤ n) long (moved_le c.args.column count len mark there)) c.self.invariant.1),
+          (λ mark there. subst (λ n. (moved c.args.column count mark).offset
+          ≤ n) long (moved_le c.args.column count len mark there)) c.self.invariant.1),
     )
 
 pub returns-clause-new : goal.returns-clause-new
@@ -76,7 +104,8 @@ returns-clause-new c =
     let columns =
     ap (λ t. columns_from 0 t c.move_rest_on.new.toggles.items) c.in_ok-insert.ensures.new
     ∙ ap (columns_from 0 (inserted c.args.column new text)) c.move_rest_on.ensures
-    ∙ columns_inserted c.args.column len c.count_before-start.result count entries (before place) (behind place) small text new refl short in
+    ∙ columns_inserted c.args.column len c.count_before-start.result count entries (before place) (behind place) small
+    text new refl short in
     let marks =
     ap marks_of (marks_are (goal.at.returns-clause-new c).After-move_marks)
     ∙ marks_of-placed (moved c.args.column count) c.self.inside.marks.items c.self.invariant.1.rise

@@ -4,4 +4,5 @@ use Rattle.segments.proofs.ColumnLaws.{characters-columns}
 use Rattle.segments.proofs.rich.RichLine.into_text.Goals as goal
 
 pub returns : goal.returns
-returns c = sym (characters-columns 0 c.self.inside.text c.self.inside.toggles.items) ∙ ap (λ (line : LineContent). characters line.columns) c.self.view_is
+returns c = sym (characters-columns 0 c.self.inside.text c.self.inside.toggles.items)
+    ∙ ap (λ (line : LineContent). characters line.columns) c.self.view_is

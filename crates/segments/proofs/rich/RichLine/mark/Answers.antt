@@ -16,7 +16,8 @@ returns-in-Some-clause-value c =
     sym (ap (λ (line : LineContent). slice_get (finite.entries line.marks) index) (sym c.self.view_is)
     ∙ slice_get-marks_of c.self.inside.marks.items index c.self.invariant.1.rise
     ∙ ap (λ marks. option_map entry_of (slice_get marks index)) (sym c.deref.ensures.value)
-    ∙ ap (option_map entry_of) (slice_get_read c.deref.result.now (length c.deref.result.now) index c.in-Some.mark.now refl found.3.0 found.1))
+    ∙ ap (option_map entry_of) (slice_get_read c.deref.result.now (length c.deref.result.now) index c.in-Some.mark.now
+    refl found.3.0 found.1))
 
 pub returns-in-Some-clause-bound : goal.returns-in-Some-clause-bound
 returns-in-Some-clause-bound c =
@@ -26,7 +27,8 @@ returns-in-Some-clause-bound c =
     let found = c.in-Some.ensures.lookup in
     let within = subst (λ marks. index < length marks) c.deref.ensures.value found.3.0 in
     let here = found.1 ∙ ap (λ marks. get_or marks index mark) c.deref.ensures.value in
-    let long = sym (length-columns 0 text c.self.inside.toggles.items) ∙ ap (λ (line : LineContent). length line.columns) c.self.view_is in
+    let long = sym (length-columns 0 text c.self.inside.toggles.items)
+    ∙ ap (λ (line : LineContent). length line.columns) c.self.view_is in
     subst (λ len. mark.place.offset ≤ len) long
     (subst (λ (m : Mark). m.place.offset ≤ length text) (sym here) (c.self.invariant.1.stand index mark within))
 

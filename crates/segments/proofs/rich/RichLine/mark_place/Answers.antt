@@ -14,5 +14,8 @@ returns-clause-bound c =
     let marks = c.self.inside.marks.items in
     let number = c.args.number.0 in
     let found = c.find_mark.ensures ∙ ap (λ marks. finite.get (marks_of marks) number) c.deref.ensures.value in
-    let long = sym (length-columns 0 text c.self.inside.toggles.items) ∙ ap (λ (line : LineContent). length line.columns) c.self.view_is in
-    stands_if_some c.find_mark.result _ (λ place is. subst (λ len. place.offset ≤ len) long (mark_stands marks (length text) number place kept.rise kept.stand (sym found ∙ is)))
+    let long = sym (length-columns 0 text c.self.inside.toggles.items)
+    ∙ ap (λ (line : LineContent). length line.columns) c.self.view_is in
+    stands_if_some c.find_mark.result _ (λ place is.
+    subst (λ len. place.offset ≤ len) long
+    (mark_stands marks (length text) number place kept.rise kept.stand (sym found ∙ is)))

@@ -11,7 +11,8 @@ use Rattle.segments.proofs.rich.RichLine.next_mark.Goals as goal
 pub returns-clause-above : goal.returns-clause-above
 returns-clause-above c =
     let found = c.next_mark.ensures in
-    subst (λ next. IfSome next (λ offset. c.args.column ≤ offset)) (sym found) (next_mark-above c.args.column (marks_of c.deref.result.now))
+    subst (λ next. IfSome next (λ offset. c.args.column ≤ offset)) (sym found)
+    (next_mark-above c.args.column (marks_of c.deref.result.now))
 
 pub returns-clause-bound : goal.returns-clause-bound
 returns-clause-bound c =
@@ -19,6 +20,8 @@ returns-clause-bound c =
     let text = c.self.inside.text in
     let marks = c.self.inside.marks.items in
     let found = c.next_mark.ensures ∙ ap (λ marks. next_mark c.args.column (marks_of marks)) c.deref.ensures.value in
-    let long = sym (length-columns 0 text c.self.inside.toggles.items) ∙ ap (λ (line : LineContent). length line.columns) c.self.view_is in
+    let long = sym (length-columns 0 text c.self.inside.toggles.items)
+    ∙ ap (λ (line : LineContent). length line.columns) c.self.view_is in
     subst (λ len. IfSome c.next_mark.result (λ offset. offset ≤ len)) long
-    (subst (λ next. IfSome next (λ offset. offset ≤ length text)) (sym found) (next_mark-stands marks c.args.column (length text) kept.rise kept.stand))
+    (subst (λ next. IfSome next (λ offset. offset ≤ length text)) (sym found)
+    (next_mark-stands marks c.args.column (length text) kept.rise kept.stand))

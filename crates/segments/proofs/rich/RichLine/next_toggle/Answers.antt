@@ -10,7 +10,12 @@ pub returns-clause-value : goal.returns-clause-value
 returns-clause-value c =
     let text = c.self.inside.text in
     let entries = c.self.inside.toggles.items in
-    let within : c.args.column ≤ length text = omega (arith, c.requires.within, ap (λ (line : LineContent). length line.columns) c.self.view_is, length-columns 0 text entries) in
+    let within : c.args.column ≤ length text = omega (
+      arith,
+      c.requires.within,
+      ap (λ (line : LineContent). length line.columns) c.self.view_is,
+      length-columns 0 text entries,
+    ) in
     c.next_toggle.ensures
     ∙ ap (next_entry c.args.slot.0 c.args.column) c.deref.ensures.value
     ∙ next_column c.args.slot.0 c.args.column text entries c.self.invariant.0 within
@@ -18,13 +23,16 @@ returns-clause-value c =
 
 pub returns-clause-above : goal.returns-clause-above
 returns-clause-above c =
-    subst (λ r. IfSome r (λ next. c.args.column ≤ next)) (sym c.next_toggle.ensures) (next_above c.args.slot.0 c.args.column c.deref.result.now)
+    subst (λ r. IfSome r (λ next. c.args.column ≤ next)) (sym c.next_toggle.ensures)
+    (next_above c.args.slot.0 c.args.column c.deref.result.now)
 
 pub returns-clause-bound : goal.returns-clause-bound
 returns-clause-bound c =
     let text = c.self.inside.text in
     let entries = c.self.inside.toggles.items in
-    let long : length text ≡ length c.args.self.now.columns = sym (length-columns 0 text entries) ∙ ap (λ (line : LineContent). length line.columns) c.self.view_is in
+    let long : length text ≡ length c.args.self.now.columns = sym (length-columns 0 text entries)
+    ∙ ap (λ (line : LineContent). length line.columns) c.self.view_is in
     subst (λ n. IfSome c.next_toggle.result (λ next. next < n)) long
-    (subst (λ r. IfSome r (λ next. next < length text)) (sym (c.next_toggle.ensures ∙ ap (next_entry c.args.slot.0 c.args.column) c.deref.ensures.value))
+    (subst (λ r. IfSome r (λ next. next < length text))
+    (sym (c.next_toggle.ensures ∙ ap (next_entry c.args.slot.0 c.args.column) c.deref.ensures.value))
     (next_below c.args.slot.0 c.args.column 0 (length text) entries c.self.invariant.0))

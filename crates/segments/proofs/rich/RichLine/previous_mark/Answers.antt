@@ -11,14 +11,18 @@ use Rattle.segments.proofs.rich.RichLine.previous_mark.Goals as goal
 pub returns-clause-below : goal.returns-clause-below
 returns-clause-below c =
     let found = c.previous_mark.ensures in
-    subst (λ previous. IfSome previous (λ offset. offset < c.args.column)) (sym found) (previous_mark-below c.args.column (marks_of c.deref.result.now))
+    subst (λ previous. IfSome previous (λ offset. offset < c.args.column)) (sym found)
+    (previous_mark-below c.args.column (marks_of c.deref.result.now))
 
 pub returns-clause-bound : goal.returns-clause-bound
 returns-clause-bound c =
     let kept = c.self.invariant.1 in
     let text = c.self.inside.text in
     let marks = c.self.inside.marks.items in
-    let found = c.previous_mark.ensures ∙ ap (λ marks. previous_mark c.args.column (marks_of marks)) c.deref.ensures.value in
-    let long = sym (length-columns 0 text c.self.inside.toggles.items) ∙ ap (λ (line : LineContent). length line.columns) c.self.view_is in
+    let found = c.previous_mark.ensures
+    ∙ ap (λ marks. previous_mark c.args.column (marks_of marks)) c.deref.ensures.value in
+    let long = sym (length-columns 0 text c.self.inside.toggles.items)
+    ∙ ap (λ (line : LineContent). length line.columns) c.self.view_is in
     subst (λ len. IfSome c.previous_mark.result (λ offset. offset ≤ len)) long
-    (subst (λ previous. IfSome previous (λ offset. offset ≤ length text)) (sym found) (previous_mark-stands marks c.args.column (length text) kept.rise kept.stand))
+    (subst (λ previous. IfSome previous (λ offset. offset ≤ length text)) (sym found)
+    (previous_mark-stands marks c.args.column (length text) kept.rise kept.stand))

@@ -9,7 +9,12 @@ pub returns-clause-value : goal.returns-clause-value
 returns-clause-value c =
     let text = c.self.inside.text in
     let entries = c.self.inside.toggles.items in
-    let within : c.args.column ≤ length text = omega (arith, c.requires.within, ap (λ (line : LineContent). length line.columns) c.self.view_is, length-columns 0 text entries) in
+    let within : c.args.column ≤ length text = omega (
+      arith,
+      c.requires.within,
+      ap (λ (line : LineContent). length line.columns) c.self.view_is,
+      length-columns 0 text entries,
+    ) in
     (rw c.deref.ensures.value at (c.previous_toggle.ensures 0 (length text))) c.self.invariant.0
     ∙ previous_column c.args.slot.0 c.args.column text entries c.self.invariant.0 within
     ∙ ap (λ (line : LineContent). previous_toggle c.args.slot.0 c.args.column line.columns) c.self.view_is
@@ -17,4 +22,6 @@ returns-clause-value c =
 pub returns-clause-below : goal.returns-clause-below
 returns-clause-below c =
     let entries = c.self.inside.toggles.items in
-    subst (λ r. IfSome r (λ previous. previous < c.args.column)) (sym ((rw c.deref.ensures.value at (c.previous_toggle.ensures 0 (length c.self.inside.text))) c.self.invariant.0)) (previous_below c.args.slot.0 c.args.column entries)
+    subst (λ r. IfSome r (λ previous. previous < c.args.column))
+    (sym ((rw c.deref.ensures.value at (c.previous_toggle.ensures 0 (length c.self.inside.text)))
+    c.self.invariant.0)) (previous_below c.args.slot.0 c.args.column entries)

@@ -14,7 +14,12 @@ use Rattle.segments.proofs.rich.RichLine.remove_range.Goals.{After-draw_marks, A
 
 within : (c : After-len-len) → c.args.to ≤ length c.self.inside.text
 within c =
-    omega (arith, c.requires.within, ap (λ (line : LineContent). length line.columns) c.self.view_is, length-columns 0 c.self.inside.text c.self.inside.toggles.items)
+    omega (
+      arith,
+      c.requires.within,
+      ap (λ (line : LineContent). length line.columns) c.self.view_is,
+      length-columns 0 c.self.inside.text c.self.inside.toggles.items,
+    )
 
 pub remove-requires-clause-within : goal.remove-requires-clause-within
 remove-requires-clause-within c = within (goal.at.remove-requires-clause-within c).After-len-len
@@ -25,28 +30,37 @@ remove_columns-requires-clause-within c =
     omega (arith, c.len-len.ensures, small)
 
 -- how many characters there are then
-shorter : (c : After-remove_columns) → c.args.to ≤ length c.self.inside.text → length c.remove.new.self + (c.args.to - c.args.from) ≡ length c.self.inside.text
+shorter : (c : After-remove_columns) → c.args.to ≤ length c.self.inside.text →
+    length c.remove.new.self + (c.args.to - c.args.from) ≡ length c.self.inside.text
 shorter c small =
-    ap (λ text. length text + (c.args.to - c.args.from)) c.in_ok-remove.ensures.new ∙ length-removed c.args.from c.args.to c.self.inside.text c.requires.ordered small
+    ap (λ text. length text + (c.args.to - c.args.from)) c.in_ok-remove.ensures.new
+    ∙ length-removed c.args.from c.args.to c.self.inside.text c.requires.ordered small
 
 -- the marks are all written anew
-marks_are : (c : After-draw_marks) → take c.self.inside.marks.len (c.draw_marks.new.marks ++ drop (length c.draw_marks.new.marks) c.self.inside.marks.items) ≡ map (with_place (drawn c.args.from c.args.to)) c.self.inside.marks.items
+marks_are : (c : After-draw_marks) → take c.self.inside.marks.len
+    (c.draw_marks.new.marks ++ drop (length c.draw_marks.new.marks) c.self.inside.marks.items)
+    ≡ map (with_place (drawn c.args.from c.args.to)) c.self.inside.marks.items
 marks_are c =
     let f = with_place (drawn c.args.from c.args.to) in
-    let new : c.draw_marks.new.marks ≡ map f c.self.inside.marks.items = c.draw_marks.ensures ∙ ap (map f) c.deref_mut.ensures.value in
-    written_over c.self.inside.marks.len c.draw_marks.new.marks c.self.inside.marks.items (ap length new ∙ length-map c.self.inside.marks.items f ∙ sym c.self.inside.marks.ok.0) ∙ new
+    let new : c.draw_marks.new.marks ≡ map f c.self.inside.marks.items = c.draw_marks.ensures
+    ∙ ap (map f) c.deref_mut.ensures.value in
+    written_over c.self.inside.marks.len c.draw_marks.new.marks c.self.inside.marks.items (ap length new
+    ∙ length-map c.self.inside.marks.items f ∙ sym c.self.inside.marks.ok.0) ∙ new
 
 pub invariant_of-self-2 : goal.invariant_of-self-2
 invariant_of-self-2 c =
     let small = within (goal.at.invariant_of-self-2 c).After-len-len in
     let short = shorter (goal.at.invariant_of-self-2 c).After-remove_columns small in
     let len = length c.self.inside.text in
-    let long : c.args.from + (c.len-len.result - c.args.to) ≡ length c.remove.new.self = omega (arith, c.len-len.ensures, short, small, c.requires.ordered) in
-    let long_too : c.args.from + (len - c.args.to) ≡ length c.remove.new.self = omega (arith, short, small, c.requires.ordered) in (
+    let long : c.args.from + (c.len-len.result - c.args.to)
+    ≡ length c.remove.new.self = omega (arith, c.len-len.ensures, short, small, c.requires.ordered) in
+    let long_too : c.args.from + (len - c.args.to)
+    ≡ length c.remove.new.self = omega (arith, short, small, c.requires.ordered) in (
       subst (λ n. LieIn 0 n c.remove_columns.new.toggles.items) long c.remove_columns.ensures.lie,
       subst (AreMarks (length c.remove.new.self)) (sym (marks_are (goal.at.invariant_of-self-2 c).After-draw_marks))
           (AreMarks-placed (drawn c.args.from c.args.to) c.self.inside.marks.items len (length c.remove.new.self)
-          (λ mark there. subst (λ n. (drawn c.args.from c.args.to mark).offset ≤ n) long_too (omega (arith, there))) c.self.invariant.1),
+          (λ mark there. subst (λ n. (drawn c.args.from c.args.to mark).offset ≤ n) long_too (omega (arith, there)))
+          c.self.invariant.1),
     )
 
 pub returns-clause-new : goal.returns-clause-new
@@ -58,7 +72,9 @@ returns-clause-new c =
     let to = c.args.to in
     let columns =
     ap (λ t. columns_from 0 t c.remove_columns.new.toggles.items) c.in_ok-remove.ensures.new
-    ∙ columns_removed from to c.len-len.result entries c.remove_columns.new.toggles.items c.requires.ordered c.remove_columns.ensures.front c.remove_columns.ensures.behind text (sym c.len-len.ensures) small c.self.invariant.0 in
+    ∙ columns_removed from to c.len-len.result entries c.remove_columns.new.toggles.items c.requires.ordered
+    c.remove_columns.ensures.front c.remove_columns.ensures.behind text (sym c.len-len.ensures) small
+    c.self.invariant.0 in
     let marks =
     ap marks_of (marks_are (goal.at.returns-clause-new c).After-draw_marks)
     ∙ marks_of-placed (drawn from to) c.self.inside.marks.items c.self.invariant.1.rise in

@@ -22,8 +22,10 @@ loop-entry-init c =
       lines = refl;
       characters = refl;
       marks = refl;
-      parity = ap (λ (count : Count). differing count.parity (odd_of entries)) c.counting-sums.ensures ∙ empty-differing (odd_of entries);
-      presence = ap (λ (count : Count). set.union count.presence (any_of entries)) c.counting-sums.ensures ∙ empty-union (any_of entries);
+      parity = ap (λ (count : Count). differing count.parity (odd_of entries)) c.counting-sums.ensures
+          ∙ empty-differing (odd_of entries);
+      presence = ap (λ (count : Count). set.union count.presence (any_of entries)) c.counting-sums.ensures
+          ∙ empty-union (any_of entries);
     }
 
 pub loop-entry-preserved : goal.loop-entry-preserved
@@ -39,11 +41,13 @@ loop-entry-preserved c =
       marks = ap (λ (count : Count). count.marks) sums ∙ kept.marks;
       parity =
           ap (λ (count : Count). differing count.parity (odd_of (drop (index + 1) entries))) sums
-          ∙ ap (λ (e : Toggled). differing (differing so_far.parity e.slots) (odd_of (drop (index + 1) entries))) c.entry-item.is
+          ∙ ap (λ (e : Toggled). differing (differing so_far.parity e.slots) (odd_of (drop (index + 1) entries)))
+          c.entry-item.is
           ∙ odd_more entries index item so_far.parity _ c.loop-entry-test.true kept.parity;
       presence =
           ap (λ (count : Count). set.union count.presence (any_of (drop (index + 1) entries))) sums
-          ∙ ap (λ (e : Toggled). set.union (set.union so_far.presence e.slots) (any_of (drop (index + 1) entries))) c.entry-item.is
+          ∙ ap (λ (e : Toggled). set.union (set.union so_far.presence e.slots) (any_of (drop (index + 1) entries)))
+          c.entry-item.is
           ∙ any_more entries index item so_far.presence _ c.loop-entry-test.true kept.presence;
     }
 
@@ -58,9 +62,11 @@ returns c =
     let all = drop_all c.loop-entry.entry-index entries c.loop-entry-test.false in
     let lines : sums.lines ≡ 1 = inv.lines ∙ ap (λ (count : Count). count.lines) counted in
     let characters : sums.characters ≡ length (columns_from 0 text kept) =
-    inv.characters ∙ ap (λ (count : Count). count.characters) counted ∙ c.len.ensures ∙ sym (length-columns 0 text kept) in
+    inv.characters ∙ ap (λ (count : Count). count.characters) counted ∙ c.len.ensures
+    ∙ sym (length-columns 0 text kept) in
     let marks : sums.marks ≡ finite.len (marks_of c.self.inside.marks.items) =
-    inv.marks ∙ ap (λ (count : Count). count.marks) counted ∙ c.len-2.ensures ∙ c.self.inside.marks.ok.0 ∙ sym (len-marks c.self.inside.marks.items c.self.invariant.1.rise) in
+    inv.marks ∙ ap (λ (count : Count). count.marks) counted ∙ c.len-2.ensures ∙ c.self.inside.marks.ok.0
+    ∙ sym (len-marks c.self.inside.marks.items c.self.invariant.1.rise) in
     let odd : sums.parity ≡ parity (toggles (columns_from 0 text kept)) =
     sym (differing-empty sums.parity)
     ∙ ap (λ es. differing sums.parity (odd_of es)) (sym all)
@@ -71,4 +77,5 @@ returns c =
     ∙ ap (λ es. set.union sums.presence (any_of es)) (sym all)
     ∙ inv.presence ∙ ap any_of c.deref-entry-items.ensures.value
     ∙ sym (presence-columns 0 (length text) text kept (omega arith) c.self.invariant.0) in
-    (λ i. record { lines = lines i; characters = characters i; marks = marks i; parity = odd i; presence = any i }) ∙ ap line_count c.self.view_is
+    (λ i. record { lines = lines i; characters = characters i; marks = marks i; parity = odd i; presence = any i })
+    ∙ ap line_count c.self.view_is

@@ -30,4 +30,10 @@ returns c =
 
 pub overflow_add-column : goal.overflow_add-column
 overflow_add-column c =
-    omega (arith, c.requires, c.len.ensures, ap (λ (line : LineContent). length line.columns) c.self.view_is, length-columns 0 c.self.inside.text c.self.inside.toggles.items)
+    omega (
+      arith,
+      c.requires,
+      c.len.ensures,
+      ap (λ (line : LineContent). length line.columns) c.self.view_is,
+      length-columns 0 c.self.inside.text c.self.inside.toggles.items,
+    )

@@ -9,7 +9,12 @@ use Rattle.segments.proofs.rich.RichLine.toggle.Goals as goal
 pub invariant_of-self : goal.invariant_of-self
 invariant_of-self c = (
   c.flip.ensures.lie 0 (length c.self.inside.text) c.self.invariant.0 (omega arith)
-      (omega (arith, c.requires, ap (λ (line : LineContent). length line.columns) c.self.view_is, length-columns 0 c.self.inside.text c.self.inside.toggles.items)),
+      (omega (
+        arith,
+        c.requires,
+        ap (λ (line : LineContent). length line.columns) c.self.view_is,
+        length-columns 0 c.self.inside.text c.self.inside.toggles.items,
+      )),
   c.self.invariant.1,
 )
 
@@ -17,7 +22,14 @@ pub returns-clause-columns : goal.returns-clause-columns
 returns-clause-columns c =
     let text = c.self.inside.text in
     let within : c.args.column < length text =
-    omega (arith, c.requires, ap (λ (line : LineContent). length line.columns) c.self.view_is, length-columns 0 text c.self.inside.toggles.items) in
+    omega (
+      arith,
+      c.requires,
+      ap (λ (line : LineContent). length line.columns) c.self.view_is,
+      length-columns 0 text c.self.inside.toggles.items,
+    ) in
     on_ok_weaker c.flip.result (λ flips.
-    columns_flipped c.args.column c.args.slots.now text c.flip.new.toggles.items c.self.inside.toggles.items within (λ at. flips 0 (length text) at c.self.invariant.0)
-    ∙ ap (λ (line : LineContent). changed (toggled_more c.args.slots.now) c.args.column (c.args.column + 1) line.columns) c.self.view_is) c.flip.ensures.slots
+    columns_flipped c.args.column c.args.slots.now text c.flip.new.toggles.items c.self.inside.toggles.items within
+    (λ at. flips 0 (length text) at c.self.invariant.0)
+    ∙ ap (λ (line : LineContent). changed (toggled_more c.args.slots.now) c.args.column (c.args.column + 1)
+    line.columns) c.self.view_is) c.flip.ensures.slots

@@ -9,7 +9,8 @@ use Rattle.tag_table.proofs.TagLaws.{no_place, AreKept-push, IsLeastFree-slot, d
 use Rattle.tag_table.proofs.tags.TagTable.create.Goals as goal
 
 pub create-requires : goal.create-requires
-create-requires c = no_place (chars (string_bytes c.args.name)) c.self.inside.names.entries (ap (λ (ts : Tags). slot_of (chars (string_bytes c.args.name)) ts.tags) c.self.view_is ∙ c.requires)
+create-requires c = no_place (chars (string_bytes c.args.name)) c.self.inside.names.entries
+    (ap (λ (ts : Tags). slot_of (chars (string_bytes c.args.name)) ts.tags) c.self.view_is ∙ c.requires)
 
 pub invariant_of-self-2 : goal.invariant_of-self-2
 invariant_of-self-2 c =
@@ -20,7 +21,8 @@ pub returns-clause-least : goal.returns-clause-least
 returns-clause-least c =
     let least = rw c.in-Some.is at c.in_ok-number.ensures.least in
     subst (λ (ts : Tags). IsLeastFree (slots_of ts.tags) c.slot_of_number.result.0) c.self.view_is
-    (rw c.slot_of_number.ensures.value (IsLeastFree-slot c.self.inside.names.entries c.in-Some.number (sel_number c.self.inside.names c.self.invariant) least))
+    (rw c.slot_of_number.ensures.value (IsLeastFree-slot c.self.inside.names.entries c.in-Some.number
+    (sel_number c.self.inside.names c.self.invariant) least))
 
 pub returns-clause-back : goal.returns-clause-back
 returns-clause-back c =

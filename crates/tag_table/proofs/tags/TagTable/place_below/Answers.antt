@@ -6,15 +6,22 @@ use Rattle.tag_table.proofs.tags.TagTable.place_below.Goals as goal
 
 pub returns-in_default-place-clause-place : goal.returns-in_default-place-clause-place
 returns-in_default-place-clause-place c =
-    let at = place_of_tag _ c.self.inside.names c.args.self.now _ c.self.view_is c.place.ensures.value ∙ c.in_default-place.is in
+    let at = place_of_tag _ c.self.inside.names c.args.self.now _ c.self.view_is c.place.ensures.value
+    ∙ c.in_default-place.is in
     sym (below_is c.args.from _ _ _ c.args.self.now.tags (ap (option_map (λ other. chars other.now)) c.in-Some.is) at)
 
 pub returns-then-from-at-clause-place : goal.returns-then-from-at-clause-place
 returns-then-from-at-clause-place c =
-    let at = place_of_tag _ c.self.inside.names c.args.self.now _ c.self.view_is c.place.ensures.value ∙ c.in-Some-place.is in
-    ap (λ b. Ok (if b then c.in-Some-place.at - 1 else c.in-Some-place.at)) (sym (lt-ltb _ _ c.if-from-at.true)) ∙ sym (below_is c.args.from _ _ _ c.args.self.now.tags (ap (option_map (λ other. chars other.now)) c.in-Some.is) at)
+    let at = place_of_tag _ c.self.inside.names c.args.self.now _ c.self.view_is c.place.ensures.value
+    ∙ c.in-Some-place.is in
+    ap (λ b. Ok (if b then c.in-Some-place.at - 1 else c.in-Some-place.at)) (sym (lt-ltb _ _ c.if-from-at.true))
+    ∙ sym (below_is c.args.from _ _ _ c.args.self.now.tags (ap (option_map (λ other. chars other.now)) c.in-Some.is)
+    at)
 
 pub returns-else-from-at-clause-place : goal.returns-else-from-at-clause-place
 returns-else-from-at-clause-place c =
-    let at = place_of_tag _ c.self.inside.names c.args.self.now _ c.self.view_is c.place.ensures.value ∙ c.in-Some-place.is in
-    ap (λ b. Ok (if b then c.in-Some-place.at - 1 else c.in-Some-place.at)) (sym (le-ltb _ _ c.if-from-at.false)) ∙ sym (below_is c.args.from _ _ _ c.args.self.now.tags (ap (option_map (λ other. chars other.now)) c.in-Some.is) at)
+    let at = place_of_tag _ c.self.inside.names c.args.self.now _ c.self.view_is c.place.ensures.value
+    ∙ c.in-Some-place.is in
+    ap (λ b. Ok (if b then c.in-Some-place.at - 1 else c.in-Some-place.at)) (sym (le-ltb _ _ c.if-from-at.false))
+    ∙ sym (below_is c.args.from _ _ _ c.args.self.now.tags (ap (option_map (λ other. chars other.now)) c.in-Some.is)
+    at)

@@ -9,7 +9,8 @@ pub returns-then-line-gt0 : goal.returns-then-line-gt0
 returns-then-line-gt0 g c =
     let cells = (g.S.TextStore.content c.args.store.now).cells in
     let own = c.args.self.now in
-    let step = line-step cells own.fresh.items own.front.items c.loop-left.left c.loop-left.end c.index-part.result.now (same-fit own cells own.front.items (sym c.requires.old) c.requires.cursor.front)
+    let step = line-step cells own.fresh.items own.front.items c.loop-left.left c.loop-left.end c.index-part.result.now
+    (same-fit own cells own.front.items (sym c.requires.old) c.requires.cursor.front)
     c.loop-left.invariant c.loop-left-test.true c.index-part.ensures in
     let found = rw c.deref.ensures.value at c.last_line_in-line.ensures.value in
     ap (λ n. c.loop-left.end - (c.index-part.result.now.to - c.index-part.result.now.from) + n) found
@@ -20,7 +21,8 @@ pub loop-left-preserved : goal.loop-left-preserved
 loop-left-preserved g c =
     let cells = (g.S.TextStore.content c.args.store.now).cells in
     let own = c.args.self.now in
-    let step = line-step cells own.fresh.items own.front.items c.loop-left.left c.loop-left.end c.index-part.result.now (same-fit own cells own.front.items (sym c.requires.old) c.requires.cursor.front)
+    let step = line-step cells own.fresh.items own.front.items c.loop-left.left c.loop-left.end c.index-part.result.now
+    (same-fit own cells own.front.items (sym c.requires.old) c.requires.cursor.front)
     c.loop-left.invariant c.loop-left-test.true c.index-part.ensures in
     let found = rw c.deref.ensures.value at c.last_line_in-line.ensures.value in
     step.none (sym found ∙ omega arith)

@@ -7,6 +7,7 @@ loop-self-init c = record { takes = takes-none c.args.self.now c.requires.cursor
 
 pub loop-self-preserved : goal.loop-self-preserved
 loop-self-preserved c = record {
-  takes = takes-both c.args.self.now c.loop-self.self c.drop_part.new.self c.requires.cursor c.loop-self.invariant.takes c.in_ok-drop_part.ensures.takes;
+  takes = takes-both c.args.self.now c.loop-self.self c.drop_part.new.self c.requires.cursor c.loop-self.invariant.takes
+      c.in_ok-drop_part.ensures.takes;
   above = let bound = c.in_ok-drop_part.ensures.bound in omega arith;
 }

@@ -3,4 +3,5 @@ use Rattle.text_cursor.proofs.CursorLaws.{moves-back}
 use Rattle.text_cursor.proofs.cursors.Cursor.step_back.Goals as goal
 
 pub returns-clause-moves : goal.returns-clause-moves
-returns-clause-moves c = moves-back c.args.self.now _ c.in-Some.part c.requires.cursor c.in-Some.ensures.items c.in_ok-push.ensures.items refl refl refl refl
+returns-clause-moves c = moves-back c.args.self.now _ c.in-Some.part c.requires.cursor c.in-Some.ensures.items
+    c.in_ok-push.ensures.items refl refl refl refl

@@ -4,9 +4,11 @@ use Rattle.text_cursor.proofs.cursors.Cursor.step_on.Goals as goal
 
 pub returns-then-count-most-clause-moves : goal.returns-then-count-most-clause-moves
 returns-then-count-most-clause-moves c =
-    moves-over c.args.self.now _ c.in-Some.part c.requires.cursor c.in-Some.ensures.items c.in_ok-push.ensures.items refl refl refl refl
+    moves-over c.args.self.now _ c.in-Some.part c.requires.cursor c.in-Some.ensures.items c.in_ok-push.ensures.items
+    refl refl refl refl
 
 pub returns-clause-moves : goal.returns-clause-moves
 returns-clause-moves c =
-    moves-in c.args.self.now _ c.in-Some.part c.pop.new.self.items c.args.most c.requires.cursor c.in-Some.ensures.items c.requires.some c.if-count-most.false
+    moves-in c.args.self.now _ c.in-Some.part c.pop.new.self.items c.args.most c.requires.cursor c.in-Some.ensures.items
+    c.requires.some c.if-count-most.false
     c.in_ok-push-2.ensures.items c.in_ok-push-3.ensures.items refl refl refl refl

@@ -7,10 +7,20 @@ pub overflow_sub-result : goal.overflow_sub-result
 overflow_sub-result g c =
     let view = c.args.self.now in
     let content = g.S.TextStore.content view.store.now in
-    omega (arith, lines-part (characters content.cells) view.s view.e c.args.place c.requires.within, c.line_of.ensures, c.line_of-2.ensures)
+    omega (
+      arith,
+      lines-part (characters content.cells) view.s view.e c.args.place c.requires.within,
+      c.line_of.ensures,
+      c.first_line.ensures,
+    )
 
 pub returns : goal.returns
 returns g c =
     let view = c.args.self.now in
     let content = g.S.TextStore.content view.store.now in
-    omega (arith, lines-part (characters content.cells) view.s view.e c.args.place c.requires.within, c.line_of.ensures, c.line_of-2.ensures)
+    omega (
+      arith,
+      lines-part (characters content.cells) view.s view.e c.args.place c.requires.within,
+      c.line_of.ensures,
+      c.first_line.ensures,
+    )

@@ -1,41 +1,62 @@
-use Rattle.std.proofs.Common.{◌+◌, ap, ◌∙◌, arith}
+use Rattle.std.proofs.Common.{◌≡◌, ◌+◌, ap, sym, ◌∙◌, arith}
 use Rattle.text_model.specs.Content.{characters}
-use Rattle.text_model.specs.Lines.{line_start}
-use Rattle.text_model.proofs.LineLaws.{line_start-le}
-use Rattle.text_index.specs.Views.{shown}
-use Rattle.text_index.proofs.ViewLaws.{lines-of-part, start-part, line_of-within, length-shown}
+use Rattle.text_model.specs.Lines.{line_of, line_start}
+use Rattle.text_index.proofs.StartLaws.{none-shown, start-after, start-shown}
+use Rattle.text_index.proofs.ViewLaws.{length-shown}
 use Rattle.text_index.proofs.views.View.line_start.Goals as goal
 
-pub line_start-requires : goal.line_start-requires
-line_start-requires g c =
+pub returns-then-number-lines-clause-value : goal.returns-then-number-lines-clause-value
+returns-then-number-lines-clause-value g c =
     let view = c.args.self.now in
-    let text = characters (g.S.TextStore.content view.store.now).cells in
-    omega (arith, lines-of-part text view.s view.e c.requires.view.ordered, line_of-within text view.e, c.line_of.ensures, c.requires.within)
+    let content = g.S.TextStore.content view.store.now in
+    let text = characters content.cells in
+    sym (none-shown text view.s view.e c.requires.first c.requires.behind c.requires.ordered
+    (length-shown content view.s view.e c.requires) c.args.line
+    (omega (arith, c.if-number-lines.true, c.saturating_add-number.ensures, c.first_line.ensures, c.lines.ensures))).1
 
-pub overflow_sub-result : goal.overflow_sub-result
-overflow_sub-result g c =
+pub overflow_sub-result-2 : goal.overflow_sub-result-2
+overflow_sub-result-2 g c =
     let view = c.args.self.now in
-    let text = characters (g.S.TextStore.content view.store.now).cells in
-    let is = c.line_start.ensures.value ∙ ap (λ k. line_start (k + c.args.line) text) c.line_of.ensures in
-    omega (arith, start-part text view.s view.e c.args.line c.requires.view.first c.requires.within, is)
+    let content = g.S.TextStore.content view.store.now in
+    let text = characters content.cells in
+    let number : c.saturating_add-number.result ≡ line_of text view.s + c.args.line =
+    omega (
+      arith,
+      c.if-number-lines.false,
+      c.saturating_add-number.ensures,
+      c.first_line.ensures,
+      c.lines.ensures,
+      c.lines.type_inv,
+    ) in
+    let is = c.line_start.ensures.value ∙ ap (λ k. line_start k text) number in
+    omega (
+      arith,
+      start-after text view.s view.e c.requires.first c.requires.behind c.requires.ordered
+          (length-shown content view.s view.e c.requires) c.args.line,
+      c.min.ensures,
+      is,
+      c.requires.ordered,
+    )
 
 pub returns-clause-value : goal.returns-clause-value
 returns-clause-value g c =
     let view = c.args.self.now in
-    let text = characters (g.S.TextStore.content view.store.now).cells in
-    let is = c.line_start.ensures.value ∙ ap (λ k. line_start (k + c.args.line) text) c.line_of.ensures in
-    omega (arith, start-part text view.s view.e c.args.line c.requires.view.first c.requires.within, is)
-
-pub returns-clause-bound : goal.returns-clause-bound
-returns-clause-bound g c =
-    let view = c.args.self.now in
     let content = g.S.TextStore.content view.store.now in
     let text = characters content.cells in
-    let is = c.line_start.ensures.value ∙ ap (λ k. line_start (k + c.args.line) text) c.line_of.ensures in
+    let number : c.saturating_add-number.result ≡ line_of text view.s + c.args.line =
     omega (
       arith,
-      start-part text view.s view.e c.args.line c.requires.view.first c.requires.within,
+      c.if-number-lines.false,
+      c.saturating_add-number.ensures,
+      c.first_line.ensures,
+      c.lines.ensures,
+      c.lines.type_inv,
+    ) in
+    let is = c.line_start.ensures.value ∙ ap (λ k. line_start k text) number in
+    omega (
+      arith,
+      start-shown text view.s view.e c.requires.first c.requires.behind c.requires.ordered
+          (length-shown content view.s view.e c.requires) c.args.line,
+      c.min.ensures,
       is,
-      line_start-le (shown content view.s view.e) c.args.line,
-      length-shown content view.s view.e c.requires.view,
     )

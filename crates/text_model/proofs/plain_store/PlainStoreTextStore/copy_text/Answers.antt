@@ -17,4 +17,5 @@ returns c =
     c.loop-cell.invariant
     ∙ ap characters (take_all c.loop-cell.cell-index _ c.loop-cell-test.false)
     ∙ ap (λ xs. characters (take count (drop c.args.start xs))) c.deref.ensures.value
-    ∙ sym (take-map character count (drop c.args.start cells)) ∙ ap (take count) (sym (drop-map character c.args.start cells))
+    ∙ sym (take-map character count (drop c.args.start cells))
+    ∙ ap (take count) (sym (drop-map character c.args.start cells))

@@ -8,5 +8,6 @@ invariant_of-result c = record { plain = rw c.new.ensures.items (IsPlain-new c.p
 pub returns : goal.returns
 returns c =
     plain_content-new c.push.new.self.items c.new.result.items
-    (c.in_ok-push.ensures.items ∙ ap₂ (λ cells tags. cells ++ record { character = 10; tags = tags } ∷ []) c.in_ok-cells.ensures.items c.empty.ensures)
+    (c.in_ok-push.ensures.items ∙ ap₂ (λ cells tags. cells ++ record { character = 10; tags = tags } ∷ [])
+    c.in_ok-cells.ensures.items c.empty.ensures)
     c.new.ensures.items

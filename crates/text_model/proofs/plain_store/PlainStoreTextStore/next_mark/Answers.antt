@@ -8,4 +8,5 @@ returns-clause-above c = rw c.find_next.ensures (next_mark-above c.args.offset (
 pub returns-clause-bound : goal.returns-clause-bound
 returns-clause-bound c =
     let s = c.args.self.now in
-    rw (c.find_next.ensures, c.deref.ensures.value) (next_mark-within c.args.offset (plain_content s.cells.items s.places.items) s.plain.stand)
+    rw (c.find_next.ensures, c.deref.ensures.value)
+    (next_mark-within c.args.offset (plain_content s.cells.items s.places.items) s.plain.stand)

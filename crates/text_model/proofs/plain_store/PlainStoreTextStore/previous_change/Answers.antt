@@ -22,4 +22,6 @@ overflow_sub-result c =
 pub returns-clause-value : goal.returns-clause-value
 returns-clause-value c =
     let s = c.args.self.now in
-    previous_change_found s.cells.items c.deref.result.now c.args.slot.0 c.args.offset c.has-is_on.result c.index.result.now c.alike_from_last.result c.requires.some c.requires.within c.deref.ensures.value c.index.ensures c.has-is_on.ensures c.alike_from_last.ensures
+    previous_change_found s.cells.items c.deref.result.now c.args.slot.0 c.args.offset c.has-is_on.result
+    c.index.result.now c.alike_from_last.result c.requires.some c.requires.within c.deref.ensures.value
+    c.index.ensures c.has-is_on.ensures c.alike_from_last.ensures

@@ -8,4 +8,5 @@ returns-clause-below c = rw c.find_previous.ensures (previous_mark-below c.args.
 pub returns-clause-bound : goal.returns-clause-bound
 returns-clause-bound c =
     let s = c.args.self.now in
-    rw (c.find_previous.ensures, c.deref.ensures.value) (previous_mark-within c.args.offset (plain_content s.cells.items s.places.items) s.plain.stand)
+    rw (c.find_previous.ensures, c.deref.ensures.value)
+    (previous_mark-within c.args.offset (plain_content s.cells.items s.places.items) s.plain.stand)

@@ -13,6 +13,8 @@ returns c =
       lines = sums.lines;
       characters = sums.characters;
       marks = sums.marks;
-      parity = (slots_of-differing WORDS sums.parity c.words-words.result _ c.differing_words.ensures ∙ ap (differing (slots_of WORDS sums.parity)) c.words-words.ensures) i;
-      presence = (slots_of-joined WORDS sums.presence c.words-words.result _ c.joined_words.ensures ∙ ap (set.union (slots_of WORDS sums.presence)) c.words-words.ensures) i;
+      parity = (slots_of-differing WORDS sums.parity c.words-words.result _ c.differing_words.ensures
+          ∙ ap (differing (slots_of WORDS sums.parity)) c.words-words.ensures) i;
+      presence = (slots_of-joined WORDS sums.presence c.words-words.result _ c.joined_words.ensures
+          ∙ ap (set.union (slots_of WORDS sums.presence)) c.words-words.ensures) i;
     })

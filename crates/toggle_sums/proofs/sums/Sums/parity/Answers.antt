@@ -5,4 +5,5 @@ use Rattle.toggle_sums.proofs.WordSteps.{found_bit}
 use Rattle.toggle_sums.proofs.sums.Sums.parity.Goals as goal
 
 pub returns : goal.returns
-returns g c = found_bit g.row.K c.self.inside.parity c.args.slot.0 c.requires ∙ ap (λ (sums : Count). set.contains sums.parity c.args.slot.0) c.self.view_is
+returns g c = found_bit g.row.K c.self.inside.parity c.args.slot.0 c.requires
+    ∙ ap (λ (sums : Count). set.contains sums.parity c.args.slot.0) c.self.view_is

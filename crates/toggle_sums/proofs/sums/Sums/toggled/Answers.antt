@@ -4,8 +4,10 @@ use Rattle.toggle_sums.proofs.sums.Sums.toggled.Goals as goal
 pub invariant_of-sums : goal.invariant_of-sums
 invariant_of-sums g c =
     let now = c.sums.inside in
-    let slot = c.args.slot.0 in
-    (AreWords-xor g.row.K now.parity slot c.sums.invariant.0 c.requires, AreWords-or g.row.K now.presence slot c.sums.invariant.1 c.requires)
+    let slot = c.args.slot.0 in (
+      AreWords-xor g.row.K now.parity slot c.sums.invariant.0 c.requires,
+      AreWords-or g.row.K now.presence slot c.sums.invariant.1 c.requires,
+    )
 
 pub returns : goal.returns
 returns g c =

@@ -10,4 +10,5 @@ loop-preserved c =
 
 pub returns : goal.returns
 returns c =
-    sym (c.loop.invariant ∙ ap (λ left. times left counted_up c.loop.self) (let e : c.args.actions - c.loop.counter ≡ 0 = omega arith in e))
+    sym (c.loop.invariant ∙ ap (λ left. times left counted_up c.loop.self) (let e : c.args.actions - c.loop.counter
+    ≡ 0 = omega arith in e))

@@ -16,7 +16,8 @@ loop-preserved c = record {
   history =
       c.drop_oldest.ensures.history
       ∙ ap (λ (h : History). record h { groups = drop 1 h.groups }) c.loop.invariant.history
-      ∙ ap (λ (gs : List (List Action)). record c.args.self.now.history { groups = gs }) (drop-one_more c.loop.counter c.args.self.now.history.groups);
+      ∙ ap (λ (gs : List (List Action)). record c.args.self.now.history { groups = gs })
+      (drop-one_more c.loop.counter c.args.self.now.history.groups);
   modified = c.drop_oldest.ensures.modified ∙ c.loop.invariant.modified;
   most = c.drop_oldest.ensures.most ∙ c.loop.invariant.most;
   room = omega (arith, c.drop_oldest.ensures.room, c.loop.invariant.room);

@@ -1,0 +1,16 @@
+use Rattle.std.proofs.Common.{◌≡◌, ◌+◌, ◌-◌, ◌*◌, ◌≤◌, ◌<◌, take}
+use Rattle.std.specs.List.{sum_by}
+use Rattle.raw_nodes.specs.Names.{records}
+use Rattle.raw_nodes.specs.Rows.{kids}
+use Rattle.line_tree.specs.Locating.{characters_at, characters_below}
+use Rattle.line_tree.specs.Shape.{lines_at}
+use Rattle.line_tree.proofs.locate.find_char_back.Given as goal
+
+abbrev pub invariant-loop-back : goal.invariant-loop-back
+invariant-loop-back g l = record {
+  place : sum_by (characters_at (records l.store)) (take (12 - l.back) (kids (records l.store) l.node))
+      ≡ characters_below (records l.store) l.node - l.behind + l.rest;
+  some : 0 < l.rest;
+  lines : l.lines ≡ sum_by (lines_at (records l.store)) (take (12 - l.back) (kids (records l.store) l.node));
+  ticks : g.C.Ticks.count l.ticks ≤ g.C.Ticks.count l.fn.ticks + 2 * l.back;
+}

@@ -1,0 +1,22 @@
+use Rattle.std.proofs.Common.{ap, ◌∙◌, arith}
+use Rattle.std.specs.Prelude.{option_map}
+use Rattle.std.proofs.lemmas.Option.{slice_get-map}
+use Rattle.line_tree.specs.Trees.{Named}
+use Rattle.line_tree.proofs.ListedLaws.{characters-in, place-holds}
+use Rattle.line_tree.proofs.tree_lines.TreeLinesLineList.line_at.Goals as goal
+
+pub locate_line-found-requires : goal.locate_line-found-requires
+locate_line-found-requires c = let all = characters-in c.args.self.now.tree.lines in let within = c.requires in
+    omega (arith, all, within)
+
+pub line-requires : goal.line-requires
+line-requires c = (c.locate_line-found.result.line, c.locate_line-found.ensures.name)
+
+pub returns-clause-place : goal.returns-clause-place
+returns-clause-place c = let found = c.locate_line-found in
+    place-holds c.args.self.now.tree.lines c.args.offset found.result.line found.result.column found.ensures.place
+
+pub returns-clause-line : goal.returns-clause-line
+returns-clause-line c = let ls = c.args.self.now.tree.lines in let k = c.locate_line-found.result.line in
+    slice_get-map (λ (l : Named). l.1) ls k
+    ∙ ap (option_map (λ (l : Named). l.1)) (c.line.ensures k c.locate_line-found.ensures.name)

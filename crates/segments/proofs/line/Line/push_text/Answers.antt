@@ -1,0 +1,14 @@
+use Rattle.std.proofs.Common.{◌≡◌, ◌++◌, sym, ap, subst, ◌∙◌}
+use Rattle.std.specs.Prelude.{OnOk, chars, slice_range, string_bytes}
+use Rattle.segments.specs.Columns.{LineContent, characters}
+use Rattle.segments.specs.Forms.{content}
+use Rattle.segments.proofs.PlainLaws.{characters-plain}
+use Rattle.segments.proofs.line.Line.push_text.Goals as goal
+
+pub returns-in-Plain : goal.returns-in-Plain
+returns-in-Plain c =
+    let same = sym (characters-plain c.in-Plain.characters)
+    ∙ ap (λ (line : LineContent). characters line.columns) (ap content (sym c.in-Plain.is) ∙ c.self.view_is) in
+    subst (λ xs. OnOk c.push.result (chars (string_bytes c.push.new.text)
+    ≡ chars (string_bytes c.args.text.now) ++ slice_range xs c.args.from c.args.to)) same
+    c.push.ensures

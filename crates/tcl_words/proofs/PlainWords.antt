@@ -1,0 +1,279 @@
+-- Words that stand in a command as they are, step by step.
+use Rattle.std.proofs.Common.{◌≡◌, ◌+◌, ◌-◌, ◌<◌, ◌==◌, ℕ, suc, ⊎_elim, get_or, IsUtf8, Bool, true, false, Option, Some}
+use Rattle.std.proofs.Common.{None, IfSome, List, [], ◌∷◌, ◌++◌, map, length, take, drop, chars, encode_utf8}
+use Rattle.std.proofs.Common.{encode_utf8_all, refl, sym, ap, ◌∙◌, arith, subst, append-nil}
+use Rattle.std.proofs.lemmas.Bool.Decides.{nat_tests, Decides-eqb}
+use Rattle.std.specs.Prelude.{slice_range}
+use Rattle.std.proofs.lemmas.Str.{encode_ascii, encodes-chars, IsUtf8-take, IsUtf8-drop, IsCharBoundary-before_ascii}
+use Rattle.std.proofs.lemmas.Str.{IsCharBoundary-after_ascii}
+use Rattle.std.proofs.lemmas.List.{drop_more}
+use Rattle.tcl_words.specs.Characters.{is_end, is_blank}
+use Rattle.tcl_words.specs.Steps.{step_of, closes, no_output}
+use Rattle.tcl_words.specs.Scanning.{later, scan_next, scanned, written, words_next, pieces_from}
+use Rattle.tcl_words.specs.Runs.{is_plain, is_quoted, is_braced, begun, IsSeam}
+use Rattle.tcl_words.specs.PlainWords.{scan_behind, words_behind, spelled_from, EndsWord, IsPlainWord, IsClosed}
+use Rattle.tcl_words.specs.declared.runs.Seam.TheVariants as seams
+use Rattle.tcl_words.specs.declared.stage.TextWord.TheVariants.{Bare, Quoted}
+use Rattle.tcl_words.specs.declared.stage.Closing.{Closing}
+use Rattle.tcl_words.specs.declared.stage.Closing.TheVariants.{Brace, Quote}
+use Rattle.tcl_words.specs.declared.plain_words.PlainWord.{PlainWord}
+use Rattle.tcl_words.specs.declared.stage.Stage.{Stage}
+use Rattle.tcl_words.specs.declared.stage.Stage.TheVariants.{BeforeWord, Text, AfterOpening, Braced, Behind}
+use Rattle.tcl_words.specs.declared.stage.Step.{Step}
+use Rattle.tcl_words.specs.declared.stage.Next.{Next}
+use Rattle.tcl_words.specs.declared.stage.Next.TheVariants.{Go, End}
+use Rattle.tcl_words.proofs.Verdicts.{scanned-cons, pieces-cons}
+use Rattle.tcl_words.proofs.Spelling.{below_or, later-later}
+use Rattle.tcl_words.proofs.Plain.{scan_skips, scan_begun, run_of, RunOf, front_range, blank_step, end_step, by_true}
+use Rattle.tcl_words.proofs.Plain.{by_false}
+use Rattle.tcl_words.proofs.Writing.{prefixed, spelled, prefixed_nil, run_written, pieces_begun, ascii_cons, low_blank}
+use Rattle.tcl_words.proofs.Writing.{low_end}
+
+-- what ends a word, and the command where it is the last
+abbrev pub next_of : Bool → Next
+next_of true = End
+next_of false = Go BeforeWord
+
+behind_scan : (last : Bool) (n : ℕ) (rest : List ℕ) → later n (scan_next (next_of last) (scanned rest))
+    ≡ scan_behind last (n + 1) rest
+behind_scan true n rest = refl
+behind_scan false n rest = later-later n 1 (scanned rest BeforeWord)
+
+behind_words : (last : Bool) (rest : List ℕ) → words_next (next_of last) (pieces_from (chars rest))
+    ≡ words_behind last rest
+behind_words true rest = refl
+behind_words false rest = refl
+
+-- a run and what ends its word
+run_closes : (bytes : List ℕ) (n : ℕ) (stage : Stage) (next : Next) → n < length bytes →
+    ((k : ℕ) → k < n → is_plain stage (get_or bytes k 0) ≡ true)
+    → step_of stage (get_or bytes n 0) ≡ closes next → scanned bytes stage
+    ≡ later n (scan_next next (scanned (drop (n + 1) bytes)))
+run_closes bytes n stage next within plain ends =
+    (scan_skips bytes bytes 0 n stage refl (omega arith) plain).0
+    ∙ ap (λ m. later n (scanned (drop m bytes) stage)) (let e : 0 + n ≡ n = omega arith in e)
+    ∙ ap (later n) (ap (λ l. scanned l stage) (drop_more bytes n 0 within)
+    ∙ scanned-cons (get_or bytes n 0) (drop (n + 1) bytes) stage
+    ∙ ap (λ (s : Step). scan_next s.next (scanned (drop (n + 1) bytes))) ends)
+
+-- the words of a run, of what ends its word, and of what follows
+run_words : (bytes : List ℕ) (n : ℕ) (stage : Stage) (next : Next) → RunOf stage bytes n → n < length bytes →
+    get_or bytes n 0 < 128 → step_of stage (get_or bytes n 0) ≡ closes next
+    → spelled_from bytes stage ≡ take n bytes ∷ spelled (words_next next (pieces_from (chars (drop (n + 1) bytes))))
+run_words bytes n stage next run within low ends =
+    let c = get_or bytes n 0 in
+    let after = chars (drop (n + 1) bytes) in
+    let split : chars (drop n bytes) ≡ c ∷ after = ap chars (drop_more bytes n 0 within)
+    ∙ ascii_cons c (drop (n + 1) bytes) low in
+    ap (λ l. spelled (pieces_from l stage)) run.split
+    ∙ sym (prefixed_nil (spelled (pieces_from (run.run ++ chars (drop n bytes)) stage)))
+    ∙ run_written stage run.run (chars (drop n bytes)) [] run.plain
+    ∙ ap (λ l. prefixed l (spelled (pieces_from (chars (drop n bytes)) stage))) (sym run.spelled)
+    ∙ ap (λ l. prefixed (take n bytes) (spelled (pieces_from l stage))) split
+    ∙ ap (λ l. prefixed (take n bytes) (spelled l)) (pieces-cons c after stage)
+    ∙ ap (λ (s : Step). prefixed (take n bytes) (spelled (written s.output c (words_next s.next (pieces_from after)))))
+    ends
+    ∙ ap (λ l. l ∷ spelled (words_next next (pieces_from after))) (append-nil (take n bytes))
+
+-- a bare word
+bare_is : (stage here : Stage) (bytes : List ℕ) (c n : ℕ) (last : Bool) → here ≡ begun stage c → c ≡ get_or bytes 0 0 →
+    here ≡ Text Bare → n < length bytes
+    → ((k : ℕ) → k < n → is_plain here (get_or bytes k 0) ≡ true) → get_or bytes n 0 < 128 →
+    step_of (Text Bare) (get_or bytes n 0) ≡ closes (next_of last)
+    → IsPlainWord stage bytes (record { from = 0; to = n; len = n + 1; is_last = last })
+bare_is stage here bytes c n last is first bare within plain low ends =
+    let some : 0 < length bytes = omega arith in
+    let is_plain_word : (k : ℕ) → k < n → is_plain (Text Bare) (get_or bytes k 0)
+    ≡ true = λ k p. ap (λ s. is_plain s (get_or bytes k 0)) (sym bare) ∙ plain k p in
+    record {
+      order = omega arith;
+      inside = omega arith;
+      within = omega arith;
+      scans = scan_begun bytes 0 stage here c some is first ∙ ap (scanned bytes) bare
+          ∙ run_closes bytes n (Text Bare) (next_of last) within is_plain_word ends
+          ∙ behind_scan last n (drop (n + 1) bytes);
+      text = λ u. subst IsUtf8 (sym (front_range n bytes))
+          (IsUtf8-take bytes n u (IsCharBoundary-before_ascii bytes n within low));
+      rest = λ u. IsUtf8-drop bytes (n + 1) u (IsCharBoundary-after_ascii bytes n u within low);
+      pieces = λ u.
+          ap (map encode_utf8_all) (pieces_begun (chars bytes) bytes stage here c (encodes-chars bytes u) some is first
+          ∙ ap (pieces_from (chars bytes)) bare)
+          ∙ run_words bytes n (Text Bare) (next_of last)
+          (run_of (Text Bare) bytes n u (IsCharBoundary-before_ascii bytes n within low) is_plain_word) within low
+          ends
+          ∙ ap (λ l. take n bytes ∷ spelled l) (behind_words last (drop (n + 1) bytes))
+          ∙ ap (λ l. l ∷ spelled (words_behind last (drop (n + 1) bytes))) (sym (front_range n bytes));
+    }
+
+pub bare_passes : (stage here : Stage) (bytes : List ℕ) (c n : ℕ) (last : Bool) → here ≡ begun stage c →
+    c ≡ get_or bytes 0 0 → ((k : ℕ) → k < n → is_plain here (get_or bytes k 0) ≡ true)
+    → IsSeam here bytes n seams.Blank → last ≡ false →
+    IsPlainWord stage bytes (record { from = 0; to = n; len = n + 1; is_last = last })
+bare_passes stage here bytes c n last is first plain seam same =
+    subst (λ l. IsPlainWord stage bytes (record { from = 0; to = n; len = n + 1; is_last = l })) (sym same)
+    (bare_is stage here bytes c n false is first seam.0 seam.2 plain (low_blank (get_or bytes n 0) seam.3)
+    (blank_step (get_or bytes n 0) seam.3 seam.4))
+
+pub bare_ends : (stage here : Stage) (bytes : List ℕ) (c n : ℕ) (last : Bool) → here ≡ begun stage c →
+    c ≡ get_or bytes 0 0 → ((k : ℕ) → k < n → is_plain here (get_or bytes k 0) ≡ true)
+    → IsSeam here bytes n seams.End → last ≡ true →
+    IsPlainWord stage bytes (record { from = 0; to = n; len = n + 1; is_last = last })
+bare_ends stage here bytes c n last is first plain seam same =
+    subst (λ l. IsPlainWord stage bytes (record { from = 0; to = n; len = n + 1; is_last = l })) (sym same)
+    (bare_is stage here bytes c n true is first seam.0 seam.2 plain (low_end (get_or bytes n 0) seam.3)
+    (end_step (get_or bytes n 0) seam.3))
+
+-- what follows what closed a word
+behind_is : (closing : Closing) (c : ℕ) (last : Bool) → EndsWord c last →
+    step_of (Behind closing) c ≡ record { output = no_output; next = next_of last }
+behind_is closing c true end = by_true Step (is_end c) _ _ end
+behind_is closing c false blank = by_false Step (is_end c) _ _ blank.1 ∙ by_true Step (is_blank c) _ _ blank.0
+
+low_ends : (c : ℕ) (last : Bool) → EndsWord c last → c < 128
+low_ends c true end = low_end c end
+low_ends c false blank = low_blank c blank.0
+
+-- A word between two bytes: what stands behind the first is read at a stage of its own.
+closed_is : (o : ℕ) (ys : List ℕ) (n : ℕ) (inside : Stage) (closing : Closing) (last : Bool) → o < 128
+    → scanned (o ∷ ys) BeforeWord ≡ later 1 (scanned ys inside) →
+    (IsUtf8 ys → pieces_from (o ∷ chars ys) BeforeWord ≡ pieces_from (chars ys) inside)
+    → n + 1 < length ys → ((k : ℕ) → k < n → is_plain inside (get_or ys k 0) ≡ true) → get_or ys n 0 < 128 →
+    step_of inside (get_or ys n 0) ≡ closes (Go (Behind closing))
+    → EndsWord (get_or ys (n + 1) 0) last →
+    IsPlainWord BeforeWord (o ∷ ys) (record { from = 1; to = n + 1; len = n + 3; is_last = last })
+closed_is o ys n inside closing last ascii opens opened within plain low shuts ends =
+    let b = get_or ys (n + 1) 0 in
+    let rest = drop (n + 2) ys in
+    let near : n < length ys = omega arith in
+    let sum : n + 1 + 1 ≡ n + 2 = omega arith in
+    let all : n + 3 ≡ suc (n + 2) = omega arith in
+    let count : 1 + n + 1 + 1 ≡ n + 3 = omega arith in
+    let cut : drop (n + 1) ys ≡ b ∷ rest = drop_more ys (n + 1) 0 within ∙ ap (λ m. b ∷ drop m ys) sum in
+    let step = behind_is closing b last ends in
+    let left : drop (n + 3) (o ∷ ys) ≡ rest = ap (λ m. drop m (o ∷ ys)) all in
+    let content : slice_range (o ∷ ys) 1 (n + 1) ≡ take n ys = let e : n + 1 - 1 ≡ n = omega arith in
+    ap (λ m. take m ys) e in
+    let text_of : IsUtf8 (o ∷ ys) → IsUtf8 ys = λ u.
+    IsUtf8-drop (o ∷ ys) 1 u (IsCharBoundary-after_ascii (o ∷ ys) 0 u (omega arith) ascii) in
+    record {
+      order = omega arith;
+      inside = omega arith;
+      within = omega arith;
+      scans = opens ∙ ap (later 1) (run_closes ys n inside (Go (Behind closing)) near plain shuts)
+          ∙ ap (λ l. later 1 (later n (later 1 (scanned l (Behind closing))))) cut
+          ∙ ap (λ s. later 1 (later n (later 1 s))) (scanned-cons b rest (Behind closing)
+          ∙ ap (λ (s : Step). scan_next s.next (scanned rest)) step)
+          ∙ later-later 1 n (later 1 (scan_next (next_of last) (scanned rest)))
+          ∙ later-later (1 + n) 1 (scan_next (next_of last) (scanned rest))
+          ∙ behind_scan last (1 + n + 1) rest ∙ ap (λ m. scan_behind last m rest) count
+          ∙ ap (scan_behind last (n + 3)) (sym left);
+      text = λ u. subst IsUtf8 (sym content) (IsUtf8-take ys n (text_of u) (IsCharBoundary-before_ascii ys n near low));
+      rest = λ u. subst IsUtf8 (ap (λ m. drop m ys) sum ∙ sym left)
+          (let v = IsUtf8-drop ys (n + 1) (text_of u) (IsCharBoundary-after_ascii ys n (text_of u) near low) in
+          let w : IsUtf8 (b ∷ rest) = subst IsUtf8 cut v in
+          let x : IsUtf8 rest = IsUtf8-drop (b ∷ rest) 1 w
+          (IsCharBoundary-after_ascii (b ∷ rest) 0 w (omega arith) (low_ends b last ends)) in
+          subst (λ m. IsUtf8 (drop m ys)) (sym sum) x);
+      pieces = λ u.
+          ap (λ l. spelled (pieces_from l BeforeWord)) (ascii_cons o ys ascii) ∙ ap spelled (opened (text_of u))
+          ∙ run_words ys n inside (Go (Behind closing))
+          (run_of inside ys n (text_of u) (IsCharBoundary-before_ascii ys n near low) plain) near low shuts
+          ∙ ap (λ l. take n ys ∷ spelled (pieces_from (chars l) (Behind closing))) cut
+          ∙ ap (λ l. take n ys ∷ spelled (pieces_from l (Behind closing))) (ascii_cons b rest (low_ends b last ends))
+          ∙ ap (λ l. take n ys ∷ spelled l) (pieces-cons b (chars rest) (Behind closing)
+          ∙ ap (λ (s : Step). written s.output b (words_next s.next (pieces_from (chars rest)))) step
+          ∙ behind_words last rest)
+          ∙ ap (λ l. take n ys ∷ spelled (words_behind last l)) (sym left)
+          ∙ ap (λ l. l ∷ spelled (words_behind last (drop (n + 3) (o ∷ ys)))) (sym content);
+    }
+
+-- by the bytes
+closed_at : (bytes : List ℕ) (n close : ℕ) (word : PlainWord) (inside : Stage) (closing : Closing) →
+    get_or bytes 0 0 < 128
+    → ((o : ℕ) (ys : List ℕ) → bytes ≡ o ∷ ys → (scanned (o ∷ ys) BeforeWord ≡ later 1 (scanned ys inside))
+    × (IsUtf8 ys → pieces_from (o ∷ chars ys) BeforeWord ≡ pieces_from (chars ys) inside))
+    → ((k : ℕ) → k < n → is_plain inside (get_or (drop 1 bytes) k 0) ≡ true) → close < 128 →
+    step_of inside close ≡ closes (Go (Behind closing))
+    → IsClosed bytes n close word → IsPlainWord BeforeWord bytes word
+closed_at [] n close word inside closing ascii opens plain low shuts closed = let within = closed.within in
+    absurd (omega arith)
+closed_at (o ∷ ys) n close word inside closing ascii opens plain low shuts closed =
+    let within = closed.within in
+    let opening = opens o ys refl in
+    let first : suc n ≡ n + 1 = omega arith in
+    let second : suc (n + 1) ≡ n + 2 = omega arith in
+    let shut : get_or ys n 0 ≡ close = ap (λ m. get_or (o ∷ ys) m 0) first ∙ closed.closes in
+    subst (IsPlainWord BeforeWord (o ∷ ys)) (sym closed.is)
+    (closed_is o ys n inside closing word.is_last ascii opening.0 opening.1 (omega arith) plain
+    (subst (λ c. c < 128) (sym shut) low) (ap (step_of inside) shut ∙ shuts)
+    (subst (λ c. EndsWord c word.is_last) (sym (ap (λ m. get_or (o ∷ ys) m 0) second)) closed.ends))
+
+-- a byte that isn't a star begins no character that is one
+no_star : (c : ℕ) (more : List ℕ) → (get_or (encode_utf8 c ++ more) 0 0 == 42) ≡ false → (c == 42) ≡ false
+no_star c more h = ⊎_elim
+    (λ low. ap (λ l. get_or (l ++ more) 0 0 == 42) (sym (encode_ascii c low)) ∙ h)
+    (λ high. grind (arith, nat_tests))
+    (below_or c)
+
+brace_scan : (ys : List ℕ) → 0 < length ys → (get_or ys 0 0 == 42) ≡ false →
+    scanned ys AfterOpening ≡ scanned ys (Braced 0)
+brace_scan [] some h = absurd (omega arith)
+brace_scan (c ∷ cs) some h =
+    scanned-cons c cs AfterOpening ∙ ap (λ (s : Step). scan_next s.next (scanned cs)) (by_false Step (c == 42) _ _ h)
+    ∙ sym (scanned-cons c cs (Braced 0))
+
+brace_pieces : (cs ys : List ℕ) → encode_utf8_all cs ≡ ys → 0 < length ys → (get_or ys 0 0 == 42) ≡ false →
+    pieces_from cs AfterOpening ≡ pieces_from cs (Braced 0)
+brace_pieces [] ys is some h = absurd (omega (arith, ap length is))
+brace_pieces (c ∷ cs) ys is some h =
+    pieces-cons c cs AfterOpening
+    ∙ ap (λ (s : Step). written s.output c (words_next s.next (pieces_from cs)))
+    (by_false Step (c == 42) _ _ (no_star c (encode_utf8_all cs) (ap (λ l. get_or l 0 0 == 42) is ∙ h)))
+    ∙ sym (pieces-cons c cs (Braced 0))
+
+not_same : (c d : ℕ) → ¬ (c ≡ d) → (c == d) ≡ false
+not_same c d h = elim (c == d) as (λ b. (c == d) ≡ b →
+    b ≡ false) [ true ↦ λ is. absurd (h ((Decides-eqb c d).0 is)) | false ↦ λ isn't. refl ] refl
+
+pub some_left : (xs : List ℕ) (test : Bool) → test ≡ (length xs == 0) → test ≡ false → 0 < length xs
+some_left xs test h k = grind (arith, nat_tests)
+
+pub if_word : (found : Option PlainWord) (P Q : PlainWord → Type 0) → ((word : PlainWord) → P word → Q word) →
+    IfSome found P → IfSome found Q
+if_word None P Q weaker h = tt
+if_word (Some word) P Q weaker h = weaker word h
+
+pub braced_is : (bytes slice : List ℕ) (n : ℕ) (word : PlainWord) → get_or bytes 0 0 ≡ 123 → slice ≡ drop 1 bytes →
+    0 < length slice → ¬ (get_or slice 0 0 ≡ 42)
+    → ((k : ℕ) → k < n → is_braced (get_or slice k 0) ≡ true) → IsClosed bytes n 125 word →
+    IsPlainWord BeforeWord bytes word
+braced_is bytes slice n word first same some star plain closed =
+    closed_at bytes n 125 word (Braced 0) Brace (omega arith)
+    (λ o ys e.
+    let is : o ≡ 123 = ap (λ l. get_or l 0 0) (sym e) ∙ first in
+    let there : slice ≡ ys = same ∙ ap (drop 1) e in
+    let long : 0 < length ys = subst (λ l. 0 < length l) there some in
+    let not : (get_or ys 0 0 == 42) ≡ false = subst (λ l. (get_or l 0 0 == 42)
+    ≡ false) there (not_same (get_or slice 0 0) 42 star) in (
+      scanned-cons o ys BeforeWord ∙ ap (λ c. scan_next (step_of BeforeWord c).next (scanned ys)) is
+          ∙ ap (later 1) (brace_scan ys long not),
+      λ u. pieces-cons o (chars ys) BeforeWord
+          ∙ ap (λ c. written (step_of BeforeWord c).output c
+          (words_next (step_of BeforeWord c).next (pieces_from (chars ys)))) is
+          ∙ brace_pieces (chars ys) ys (encodes-chars ys u) long not,
+    ))
+    (λ k p. ap (λ l. is_braced (get_or l k 0)) (sym same) ∙ plain k p) (omega arith) refl closed
+
+pub quoted_is : (bytes slice : List ℕ) (n : ℕ) (word : PlainWord) → get_or bytes 0 0 ≡ 34 → slice ≡ drop 1 bytes →
+    ((k : ℕ) → k < n → is_quoted (get_or slice k 0) ≡ true)
+    → IsClosed bytes n 34 word → IsPlainWord BeforeWord bytes word
+quoted_is bytes slice n word first same plain closed =
+    closed_at bytes n 34 word (Text Quoted) Quote (omega arith)
+    (λ o ys e.
+    let is : o ≡ 34 = ap (λ l. get_or l 0 0) (sym e) ∙ first in (
+      scanned-cons o ys BeforeWord ∙ ap (λ c. scan_next (step_of BeforeWord c).next (scanned ys)) is,
+      λ u. pieces-cons o (chars ys) BeforeWord
+          ∙ ap (λ c. written (step_of BeforeWord c).output c
+          (words_next (step_of BeforeWord c).next (pieces_from (chars ys)))) is,
+    ))
+    (λ k p. ap (λ l. is_quoted (get_or l k 0)) (sym same) ∙ plain k p) (omega arith) refl closed

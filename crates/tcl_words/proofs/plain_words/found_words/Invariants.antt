@@ -1,0 +1,15 @@
+use Rattle.std.proofs.Common.{◌≡◌, ◌≤◌, ◌++◌, IsUtf8, map, length, take, drop}
+use Rattle.tcl_words.specs.Scanning.{scanned, later}
+use Rattle.tcl_words.specs.PlainWords.{spelled_from}
+use Rattle.tcl_words.specs.declared.stage.Stage.TheVariants.{BeforeCommand}
+use Rattle.tcl_words.proofs.plain_words.found_words.Given as goal
+
+abbrev pub invariant-loop-count : goal.invariant-loop-count
+invariant-loop-count l = record {
+  within : l.index ≤ length l.bytes;
+  room : length l.words ≡ 8;
+  utf8 : IsUtf8 (drop l.index l.bytes);
+  scans : scanned l.bytes BeforeCommand ≡ later l.index (scanned (drop l.index l.bytes) l.stage);
+  pieces : spelled_from l.bytes BeforeCommand ≡ map (λ word. word.now) (take l.count l.words)
+      ++ spelled_from (drop l.index l.bytes) l.stage;
+}

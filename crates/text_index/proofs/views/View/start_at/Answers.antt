@@ -1,0 +1,42 @@
+use Rattle.std.proofs.Common.{ap, ◌∙◌, arith}
+use Rattle.text_model.specs.Content.{characters}
+use Rattle.text_model.specs.Lines.{line_start}
+use Rattle.text_index.proofs.StartLaws.{place-start}
+use Rattle.text_index.proofs.ViewLaws.{length-shown}
+use Rattle.text_index.proofs.views.View.start_at.Goals as goal
+
+pub overflow_sub-result : goal.overflow_sub-result
+overflow_sub-result g c =
+    let view = c.args.self.now in
+    let content = g.S.TextStore.content view.store.now in
+    let text = characters content.cells in
+    let there = c.line_start.ensures.value ∙ ap (λ k. line_start k text) c.line_of.ensures in
+    omega (
+      arith,
+      there,
+      (place-start text view.s view.e c.requires.view.first c.requires.view.behind c.requires.view.ordered
+          (length-shown content view.s view.e c.requires.view) c.args.place c.requires.within).0,
+    )
+
+pub returns-clause-value : goal.returns-clause-value
+returns-clause-value g c =
+    let view = c.args.self.now in
+    let content = g.S.TextStore.content view.store.now in
+    let text = characters content.cells in
+    let there = c.line_start.ensures.value ∙ ap (λ k. line_start k text) c.line_of.ensures in
+    omega (
+      arith,
+      there,
+      (place-start text view.s view.e c.requires.view.first c.requires.view.behind c.requires.view.ordered
+          (length-shown content view.s view.e c.requires.view) c.args.place c.requires.within).2,
+    )
+
+pub returns-clause-bound : goal.returns-clause-bound
+returns-clause-bound g c =
+    let view = c.args.self.now in
+    let content = g.S.TextStore.content view.store.now in
+    let text = characters content.cells in
+    let there = c.line_start.ensures.value ∙ ap (λ k. line_start k text) c.line_of.ensures in
+    let is = place-start text view.s view.e c.requires.view.first c.requires.view.behind c.requires.view.ordered
+    (length-shown content view.s view.e c.requires.view) c.args.place c.requires.within in
+    omega (arith, there, is.0, is.1, c.requires.within)

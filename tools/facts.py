@@ -1,0 +1,215 @@
+#!/usr/bin/env python3
+"""Compares what stands in several places, and names what differs.
+
+    python3 tools/facts.py
+
+The commands stand in `command_table/specs/Table.antt`; `docs/model.md` and the tools' model say the same of each, and
+the random scripts begin a form with each.  The limits stand in `text_model/specs/LimitTable.antt`.  The crates stand in
+`crates.txt`; the pages on architecture and on what is proved speak of each, and the first of each file of definitions.
+A line of code, of a definition or of a page has at most 120 characters.  Ends in a line `N passed, M failed`; the exit status is 1 if anything failed.
+"""
+
+import glob
+import os
+import re
+import sys
+from typing import NamedTuple, Optional
+
+import model
+import scripts
+from harness import Tally
+
+TOP = os.path.dirname(os.path.dirname(os.path.abspath(__file__)))
+MOST_CHARACTERS = 120
+# A line of a proof that `rt fmt` joins again may be longer.
+MOST_IN_PROOFS = 160
+# A longer line is the output of a program, as it is.
+OUTPUTS = {os.path.join("docs", "tour.md")}
+LITERAL = re.compile(r'literal "([^"]*)"')
+# What stands for two or more words at the end of a command's form in docs/model.md.
+COUNTS = {"any number": (0, None), **{f"{count} and more": (count, None) for count in range(1, 4)}}
+
+
+class Command(NamedTuple):
+    """What may stand behind the words of a subcommand: least and greatest number, options, switches."""
+
+    least: int
+    greatest: Optional[int]
+    options: Optional[tuple] = None
+    switches: Optional[tuple] = None
+
+
+def text_of(*names):
+    with open(os.path.join(TOP, *names), encoding="utf-8") as file:
+        return file.read()
+
+
+# ---- the definition of the commands
+
+
+def definitions(page):
+    """The text behind `name =` of each definition."""
+    parts = re.split(r"^(\w+)(?: [\w ]*)? =", page, flags=re.M)
+    return dict(zip(parts[1::2], parts[2::2]))
+
+
+def number_of(word):
+    """A greatest number: `None`, `Some 2` or `2`."""
+    digits = re.search(r"\d+", word)
+    return int(digits[0]) if digits else None
+
+
+def switches_of(found, name):
+    """The names of the switches of a rule, and whether they may be abbreviated."""
+    return tuple(LITERAL.findall(found[name])), "abbreviated = true" in found[name]
+
+
+def record_of(text):
+    """The words and the command of a row that is written out."""
+    least, greatest = (re.search(rf"{name} = ([^;]*);", text)[1] for name in ("least", "greatest"))
+    options = re.search(r"after = (\d+); valued = (\w+)", text)
+    spelled = tuple(LITERAL.findall(re.search(r"spelling = ([^;]*);", text)[1]))
+    return spelled, Command(int(least), number_of(greatest), (int(options[1]), options[2] == "true"))
+
+
+def row_of(found, row):
+    """The words and the command of a row of the table."""
+    words = tuple(LITERAL.findall(row))
+    kind, *rest = LITERAL.sub("", row).replace("(", " ").replace(")", " ").split()
+    if kind not in ("alone", "member", "switched"):
+        return record_of(found[kind])
+    _, *rule, least = rest[: -1 if rest[-2] != "Some" else -2]
+    greatest = number_of(rest[-1])
+    return words, Command(int(least), greatest, None, switches_of(found, rule[0]) if rule else None)
+
+
+def defined_commands():
+    """Each subcommand's words with what may stand behind them."""
+    found = definitions(text_of("crates", "command_table", "specs", "Table.antt"))
+    rows = [row.strip() for row in found["table"].split("∷")]
+    return dict(row_of(found, row) for row in rows if row.split("--")[0].strip() != "[]")
+
+
+# ---- the same elsewhere
+
+
+def modelled_commands():
+    """The same as the tools' model has it."""
+    return {
+        words: Command(
+            subcommand.least, subcommand.greatest, subcommand.options and tuple(subcommand.options),
+            subcommand.switches and (tuple(subcommand.switches.names), subcommand.switches.are_abbreviated),
+        )
+        for words, subcommand in model.SUBCOMMANDS.items()
+    }
+
+
+def counts_of(text):
+    """The least and the greatest number of words that a cell of the page says."""
+    if text in COUNTS:
+        return COUNTS[text]
+    numbers = [int(number) for number in text.split(" or ")]
+    return numbers[0], numbers[-1]
+
+
+def written_commands():
+    """The least and the greatest number of words of each subcommand, as docs/model.md has them."""
+    section = text_of("docs", "model.md").partition("## What stands where in a command")[2].partition("\n## ")[0]
+    written = {}
+    for cells in re.findall(r"^\| (`.*?) \| .*\| (.*) \|$", section, re.M):
+        for words in re.findall(r"`([^`]*)`", cells[0]):
+            written[tuple(words.split())] = counts_of(cells[1])
+    return written
+
+
+def check_commands(tally):
+    """The commands are the same everywhere."""
+    defined, modelled, written = defined_commands(), modelled_commands(), written_commands()
+    begun = {word for form in scripts.FORMS for word in spelled_words(form)}
+    for words in sorted(defined.keys() | modelled.keys() | written.keys()):
+        name, command = " ".join(words), defined.get(words)
+        tally.check(command == modelled.get(words), f"{name}: {command} and in tools/model.py {modelled.get(words)}")
+        counts = command and (command.least, command.greatest)
+        tally.check(counts == written.get(words), f"{name}: {counts} and in docs/model.md {written.get(words)}")
+        tally.check(words in begun, f"{name}: no form of tools/scripts.py begins with it")
+    options = tuple(LITERAL.findall(definitions(text_of("crates", "command_table", "specs", "Table.antt"))["option_names"]))
+    tally.check(options == tuple(model.OPTIONS), f"the options are {options} and in tools/model.py {tuple(model.OPTIONS)}")
+
+
+def spelled_words(form):
+    """The words of subcommands that a form of the generator may begin with."""
+    fronts = [" ".join(form.words[1:])]
+    for choices in form.places[:2]:
+        fronts += [f"{front} {choice}" for front in fronts for choice in choices if choice]
+    for front in fronts:
+        words = tuple(front.split())
+        yield words[:1]
+        yield words[:2]
+
+
+# ---- limits, crates, definitions, lines
+
+
+def check_limits(tally):
+    """The greatest numbers of the definition are those of the code, the model and the pages."""
+    table = text_of("crates", "text_model", "specs", "LimitTable.antt")
+    code = text_of("crates", "text_model", "src", "limits.rt")
+    written = text_of("docs", "model.md")
+    for name, constant, ours in (
+        ("chars", "MOST_CHARS", model.PROGRAM_LIMITS.characters), ("tags", "MOST_TAGS", model.PROGRAM_LIMITS.tags),
+        ("marks", "MOST_MARKS", model.PROGRAM_LIMITS.marks), ("widgets", "MOST_WIDGETS", model.PROGRAM_LIMITS.widgets),
+    ):
+        most = int(re.search(rf"^most_{name} = (\d+)$", table, re.M)[1])
+        in_code = int(re.search(rf"{constant}: \w+ = ([\d_]+)", code)[1].replace("_", ""))
+        tally.check(most == in_code, f"most_{name} is {most}, and {constant} {in_code}")
+        tally.check(most == ours, f"most_{name} is {most}, and in tools/model.py {ours}")
+        tally.check(f"| {most:,} | {most:,} |" in written, f"most_{name} is {most:,}, and docs/model.md doesn't say so")
+
+
+def crate_names():
+    """The crates of crates.txt."""
+    return [line.partition(":")[0].split()[0] for line in text_of("crates.txt").splitlines() if re.match(r"\w", line)]
+
+
+def check_crates(tally):
+    """The pages speak of each crate and of each file of definitions."""
+    page = text_of("docs", "architecture.md")
+    for name in crate_names():
+        tally.check(f"`{name}`" in page, f"docs/architecture.md doesn't speak of {name}")
+        tally.check(os.path.isdir(os.path.join(TOP, "crates", name)), f"there is no crate {name}")
+    listed = page.partition("## Definitions")[2].partition("\n## ")[0].replace("\n  ", " ")
+    for path in glob.glob(os.path.join(TOP, "crates", "*", "specs", "*.antt")):
+        crate, subject = path.split(os.sep)[-3], os.path.basename(path).removesuffix(".antt")
+        if subject == "Lib" or subject.endswith("Laws") or crate.endswith("_tests"):
+            continue
+        lines = [line for line in listed.splitlines() if f"`{crate}/specs" in line]
+        is_named = any(f"`{subject}`" in line or f"specs/{subject}`" in line or f"`{crate}/specs`" in line for line in lines)
+        tally.check(is_named, f"docs/architecture.md doesn't name {crate}/specs/{subject}")
+
+
+def check_lines(tally):
+    """No line is longer than it may be."""
+    patterns = {
+        "crates/*/src/**/*.rt": MOST_CHARACTERS, "crates/*/specs/**/*.antt": MOST_CHARACTERS,
+        "crates/*/proofs/**/*.antt": MOST_IN_PROOFS, "docs/*.*": MOST_CHARACTERS, "README.md": MOST_CHARACTERS,
+    }
+    for pattern, most in patterns.items():
+        for path in glob.glob(os.path.join(TOP, pattern), recursive=True):
+            name = os.path.relpath(path, TOP)
+            with open(path, encoding="utf-8") as file:
+                longest = max((len(line.rstrip("\n")) for line in file), default=0)
+            is_short = longest <= most or name in OUTPUTS
+            tally.check(is_short, f"{name} has a line of {longest} characters")
+
+
+def main():
+    tally = Tally()
+    check_commands(tally)
+    check_limits(tally)
+    check_crates(tally)
+    check_lines(tally)
+    return tally.close()
+
+
+if __name__ == "__main__":
+    sys.exit(main())

@@ -1,0 +1,352 @@
+#!/usr/bin/env python3
+"""Runs the program and real Tk 8.6 in turn on the workloads of tools/workloads.py: what `make versus` calls.
+
+    python3 tools/versus.py --program PATH --out FILE [--only WORD] [--repeat 5] [--quick]
+
+Needs `Xvfb`, `wish` 8.6 and `valgrind` (on Debian `apt-get install xvfb tk8.6 valgrind`).  For each workload: whether the
+answers are the same bytes; the instructions of both by callgrind, Tk's without those of a script without commands; the
+least time of both, Tk's by its own clock from the first command to the last answer, ours of the whole process; then the
+greatest resident size, long texts, and what a command costs before it does anything.  The tables are written to FILE
+between its two marks.  --quick leaves out the instructions of Tk, which take most of the time.  The exit status is 1 if
+answers differ.
+"""
+
+import argparse
+import os
+import re
+import resource
+import subprocess
+import sys
+import tempfile
+import time
+from typing import NamedTuple
+
+import workloads
+from harness import measure_size
+from tk_real import Display, find_wish
+
+# At most so much of Tk's instructions and time; of undo, what is the widget's own part in Tk, which moves its view there.
+GOAL, UNDO_GOAL = 1 / 3, 1 / 3 * 0.15
+MEMORY_GOAL = 2 / 3
+BEGIN, END = "<!-- versus: begin -->", "<!-- versus: end -->"
+COLLECTED = re.compile(r"Collected : (\d+)")
+CALLGRIND = ["valgrind", "--tool=callgrind", "--callgrind-out-file=/dev/null"]
+INSTALL = "apt-get install xvfb tk8.6 valgrind"
+
+# What runs before the clock: no window, and a first text, which loads fonts and options.
+TCL_HEAD = """wm withdraw .
+set answers [open [lindex $argv 0] w]
+fconfigure $answers -encoding utf-8 -translation lf -buffersize 65536
+text .warm; .warm insert 1.0 x; destroy .warm
+set begin [clock microseconds]
+"""
+TCL_TAIL = """flush $answers
+puts [expr {[clock microseconds] - $begin}]
+exit 0
+"""
+
+
+class Cost(NamedTuple):
+    """What a workload costs: instructions, or None where they weren't counted; the least seconds; kB at most."""
+
+    instructions: int
+    seconds: float
+    size: int
+
+
+class Line(NamedTuple):
+    """A workload with how many commands it has, what it costs in Tk and here, and whether both gave the same answers."""
+
+    workload: workloads.Workload
+    count: int
+    tk: Cost
+    ours: Cost
+    is_same: bool
+
+
+def run_timed(command, given, taken, environment=None):
+    """Runs a program to its end; its seconds and its greatest resident size in kB."""
+    begin = time.perf_counter()
+    process = subprocess.Popen(command, stdin=given, stdout=taken, stderr=subprocess.DEVNULL, env=environment)
+    _, status, usage = os.wait4(process.pid, 0)
+    process.returncode = os.waitstatus_to_exitcode(status)
+    return time.perf_counter() - begin, usage.ru_maxrss
+
+
+def count_instructions(command, path, environment=None):
+    """The instructions of one run of a program on a script."""
+    with open(path, "rb") as file:
+        run = subprocess.run(
+            CALLGRIND + command, stdin=file, stdout=subprocess.DEVNULL, stderr=subprocess.PIPE, env=environment,
+            check=False,
+        )
+    found = COLLECTED.search(run.stderr.decode("utf-8", "replace"))
+    return int(found.group(1)) if found else sys.exit(f"no count: {run.stderr[-400:]!r}")
+
+
+class Tk:
+    """Real Tk on a display of its own."""
+
+    def __init__(self, folder):
+        self.folder = folder
+        self.display = Display()
+        self.environment = {**os.environ, "DISPLAY": self.display.name}
+        self.empty = None
+
+    def wrapped(self, commands):
+        """A file for Tk that runs the commands, each answer a line of the file that it is given."""
+        path = os.path.join(self.folder, "wrapped.tcl")
+        with open(path, "w", encoding="utf-8", newline="\n") as file:
+            file.write(TCL_HEAD + "".join(f"puts $answers [{command}]\n" for command in commands) + TCL_TAIL)
+        return path
+
+    def command(self, path, answers):
+        return [find_wish(), "-encoding", "utf-8", path, answers]
+
+    def time(self, path, answers):
+        """The seconds between the first command and the last answer, and the greatest resident size of it all."""
+        told = os.path.join(self.folder, "told")
+        with open(told, "wb") as file:
+            _, size = run_timed(self.command(path, answers), subprocess.DEVNULL, file, self.environment)
+        with open(told, encoding="ascii") as file:
+            return int(file.read()) / 1e6, size
+
+    def count(self, commands):
+        """The instructions of the commands."""
+        if self.empty is None:
+            self.empty = count_instructions(self.command(self.wrapped([]), os.devnull), os.devnull, self.environment)
+        path = self.wrapped(commands)
+        return count_instructions(self.command(path, os.devnull), os.devnull, self.environment) - self.empty
+
+    def close(self):
+        self.display.close()
+
+
+def time_ours(program, script, answers):
+    """The seconds of the whole process, and its greatest resident size."""
+    with open(script, "rb") as given, open(answers, "wb") as taken:
+        return run_timed([program], given, taken)
+
+
+def read(path):
+    with open(path, "rb") as file:
+        return file.read()
+
+
+def measure(program, tk, workload, folder, repeat, is_quick):
+    """One workload, run by both in turn."""
+    commands = workload.commands()
+    script, tk_answers, answers = (os.path.join(folder, name) for name in ("script", "tk", "ours"))
+    with open(script, "w", encoding="utf-8", newline="\n") as file:
+        file.write("\n".join(commands) + "\n")
+    path = tk.wrapped(commands)
+    runs = [(tk.time(path, tk_answers), time_ours(program, script, answers)) for _ in range(repeat)]
+    (tk_seconds, tk_size), (seconds, size) = (map(min, zip(*side)) for side in zip(*runs))
+    is_same = read(tk_answers) == read(answers)
+    return Line(
+        workload,
+        len(commands),
+        Cost(None if is_quick else tk.count(commands), tk_seconds, tk_size),
+        Cost(count_instructions([program], script), seconds, size),
+        is_same,
+    )
+
+
+def part(ours, theirs):
+    """How much of Tk's."""
+    return ours / theirs if theirs else float("nan")
+
+
+def table(rows):
+    """The lines of a table, the first row its heading."""
+    rows = [[str(cell) for cell in row] for row in rows]
+    head, *rest = [" | ".join(row) for row in rows]
+    return [f"| {head} |", "|" + "---|" * len(rows[0]), *(f"| {row} |" for row in rest)]
+
+
+def workload_row(line):
+    """A workload beside its goal."""
+    goal = UNDO_GOAL if line.workload.kind == "undo" else GOAL
+    instructions = part(line.ours.instructions, line.tk.instructions)
+    seconds = part(line.ours.seconds, line.tk.seconds)
+    is_met = not instructions > goal and seconds <= goal
+    return [
+        f"`{line.workload.name}`",
+        f"{line.count:,}",
+        "-" if line.tk.instructions is None else f"{line.tk.instructions / 1e6:,.0f}",
+        f"{line.ours.instructions / 1e6:,.1f}",
+        f"{instructions:.3f}",
+        f"{line.tk.seconds * 1e3:,.0f}",
+        f"{line.ours.seconds * 1e3:,.1f}",
+        f"{seconds:.3f}",
+        ("met" if is_met else "**missed**") if line.is_same else "**answers differ**",
+    ]
+
+
+WORKLOAD_HEAD = [
+    "Workload", "Commands", "Tk, M instr.", "`tktext`, M instr.", "part", "Tk, ms", "`tktext`, ms", "part", "A third?",
+]
+
+
+def growth_rows(lines):
+    """How a command's cost grows from the smaller size of a kind to the larger, in Tk and here."""
+    pairs = [(a, b) for a, b in zip(lines, lines[1:])
+             if (a.workload.kind, a.workload.widgets) == (b.workload.kind, b.workload.widgets)]
+    for small, large in pairs:
+        ours = part(large.ours.instructions / large.count, small.ours.instructions / small.count)
+        theirs = "-"
+        if small.tk.instructions is not None:
+            theirs = f"{part(large.tk.instructions / large.count, small.tk.instructions / small.count):.2f}"
+        yield [f"`{small.workload.name}` to `{large.workload.name}`", theirs, f"{ours:.2f}"]
+
+
+# ---- what a command costs before it does anything
+
+
+COMMANDS = 20_000
+
+
+def command_cost(program, folder, command):
+    """The instructions of a command in a text of 20 lines, with its answer."""
+    path = os.path.join(folder, "cost")
+    counts = []
+    for count in (0, COMMANDS):
+        with open(path, "w", encoding="utf-8") as file:
+            file.write('text .t\n.t insert end "' + "a line of words\\n" * 20 + '"\n' + f"{command}\n" * count)
+        counts.append(count_instructions([program], path))
+    return (counts[1] - counts[0]) / COMMANDS
+
+
+COSTED = (
+    ".t cget -undo", ".t index 3.4", ".t get 3.0 3.5", ".t compare 1.0 < 2.0", ".t mark set m 3.4", ".t insert 3.4 x",
+    ".t edit modified",
+)
+
+
+def cost_rows(program, folder):
+    return [[f"`{command}`", len(command) + 1, f"{command_cost(program, folder, command):,.0f}"] for command in COSTED]
+
+
+# ---- long scripts and long texts
+
+
+def long_text(lines):
+    """A text of so many lines of 40 characters, searched, tagged, walked by its tags and dumped."""
+    line = "the quick brown fox jumps over lazy dog"
+    yield "filled", ["text .t"] + [".t insert end {" + f"{line}\n" * 10_000 + "}"] * (lines // 10_000)
+    yield "searched for a word that each line has", [".t search -all -count n brown 1.0 end".replace("-count n ", "")]
+    yield "searched for one that none has", [".t search absent 1.0 end"]
+    yield "a word of each tenth line tagged", [
+        ".t tag add x " + " ".join(f"{number}.4 {number}.9" for number in range(first, first + 10_000, 10))
+        for first in range(1, lines, 10_000)
+    ]
+    yield "walked by `tag nextrange`", [f".t tag nextrange x {number}.0" for number in range(1, lines, 10)]
+    yield "dumped", [".t dump 1.0 end"]
+
+
+def long_rows(program, folder, lines):
+    """The seconds of each part: those of the script so far, less those of what stands before it."""
+    path = os.path.join(folder, "long")
+    before, script = 0.0, ""
+    for name, commands in long_text(lines):
+        script += "\n".join(commands) + "\n"
+        with open(path, "w", encoding="utf-8") as file:
+            file.write(script)
+        seconds, size = time_ours(program, path, os.devnull)
+        yield [name, f"{len(commands):,}", f"{max(seconds - before, 0):.2f}", f"{size / 1024:,.0f}"]
+        before = seconds
+
+
+def size_rows(program):
+    for length in (1_000_000, 50_000_000, 500_000_000):
+        size = measure_size(program, b"text .t\n", b".t index end\n", length)
+        yield [f"{length // 1_000_000} MB", f"{size / 1024:.1f}"]
+
+
+# ---- the page
+
+
+def machine():
+    """The processor, how many cores there are, and the versions."""
+    with open("/proc/cpuinfo", encoding="utf-8") as file:
+        model = next((line.split(":")[1].strip() for line in file if line.startswith("model name")), "unknown")
+    version = subprocess.run(["rt", "version"], capture_output=True, text=True, check=False).stdout.strip()
+    return f"{len(os.sched_getaffinity(0))} cores ({model}); Tk 8.6.13 of Debian; {version}"
+
+
+def memory_row(lines):
+    """The greatest resident sizes over the largest text that is loaded."""
+    found = next((line for line in lines if line.workload.name == "load-100000"), None)
+    if found is None:
+        return []
+    is_met = found.ours.size <= MEMORY_GOAL * found.tk.size
+    return [
+        "", "The greatest resident size over `load-100000`: Tk "
+        f"{found.tk.size / 1024:.0f} MB, `tktext` {found.ours.size / 1024:.0f} MB, "
+        f"{part(found.ours.size, found.tk.size):.2f} of it (goal: two thirds, {'met' if is_met else '**missed**'}).",
+    ]
+
+
+def page(lines, program, folder, is_whole):
+    """What stands between the two marks."""
+    said = [f"Measured on {machine()}.", "", *table([WORKLOAD_HEAD, *map(workload_row, lines)]), *memory_row(lines)]
+    said += ["", *table([["A command's cost grows, from .. to ..", "in Tk", "in `tktext`"], *growth_rows(lines)])]
+    if is_whole:
+        costs = [["Command, in a text of 20 lines", "bytes", "instructions"], *cost_rows(program, folder)]
+        texts = [["400,000 lines, 16,000,000 characters", "commands", "seconds", "MB so far"]]
+        texts += long_rows(program, folder, 400_000)
+        sizes = [["A script of short commands of", "MB at most"], *size_rows(program)]
+        said += ["", *table(costs), "", *table(texts), "", *table(sizes)]
+    return said
+
+
+def write_page(path, said):
+    """Puts the tables between the marks of a page."""
+    with open(path, encoding="utf-8") as file:
+        before, _, rest = file.read().partition(BEGIN)
+    _, _, after = rest.partition(END)
+    with open(path, "w", encoding="utf-8") as file:
+        file.write("\n".join([before + BEGIN, "", *said, "", END + after]))
+
+
+def missing():
+    """What isn't installed."""
+    return [name for name, found in (
+        ("Xvfb", _has("Xvfb")), ("wish 8.6", find_wish() is not None), ("valgrind", _has("valgrind")),
+    ) if not found]
+
+
+def _has(name):
+    return any(os.access(os.path.join(folder, name), os.X_OK) for folder in os.environ["PATH"].split(os.pathsep))
+
+
+def main():
+    parser = argparse.ArgumentParser(description="runs the program and real Tk in turn")
+    parser.add_argument("--program", required=True)
+    parser.add_argument("--out")
+    parser.add_argument("--only", default="")
+    parser.add_argument("--repeat", type=int, default=5)
+    parser.add_argument("--quick", action="store_true")
+    options = parser.parse_args()
+    if missing():
+        print(f"{', '.join(missing())}: not installed here; on Debian: {INSTALL}", file=sys.stderr)
+        return 2
+    resource.setrlimit(resource.RLIMIT_CORE, (0, 0))
+    lines = []
+    with tempfile.TemporaryDirectory() as folder:
+        tk = Tk(folder)
+        try:
+            for name in workloads.NAMES:
+                if options.only in name:
+                    lines.append(measure(options.program, tk, workloads.named(name), folder, options.repeat, options.quick))
+                    print(*table([workload_row(lines[-1])])[:1], flush=True)
+        finally:
+            tk.close()
+        said = page(lines, options.program, folder, options.out is not None)
+    if options.out:
+        write_page(options.out, said)
+    return 0 if all(line.is_same for line in lines) else 1
+
+
+if __name__ == "__main__":
+    sys.exit(main())
