@@ -91,7 +91,7 @@ bench: $(PROGRAM) $(LINE_BENCH) $(TREE_BENCH) $(WEIGH) $(LIBRARY)
 	python3 tools/library.py --bench docs/bench_library.txt
 
 versus: $(PROGRAM)
-	python3 tools/versus.py --program $(PROGRAM) --out docs/performance.md
+	python3 tools/versus.py --program $(PROGRAM) --out docs/performance.md --kept out/tk_counts.json
 
 counts: $(PROGRAM)
 	python3 tools/bench_counts.py --program $(PROGRAM) --out docs/bench_counts.txt

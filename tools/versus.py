@@ -1,20 +1,22 @@
 #!/usr/bin/env python3
 """Runs the program and real Tk 8.6 in turn on the workloads of tools/workloads.py: what `make versus` calls.
 
-    python3 tools/versus.py --program PATH --out FILE [--only WORD] [--repeat 5] [--quick]
+    python3 tools/versus.py --program PATH --out FILE [--only WORD] [--repeat 5] [--quick] [--kept FILE]
 
 Needs `Xvfb`, `wish` 8.6 and `valgrind` (on Debian `apt-get install xvfb tk8.6 valgrind`).  For each workload: whether the
 answers are the same bytes; the instructions of both by callgrind, Tk's without those of a script without commands; the
 least time of both, Tk's by its own clock from the first command to the last answer, ours of the whole process; then the
 greatest resident size, long texts, and what a command costs before it does anything.  The tables are written to FILE
-between its two marks.  --quick leaves out the instructions of Tk, which take most of the time.  The exit status is 1 if
-answers differ.
+between its two marks.  --quick leaves out the instructions of Tk, which take most of the time; --kept names a file in
+which they are kept from one run to the next.  The exit status is 1 if answers differ.
 """
 
 import argparse
+import json
 import os
 import re
 import resource
+import shutil
 import subprocess
 import sys
 import tempfile
@@ -87,11 +89,14 @@ def count_instructions(command, path, environment=None):
 class Tk:
     """Real Tk on a display of its own."""
 
-    def __init__(self, folder):
+    def __init__(self, folder, kept=None):
         self.folder = folder
         self.display = Display()
         self.environment = {**os.environ, "DISPLAY": self.display.name}
         self.empty = None
+        # The file of the counts of earlier runs, and these by the names of the workloads.
+        self.kept = kept
+        self.counts = json.loads(read(kept)) if kept and os.path.exists(kept) else {}
 
     def wrapped(self, commands):
         """A file for Tk that runs the commands, each answer a line of the file that it is given."""
@@ -111,12 +116,21 @@ class Tk:
         with open(told, encoding="ascii") as file:
             return int(file.read()) / 1e6, size
 
-    def count(self, commands):
-        """The instructions of the commands."""
-        if self.empty is None:
-            self.empty = count_instructions(self.command(self.wrapped([]), os.devnull), os.devnull, self.environment)
+    def counted(self, commands):
+        """The instructions of a run of the commands."""
         path = self.wrapped(commands)
-        return count_instructions(self.command(path, os.devnull), os.devnull, self.environment) - self.empty
+        return count_instructions(self.command(path, os.devnull), os.devnull, self.environment)
+
+    def count(self, name, commands):
+        """The instructions of the commands of a workload."""
+        if name not in self.counts:
+            if self.empty is None:
+                self.empty = self.counted([])
+            self.counts[name] = self.counted(commands) - self.empty
+            if self.kept:
+                with open(self.kept, "w", encoding="ascii") as file:
+                    json.dump(self.counts, file, indent=1)
+        return self.counts[name]
 
     def close(self):
         self.display.close()
@@ -146,7 +160,7 @@ def measure(program, tk, workload, folder, repeat, is_quick):
     return Line(
         workload,
         len(commands),
-        Cost(None if is_quick else tk.count(commands), tk_seconds, tk_size),
+        Cost(None if is_quick else tk.count(workload.name, commands), tk_seconds, tk_size),
         Cost(count_instructions([program], script), seconds, size),
         is_same,
     )
@@ -234,7 +248,7 @@ def long_text(lines):
     """A text of so many lines of 40 characters, searched, tagged, walked by its tags and dumped."""
     line = "the quick brown fox jumps over lazy dog"
     yield "filled", ["text .t"] + [".t insert end {" + f"{line}\n" * 10_000 + "}"] * (lines // 10_000)
-    yield "searched for a word that each line has", [".t search -all -count n brown 1.0 end".replace("-count n ", "")]
+    yield "searched for a word that each line has", [".t search -all brown 1.0 end"]
     yield "searched for one that none has", [".t search absent 1.0 end"]
     yield "a word of each tenth line tagged", [
         ".t tag add x " + " ".join(f"{number}.4 {number}.9" for number in range(first, first + 10_000, 10))
@@ -311,13 +325,8 @@ def write_page(path, said):
 
 def missing():
     """What isn't installed."""
-    return [name for name, found in (
-        ("Xvfb", _has("Xvfb")), ("wish 8.6", find_wish() is not None), ("valgrind", _has("valgrind")),
-    ) if not found]
-
-
-def _has(name):
-    return any(os.access(os.path.join(folder, name), os.X_OK) for folder in os.environ["PATH"].split(os.pathsep))
+    found = {"Xvfb": shutil.which("Xvfb"), "wish 8.6": find_wish(), "valgrind": shutil.which("valgrind")}
+    return [name for name, path in found.items() if path is None]
 
 
 def main():
@@ -327,6 +336,7 @@ def main():
     parser.add_argument("--only", default="")
     parser.add_argument("--repeat", type=int, default=5)
     parser.add_argument("--quick", action="store_true")
+    parser.add_argument("--kept")
     options = parser.parse_args()
     if missing():
         print(f"{', '.join(missing())}: not installed here; on Debian: {INSTALL}", file=sys.stderr)
@@ -334,12 +344,12 @@ def main():
     resource.setrlimit(resource.RLIMIT_CORE, (0, 0))
     lines = []
     with tempfile.TemporaryDirectory() as folder:
-        tk = Tk(folder)
+        tk = Tk(folder, options.kept)
         try:
             for name in workloads.NAMES:
                 if options.only in name:
                     lines.append(measure(options.program, tk, workloads.named(name), folder, options.repeat, options.quick))
-                    print(*table([workload_row(lines[-1])])[:1], flush=True)
+                    print(table([workload_row(lines[-1])])[0], flush=True)
         finally:
             tk.close()
         said = page(lines, options.program, folder, options.out is not None)
