@@ -202,6 +202,20 @@ impl<'a, L: LineList> Draft<'a, L> {
         }
     }
 
+    /// Whether the line of the last copy before the place holds an offset, where the copies end at another one.
+    fn is_last(&self, offset: usize, end: usize) -> bool
+        requires is { IsDraft (L.lines self.now.list.now) self.now.front.items self.now.back.items }
+        requires end { end
+            ≡ length (whole (made_lines (copies_of self.now.front.items) (L.lines self.now.list.now))).columns }
+        ensures begun { result ≡ true → BeginsBy (L.lines self.now.list.now) offset self.now.front.items }
+        ensures within { result ≡ true → offset < end }
+    {
+        match self.front.last() {
+            None => false,
+            Some(stop) => offset < end && end - stop.copy.line.len() <= offset,
+        }
+    }
+
     /// Goes back until the line of the last copy before the place begins at an offset or before it.
     pub fn back_to(&mut self, offset: usize) -> Result<(), AllocError>
         requires { IsDraft (L.lines self.old.list.now) self.old.front.items self.old.back.items }
@@ -354,6 +368,10 @@ impl<'a, L: LineList> Draft<'a, L> {
         ensures place { IfOk result (λ found.
             StandsAt (L.lines self.new.list.now) self.new.front.items found.stop.copy offset found.column) }
     {
+        let end = self.covered();
+        if self.is_last(offset, end) {
+            return Ok(self.take_last(offset, end));
+        }
         self.back_to(offset)?;
         self.forth_to(offset)?;
         self.front.reserve(1)?;
