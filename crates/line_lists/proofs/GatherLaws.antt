@@ -20,7 +20,7 @@ use Rattle.line_lists.specs.declared.drafts.Stop.{Stop}
 use Rattle.line_lists.specs.declared.pieces.Piece.{Piece}
 use Rattle.line_lists.specs.Drafts.{AreStops, copies_of, drafted, made_lines, used}
 use Rattle.line_lists.specs.Edits.{without_mark}
-use Rattle.line_lists.specs.Lists.{AreApart, AreLines, AreRows, IsCounted, count_of}
+use Rattle.line_lists.specs.Lists.{AreApart, AreLines, AreRows, IsCounted, count_of, spliced}
 use Rattle.line_lists.specs.Pieces.{CanPlace, Covers, copied_lines, freed, named, numbers_in, numbers_of, piece_lines}
 use Rattle.line_lists.specs.Pieces.{placed}
 use Rattle.line_lists.specs.Texts.{whole}
@@ -166,6 +166,8 @@ pub record Gathers (front stops : List Stop) (lines : List LineContent) (pieces 
       last.from + last.count ≡ used (copies_of stops)
   pub none : pieces ≡ [] → stops ≡ []
   pub brings : piece_lines pieces ≡ copied_lines (copies_of stops)
+  pub one : (piece : Piece) → pieces ≡ piece ∷ [] →
+      made_lines (copies_of stops) lines ≡ take piece.from lines ++ piece.lines.items
 
 -- what holds of the copies, and the next of them
 pub record Goes (front before : List Stop) (lines : List LineContent) (stop : Stop) (rest : List Stop) : Type 0 where
@@ -266,7 +268,13 @@ gather-none front lines = record {
       absurd (omega (arith, long));
   none = λ _. refl;
   brings = refl;
+  one = λ piece is. let long : 0 ≡ 1 = ap length is in absurd (omega (arith, long));
 }
+
+-- a list of one that ends in this
+snoc_one : {A : Type 0} (xs : List A) (x y : A) → xs ++ x ∷ [] ≡ y ∷ [] → xs ≡ []
+snoc_one xs x y is = no_items xs (let long : length xs + 1 ≡ 1 = sym (length-append xs (x ∷ [])) ∙ ap length is in
+    omega (arith, long))
 
 pub gather-new : (front stops rest : List Stop) (lines : List LineContent) (stop : Stop) (pieces : List Piece)
     (piece : Piece) → Gathers front stops lines pieces → Goes front stops lines stop rest
@@ -299,6 +307,19 @@ gather-new front stops rest lines stop pieces piece gathers goes from count brou
           absurd (omega (arith, long));
       brings =
           piece_lines-snoc pieces piece ∙ ap₂ (λ xs ys. xs ++ ys) gathers.brings brought ∙ sym (copied-snoc stops stop);
+      one = λ only is.
+          let none = gathers.none (snoc_one pieces piece only is) in
+          let same = snoc_same pieces [] piece only is in
+          let begins : only.from ≡ stop.copy.kept = omega (
+            arith,
+            ap (λ (p : Piece). p.from) same,
+            from,
+            here,
+            ap (λ xs. used (copies_of xs)) none,
+          ) in
+          ap (λ xs. made_lines (copies_of (xs ++ stop ∷ [])) lines) none
+          ∙ ap₂ (λ n items. take n lines ++ items) (sym begins)
+          (sym brought ∙ ap (λ (p : Piece). p.lines.items) same);
     }
 
 pub gather-more : (front stops rest : List Stop) (lines : List LineContent) (stop : Stop) (pieces before : List Piece)
@@ -344,6 +365,15 @@ gather-more front stops rest lines stop pieces before last more gathers goes pie
           ∙ sym (append_assoc (piece_lines before) last.lines.items (stop.copy.line ∷ []))
           ∙ ap (λ xs. xs ++ stop.copy.line ∷ []) (sym (piece_lines-snoc before last) ∙ ap piece_lines (sym pieces_are)
           ∙ gathers.brings) ∙ sym (copied-snoc stops stop);
+      one = λ only is.
+          let none = snoc_one before more only is in
+          let same = snoc_same before [] more only is in
+          let was = gathers.one last (pieces_are ∙ ap (λ xs. xs ++ last ∷ []) none) in
+          ap (λ xs. made_lines xs lines) (copies-snoc stops stop) ∙ made-snoc (copies_of stops) stop.copy lines
+          ∙ ap₂ (λ xs n. xs ++ (take n (drop (used (copies_of stops)) lines) ++ stop.copy.line ∷ [])) was zero
+          ∙ append_assoc (take last.from lines) last.lines.items (stop.copy.line ∷ [])
+          ∙ ap₂ (λ n items. take n lines ++ items) (sym from ∙ ap (λ (p : Piece). p.from) same)
+          (sym brought ∙ ap (λ (p : Piece). p.lines.items) same);
     }
 
 pub gathered : (front : List Stop) (lines : List LineContent) (pieces : List Piece) → Gathers front front lines pieces →
@@ -364,3 +394,29 @@ gathered front lines pieces gathers are there rows counted =
       marks = omega (arith, counted.marks, freed-count_marks numbers lines);
     }) in
     (found.0, found.1 ∙ same)
+
+-- one piece comes in where no mark is taken off before
+pub gathered-one : (front : List Stop) (lines : List LineContent) (pieces : List Piece)
+    → Gathers front front lines pieces → AreLines lines → used (copies_of front) ≤ length lines
+    → AreRows (drafted (copies_of front) lines)
+    → IsCounted (plus (count_of lines) (count_of (copied_lines (copies_of front)))) → length pieces ≡ 1
+    → CanPlace pieces lines × (placed pieces lines ≡ drafted (copies_of front) lines)
+gathered-one front lines [] gathers are there rows counted few = absurd (omega (arith, few))
+gathered-one front lines (piece ∷ (more ∷ pieces)) gathers are there rows counted few = absurd (omega (arith, few))
+gathered-one front lines (piece ∷ []) gathers are there rows counted few =
+    let numbers = numbers_in (copied_lines (copies_of front)) in
+    let all = gathered front lines (piece ∷ []) gathers are there rows counted in
+    let ends = gathers.ends [] piece refl in
+    let new : spliced piece.from piece.count piece.lines.items lines ≡ drafted (copies_of front) lines =
+    ap₂ (λ xs n. xs ++ drop n lines) (sym (gathers.one piece refl)) ends in
+    let brings = sym (append-nil piece.lines.items) ∙ gathers.brings in (
+      (
+        tt,
+        record {
+          within = omega (arith, ends, there);
+          are = subst AreLines (all.1 ∙ sym new) all.0.1.are;
+          counted = subst (λ items. IsCounted (plus (count_of lines) (count_of items))) (sym brings) counted;
+        },
+      ),
+      new,
+    )

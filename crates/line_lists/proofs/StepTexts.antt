@@ -154,6 +154,20 @@ tags-taken lines old front back reached copy offset column is same stands =
     (column + 1) same (omega (arith, stands.place)) (omega (arith, stands.inside))
     ∙ ap (λ slots. differing slots (tags_before column copy.line.columns)) (tags-before lines copies reached copy is)
 
+-- and before it
+pub tags-left : (lines old : List LineContent) (front : List Stop) (back : List Copied) (reached : Reached)
+    (copy : Copied) (offset column : ℕ) → IsReached reached (copies_of front) lines
+    → taken_lines lines front back copy ≡ old → StandsAt lines front copy offset column
+    → tags_behind (take offset (whole old).columns)
+    ≡ differing (differing reached.tags (tags_behind (whole (take copy.kept (drop reached.used lines))).columns))
+    (tags_behind (take column copy.line.columns))
+tags-left lines old front back reached copy offset column is same stands =
+    let copies = copies_of front in
+    tags-around (lines_before copies copy lines) (lines_behind copies copy back lines) old copy.line offset column same
+    stands.place (omega (arith, stands.inside))
+    ∙ ap (λ slots. differing slots (tags_behind (take column copy.line.columns)))
+    (tags-before lines copies reached copy is)
+
 -- ---- a mark that moves
 pub mark-free : (number : ℕ) (text new : LineContent) → new ≡ without_mark number text →
     finite.get new.marks number ≡ None

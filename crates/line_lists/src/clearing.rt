@@ -87,9 +87,9 @@ impl<'a, L: LineList> Draft<'a, L> {
         ensures { result ≡ tags_behind (take offset
             (text_at (L.lines self.now.list.now) self.now.front.items self.now.back.items).columns) }
     {
-        let (index, column) = self.find_line(reached, offset);
+        let (index, column, line) = self.find_line(reached, offset);
         let before = reached.tags_behind(self.list, index - reached.used);
-        before.differing(&self.list.line(index).tags_behind(column))
+        before.differing(&line.tags_behind(column))
     }
 
     /// The slots that are on behind so many characters of the text, which are those of the character before the offset.
@@ -106,10 +106,11 @@ impl<'a, L: LineList> Draft<'a, L> {
     {
         self.back_to(offset)?;
         self.forth_to(offset)?;
-        let reached = self.reached();
-        if offset < reached.characters {
-            return Ok(self.copied_tags(offset, reached.characters));
+        let covered = self.covered();
+        if offset < covered {
+            return Ok(self.copied_tags(offset, covered));
         }
+        let reached = self.reached();
         Ok(self.kept_tags(&reached, offset))
     }
 

@@ -1,5 +1,5 @@
 ghost use Rattle.std.specs.Prelude.{◌≡◌, ℕ, ◌+◌, ◌-◌, ◌<◌, ◌≤◌, ◌^◌, List, ◌∷◌, [], ◌++◌, IfOk, OnOk, drop, length};
-ghost use Rattle.std.specs.Prelude.{take, vec_len, vec_capacity, true, false, chars, None};
+ghost use Rattle.std.specs.Prelude.{take, slice_get, vec_len, vec_capacity, true, false, chars, None, Some};
 ghost use Rattle.std.specs.FinMap as finite;
 ghost use Rattle.text_model.specs.Lines.{lines};
 ghost use Rattle.segments.specs.Columns.{LineContent, after_text};
@@ -123,6 +123,18 @@ impl<'a, L: LineList> Draft<'a, L> {
         }
     }
 
+    /// How many characters the text has up to the end of the last copy before the place.
+    pub fn covered(&self) -> usize
+        requires { IsDraft (L.lines self.now.list.now) self.now.front.items self.now.back.items }
+        ensures { result
+            ≡ length (whole (made_lines (copies_of self.now.front.items) (L.lines self.now.list.now))).columns }
+    {
+        match self.front.last() {
+            None => 0,
+            Some(stop) => stop.reached.start(self.list, &stop.copy) + stop.copy.line.len(),
+        }
+    }
+
     /// Goes back by one copy.
     pub fn step_back(&mut self) -> Result<(), AllocError>
         requires { IsDraft (L.lines self.old.list.now) self.old.front.items self.old.back.items }
@@ -190,6 +202,20 @@ impl<'a, L: LineList> Draft<'a, L> {
         }
     }
 
+    /// Whether the line of the last copy before the place holds an offset, where the copies end at another one.
+    fn is_last(&self, offset: usize, end: usize) -> bool
+        requires is { IsDraft (L.lines self.now.list.now) self.now.front.items self.now.back.items }
+        requires end { end
+            ≡ length (whole (made_lines (copies_of self.now.front.items) (L.lines self.now.list.now))).columns }
+        ensures begun { result ≡ true → BeginsBy (L.lines self.now.list.now) offset self.now.front.items }
+        ensures within { result ≡ true → offset < end }
+    {
+        match self.front.last() {
+            None => false,
+            Some(stop) => offset < end && end - stop.copy.line.len() <= offset,
+        }
+    }
+
     /// Goes back until the line of the last copy before the place begins at an offset or before it.
     pub fn back_to(&mut self, offset: usize) -> Result<(), AllocError>
         requires { IsDraft (L.lines self.old.list.now) self.old.front.items self.old.back.items }
@@ -223,16 +249,18 @@ impl<'a, L: LineList> Draft<'a, L> {
         Ok(())
     }
 
-    /// The line of the list that is kept at an offset of the text, behind what is covered, and the column there.
-    pub fn find_line(&self, reached: &Reached, offset: usize) -> (usize, usize)
+    /// The line of the list that is kept at an offset of the text, behind what is covered, lent, behind its number and
+    /// the column there.
+    pub fn find_line<'b>(&'b self, reached: &Reached, offset: usize) -> (usize, usize, &'b Line)
         requires used { reached.now.used ≤ length (L.lines self.now.list.now) }
         requires behind { reached.now.characters ≤ offset }
         requires within { offset + length (whole (take reached.now.used (L.lines self.now.list.now))).columns
             < reached.now.characters + length (whole (L.lines self.now.list.now)).columns }
-        ensures { IsFound reached.now (L.lines self.now.list.now) offset result.0 result.1 }
+        ensures place { IsFound reached.now (L.lines self.now.list.now) offset result.0 result.1 }
+        ensures line { slice_get (L.lines self.now.list.now) result.0 ≡ Some result.2.now }
     {
         let before = self.list.start(reached.used);
-        self.list.locate(offset - reached.characters + before)
+        self.list.line_at(offset - reached.characters + before)
     }
 
     /// Takes the last copy before the place out, whose line holds an offset, where the copies end at another one.
@@ -276,11 +304,11 @@ impl<'a, L: LineList> Draft<'a, L> {
         ensures place { IfOk result (λ found.
             StandsAt (L.lines self.new.list.now) self.new.front.items found.stop.copy offset found.column) }
     {
-        let (index, column) = self.find_line(&reached, offset);
+        let (index, column, line) = self.find_line(&reached, offset);
         let copy = Copied {
             kept: index - reached.used,
             gone: 1,
-            line: self.list.line(index).try_clone()?,
+            line: line.try_clone()?,
         };
         Ok(Found {
             stop: Stop { reached, copy },
@@ -311,11 +339,11 @@ impl<'a, L: LineList> Draft<'a, L> {
         ensures place { IfOk result (λ found.
             StandsAt (L.lines self.new.list.now) self.new.front.items found.stop.copy offset found.column) }
     {
-        let (index, column) = self.find_line(&reached, offset);
+        let (index, column, line) = self.find_line(&reached, offset);
         let copy = Copied {
             kept: index - reached.used,
             gone: 1,
-            line: self.list.line(index).try_clone()?,
+            line: line.try_clone()?,
         };
         next.kept -= copy.kept + 1;
         self.back.push_reserved(next);
@@ -340,13 +368,18 @@ impl<'a, L: LineList> Draft<'a, L> {
         ensures place { IfOk result (λ found.
             StandsAt (L.lines self.new.list.now) self.new.front.items found.stop.copy offset found.column) }
     {
+        let end = self.covered();
+        if self.is_last(offset, end) {
+            return Ok(self.take_last(offset, end));
+        }
         self.back_to(offset)?;
         self.forth_to(offset)?;
         self.front.reserve(1)?;
-        let reached = self.reached();
-        if offset < reached.characters {
-            return Ok(self.take_last(offset, reached.characters));
+        let covered = self.covered();
+        if offset < covered {
+            return Ok(self.take_last(offset, covered));
         }
+        let reached = self.reached();
         match self.back.pop() {
             None => self.copy_rest(reached, offset),
             Some(next) => self.copy_kept(reached, next, offset),

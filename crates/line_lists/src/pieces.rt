@@ -155,7 +155,8 @@ impl<'a, L: LineList> Draft<'a, L> {
         Ok(())
     }
 
-    /// The copies as pieces of the list, to be put in where the marks of the copies are taken off.
+    /// The copies as pieces of the list, to be put in where the marks of the copies are taken off; one piece may be put
+    /// in without that.
     pub fn into_pieces(self, alloc: Global) -> Result<Vec<Piece>, AllocError>
         requires is { IsText (L.lines self.list.now) self.front.items [] }
         requires counted { IsCounted (plus (count_of (L.lines self.list.now))
@@ -167,6 +168,10 @@ impl<'a, L: LineList> Draft<'a, L> {
             ≡ drafted_at (L.lines self.entry.list.now) self.entry.front.items []) }
         ensures lines { IfOk result (λ pieces.
             piece_lines pieces.items ≡ copied_lines (copies_of self.entry.front.items)) }
+        ensures one { IfOk result (λ pieces. length pieces.items ≡ 1 →
+            CanPlace pieces.items (L.lines self.entry.list.now)
+            × (placed pieces.items (L.lines self.entry.list.now)
+            ≡ drafted_at (L.lines self.entry.list.now) self.entry.front.items [])) }
     {
         let mut pieces = Vec::new(alloc);
         for stop in self.front {

@@ -7,7 +7,7 @@ ghost use Rattle.segments.specs.Columns.{tags_before};
 ghost use Rattle.line_lists.specs.Drafts.{IsText, drafted_at, text_at};
 ghost use Rattle.line_lists.specs.Edits.{made, with_toggled};
 ghost use Rattle.line_lists.specs.Texts.{text_of};
-ghost use Rattle.line_lists.specs.Toggling.{switched};
+ghost use Rattle.line_lists.specs.Toggling.{switched, tags_behind};
 
 use crate::drafts::{Draft, Found};
 use crate::lists::LineList;
@@ -65,6 +65,25 @@ impl<'a, L: LineList> Draft<'a, L> {
         Ok(slots)
     }
 
+    /// The slots that are on behind so many characters of a text; the line of the next one is copied.
+    fn left_tags(&mut self, offset: usize) -> Result<TagSet, AllocError>
+        requires is { IsText (L.lines self.old.list.now) self.old.front.items self.old.back.items }
+        requires within { offset
+            < length (text_at (L.lines self.old.list.now) self.old.front.items self.old.back.items).columns }
+        ensures list { self.new.list.now ≡ self.old.list.now }
+        ensures is { OnOk result (IsText (L.lines self.new.list.now) self.new.front.items self.new.back.items) }
+        ensures same { OnOk result (drafted_at (L.lines self.new.list.now) self.new.front.items self.new.back.items
+            ≡ drafted_at (L.lines self.old.list.now) self.old.front.items self.old.back.items) }
+        ensures value { IfOk result (λ slots. slots ≡ tags_behind (take offset
+            (text_at (L.lines self.old.list.now) self.old.front.items self.old.back.items).columns)) }
+    {
+        let Found { stop, column } = self.take(offset)?;
+        let before = stop.reached.tags_behind(self.list, stop.copy.kept);
+        let slots = before.differing(&stop.copy.line.tags_behind(column));
+        self.put(stop);
+        Ok(slots)
+    }
+
     /// The slots that change before an offset of a text of so many characters where one is put on there, or taken off;
     /// of its end nothing is asked.
     fn switched(
@@ -115,7 +134,7 @@ impl<'a, L: LineList> Draft<'a, L> {
         let count = text.chars().count();
         // More characters than a number can count have no room in memory.
         let longer = len.checked_add(count).ok_or(AllocError)?;
-        let before = self.tags_behind(offset)?;
+        let before = self.left_tags(offset)?;
         let differ = before.differing(slots);
         self.insert(offset, text)?;
         self.toggle_before(offset + count, &differ, longer)?;

@@ -1,4 +1,5 @@
-ghost use Rattle.std.specs.Prelude.{◌≡◌, IfOk, length};
+ghost use Rattle.std.specs.Prelude.{◌≡◌, ◌≢◌, ◌<◌, [], IfOk, length};
+ghost use Rattle.std.specs.List.{All};
 ghost use Rattle.text_model.specs.Steps.{Fits, after};
 ghost use Rattle.line_lists.specs.Pieces.{CanPlace, IsReady, freed, named, numbers_in, piece_lines, placed};
 ghost use Rattle.line_lists.specs.Texts.{content_of};
@@ -17,25 +18,41 @@ pub struct LineStore<L: LineList> {
     list: L,
 }
 
-/// What an edit makes of a list of lines: pieces of it, and the numbers of all marks in these.
+/// What an edit makes of a list of lines: pieces of it.
 #[derive(Drop)]
 pub struct Change {
-    numbers: Vec<MarkNo>,
+    /// The marks that are taken off the list before the pieces come in.
+    taken: Vec<MarkNo>,
     pieces: Vec<Piece>,
     /// How many lines the pieces bring.
     count: usize,
+    /// A number above those of all marks in these lines.
+    bound: usize,
+}
+
+/// Of the numbers of all marks that pieces bring, those that are taken off the list before. A mark that goes from one
+/// piece to another would stand twice while they come in one by one; one piece brings no such mark.
+fn taken_before(alloc: Global, numbers: Vec<MarkNo>, pieces: &[Piece]) -> Vec<MarkNo>
+    ensures one { length pieces.now ≡ 1 → result.items ≡ [] }
+    ensures other { length pieces.now ≢ 1 → result.items ≡ numbers.items }
+{
+    if pieces.len() == 1 {
+        Vec::new(alloc)
+    } else {
+        numbers
+    }
 }
 
 /// What an edit makes of a list of lines, which stays as it is.
 fn change_of<L: LineList>(alloc: Global, list: &L, edit: &Edit) -> Result<Change, AllocError>
     requires { Fits edit.now.steps (content_of (L.lines list.now)) }
     ensures can { IfOk result (λ change.
-        CanPlace change.pieces.items (freed (named change.numbers.items) (L.lines list.now))) }
+        CanPlace change.pieces.items (freed (named change.taken.items) (L.lines list.now))) }
     ensures new { IfOk result (λ change.
-        content_of (placed change.pieces.items (freed (named change.numbers.items) (L.lines list.now)))
+        content_of (placed change.pieces.items (freed (named change.taken.items) (L.lines list.now)))
         ≡ after edit.now.steps (content_of (L.lines list.now))) }
-    ensures numbers { IfOk result (λ change.
-        named change.numbers.items ≡ numbers_in (piece_lines change.pieces.items)) }
+    ensures below { IfOk result (λ change.
+        All (λ number. number < change.bound) (numbers_in (piece_lines change.pieces.items))) }
     ensures count { IfOk result (λ change. change.count ≡ length (piece_lines change.pieces.items)) }
 {
     let mut draft = Draft::new(alloc, list);
@@ -43,12 +60,14 @@ fn change_of<L: LineList>(alloc: Global, list: &L, edit: &Edit) -> Result<Change
     draft.forth_to_end()?;
     draft.count()?;
     let numbers = draft.numbers(alloc)?;
+    let bound = bound_of(&numbers);
     let count = draft.front.len();
     let pieces = draft.into_pieces(alloc)?;
     Ok(Change {
-        numbers,
+        taken: taken_before(alloc, numbers, &pieces),
         pieces,
         count,
+        bound,
     })
 }
 
@@ -68,10 +87,10 @@ impl<L: LineList> TextStore for LineStore<L> {
 
     ghost ready = { λ store change.
         IsReady (L.lines store.list) (L.line_room store.list) (L.mark_room store.list)
-        (named change.numbers.items) change.pieces.items };
+        (named change.taken.items) change.pieces.items };
 
     ghost outcome = { λ store change.
-        content_of (placed change.pieces.items (freed (named change.numbers.items) (L.lines store.list))) };
+        content_of (placed change.pieces.items (freed (named change.taken.items) (L.lines store.list))) };
 
     fn new(alloc: Global) -> Result<LineStore<L>, AllocError> {
         Ok(LineStore {
@@ -138,12 +157,12 @@ impl<L: LineList> TextStore for LineStore<L> {
 
     fn prepare(&mut self, edit: &Edit) -> Result<Change, AllocError> {
         let change = change_of(self.alloc, &self.list, edit)?;
-        self.list.reserve(change.count, bound_of(&change.numbers))?;
+        self.list.reserve(change.count, change.bound)?;
         Ok(change)
     }
 
     fn commit(&mut self, change: Change) {
-        take_marks(&mut self.list, &change.numbers);
+        take_marks(&mut self.list, &change.taken);
         place(&mut self.list, change.pieces);
     }
 }

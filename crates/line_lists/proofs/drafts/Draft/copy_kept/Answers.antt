@@ -18,7 +18,7 @@ pub overflow_add-next : goal.overflow_add-next
 overflow_add-next g c =
     let lines = g.L.LineList.lines c.args.self.now.list.now in
     let few = (g.L.LineList.are_lines c.args.self.now.list.now).counted.lines in
-    omega (arith, few, count-lines lines, c.find_line-index.ensures.within)
+    omega (arith, few, count-lines lines, c.find_line-index.ensures.place.within)
 
 pub overflow_sub-next : goal.overflow_sub-next
 overflow_sub-next g c =
@@ -28,7 +28,7 @@ overflow_sub-next g c =
     omega (
       arith,
       found-before c.args.reached lines c.args.next c.args.offset c.find_line-index.result.0
-          c.find_line-index.result.1 c.find_line-index.ensures before,
+          c.find_line-index.result.1 c.find_line-index.ensures.place before,
     )
 
 pub returns-clause-taken : goal.returns-clause-taken
@@ -44,7 +44,7 @@ returns-clause-taken g c =
     let less : Copied = record next { kept = next.kept - (copy.kept + 1) } in
     let before = kept-within lines front c.args.reached next c.args.offset c.requires.reached c.requires.ahead in
     let small = found-before c.args.reached lines next c.args.offset c.find_line-index.result.0
-    c.find_line-index.result.1 c.find_line-index.ensures before in
+    c.find_line-index.result.1 c.find_line-index.ensures.place before in
     subst (λ back. IsTaken lines front back (record { reached = c.args.reached; copy = copy }))
     (sym c.push_reserved.ensures.items)
     (taken-kept lines front c.args.self.now.back.items c.args.reached copy next less c.requires.is c.requires.reached
@@ -63,12 +63,12 @@ returns-clause-same g c =
     let less : Copied = record next { kept = next.kept - (copy.kept + 1) } in
     let before = kept-within lines front c.args.reached next c.args.offset c.requires.reached c.requires.ahead in
     let small = found-before c.args.reached lines next c.args.offset c.find_line-index.result.0
-    c.find_line-index.result.1 c.find_line-index.ensures before in
-    let get = c.line.ensures ∙ ap Some (sym c.in_ok-try_clone.ensures) in
+    c.find_line-index.result.1 c.find_line-index.ensures.place before in
+    let get = c.find_line-index.ensures.line ∙ ap Some (sym c.in_ok-try_clone.ensures) in
     ap (λ back. taken_lines lines front back copy) c.push_reserved.ensures.items
     ∙ opened-kept lines front c.args.self.now.back.items copy next less refl
     (found-line lines front c.args.reached c.find_line-index.result.0 c.in_ok-try_clone.field-0 c.requires.reached
-    c.find_line-index.ensures.first get) small refl refl refl
+    c.find_line-index.ensures.place.first get) small refl refl refl
 
 pub returns-clause-place : goal.returns-clause-place
 returns-clause-place g c =
@@ -79,10 +79,10 @@ returns-clause-place g c =
       gone = 1;
       line = c.in_ok-try_clone.field-0;
     } in
-    let get = c.line.ensures ∙ ap Some (sym c.in_ok-try_clone.ensures) in
+    let get = c.find_line-index.ensures.line ∙ ap Some (sym c.in_ok-try_clone.ensures) in
     record {
       place = opened-place lines front c.args.reached copy c.args.offset c.find_line-index.result.0
-          c.find_line-index.result.1 c.requires.reached c.find_line-index.ensures refl;
+          c.find_line-index.result.1 c.requires.reached c.find_line-index.ensures.place refl;
       inside = inside-line c.find_line-index.result.1 (slice_get lines c.find_line-index.result.0)
-          c.in_ok-try_clone.field-0 get c.find_line-index.ensures.inside;
+          c.in_ok-try_clone.field-0 get c.find_line-index.ensures.place.inside;
     }

@@ -19,10 +19,10 @@ returns-clause-same g c =
       gone = 1;
       line = c.in_ok-try_clone.field-0;
     } in
-    let get = c.line.ensures ∙ ap Some (sym c.in_ok-try_clone.ensures) in
+    let get = c.find_line-index.ensures.line ∙ ap Some (sym c.in_ok-try_clone.ensures) in
     ap (λ back. taken_lines lines front back copy) c.requires.back
     ∙ opened-rest lines front copy refl (found-line lines front c.args.reached c.find_line-index.result.0
-    c.in_ok-try_clone.field-0 c.requires.reached c.find_line-index.ensures.first get)
+    c.in_ok-try_clone.field-0 c.requires.reached c.find_line-index.ensures.place.first get)
 
 pub returns-clause-place : goal.returns-clause-place
 returns-clause-place g c =
@@ -33,10 +33,10 @@ returns-clause-place g c =
       gone = 1;
       line = c.in_ok-try_clone.field-0;
     } in
-    let get = c.line.ensures ∙ ap Some (sym c.in_ok-try_clone.ensures) in
+    let get = c.find_line-index.ensures.line ∙ ap Some (sym c.in_ok-try_clone.ensures) in
     record {
       place = opened-place lines front c.args.reached copy c.args.offset c.find_line-index.result.0
-          c.find_line-index.result.1 c.requires.reached c.find_line-index.ensures refl;
+          c.find_line-index.result.1 c.requires.reached c.find_line-index.ensures.place refl;
       inside = inside-line c.find_line-index.result.1 (slice_get lines c.find_line-index.result.0)
-          c.in_ok-try_clone.field-0 get c.find_line-index.ensures.inside;
+          c.in_ok-try_clone.field-0 get c.find_line-index.ensures.place.inside;
     }

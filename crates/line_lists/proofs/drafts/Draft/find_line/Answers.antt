@@ -10,15 +10,15 @@ overflow_add-offset g c =
     let before = c.start-before.ensures in
     omega (arith, all, before, count-characters lines, c.requires.within)
 
-pub locate-requires : goal.locate-requires
-locate-requires g c =
+pub line_at-requires : goal.line_at-requires
+line_at-requires g c =
     let lines = g.L.LineList.lines c.args.self.now.list.now in
     let before = c.start-before.ensures in
     omega (arith, before, c.requires.within, c.requires.behind)
 
-pub returns : goal.returns
-returns g c =
+pub returns-clause-place : goal.returns-clause-place
+returns-clause-place g c =
     let lines = g.L.LineList.lines c.args.self.now.list.now in
     let before = c.start-before.ensures in
     found c.args.reached.now lines c.args.offset _ _ _ c.requires.behind
-    (ap (λ n. (c.args.offset - c.args.reached.now.characters) + n) before) c.locate.ensures
+    (ap (λ n. (c.args.offset - c.args.reached.now.characters) + n) before) c.line_at.ensures.place

@@ -6,7 +6,7 @@ use Rattle.line_lists.specs.Drafts.{copies_of, drafted}
 use Rattle.line_lists.specs.Lists.{AreRows}
 use Rattle.line_lists.proofs.CountRows.{count-lines}
 use Rattle.line_lists.proofs.DraftLaws.{used-append}
-use Rattle.line_lists.proofs.GatherLaws.{Gathers, Goes, gather-more, gather-new, gathered, last-fits, next-fits}
+use Rattle.line_lists.proofs.GatherLaws.{Gathers, Goes, gather-more, gather-new, gathered, gathered-one, last-fits, next-fits}
 use Rattle.line_lists.proofs.GatherLaws.{no_items, none_popped}
 use Rattle.line_lists.proofs.drafts.Draft.into_pieces.Goals.{then-stop-eq0, else-stop-eq0}
 use Rattle.line_lists.proofs.drafts.Draft.into_pieces.Goals.{in-Some-last+in_ok-piece-in-Some-last}
@@ -143,3 +143,19 @@ returns-clause-new g c =
     (subst (λ xs. Gathers front xs lines c.loop-stop.pieces.items) same c.loop-stop.invariant.0) are
     (omega (arith, c.requires.is.draft.there, used-append (copies_of front) (reverse []))) rows c.requires.counted).1
     ∙ ap (λ copies. drafted copies lines) (sym (append-nil (copies_of front)))
+
+pub returns-clause-one : goal.returns-clause-one
+returns-clause-one g c = λ few.
+    let front = c.args.self.front.items in
+    let lines = g.L.LineList.lines c.args.self.list.now in
+    let are = g.L.LineList.are_lines c.args.self.list.now in
+    let same : c.loop-stop.yielded ≡ front = sym (c.loop-stop.invariant.1
+    ∙ ap (λ xs. c.loop-stop.yielded ++ xs)
+    (no_items c.loop-stop.stop-iterator.rest.items
+    (omega (arith, c.in-None.ensures.steps.0, c.loop-stop.stop-iterator.rest.ok.0)))
+    ∙ append-nil c.loop-stop.yielded) in
+    let rows = subst (λ copies. AreRows (drafted copies lines)) (append-nil (copies_of front)) c.requires.is.rows in
+    let found = gathered-one front lines c.loop-stop.pieces.items
+    (subst (λ xs. Gathers front xs lines c.loop-stop.pieces.items) same c.loop-stop.invariant.0) are
+    (omega (arith, c.requires.is.draft.there, used-append (copies_of front) (reverse []))) rows c.requires.counted few
+    in (found.0, found.1 ∙ ap (λ copies. drafted copies lines) (sym (append-nil (copies_of front))))

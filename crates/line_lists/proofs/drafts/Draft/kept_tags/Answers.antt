@@ -19,5 +19,5 @@ returns g c =
     let lines = g.L.LineList.lines c.args.self.now.list.now in
     c.differing.ensures ∙ ap₂ differing c.tags_behind-before.ensures c.tags_behind.ensures
     ∙ sym (kept-tags lines c.args.self.now.front.items c.args.reached.now c.args.offset c.requires.reached
-    c.find_line-index.result.0 c.find_line-index.result.1 c.line.result.now c.find_line-index.ensures c.line.ensures
+    c.find_line-index.result.0 c.find_line-index.result.1 c.find_line-index.result.2.now c.find_line-index.ensures.place c.find_line-index.ensures.line
     c.args.self.now.back.items c.requires.ahead)

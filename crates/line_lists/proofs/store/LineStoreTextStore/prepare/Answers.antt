@@ -1,5 +1,4 @@
 use Rattle.std.proofs.Common.{◌<◌, subst, sym, arith}
-use Rattle.std.specs.List.{All}
 use Rattle.line_lists.specs.Pieces.{CanPlace, freed, named, numbers_in, piece_lines}
 use Rattle.line_lists.proofs.StoreLaws.{all-names, below-lines}
 use Rattle.line_lists.proofs.store.LineStoreTextStore.prepare.Goals as goal
@@ -9,14 +8,11 @@ returns-clause-ready g c =
     let change = c.in_ok-change.change in
     let pieces = change.pieces.items in
     let made = c.in_ok-change.ensures in
-    let numbers = c.deref.ensures.value in
-    let below = subst (λ xs. All (λ n. n < c.bound_of.result) (named xs)) numbers c.bound_of.ensures in
     record {
-      can = subst (λ lines. CanPlace pieces (freed (named change.numbers.items) lines))
+      can = subst (λ lines. CanPlace pieces (freed (named change.taken.items) lines))
           (sym c.in_ok-reserve.ensures.same) made.can;
       few = omega (arith, made.count, c.in_ok-reserve.ensures.room);
-      below = below-lines c.bound_of.result (g.L.LineList.mark_room c.reserve.new.self) c.in_ok-reserve.ensures.numbers
+      below = below-lines change.bound (g.L.LineList.mark_room c.reserve.new.self) c.in_ok-reserve.ensures.numbers
           (piece_lines pieces)
-          (all-names (λ n. n < c.bound_of.result) (numbers_in (piece_lines pieces))
-          (subst (All (λ n. n < c.bound_of.result)) made.numbers below));
+          (all-names (λ n. n < change.bound) (numbers_in (piece_lines pieces)) made.below);
     }
