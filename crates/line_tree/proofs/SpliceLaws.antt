@@ -1,7 +1,8 @@
 -- Lines put in one after the other, and taken out.
-use Rattle.std.proofs.Common.{◌≡◌, ℕ, zero, suc, ◌+◌, ◌-◌, ◌^◌, ◌<◌, ◌≤◌, List, [], ◌∷◌, ◌++◌, length, map, take, drop}
-use Rattle.std.proofs.Common.{refl, sym, ap, ◌∙◌, arith, append_assoc, length-append}
+use Rattle.std.proofs.Common.{◌≡◌, ℕ, zero, suc, ◌+◌, ◌-◌, ◌^◌, ◌<◌, ◌≤◌, List, [], ◌∷◌, ◌++◌, length, map, take, drop, min}
+use Rattle.std.proofs.Common.{inl, inr, refl, sym, ap, ◌∙◌, subst, arith, append_assoc, length-append}
 use Rattle.std.specs.List.{insert, remove}
+use Rattle.std.proofs.lemmas.Bool.{cases_lt}
 use Rattle.std.proofs.Math.Seq.{drop-append-add, take-append_seam}
 use Rattle.std.proofs.lemmas.List.{append-nil, drop-drop, length-drop, length-map, length-take-le, map-append}
 use Rattle.std.proofs.lemmas.List.{take-append-drop}
@@ -14,60 +15,129 @@ use Rattle.line_lists.specs.Lists.{count_of}
 use Rattle.line_lists.proofs.CountRows.{count-lines}
 use Rattle.line_tree.specs.Changes.{FitsSum}
 use Rattle.line_tree.specs.Room.{line_room}
+use Rattle.line_tree.specs.Taking.{changed}
 use Rattle.line_tree.specs.TreeState.{TreeState}
 use Rattle.line_tree.specs.Trees.{Named, total}
 use Rattle.line_tree.proofs.SumLaws.{total-append}
 use Rattle.line_tree.proofs.TreeLaws.{total-lines}
 use Rattle.line_tree.proofs.PrefixLaws.{count-contents}
 
--- these stand in the lines from number k on, with names
-pub record StandsIn (old : List Named) (k : ℕ) (contents : List LineContent) (now : List Named) : Type 0 where
+-- these stand in the lines from number k on, with names, where so many went
+pub record StandsIn (old : List Named) (k went : ℕ) (contents : List LineContent) (now : List Named) : Type 0 where
   pub added : List Named
   pub contents_of : map (λ l. l.1) added ≡ contents
-  pub is : now ≡ take k old ++ added ++ drop k old
+  pub is : now ≡ take k old ++ added ++ drop (k + went) old
 
-pub none-in : (old : List Named) (k : ℕ) → StandsIn old k [] old
-none-in old k = record {
+pub none-in : (old : List Named) (k gone : ℕ) → StandsIn old k (min gone 0) [] old
+none-in old k gone = let none : k + min gone 0 ≡ k = omega arith in record {
   added = [];
   contents_of = refl;
-  is = sym (ap (λ ls. ls ++ drop k old) (append-nil (take k old)) ∙ take-append-drop k old);
+  is = sym (ap (λ n. (take k old ++ []) ++ drop n old) none
+      ∙ ap (λ ls. ls ++ drop k old) (append-nil (take k old)) ∙ take-append-drop k old);
 }
 
-pub in-length : (old now : List Named) (k : ℕ) (cs : List LineContent) → StandsIn old k cs now →
-    length now ≡ length old + length cs
-in-length old now k cs s =
-    let a = ap length s.is in let b = length-append (take k old ++ s.added) (drop k old) in
+pub in-length : (old now : List Named) (k went : ℕ) (cs : List LineContent) → k + went ≤ length old →
+    StandsIn old k went cs now → length now + went ≡ length old + length cs
+in-length old now k went cs within s =
+    let a = ap length s.is in let b = length-append (take k old ++ s.added) (drop (k + went) old) in
     let c = length-append (take k old) s.added in
-    let d = ap length (take-append-drop k old) in let e = length-append (take k old) (drop k old) in
+    let d = length-take-le k old (omega arith) in let e = length-drop (k + went) old in
     let f = ap length s.contents_of in let h = length-map s.added (λ l. l.1) in omega arith
 
-pub more-in : (old now after : List Named) (k at : ℕ) (cs : List LineContent) (p : NodePtr) (c : LineContent) →
-    k ≤ length old → StandsIn old k cs now → at ≡ k + length cs → after ≡ insert now at (p, c) →
-    StandsIn old k (cs ++ c ∷ []) after
-more-in old now after k at cs p c within s place is =
-    let front = take k old ++ s.added in
-    let a = length-append (take k old) s.added in let b = length-take-le k old within in
-    let f = ap length s.contents_of in let h = length-map s.added (λ l. l.1) in
-    let e : at ≡ length front = omega arith in
+one-more : (added : List Named) (cs : List LineContent) (l : Named) →
+    map (λ (n : Named). n.1) added ≡ cs → map (λ (n : Named). n.1) (added ++ l ∷ []) ≡ cs ++ l.1 ∷ []
+one-more added cs l is = map-append (λ (n : Named). n.1) added (l ∷ []) ∙ ap (λ ls. ls ++ l.1 ∷ []) is
+
+-- where the next one is put in
+put-place : (old : List Named) (k at : ℕ) (added : List Named) (cs : List LineContent) → k ≤ length old →
+    map (λ (n : Named). n.1) added ≡ cs → at ≡ k + length cs → at ≡ length (take k old ++ added)
+put-place old k at added cs within is place =
+    let a = length-append (take k old) added in let b = length-take-le k old within in
+    let f = ap length is in let h = length-map added (λ l. l.1) in omega arith
+
+pub went-within : (long k gone : ℕ) (cs : List LineContent) → k + gone ≤ long → k + min gone (length cs) ≤ long
+went-within long k gone cs within = omega (arith, within)
+
+-- the next one is put in
+more-in : (old now after : List Named) (k went at : ℕ) (cs : List LineContent) (p : NodePtr) (c : LineContent) →
+    k ≤ length old → StandsIn old k went cs now → at ≡ k + length cs → after ≡ insert now at (p, c) →
+    StandsIn old k went (cs ++ c ∷ []) after
+more-in old now after k went at cs p c within s place is =
+    let front = take k old ++ s.added in let back = drop (k + went) old in
+    let e = put-place old k at s.added cs within s.contents_of place in
     let low : length front ≤ length front = omega arith in
     record {
       added = s.added ++ (p, c) ∷ [];
-      contents_of = map-append (λ (l : Named). l.1) s.added ((p, c) ∷ []) ∙ ap (λ ls. ls ++ c ∷ []) s.contents_of;
+      contents_of = one-more s.added cs (p, c) s.contents_of;
       is =
-          is ∙ ap (λ ls. insert ls at (p, c)) s.is ∙ ap (λ i. insert (front ++ drop k old) i (p, c)) e
-          ∙ insert-append_left front (drop k old) (length front) (p, c) low
-          ∙ ap (λ ls. ls ++ drop k old) (insert_end front (p, c) ∙ append_assoc (take k old) s.added ((p, c) ∷ []));
+          is ∙ ap (λ ls. insert ls at (p, c)) s.is ∙ ap (λ i. insert (front ++ back) i (p, c)) e
+          ∙ insert-append_left front back (length front) (p, c) low
+          ∙ ap (λ ls. ls ++ back) (insert_end front (p, c) ∙ append_assoc (take k old) s.added ((p, c) ∷ []));
     }
 
+-- the next one has the place of an old one
+first-over : (ls : List Named) (n : ℕ) (c : LineContent) → n < length ls →
+    (p : NodePtr) × (changed 0 (λ _. c) (drop n ls) ≡ (p, c) ∷ drop (suc n) ls)
+first-over [] n c h = absurd (omega arith)
+first-over (l ∷ ls) zero c h = (l.0, refl)
+first-over (l ∷ ls) (suc n) c h = first-over ls n c (omega arith)
+
+changed-behind : (xs ys : List Named) (c : LineContent) → changed (length xs) (λ _. c) (xs ++ ys)
+    ≡ xs ++ changed 0 (λ _. c) ys
+changed-behind [] ys c = refl
+changed-behind (x ∷ xs) ys c = ap (λ zs. x ∷ zs) (changed-behind xs ys c)
+
+over-in : (old now after : List Named) (k went at : ℕ) (cs : List LineContent) (c : LineContent) →
+    k + went < length old → StandsIn old k went cs now → at ≡ k + length cs → after ≡ changed at (λ _. c) now →
+    StandsIn old k (suc went) (cs ++ c ∷ []) after
+over-in old now after k went at cs c within s place is =
+    let front = take k old ++ s.added in let back = drop (k + went) old in
+    let e = put-place old k at s.added cs (omega arith) s.contents_of place in
+    let o = first-over old (k + went) c within in let next : suc (k + went) ≡ k + suc went = omega arith in
+    record {
+      added = s.added ++ (o.0, c) ∷ [];
+      contents_of = one-more s.added cs (o.0, c) s.contents_of;
+      is =
+          is ∙ ap (changed at (λ _. c)) s.is ∙ ap (λ i. changed i (λ _. c) (front ++ back)) e
+          ∙ changed-behind front back c ∙ ap (λ ls. front ++ ls) (o.1 ∙ ap (λ n. (o.0, c) ∷ drop n old) next)
+          ∙ sym (append_assoc front ((o.0, c) ∷ []) (drop (k + suc went) old))
+          ∙ ap (λ ls. ls ++ drop (k + suc went) old) (append_assoc (take k old) s.added ((o.0, c) ∷ []));
+    }
+
+-- the one or the other
+pub next-in : (old now after : List Named) (k gone at : ℕ) (cs : List LineContent) (c : LineContent) →
+    k + gone ≤ length old → StandsIn old k (min gone (length cs)) cs now → at ≡ k + length cs →
+    (at < k + gone → after ≡ changed at (λ _. c) now) →
+    (k + gone ≤ at → (p : NodePtr) × (after ≡ insert now at (p, c)))
+    → StandsIn old k (min gone (length (cs ++ c ∷ []))) (cs ++ c ∷ []) after
+next-in old now after k gone at cs c within s place over more = let long = length-append cs (c ∷ []) in
+    elim (cases_lt (length cs) gone) [
+      | inr few ↦
+          let m = more (omega (arith, few, place)) in
+          let e : min gone (length cs) ≡ min gone (length (cs ++ c ∷ [])) = omega (arith, few, long) in
+          subst (λ w. StandsIn old k w (cs ++ c ∷ []) after) e
+          (more-in old now after k (min gone (length cs)) at cs m.0 c (omega (arith, within)) s place m.1)
+      | inl many ↦
+          let e : suc (min gone (length cs)) ≡ min gone (length (cs ++ c ∷ [])) = omega (arith, many, long) in
+          subst (λ w. StandsIn old k w (cs ++ c ∷ []) after) e
+          (over-in old now after k (min gone (length cs)) at cs c (omega (arith, many, within)) s place
+          (over (omega (arith, many, place))))
+    ]
+
 -- ---- what is counted of them
-in-total : (old now : List Named) (k : ℕ) (cs : List LineContent) → StandsIn old k cs now → (f : Count → ℕ) →
-    ((a b : Count) → f (plus a b) ≡ f a + f b) → f (total now) ≡ f (total old) + f (count_of cs)
-in-total old now k cs s f adds =
-    let a = ap (λ ls. f (total ls)) s.is in let b = ap f (total-append (take k old ++ s.added) (drop k old)) in
+in-total : (old now : List Named) (k went : ℕ) (cs : List LineContent) → StandsIn old k went cs now →
+    (f : Count → ℕ) → ((a b : Count) → f (plus a b) ≡ f a + f b) → f (total now) ≤ f (total old) + f (count_of cs)
+in-total old now k went cs s f adds =
+    let back = drop (k + went) old in
+    let a = ap (λ ls. f (total ls)) s.is in let b = ap f (total-append (take k old ++ s.added) back) in
     let c = ap f (total-append (take k old) s.added) in
     let d = ap (λ ls. f (total ls)) (take-append-drop k old) in let e = ap f (total-append (take k old) (drop k old)) in
+    let x = ap (λ ls. f (total ls)) (take-append-drop went (drop k old)) in
+    let y = ap f (total-append (take went (drop k old)) (drop went (drop k old))) in
+    let z = ap (λ ls. f (total ls)) (drop-drop went k old) in
     let g = ap f (sym (count-contents s.added) ∙ ap count_of s.contents_of) in
-    let u = adds (total (take k old ++ s.added)) (total (drop k old)) in
+    let t = adds (total (take went (drop k old))) (total (drop went (drop k old))) in
+    let u = adds (total (take k old ++ s.added)) (total back) in
     let v = adds (total (take k old)) (total s.added) in let w = adds (total (take k old)) (total (drop k old)) in
     omega arith
 
@@ -78,16 +148,16 @@ content-part [] rest c f adds = let a = adds (line_count c) (count_of rest) in l
 content-part (x ∷ cs) rest c f adds = let r = content-part cs rest c f adds in
     let a = adds (line_count x) (count_of cs) in let b = adds (line_count x) (count_of (cs ++ c ∷ rest)) in omega arith
 
-pub next-fits : (old now : List Named) (k : ℕ) (cs rest : List LineContent) (c : LineContent) → StandsIn old k cs now →
-    FitsSum (plus (total old) (count_of (cs ++ c ∷ rest))) → FitsSum (plus (total now) (line_count c))
-next-fits old now k cs rest c s fits =
+pub next-fits : (old now : List Named) (k went : ℕ) (cs rest : List LineContent) (c : LineContent) →
+    StandsIn old k went cs now → FitsSum (plus (total old) (count_of (cs ++ c ∷ rest))) → FitsSum (plus (total now) (line_count c))
+next-fits old now k went cs rest c s fits =
     let a = fits.lines in let b = fits.characters in let d = fits.marks in
     record {
-      lines = let f : Count → ℕ = λ z. z.lines in let m = in-total old now k cs s f (λ u v. refl) in
+      lines = let f : Count → ℕ = λ z. z.lines in let m = in-total old now k went cs s f (λ u v. refl) in
           let p = content-part cs rest c f (λ u v. refl) in omega arith;
-      characters = let f : Count → ℕ = λ z. z.characters in let m = in-total old now k cs s f (λ u v. refl) in
+      characters = let f : Count → ℕ = λ z. z.characters in let m = in-total old now k went cs s f (λ u v. refl) in
           let p = content-part cs rest c f (λ u v. refl) in omega arith;
-      marks = let f : Count → ℕ = λ z. z.marks in let m = in-total old now k cs s f (λ u v. refl) in
+      marks = let f : Count → ℕ = λ z. z.marks in let m = in-total old now k went cs s f (λ u v. refl) in
           let p = content-part cs rest c f (λ u v. refl) in omega arith;
     }
 
@@ -97,11 +167,12 @@ pub few-lines : (old : List Named) (cs : List LineContent) → FitsSum (plus (to
 few-lines old cs fits = let a = total-lines old in let b = count-lines cs in let d = fits.lines in omega arith
 
 -- ---- after some of them
-pub record PutsIn (old : TreeState) (k : ℕ) (all done rest : List LineContent) (at : ℕ) (now : TreeState) : Type 0 where
-  pub whole : all ≡ done ++ rest
-  pub place : at ≡ k + length done
-  pub lines : StandsIn old.lines k done now.lines
-  pub room : line_room old ≤ line_room now + length done
+pub record PutsIn (old : TreeState) (k gone : ℕ) (all done rest : List LineContent) (at : ℕ) (now : TreeState) : Type 0
+  where
+    pub whole : all ≡ done ++ rest
+    pub place : at ≡ k + length done
+    pub lines : StandsIn old.lines k (min gone (length done)) done now.lines
+    pub room : line_room old ≤ line_room now + length done
 
 -- ---- the first is taken out
 first-out : (ls : List Named) (n : ℕ) → n < length ls → remove (drop n ls) 0 ≡ drop (suc n) ls
@@ -126,14 +197,17 @@ out-length old now k j within is =
     let c = length-take-le k old (omega arith) in let d = length-drop (k + j) old in omega arith
 
 -- ---- both
-pub taken-behind : (old now : List Named) (k gone : ℕ) (added : List Named) → k + gone ≤ length old →
-    now ≡ take k old ++ added ++ drop k old
-    → take (k + length added) now ++ drop (k + length added + gone) now ≡ take k old ++ added ++ drop (k + gone) old
-taken-behind old now k gone added within is =
-    let front = take k old ++ added in let back = drop k old in
-    let a = length-append (take k old) added in let b = length-take-le k old (omega arith) in
+pub taken-behind : (old now : List Named) (k went rest : ℕ) (added : List Named) → k ≤ length old →
+    now ≡ take k old ++ added ++ drop (k + went) old
+    → take (k + length added) now ++ drop (k + length added + rest) now
+    ≡ take k old ++ added ++ drop (k + (went + rest)) old
+taken-behind old now k went rest added within is =
+    let front = take k old ++ added in let back = drop (k + went) old in
+    let a = length-append (take k old) added in let b = length-take-le k old within in
     let e : k + length added ≡ length front = omega arith in
-    ap (λ ls. take (k + length added) ls ++ drop (k + length added + gone) ls) is
-    ∙ ap (λ n. take n (front ++ back) ++ drop (n + gone) (front ++ back)) e
-    ∙ ap (λ ls. ls ++ drop (length front + gone) (front ++ back)) (take-append_seam front back)
-    ∙ ap (λ ls. front ++ ls) (drop-append-add front back gone ∙ drop-drop gone k old)
+    let all : k + went + rest ≡ k + (went + rest) = omega arith in
+    ap (λ ls. take (k + length added) ls ++ drop (k + length added + rest) ls) is
+    ∙ ap (λ n. take n (front ++ back) ++ drop (n + rest) (front ++ back)) e
+    ∙ ap (λ ls. ls ++ drop (length front + rest) (front ++ back)) (take-append_seam front back)
+    ∙ ap (λ ls. front ++ ls) (drop-append-add front back rest ∙ drop-drop rest (k + went) old
+    ∙ ap (λ n. drop n old) all)

@@ -1,9 +1,9 @@
--- A mark that is taken off one of a tree's lines.
+-- One of a tree's lines that is changed, and a mark that is taken off it.
 use Rattle.std.specs.Prelude.{◌≡◌, ◌<◌, ℕ, suc, List, ◌++◌, length, map, take, drop, option_map, option_to_list}
 use Rattle.std.specs.FinMap as finite
 use Rattle.std.specs.declared.option.Option.{Option}
 use Rattle.std.specs.declared.option.Option.TheVariants.{Some}
-use Rattle.toggle_sums.specs.Counts.{counting, plus}
+use Rattle.toggle_sums.specs.Counts.{Count, counting, no_text, plus}
 use Rattle.segments.specs.Columns.{LineContent}
 use Rattle.line_lists.specs.Edits.{without_mark}
 use Rattle.raw_nodes.specs.Records.{Record, Records, update, with_line}
@@ -38,17 +38,22 @@ pub record TakesOff (m n : Records) (p : NodePtr) (number gone : ℕ) : Type 0 w
   pub same : n ≡ update m p (λ r. with_line r (without_mark number line))
   pub few : gone ≡ marked number line
 
--- a mark can be taken off line k below p
-pub record CanTake (m : Records) (h : ℕ) (p : NodePtr) (k : ℕ) : Type 0 where
+-- line k below p can be changed
+pub record CanChange (m : Records) (h : ℕ) (p : NodePtr) (k : ℕ) : Type 0 where
   pub tree : IsTree m h p
   pub distinct : Distinct (names h (tree_at m h p))
   pub place : k < length (lines_in m h p)
 
--- the mark of a number is taken off line k below p, which has so many marks less
-pub record Takes (m n : Records) (h : ℕ) (p : NodePtr) (k number gone : ℕ) : Type 0 where
+-- line k below p becomes f of it; with it so much went from what is counted below p, and so much came
+pub record Changes (m n : Records) (h : ℕ) (p : NodePtr) (k : ℕ) (f : LineContent → LineContent) (gone more : Count) :
+    Type 0 where
   pub links : SameLinks m n
   pub other : (q : NodePtr) → (Among q (names h (tree_at m h p)) → ⊥) → finite.get n q ≡ finite.get m q
   pub tree : IsTree n h p
-  pub lines : lines_in n h p ≡ changed k (without_mark number) (lines_in m h p)
-  pub sum : plus (total (lines_in n h p)) (counting 0 0 gone) ≡ total (lines_in m h p)
+  pub lines : lines_in n h p ≡ changed k f (lines_in m h p)
+  pub sum : plus (total (lines_in n h p)) gone ≡ plus (total (lines_in m h p)) more
   pub count : finite.len n ≡ finite.len m
+
+-- the mark of a number is taken off line k below p, which has so many marks less
+abbrev pub Takes : Records → Records → ℕ → NodePtr → ℕ → ℕ → ℕ → Type 0
+Takes m n h p k number gone = Changes m n h p k (without_mark number) (counting 0 0 gone) no_text

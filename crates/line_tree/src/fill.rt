@@ -65,7 +65,7 @@ fn sum_below<C: Ticks>(store: &NodeStore<C>, node: NodePtr, ticks: &mut C) -> Su
 }
 
 /// Makes a node's sum that of its children.
-fn resum<C: Ticks>(store: &mut NodeStore<C>, node: NodePtr, ticks: &mut C)
+pub fn resum<C: Ticks>(store: &mut NodeStore<C>, node: NodePtr, ticks: &mut C)
     requires row { HasRow (records store.old) node }
     requires fits { FitsSum (sums (records store.old) (row (kids (records store.old) node))) }
     ensures records { records store.new ≡ resummed (records store.old) node (row (kids (records store.old) node)) }

@@ -1,6 +1,6 @@
 //! A list of lines as a balanced tree: lines by number and by offset, their numbers, the sum of the first ones, the
-//! nearest with a toggle or a mark, from each line to the next, lines put in and taken out, a mark taken off a line.
-//! Over it a list of lines for a text store, with the line of each mark; and the store.
+//! nearest with a toggle or a mark, from each line to the next, lines put in, replaced and taken out, a mark taken off
+//! a line. Over it a list of lines for a text store, with the line of each mark; and the store.
 #![tactic(auto)]
 
 mod climb;
@@ -15,6 +15,7 @@ mod near;
 mod nearest;
 mod prefix;
 mod remove;
+mod replacing;
 mod select;
 mod shrink;
 mod splice;

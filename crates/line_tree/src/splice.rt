@@ -3,14 +3,19 @@ use raw_nodes::Ticks;
 use segments::Line;
 
 impl<C: Ticks> LineTree<C> {
-    ghost use Rattle.std.specs.Prelude.{◌≡◌, ◌+◌, ◌≤◌, ◌<◌, ◌++◌, List, length, map, take, drop};
+    ghost use Rattle.std.specs.Prelude.{◌≡◌, ◌+◌, ◌≤◌, ◌<◌, ◌++◌, List, length, map, take, drop, min};
+    ghost use Rattle.std.specs.List.{insert};
     ghost use Rattle.toggle_sums.specs.Counts.{plus};
+    ghost use Rattle.segments.specs.Columns.{line_count};
+    ghost use Rattle.raw_nodes.specs.declared.names.NodePtr.{NodePtr};
     ghost use Rattle.line_lists.specs.Lists.{count_of};
     ghost use Rattle.line_tree.specs.Changes.{FitsSum};
     ghost use Rattle.line_tree.specs.Room.{line_room};
+    ghost use Rattle.line_tree.specs.Taking.{changed};
     ghost use Rattle.line_tree.specs.Trees.{Named, contents, total};
 
-    /// Puts lines in from line `k` on and takes out the `gone` lines that stood there; the others keep their names.
+    /// Puts lines in from line `k` on and takes out the `gone` lines that stood there; the others keep their names. As
+    /// far as it goes a new line has the place of an old one, under its name, so that no node gets or loses a child.
     pub fn splice(&mut self, k: usize, gone: usize, lines: Vec<Line>, ticks: &mut C)
         requires within { k + gone ≤ length self.old.lines }
         requires some { gone < length self.old.lines + length lines.items }
@@ -21,24 +26,44 @@ impl<C: Ticks> LineTree<C> {
         ensures room { line_room self.old ≤ line_room self.new + length lines.items }
     {
         let behind = k + lines.len();
-        self.put_in(k, lines, ticks);
-        self.take_out(behind, gone, ticks);
+        let rest = gone.saturating_sub(lines.len());
+        self.put_in(k, gone, lines, ticks);
+        self.take_out(behind, rest, ticks);
     }
 
-    /// Puts lines in from line `k` on.
-    fn put_in(&mut self, k: usize, lines: Vec<Line>, ticks: &mut C)
-        requires within { k ≤ length self.old.lines }
+    /// Puts lines in from line `k` on, the first of them in the places of the `gone` lines that stand there.
+    fn put_in(&mut self, k: usize, gone: usize, lines: Vec<Line>, ticks: &mut C)
+        requires within { k + gone ≤ length self.old.lines }
         requires fits { FitsSum (plus (total self.old.lines) (count_of lines.items)) }
         requires room { length lines.items ≤ line_room self.old }
         ensures lines { (added : List Named) × (contents added ≡ lines.items)
-            × (self.new.lines ≡ take k self.old.lines ++ added ++ drop k self.old.lines) }
+            × (self.new.lines ≡ take k self.old.lines ++ added
+            ++ drop (k + min gone (length lines.items)) self.old.lines) }
         ensures room { line_room self.old ≤ line_room self.new + length lines.items }
     {
+        let end = k + gone;
         let mut at = k;
         for line in lines {
-            prove!(self.height() <= 25);
-            self.insert(at, line, ticks);
+            self.put_line(at, end, line, ticks);
             at += 1;
+        }
+    }
+
+    /// Puts a line in as number `k`, where that is below `end` in the place of the one that stands there.
+    fn put_line(&mut self, k: usize, end: usize, line: Line, ticks: &mut C)
+        requires within { k ≤ length self.old.lines }
+        requires end { end ≤ length self.old.lines }
+        requires fits { FitsSum (plus (total self.old.lines) (line_count line)) }
+        requires room { 1 ≤ line_room self.old }
+        ensures over { k < end → self.new.lines ≡ changed k (λ _. line) self.old.lines }
+        ensures more { end ≤ k → (p : NodePtr) × (self.new.lines ≡ insert self.old.lines k (p, line)) }
+        ensures room { line_room self.old ≤ line_room self.new + 1 }
+    {
+        if k < end {
+            self.replace(k, line, ticks);
+        } else {
+            prove!(self.height() <= 25);
+            self.insert(k, line, ticks);
         }
     }
 

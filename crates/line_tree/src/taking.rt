@@ -1,7 +1,7 @@
 ghost use Rattle.std.specs.Prelude.{◌≡◌};
 ghost use Rattle.raw_nodes.specs.Names.{records, rooms, spares};
 ghost use Rattle.line_tree.specs.Shape.{IsTree};
-ghost use Rattle.line_tree.specs.Taking.{CanTake, Takes, TakesOff};
+ghost use Rattle.line_tree.specs.Taking.{CanChange, Takes, TakesOff};
 
 use crate::select::find_at;
 use raw_nodes::{NodePtr, NodeStore, Ticks};
@@ -29,7 +29,7 @@ pub fn take_in<C: Ticks>(
     number: MarkNo,
     ticks: &mut C,
 ) -> usize
-    requires take { CanTake (records store.old) height node k }
+    requires take { CanChange (records store.old) height node k }
     ensures takes { Takes (records store.old) (records store.new) height node k number.0 result }
     ensures spares { spares store.new ≡ spares store.old }
     ensures rooms { rooms store.new ≡ rooms store.old }

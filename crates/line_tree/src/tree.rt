@@ -6,6 +6,7 @@ use crate::locate::{Located, locate};
 use crate::nearest::{Wanted, next, previous};
 use crate::prefix::prefix;
 use crate::remove::{lower, remove_in};
+use crate::replacing::replace_in;
 use crate::select::select;
 use crate::starts::{odd_slots, start};
 use crate::taking::take_in;
@@ -314,5 +315,15 @@ impl<C: Ticks> LineTree<C> {
         ensures room { line_room self.new ≡ line_room self.old }
     {
         take_in(&mut self.store, self.root, self.height, k, number, ticks);
+    }
+
+    /// Puts a line in the place of line `k`, under its name.
+    pub fn replace(&mut self, k: usize, line: Line, ticks: &mut C)
+        requires place { k < length self.old.lines }
+        requires fits { FitsSum (plus (total self.old.lines) (line_count line)) }
+        ensures lines { self.new.lines ≡ changed k (λ _. line) self.old.lines }
+        ensures room { line_room self.new ≡ line_room self.old }
+    {
+        replace_in(&mut self.store, self.root, self.height, k, line, ticks);
     }
 }

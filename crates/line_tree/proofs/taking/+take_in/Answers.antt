@@ -1,24 +1,28 @@
 use Rattle.std.proofs.Common.{◌≡◌, ℕ, ◌-◌, suc, sym, ◌∙◌, subst, arith, lit<}
+use Rattle.toggle_sums.specs.Counts.{counting, no_text}
+use Rattle.line_lists.specs.Edits.{without_mark}
 use Rattle.raw_nodes.specs.Names.{records}
 use Rattle.raw_nodes.specs.Records.{Records}
 use Rattle.raw_nodes.specs.declared.names.NodePtr.{NodePtr}
-use Rattle.line_tree.specs.Taking.{CanTake, Takes}
+use Rattle.line_tree.specs.Taking.{CanChange, Takes}
 use Rattle.line_tree.proofs.RowLaws.{lines_is}
-use Rattle.line_tree.proofs.TakingLaws.{can-child, marks-enough, node-inner, node-named, takes-line, takes-node}
+use Rattle.line_tree.proofs.TakingLaws.{marks-enough, takes-line, takes-node}
+use Rattle.line_tree.proofs.ChangingLaws.{can-child, node-row}
 use Rattle.line_tree.proofs.TreeLaws.{below-tree, named-tree, whole-below}
+use Rattle.line_tree.proofs.UpdateLaws.{inner-row}
 use Rattle.line_tree.proofs.taking.+take_in.Goals as goal
 
 -- the height as one more than another
-above : (m : Records) (h : ℕ) (p : NodePtr) (k : ℕ) → CanTake m h p k → (h ≡ 0 → ⊥) → CanTake m (suc (h - 1)) p k
-above m h p k can more = let e : h ≡ suc (h - 1) = omega arith in subst (λ j. CanTake m j p k) e can
+above : (m : Records) (h : ℕ) (p : NodePtr) (k : ℕ) → CanChange m h p k → (h ≡ 0 → ⊥) → CanChange m (suc (h - 1)) p k
+above m h p k can more = let e : h ≡ suc (h - 1) = omega arith in subst (λ j. CanChange m j p k) e can
 
 back : (m n : Records) (h : ℕ) (p : NodePtr) (k number gone : ℕ) → (h ≡ 0 → ⊥) →
     Takes m n (suc (h - 1)) p k number gone → Takes m n h p k number gone
 back m n h p k number gone more takes = let e : suc (h - 1) ≡ h = omega arith in
     subst (λ j. Takes m n j p k number gone) e takes
 
-low : (m : Records) (h : ℕ) (p : NodePtr) (k : ℕ) → h ≡ 0 → CanTake m h p k → CanTake m 0 p k
-low m h p k e can = subst (λ j. CanTake m j p k) e can
+low : (m : Records) (h : ℕ) (p : NodePtr) (k : ℕ) → h ≡ 0 → CanChange m h p k → CanChange m 0 p k
+low m h p k e can = subst (λ j. CanChange m j p k) e can
 
 pub take_off-requires : goal.take_off-requires
 take_off-requires g t c = let m = records c.args.store.now in
@@ -72,12 +76,8 @@ pub set_sum-requires : goal.set_sum-requires
 set_sum-requires g t c = let m = records c.args.store.now in let l = records c.take_in-gone.new.store in
     let p = c.args.node in let k = c.args.k in
     let can = above m c.args.height p k c.requires.take c.if-height-eq0.false in let f = c.find_at-found.result in
-    let taken = c.take_in-gone.ensures.takes in (
-      node-named m (c.args.height - 1) p k can f c.find_at-found.ensures.found l c.args.number.0 c.take_in-gone.result
-          taken,
-      node-inner m (c.args.height - 1) p k can f c.find_at-found.ensures.found l c.args.number.0
-          c.take_in-gone.result taken,
-    )
+    inner-row l p (node-row m (c.args.height - 1) p k can f c.find_at-found.ensures.found l
+    (without_mark c.args.number.0) (counting 0 0 c.take_in-gone.result) no_text c.take_in-gone.ensures.takes)
 
 pub returns-clause-takes : goal.returns-clause-takes
 returns-clause-takes g t c = let m = records c.args.store.now in let l = records c.take_in-gone.new.store in

@@ -1,47 +1,50 @@
-use Rattle.std.proofs.Common.{◌∷◌, [], ◌++◌, length, ap, sym, ◌∙◌, subst, arith, append_assoc, length-append}
+use Rattle.std.proofs.Common.{◌∷◌, [], ◌+◌, ◌++◌, length, ap, sym, ◌∙◌, subst, arith, append_assoc}
+use Rattle.std.proofs.Common.{length-append, drop, min, take}
 use Rattle.std.proofs.lemmas.List.{append-nil, nil_from_length}
 use Rattle.toggle_sums.specs.Counts.{plus}
 use Rattle.line_lists.specs.Lists.{count_of}
 use Rattle.line_tree.specs.Changes.{FitsSum}
 use Rattle.line_tree.specs.Trees.{total}
-use Rattle.line_tree.proofs.SpliceLaws.{few-lines, in-length, more-in, next-fits, none-in}
+use Rattle.line_tree.proofs.SpliceLaws.{few-lines, in-length, next-fits, next-in, none-in, went-within}
 use Rattle.line_tree.proofs.tree.LineTree.put_in.Goals as goal
+
+pub overflow_add-end : goal.overflow_add-end
+overflow_add-end g c = let few = few-lines c.args.self.now.lines c.args.lines.items c.requires.fits in
+    let within = c.requires.within in omega (arith, few, within)
 
 pub loop-line-init : goal.loop-line-init
 loop-line-init g c = record {
   whole = sym c.into_iter-line-iterator.ensures.into_iter_gives.0;
   place = omega arith;
-  lines = none-in c.args.self.now.lines c.args.k;
+  lines = none-in c.args.self.now.lines c.args.k c.args.gone;
   room = omega arith;
 }
 
-pub prove-unreachable-requires : goal.prove-unreachable-requires
-prove-unreachable-requires g c = omega arith
-
-pub insert-requires-clause-place : goal.insert-requires-clause-place
-insert-requires-clause-place g c = let l = c.loop-line in
-    let now = in-length c.args.self.now.lines l.self.lines c.args.k l.yielded l.invariant.lines in
+pub put_line-requires-clause-within : goal.put_line-requires-clause-within
+put_line-requires-clause-within g c = let l = c.loop-line in let s = l.invariant.lines in
+    let now = in-length c.args.self.now.lines l.self.lines c.args.k (min c.args.gone (length l.yielded)) l.yielded
+    (went-within (length c.args.self.now.lines) c.args.k c.args.gone l.yielded c.requires.within) s in
     let at = l.invariant.place in let within = c.requires.within in omega (arith, now, at, within)
 
-pub insert-requires-clause-fits : goal.insert-requires-clause-fits
-insert-requires-clause-fits g c = let l = c.loop-line in let old = c.args.self.now.lines in
+pub put_line-requires-clause-end : goal.put_line-requires-clause-end
+put_line-requires-clause-end g c = let l = c.loop-line in let s = l.invariant.lines in
+    let now = in-length c.args.self.now.lines l.self.lines c.args.k (min c.args.gone (length l.yielded)) l.yielded
+    (went-within (length c.args.self.now.lines) c.args.k c.args.gone l.yielded c.requires.within) s in
+    let within = c.requires.within in omega (arith, now, within)
+
+pub put_line-requires-clause-fits : goal.put_line-requires-clause-fits
+put_line-requires-clause-fits g c = let l = c.loop-line in let old = c.args.self.now.lines in
     let whole = l.invariant.whole ∙ ap (λ ls. l.yielded ++ ls) c.in-Some.ensures.steps.0 in
-    next-fits old l.self.lines c.args.k l.yielded c.next.new.self.rest.items c.in-Some.line l.invariant.lines
+    next-fits old l.self.lines c.args.k (min c.args.gone (length l.yielded)) l.yielded c.next.new.self.rest.items
+    c.in-Some.line l.invariant.lines
     (subst (λ ls. FitsSum (plus (total old) (count_of ls))) whole c.requires.fits)
 
-pub insert-requires-clause-spares : goal.insert-requires-clause-spares
-insert-requires-clause-spares g c = let l = c.loop-line in
+pub put_line-requires-clause-room : goal.put_line-requires-clause-room
+put_line-requires-clause-room g c = let l = c.loop-line in
     let whole = ap length (l.invariant.whole ∙ ap (λ ls. l.yielded ++ ls) c.in-Some.ensures.steps.0) in
     let long = length-append l.yielded (c.in-Some.line ∷ c.next.new.self.rest.items) in
     let old = c.requires.room in let room = l.invariant.room in
-    (c.height.ensures.room (omega (arith, whole, long, old, room))).0
-
-pub insert-requires-clause-rooms : goal.insert-requires-clause-rooms
-insert-requires-clause-rooms g c = let l = c.loop-line in
-    let whole = ap length (l.invariant.whole ∙ ap (λ ls. l.yielded ++ ls) c.in-Some.ensures.steps.0) in
-    let long = length-append l.yielded (c.in-Some.line ∷ c.next.new.self.rest.items) in
-    let old = c.requires.room in let room = l.invariant.room in
-    (c.height.ensures.room (omega (arith, whole, long, old, room))).1
+    omega (arith, whole, long, old, room)
 
 pub overflow_add-at : goal.overflow_add-at
 overflow_add-at g c = let l = c.loop-line in
@@ -55,12 +58,13 @@ pub loop-line-preserved : goal.loop-line-preserved
 loop-line-preserved g c = let l = c.loop-line in
     let whole = l.invariant.whole ∙ ap (λ ls. l.yielded ++ ls) c.in-Some.ensures.steps.0 in
     let more = length-append l.yielded (c.in-Some.line ∷ []) in let at = l.invariant.place in
-    let room = l.invariant.room in let falls = c.insert.ensures.room in
+    let room = l.invariant.room in let falls = c.put_line.ensures.room in
     record {
       whole = whole ∙ sym (append_assoc l.yielded (c.in-Some.line ∷ []) c.next.new.self.rest.items);
       place = omega (arith, more, at);
-      lines = more-in c.args.self.now.lines l.self.lines c.insert.new.self.lines c.args.k l.at l.yielded c.insert.result
-          c.in-Some.line c.requires.within l.invariant.lines l.invariant.place c.insert.ensures.lines;
+      lines = next-in c.args.self.now.lines l.self.lines c.put_line.new.self.lines c.args.k c.args.gone l.at l.yielded
+          c.in-Some.line c.requires.within l.invariant.lines l.invariant.place c.put_line.ensures.over
+          c.put_line.ensures.more;
       room = omega (arith, more, room, falls);
     }
 
@@ -68,8 +72,12 @@ pub returns-clause-lines : goal.returns-clause-lines
 returns-clause-lines g c = let l = c.loop-line in let s = l.invariant.lines in
     let none = nil_from_length l.line-iterator.rest.items
     (omega (arith, c.in-None.ensures.steps.0, l.line-iterator.rest.ok.0)) in
-    let whole = l.invariant.whole ∙ ap (λ ls. l.yielded ++ ls) none ∙ append-nil l.yielded in
-    (s.added, s.contents_of ∙ sym whole, s.is)
+    let whole = l.invariant.whole ∙ ap (λ ls. l.yielded ++ ls) none ∙ append-nil l.yielded in (
+      s.added,
+      s.contents_of ∙ sym whole,
+      s.is ∙ ap (λ ls. take c.args.k c.args.self.now.lines ++ s.added
+          ++ drop (c.args.k + min c.args.gone (length ls)) c.args.self.now.lines) (sym whole),
+    )
 
 pub returns-clause-room : goal.returns-clause-room
 returns-clause-room g c = let l = c.loop-line in

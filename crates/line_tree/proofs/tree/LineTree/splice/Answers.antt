@@ -1,5 +1,4 @@
-use Rattle.std.proofs.Common.{◌≡◌, ◌+◌, length, ap, ◌∙◌, arith}
-use Rattle.std.specs.Prelude.{◌++◌, take, drop}
+use Rattle.std.proofs.Common.{◌≡◌, ◌+◌, ◌++◌, length, take, drop, min, ap, ◌∙◌, arith}
 use Rattle.std.proofs.lemmas.List.{length-map}
 use Rattle.line_tree.proofs.SpliceLaws.{few-lines, taken-behind}
 use Rattle.line_tree.proofs.tree.LineTree.splice.Goals as goal
@@ -10,11 +9,14 @@ overflow_add-behind g c = let few = few-lines c.args.self.now.lines c.args.lines
 
 pub returns-clause-lines : goal.returns-clause-lines
 returns-clause-lines g c = let old = c.args.self.now.lines in let now = c.put_in.new.self.lines in
-    let put = c.put_in.ensures.lines in let k = c.args.k in let gone = c.args.gone in
+    let put = c.put_in.ensures.lines in let k = c.args.k in let gone = c.args.gone in let within = c.requires.within in
+    let went = min gone (length c.args.lines.items) in let rest = c.saturating_sub-rest.result in
     let long = ap length put.1 in let same = length-map put.0 (λ l. l.1) in
-    let e : k + c.len.result ≡ k + length put.0 = omega (arith, long, same) in (
+    let e : k + c.len.result ≡ k + length put.0 = omega (arith, long, same) in
+    let all : went + rest ≡ gone = omega arith in (
       put.0,
       put.1,
-      c.take_out.ensures.lines ∙ ap (λ n. take n now ++ drop (n + gone) now) e
-          ∙ taken-behind old now k gone put.0 c.requires.within put.2,
+      c.take_out.ensures.lines ∙ ap (λ n. take n now ++ drop (n + rest) now) e
+          ∙ taken-behind old now k went rest put.0 (omega (arith, within)) put.2
+          ∙ ap (λ n. take k old ++ put.0 ++ drop (k + n) old) all,
     )

@@ -1,11 +1,14 @@
 use Rattle.std.proofs.Common.{◌+◌, ◌<◌, length, ap, sym, ◌∙◌, subst}
+use Rattle.toggle_sums.specs.Counts.{counting, no_text}
 use Rattle.line_lists.specs.Edits.{without_mark}
 use Rattle.raw_nodes.specs.Names.{records}
 use Rattle.line_tree.specs.Room.{line_room}
 use Rattle.line_tree.specs.Shape.{lines_in}
 use Rattle.line_tree.specs.Taking.{changed}
+use Rattle.line_tree.specs.Trees.{total}
+use Rattle.line_tree.proofs.ChangingLaws.{length-changed, stands-changed}
 use Rattle.line_tree.proofs.LineRoomLaws.{room-stays}
-use Rattle.line_tree.proofs.TakingLaws.{length-changed, stands-taken}
+use Rattle.line_tree.proofs.SumLaws.{fits-none}
 use Rattle.line_tree.proofs.tree.LineTree.take_mark.Goals as goal
 
 pub take_in-requires : goal.take_in-requires
@@ -23,7 +26,8 @@ invariant_of-self g c =
     let r = c.self.inside.root in
     let taken = c.take_in.ensures.takes in
     let place = subst (λ ls. c.args.k < length ls) (sym (ap (λ v. v.lines) c.self.view_is)) c.requires in (
-      stands-taken m n h r c.args.k c.args.number.0 c.take_in.result c.self.invariant.0 taken,
+      stands-changed m n h r c.args.k (without_mark c.args.number.0) (counting 0 0 c.take_in.result) no_text
+          c.self.invariant.0 (fits-none (total (lines_in m h r)) c.self.invariant.0.stands.fits) taken,
       c.self.invariant.1 ∙ sym (ap length taken.lines
           ∙ length-changed (lines_in m h r) c.args.k (without_mark c.args.number.0) place),
     )

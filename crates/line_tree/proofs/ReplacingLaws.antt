@@ -1,0 +1,56 @@
+-- A line in another one's place.
+--     puts-line                the line itself
+--     child-fits               what the next step down asks
+--     change-sum, change-fits  what a node's sum is made anew by
+--     replaces-node            the node above it
+use Rattle.std.proofs.Common.{◌≡◌, ℕ, suc, sym, ap, ◌∙◌, subst}
+use Rattle.toggle_sums.specs.CountLaws.{plus-commutative}
+use Rattle.toggle_sums.specs.Counts.{Count, plus}
+use Rattle.segments.specs.Columns.{LineContent, line_count}
+use Rattle.raw_nodes.specs.Records.{Records}
+use Rattle.raw_nodes.specs.Rows.{kids, row}
+use Rattle.raw_nodes.specs.declared.names.NodePtr.{NodePtr}
+use Rattle.line_tree.specs.Changes.{FitsSum, resummed, sums}
+use Rattle.line_tree.specs.Finds.{Finds}
+use Rattle.line_tree.specs.Replacing.{PutsOver}
+use Rattle.line_tree.specs.Shape.{lines_in, sum_at}
+use Rattle.line_tree.specs.Taking.{CanChange, Changes}
+use Rattle.line_tree.specs.Trees.{total}
+use Rattle.line_tree.specs.declared.find.Found.{Found}
+use Rattle.line_tree.proofs.ChangingLaws.{changes-line, changes-node, node-sum, row-sum, sum-changed, was-parts}
+use Rattle.line_tree.proofs.SumLaws.{fits-part}
+
+pub puts-line : (m n : Records) (p : NodePtr) (k : ℕ) (new : LineContent) (gone more : Count) → CanChange m 0 p k →
+    PutsOver m n p new gone more → Changes m n 0 p k (λ _. new) gone more
+puts-line m n p k new gone more can puts = changes-line m n p k (λ _. new) gone more can (record {
+  line = puts.line;
+  was = puts.was;
+  same = puts.same;
+  sum = ap (plus (line_count new)) puts.went ∙ plus-commutative (line_count new) (line_count puts.line)
+      ∙ ap (plus (line_count puts.line)) (sym puts.came);
+})
+
+-- ---- above it
+module _ (m : Records) (h : ℕ) (p : NodePtr) (k : ℕ) (can : CanChange m (suc h) p k) (f : Found) (finds : Finds m p k f)
+    (new : LineContent) (fits : FitsSum (plus (total (lines_in m (suc h) p)) (line_count new))) where
+  pub child-fits : FitsSum (plus (total (lines_in m h f.child)) (line_count new))
+  child-fits = let parts = was-parts m h p k can f finds in
+      fits-part parts.0 (total (lines_in m h f.child)) parts.1 (line_count new)
+      (subst (λ s. FitsSum (plus s (line_count new))) parts.2 fits)
+
+  module _ (l : Records) (gone more : Count) (done : Changes m l h f.child f.rest (λ _. new) gone more)
+      (came : more ≡ line_count new) where
+    pub change-sum : plus (sums l (row (kids l p))) gone ≡ plus (sum_at l p) more
+    change-sum =
+        ap (λ s. plus s gone) (row-sum m h p k can f finds l (λ _. new) gone more done)
+        ∙ sum-changed m h p k can f finds l (λ _. new) gone more done
+        ∙ sym (ap (λ s. plus s more) (node-sum m h p k can f finds l (λ _. new) gone more done))
+
+    pub change-fits : FitsSum (plus (sum_at l p) more)
+    change-fits = subst FitsSum
+        (sym (λ i. plus (node-sum m h p k can f finds l (λ _. new) gone more done i) (came i))) fits
+
+    pub replaces-node : (n : Records) → n ≡ resummed l p (row (kids l p)) →
+        Changes m n (suc h) p k (λ _. new) gone more
+    replaces-node n is = changes-node m h p k can f finds l (λ _. new) gone more done n (sums l (row (kids l p)))
+        (row-sum m h p k can f finds l (λ _. new) gone more done) is
