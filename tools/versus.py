@@ -3,8 +3,8 @@
 
     python3 tools/versus.py --program PATH --out FILE [--only WORD] [--repeat 5] [--quick] [--kept FILE]
 
-Needs `Xvfb`, `wish` 8.6 and `valgrind` (on Debian `apt-get install xvfb tk8.6 valgrind`).  For each workload: whether the
-answers are the same bytes; the instructions of both by callgrind, Tk's without those of a script without commands; the
+Needs `Xvfb`, `wish` 8.6 and `valgrind` (on Debian `apt-get install xvfb tk8.6 valgrind`).  For each workload: whether
+the answers are the same bytes; the instructions of both by callgrind, Tk's without those of a script without commands; the
 least time of both, Tk's by its own clock from the first command to the last answer, ours of the whole process; then the
 greatest resident size, long texts, and what a command costs before it does anything.  The tables are written to FILE
 between its two marks.  --quick leaves out the instructions of Tk, which take most of the time; --kept names a file in
@@ -27,12 +27,25 @@ import workloads
 from harness import measure_size
 from tk_real import Display, find_wish
 
-# At most so much of Tk's instructions and time; of undo, what is the widget's own part in Tk, which moves its view there.
+# At most so much of Tk's instructions and time; of undo, of the widget's own part in Tk, which moves its view there.
 GOAL, UNDO_GOAL = 1 / 3, 1 / 3 * 0.15
 MEMORY_GOAL = 2 / 3
 BEGIN, END = "<!-- versus: begin -->", "<!-- versus: end -->"
 COLLECTED = re.compile(r"Collected : (\d+)")
-CALLGRIND = ["valgrind", "--tool=callgrind", "--callgrind-out-file=/dev/null"]
+CALLGRIND = ["valgrind", "--tool=callgrind"]
+# A line of callgrind_annotate, and the crate of a function of ours.
+ANNOTATED = re.compile(r"^\s*([\d,]+) \([ \d.]+%\)\s+(.*)$")
+CRATE = re.compile(r"\?\?\?:(\w+)::")
+# What our instructions are spent on: crates, by the function that they were compiled into, and the C library's calls.
+PARTS = {
+    "words": ("tcl_words", "tktext", "script_cli", "devices"),
+    "commands": ("peers", "documents", "command_table", "name_list", "indexmap"),
+    "places": ("text_index", "index_grammar", "mark_table", "tag_table", "search_dump"),
+    "edits": ("edit_ops", "command_parts", "undo_stack", "text_cursor"),
+    "lines": ("line_lists", "segments"),
+    "tree": ("line_tree", "raw_nodes", "toggle_sums"),
+}
+MEMORY = re.compile(r"malloc|free|alloc_|_alloc|dealloc")
 INSTALL = "apt-get install xvfb tk8.6 valgrind"
 
 # What runs before the clock: no window, and a first text, which loads fonts and options.
@@ -57,13 +70,15 @@ class Cost(NamedTuple):
 
 
 class Line(NamedTuple):
-    """A workload with how many commands it has, what it costs in Tk and here, and whether both gave the same answers."""
+    """A workload with how many commands it has, what it costs in Tk and here, whether both gave the same answers, and
+    how our instructions are spent, by parts."""
 
     workload: workloads.Workload
     count: int
     tk: Cost
     ours: Cost
     is_same: bool
+    parts: dict
 
 
 def run_timed(command, given, taken, environment=None):
@@ -75,15 +90,35 @@ def run_timed(command, given, taken, environment=None):
     return time.perf_counter() - begin, usage.ru_maxrss
 
 
-def count_instructions(command, path, environment=None):
-    """The instructions of one run of a program on a script."""
+def count_instructions(command, path, environment=None, profile=os.devnull):
+    """The instructions of one run of a program on a script; `profile` is a file for what callgrind tells of them."""
     with open(path, "rb") as file:
         run = subprocess.run(
-            CALLGRIND + command, stdin=file, stdout=subprocess.DEVNULL, stderr=subprocess.PIPE, env=environment,
-            check=False,
+            [*CALLGRIND, f"--callgrind-out-file={profile}", *command], stdin=file, stdout=subprocess.DEVNULL,
+            stderr=subprocess.PIPE, env=environment, check=False,
         )
     found = COLLECTED.search(run.stderr.decode("utf-8", "replace"))
     return int(found.group(1)) if found else sys.exit(f"no count: {run.stderr[-400:]!r}")
+
+
+def part_of(function):
+    """What a function's instructions are spent on."""
+    crate = CRATE.search(function)
+    if crate:
+        return next((part for part, crates in PARTS.items() if crate.group(1) in crates), "rest")
+    return "memory" if MEMORY.search(function) else "rest"
+
+
+def parts_of(profile):
+    """How many instructions each part has."""
+    told = subprocess.run(
+        ["callgrind_annotate", "--threshold=100", profile], capture_output=True, text=True, check=True
+    ).stdout
+    parts = dict.fromkeys([*PARTS, "memory", "rest"], 0)
+    for found in filter(None, map(ANNOTATED.match, told.splitlines())):
+        if "PROGRAM TOTALS" not in found.group(2):
+            parts[part_of(found.group(2))] += int(found.group(1).replace(",", ""))
+    return parts
 
 
 class Tk:
@@ -157,12 +192,14 @@ def measure(program, tk, workload, folder, repeat, is_quick):
     runs = [(tk.time(path, tk_answers), time_ours(program, script, answers)) for _ in range(repeat)]
     (tk_seconds, tk_size), (seconds, size) = (map(min, zip(*side)) for side in zip(*runs))
     is_same = read(tk_answers) == read(answers)
+    profile = os.path.join(folder, "profile")
     return Line(
         workload,
         len(commands),
         Cost(None if is_quick else tk.count(workload.name, commands), tk_seconds, tk_size),
-        Cost(count_instructions([program], script), seconds, size),
+        Cost(count_instructions([program], script, profile=profile), seconds, size),
         is_same,
+        parts_of(profile),
     )
 
 
@@ -212,6 +249,13 @@ def growth_rows(lines):
         if small.tk.instructions is not None:
             theirs = f"{part(large.tk.instructions / large.count, small.tk.instructions / small.count):.2f}"
         yield [f"`{small.workload.name}` to `{large.workload.name}`", theirs, f"{ours:.2f}"]
+
+
+def spent_rows(lines):
+    """How the instructions of each workload are spent, in percent."""
+    for line in lines:
+        total = sum(line.parts.values())
+        yield [f"`{line.workload.name}`", *(f"{100 * count / total:.0f}" for count in line.parts.values())]
 
 
 # ---- what a command costs before it does anything
@@ -305,6 +349,7 @@ def page(lines, program, folder, is_whole):
     """What stands between the two marks."""
     said = [f"Measured on {machine()}.", "", *table([WORKLOAD_HEAD, *map(workload_row, lines)]), *memory_row(lines)]
     said += ["", *table([["A command's cost grows, from .. to ..", "in Tk", "in `tktext`"], *growth_rows(lines)])]
+    said += ["", *table([["Spent on, in percent", *PARTS, "memory", "rest"], *spent_rows(lines)])]
     if is_whole:
         costs = [["Command, in a text of 20 lines", "bytes", "instructions"], *cost_rows(program, folder)]
         texts = [["400,000 lines, 16,000,000 characters", "commands", "seconds", "MB so far"]]
@@ -348,7 +393,8 @@ def main():
         try:
             for name in workloads.NAMES:
                 if options.only in name:
-                    lines.append(measure(options.program, tk, workloads.named(name), folder, options.repeat, options.quick))
+                    workload = workloads.named(name)
+                    lines.append(measure(options.program, tk, workload, folder, options.repeat, options.quick))
                     print(table([workload_row(lines[-1])])[0], flush=True)
         finally:
             tk.close()
