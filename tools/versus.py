@@ -4,11 +4,12 @@
     python3 tools/versus.py --program PATH --out FILE [--only WORD] [--repeat 5] [--quick] [--kept FILE]
 
 Needs `Xvfb`, `wish` 8.6 and `valgrind` (on Debian `apt-get install xvfb tk8.6 valgrind`).  For each workload: whether
-the answers are the same bytes; the instructions of both by callgrind, Tk's without those of a script without commands; the
-least time of both, Tk's by its own clock from the first command to the last answer, ours of the whole process; then the
-greatest resident size, long texts, and what a command costs before it does anything.  The tables are written to FILE
-between its two marks.  --quick leaves out the instructions of Tk, which take most of the time; --kept names a file in
-which they are kept from one run to the next.  The exit status is 1 if answers differ.
+the answers are the same bytes; the instructions of both by callgrind, Tk's without those of a script without commands,
+and what ours are spent on; the least time of both, Tk's by its own clock from the first command to the last answer,
+ours of the whole process; then the greatest resident size, long texts, and what a command costs before it does
+anything.  The tables are written to FILE between its two marks.  --quick leaves out the instructions of Tk, which take
+most of the time; --kept names a file in which they are kept from one run to the next.  The exit status is 1 if answers
+differ.
 """
 
 import argparse
