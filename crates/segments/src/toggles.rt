@@ -103,6 +103,9 @@ fn drop_range(toggles: &mut Vec<Toggled>, from: usize, to: usize)
     requires within { to ≤ vec_len toggles.old }
     ensures { toggles.new.items ≡ removed from to toggles.old.items }
 {
+    if from == to {
+        return;
+    }
     let end = toggles.len();
     toggles[from..].rotate_left(to - from);
     toggles.truncate(end - (to - from));
