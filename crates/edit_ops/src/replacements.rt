@@ -84,7 +84,8 @@ fn draft_replace<S: TextStore>(
     ensures fits { IfOk result (λ draft. Fits draft.steps (S.content text.now.store)) }
     ensures makes { IfOk result (λ draft. (recording : Recording) (log : Log) →
         drafted recording EditKind.Replace draft (state_of (S.content text.now.store) text.now.anchors.items log)
-        ≡ replaced_span recording mark.0 from to pieces.now (state_of (S.content text.now.store) text.now.anchors.items log)) }
+        ≡ replaced_span recording mark.0 from to pieces.now
+        (state_of (S.content text.now.store) text.now.anchors.items log)) }
 {
     let mut draft = draft_removal(alloc, text, from, to, pieces.len() + 2)?;
     let store = &text.store;

@@ -114,8 +114,8 @@ pub fn plan_clear<S: TextStore>(
     ensures widgets { IfOk result (λ plan. length plan.anchors.items ≡ length text.old.anchors.items) }
     ensures outcome { IfOk result (λ plan.
         planned plan.notes (S.outcome text.new.store plan.prepared) plan.anchors.items (log_of text.old.history)
-        ≡ state_of (cleared (map (λ (slot : TagSlot). slot.0) slots.now) (S.content text.old.store)) text.old.anchors.items
-        (log_of text.old.history)) }
+        ≡ state_of (cleared (map (λ (slot : TagSlot). slot.0) slots.now) (S.content text.old.store))
+        text.old.anchors.items (log_of text.old.history)) }
 {
     let steps = clear_steps(alloc, slots)?;
     plan_steps(alloc, text, steps)
