@@ -25,8 +25,8 @@ use text_model::{Limits, TextStore};
 use undo_stack::UndoStack;
 
 /// A document: the text with its history and the anchors of its widgets, its tags and its shared marks, its options,
-/// and its widgets in the order of their creation. Each widget has a slot, by which its `sel`, its anchors and its own two
-/// marks are found.
+/// and its widgets in the order of their creation. Each widget has a slot, by which its `sel`, its anchors and its own
+/// two marks are found.
 #[derive(Drop)]
 pub struct Document<S: TextStore> {
     pub(crate) alloc: Global,

@@ -13,7 +13,8 @@ draft_reversal-requires-clause-fits g c =
 pub returns-clause-widgets : goal.returns-clause-widgets
 returns-clause-widgets g c =
     plan-widgets c.args.mark.0 true c.last_undo-group.result _ (g.S.TextStore.content c.args.text.now.store)
-    c.in_ok-plan.plan.anchors.items c.args.text.now.anchors.items (log_of c.args.text.now.history) (λ log. c.in_ok-plan.ensures.outcome log ∙ c.in_ok-draft.ensures.makes log)
+    c.in_ok-plan.plan.anchors.items c.args.text.now.anchors.items (log_of c.args.text.now.history)
+    (λ log. c.in_ok-plan.ensures.outcome log ∙ c.in_ok-draft.ensures.makes log)
 
 pub returns-clause-outcome : goal.returns-clause-outcome
 returns-clause-outcome g c =
