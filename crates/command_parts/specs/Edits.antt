@@ -1,5 +1,5 @@
 -- What there is in a new store, what widgets have of their own in it, and why texts may not go in.
-use Rattle.std.specs.Prelude.{◌≡◌, ℕ, ◌+◌, ◌*◌, ◌-◌, min, nat_lt, false, if◌then◌else◌, map, List, [], ◌∷◌, Option}
+use Rattle.std.specs.Prelude.{ℕ, ◌+◌, ◌*◌, ◌-◌, min, nat_lt, false, if◌then◌else◌, map, List, [], ◌∷◌, Option}
 use Rattle.std.specs.Prelude.{None, Some}
 use Rattle.std.specs.FinMap as finite
 use Rattle.text_model.specs.Content.{Content, new_content}
@@ -7,9 +7,6 @@ use Rattle.text_model.specs.LimitTable.{LimitTable}
 use Rattle.text_model.specs.Steps.{with_slot}
 use Rattle.text_model.specs.declared.places.Gravity.TheVariants.{Right}
 use Rattle.text_model.specs.declared.places.Place.{Place}
-use Rattle.undo_stack.specs.Rings.{Kept}
-use Rattle.edit_ops.specs.States.{log_of}
-use Rattle.edit_ops.specs.declared.anchors.Anchors.{Anchors}
 use Rattle.command_parts.specs.declared.answers.Fault.{Fault}
 use Rattle.command_parts.specs.declared.answers.Fault.TheVariants.{TooManyTags, TextTooLong}
 use Rattle.command_parts.specs.Marking.{taken}
@@ -49,8 +46,3 @@ abbrev pub excess : LimitTable → ℕ → ℕ → Option Fault
 excess limits tags chars =
     if nat_lt (limits.tags + 1) tags then Some TooManyTags
     else (if nat_lt limits.chars chars then Some TextTooLong else None)
-
--- a store, whose content a function tells, the log of its edits and the anchors are as they were
-abbrev pub AreUnchanged : {S : Type 0} → (S → Content) → S → S → Kept → Kept → List Anchors → List Anchors → Type 0
-AreUnchanged content store changed before after anchors moved =
-    (content changed ≡ content store) × (log_of after ≡ log_of before) × (moved ≡ anchors)

@@ -8,21 +8,20 @@ ghost use Rattle.edit_ops.specs.Anchors.{AnchorsStand};
 ghost use Rattle.edit_ops.specs.Deletions.{deleted};
 ghost use Rattle.edit_ops.specs.Insertions.{inserted_texts, total};
 ghost use Rattle.edit_ops.specs.Removals.{replaced};
-ghost use Rattle.edit_ops.specs.States.{log_of, state_of};
+ghost use Rattle.edit_ops.specs.States.{log_of, state_in, IsUnchanged};
 ghost use Rattle.edit_ops.specs.Tagging.{SpanFits, tagged, cleared};
 ghost use Rattle.command_parts.specs.declared.answers.Fault.TheVariants.{Memory, TextTooLong};
 ghost use Rattle.command_parts.specs.Marking.{taken};
 ghost use Rattle.command_parts.specs.Edits.{first_content, length_replaced, with_own_marks, without_widgets};
-ghost use Rattle.command_parts.specs.Edits.{AreUnchanged};
 
 use crate::answers::Fault;
 use edit_ops::{
-    Anchors, EditFault, Piece, Recording, Span, commit, plan_clear, plan_delete, plan_insert,
-    plan_replace, plan_tag,
+    EditFault, EditRules, EditedText, Piece, Recording, Span, Target, commit, plan_clear,
+    plan_delete, plan_insert, plan_replace, plan_tag,
 };
 use std::alloc::{AllocError, Global};
-use text_model::{Edit, Gravity, Limits, MarkNo, Place, Step, StepList, TagSlot, TextStore};
-use undo_stack::{EditKind, UndoStack};
+use text_model::{Edit, Gravity, MarkNo, Place, Step, StepList, TagSlot, TextStore};
+use undo_stack::EditKind;
 
 /// Makes an edit. Where memory is refused nothing changes.
 fn make<S: TextStore>(store: &mut S, edit: Edit) -> Result<(), AllocError>
@@ -137,156 +136,136 @@ pub fn prepare_drop<S: TextStore>(
     store.prepare(&Edit { steps })
 }
 
-/// Puts texts in before the character at an offset of a store, each behind the one before it.
+/// Puts texts in before the character at an offset, each behind the one before it.
 pub fn put_texts<S: TextStore>(
-    alloc: Global,
-    limits: &Limits,
-    store: &mut S,
-    history: &mut UndoStack,
-    anchors: &mut [Anchors],
+    rules: &EditRules<'_>,
+    text: &mut EditedText<S>,
     at: usize,
     pieces: &[Piece],
-    recording: Recording,
 ) -> Result<(), Fault>
-    requires within { at < length (S.content store.old).cells }
-    requires stand { All (AnchorsStand (length (S.content store.old).cells)) anchors.old }
-    ensures ok { OnOk result (state_of (S.content store.new) anchors.new (log_of history.new)
-        ≡ inserted_texts recording EditKind.Insert at pieces.now
-        (state_of (S.content store.old) anchors.old (log_of history.old))) }
-    ensures fits { OnOk result (length (S.content store.old).cells + total pieces.now ≤ limits.now.chars) }
-    ensures err { OnErr result
-        (AreUnchanged S.content store.old store.new history.old history.new anchors.old anchors.new) }
+    requires within { at < length (S.content text.old.store).cells }
+    requires stand { All (AnchorsStand (length (S.content text.old.store).cells)) text.old.anchors.items }
+    ensures ok { OnOk result (state_in S.content text.new
+        ≡ inserted_texts rules.now.recording EditKind.Insert at pieces.now (state_in S.content text.old)) }
+    ensures fits { OnOk result
+        (length (S.content text.old.store).cells + total pieces.now ≤ rules.now.limits.now.chars) }
+    ensures err { OnErr result (IsUnchanged S.content text.old text.new) }
     ensures fault { IfErr result (λ fault. fault ≢ Memory →
-        (fault ≡ TextTooLong) × (limits.now.chars < length (S.content store.old).cells + total pieces.now)) }
+        (fault ≡ TextTooLong) ×
+        (rules.now.limits.now.chars < length (S.content text.old.store).cells + total pieces.now)) }
 {
-    match plan_insert(
-        alloc, limits, store, history, anchors, at, pieces, recording,
-    ) {
+    match plan_insert(rules, text, at, pieces) {
         Err(EditFault::TextTooLong) => Err(Fault::TextTooLong),
         Err(_) => Err(Fault::Memory),
         Ok(plan) => {
-            commit(plan, store, history, anchors);
+            commit(plan, text);
             Ok(())
         }
     }
 }
 
-/// Deletes spans of what a widget shows of a store from `start` to `end`, in any order: they may overlap or be empty,
+/// Deletes spans of what a widget shows of a text from `start` to `end`, in any order: they may overlap or be empty,
 /// and the last character that it shows stays, though without its slots.
 pub fn delete_spans<S: TextStore>(
     alloc: Global,
-    store: &mut S,
-    history: &mut UndoStack,
-    anchors: &mut [Anchors],
+    text: &mut EditedText<S>,
     start: usize,
     end: usize,
     spans: &[Span],
     recording: Recording,
 ) -> Result<(), Fault>
     requires shows { start < end }
-    requires within { end ≤ length (S.content store.old).cells }
+    requires within { end ≤ length (S.content text.old.store).cells }
     requires spans { All (λ span. span.to ≤ end) spans.now }
-    ensures ok { OnOk result (state_of (S.content store.new) anchors.new (log_of history.new)
-        ≡ deleted recording start end spans.now (state_of (S.content store.old) anchors.old (log_of history.old))) }
-    ensures err { OnErr result
-        (AreUnchanged S.content store.old store.new history.old history.new anchors.old anchors.new) }
+    ensures ok { OnOk result (state_in S.content text.new
+        ≡ deleted recording start end spans.now (state_in S.content text.old)) }
+    ensures err { OnErr result (IsUnchanged S.content text.old text.new) }
     ensures fault { IfErr result (λ fault. fault ≡ Memory) }
 {
-    match plan_delete(alloc, store, history, anchors, start, end, spans, recording) {
+    match plan_delete(alloc, text, start, end, spans, recording) {
         Err(_) => Err(Fault::Memory),
         Ok(plan) => {
-            commit(plan, store, history, anchors);
+            commit(plan, text);
             Ok(())
         }
     }
 }
 
-/// Puts texts in the place of the characters of a store from one offset to another, where both are cut to the last
-/// character that a widget shows. The mark of a number, if it stands before one of these, stays as far behind the place
-/// as it was, or goes to the end of the texts.
+/// Puts texts in the place of the characters that a target names, and keeps its mark in its place, or in the texts.
 pub fn replace_texts<S: TextStore>(
-    alloc: Global,
-    limits: &Limits,
-    store: &mut S,
-    history: &mut UndoStack,
-    anchors: &mut [Anchors],
-    last: usize,
-    from: usize,
-    to: usize,
+    rules: &EditRules<'_>,
+    text: &mut EditedText<S>,
+    target: Target,
     pieces: &[Piece],
-    mark: MarkNo,
-    recording: Recording,
 ) -> Result<(), Fault>
-    requires within { last < length (S.content store.old).cells }
-    requires ordered { from ≤ to }
-    requires stand { All (AnchorsStand (length (S.content store.old).cells)) anchors.old }
-    ensures ok { OnOk result (state_of (S.content store.new) anchors.new (log_of history.new)
-        ≡ replaced recording mark.0 last from to pieces.now
-        (state_of (S.content store.old) anchors.old (log_of history.old))) }
-    ensures fits { OnOk result (length_replaced (length (S.content store.old).cells) last from to + total pieces.now
-        ≤ limits.now.chars) }
-    ensures err { OnErr result
-        (AreUnchanged S.content store.old store.new history.old history.new anchors.old anchors.new) }
+    requires within { target.last < length (S.content text.old.store).cells }
+    requires ordered { target.from ≤ target.to }
+    requires stand { All (AnchorsStand (length (S.content text.old.store).cells)) text.old.anchors.items }
+    ensures ok { OnOk result (state_in S.content text.new
+        ≡ replaced rules.now.recording target.mark.0 target.last target.from target.to pieces.now
+        (state_in S.content text.old)) }
+    ensures fits { OnOk result
+        (length_replaced (length (S.content text.old.store).cells) target.last target.from target.to + total pieces.now
+        ≤ rules.now.limits.now.chars) }
+    ensures err { OnErr result (IsUnchanged S.content text.old text.new) }
     ensures fault { IfErr result (λ fault. fault ≢ Memory →
-        (fault ≡ TextTooLong) × (limits.now.chars < length_replaced (length (S.content store.old).cells) last from to
+        (fault ≡ TextTooLong) × (rules.now.limits.now.chars
+        < length_replaced (length (S.content text.old.store).cells) target.last target.from target.to
         + total pieces.now)) }
 {
-    match plan_replace(
-        alloc, limits, store, history, anchors, last, from, to, pieces, mark, recording,
-    ) {
+    match plan_replace(rules, text, target, pieces) {
         Err(EditFault::TextTooLong) => Err(Fault::TextTooLong),
         Err(_) => Err(Fault::Memory),
         Ok(plan) => {
-            commit(plan, store, history, anchors);
+            commit(plan, text);
             Ok(())
         }
     }
 }
 
-/// Sets a slot on spans of a store, or takes it off them.
+/// Sets a slot on spans of a text, or takes it off them.
 pub fn set_slot<S: TextStore>(
     alloc: Global,
-    store: &mut S,
-    history: &mut UndoStack,
+    text: &mut EditedText<S>,
     spans: &[Span],
     slot: TagSlot,
     is_on: bool,
 ) -> Result<(), Fault>
-    requires spans { All (SpanFits (length (S.content store.old).cells)) spans.now }
+    requires spans { All (SpanFits (length (S.content text.old.store).cells)) spans.now }
     requires known { slot.0 < slot_count }
-    ensures ok { OnOk result (S.content store.new ≡ tagged slot.0 is_on spans.now (S.content store.old)) }
-    ensures err { OnErr result (S.content store.new ≡ S.content store.old) }
-    ensures log { log_of history.new ≡ log_of history.old }
+    ensures ok { OnOk result (S.content text.new.store ≡ tagged slot.0 is_on spans.now (S.content text.old.store)) }
+    ensures err { OnErr result (S.content text.new.store ≡ S.content text.old.store) }
+    ensures log { log_of text.new.history ≡ log_of text.old.history }
+    ensures anchors { text.new.anchors.items ≡ text.old.anchors.items }
     ensures fault { IfErr result (λ fault. fault ≡ Memory) }
 {
-    match plan_tag(alloc, store, history, &[], spans, slot, is_on) {
+    match plan_tag(alloc, text, spans, slot, is_on) {
         Err(_) => Err(Fault::Memory),
         Ok(plan) => {
-            // No anchor moves.
-            commit(plan, store, history, &mut []);
+            commit(plan, text);
             Ok(())
         }
     }
 }
 
-/// Takes slots off all characters of a store.
+/// Takes slots off all characters of a text.
 pub fn clear_slots<S: TextStore>(
     alloc: Global,
-    store: &mut S,
-    history: &mut UndoStack,
+    text: &mut EditedText<S>,
     slots: &[TagSlot],
 ) -> Result<(), Fault>
     requires { All (λ slot. slot.0 < slot_count) slots.now }
-    ensures ok { OnOk result (S.content store.new ≡ cleared (map (λ slot. slot.0) slots.now) (S.content store.old)) }
-    ensures err { OnErr result (S.content store.new ≡ S.content store.old) }
-    ensures log { log_of history.new ≡ log_of history.old }
+    ensures ok { OnOk result (S.content text.new.store
+        ≡ cleared (map (λ slot. slot.0) slots.now) (S.content text.old.store)) }
+    ensures err { OnErr result (S.content text.new.store ≡ S.content text.old.store) }
+    ensures log { log_of text.new.history ≡ log_of text.old.history }
+    ensures anchors { text.new.anchors.items ≡ text.old.anchors.items }
     ensures fault { IfErr result (λ fault. fault ≡ Memory) }
 {
-    match plan_clear(alloc, store, history, &[], slots) {
+    match plan_clear(alloc, text, slots) {
         Err(_) => Err(Fault::Memory),
         Ok(plan) => {
-            // No anchor moves.
-            commit(plan, store, history, &mut []);
+            commit(plan, text);
             Ok(())
         }
     }

@@ -7,15 +7,14 @@ ghost use Rattle.undo_stack.specs.Fits.{FitsText};
 ghost use Rattle.undo_stack.specs.History.{next_undo, next_redo};
 ghost use Rattle.edit_ops.specs.Anchors.{AnchorsStand};
 ghost use Rattle.edit_ops.specs.Reversals.{undone, redone};
-ghost use Rattle.edit_ops.specs.States.{log_of, state_of};
+ghost use Rattle.edit_ops.specs.States.{state_in, IsUnchanged};
 ghost use Rattle.command_parts.specs.declared.answers.Fault.TheVariants.{Memory};
-ghost use Rattle.command_parts.specs.Edits.{AreUnchanged};
 
 use crate::answers::Fault;
-use edit_ops::{Anchors, commit, plan_redo, plan_undo};
+use edit_ops::{EditedText, commit, plan_redo, plan_undo};
 use std::alloc::Global;
 use text_model::{Limits, MarkNo, TextStore};
-use undo_stack::{Group, UndoStack};
+use undo_stack::Group;
 
 /// The texts of a group's actions are of Unicode scalar values, as the bytes of each show.
 fn read_group(group: &Group<'_>)
@@ -30,30 +29,26 @@ fn read_group(group: &Group<'_>)
 pub fn undo_group<S: TextStore>(
     alloc: Global,
     limits: &Limits,
-    store: &mut S,
-    history: &mut UndoStack,
-    anchors: &mut [Anchors],
+    text: &mut EditedText<S>,
     mark: MarkNo,
 ) -> Result<(), Fault>
-    requires stand { All (AnchorsStand (length (S.content store.old).cells)) anchors.old }
-    requires fits { FitsText limits.now.chars (characters (S.content store.old).cells) history.old.history }
+    requires stand { All (AnchorsStand (length (S.content text.old.store).cells)) text.old.anchors.items }
+    requires fits { FitsText limits.now.chars (characters (S.content text.old.store).cells) text.old.history.history }
     ensures bounds { AreLimits limits.now }
-    ensures scalars { IfSome (next_undo history.old.history) (All (λ action. All IsScalar action.text)) }
-    ensures ok { OnOk result (state_of (S.content store.new) anchors.new (log_of history.new)
-        ≡ undone mark.0 (state_of (S.content store.old) anchors.old (log_of history.old))) }
-    ensures err { OnErr result
-        (AreUnchanged S.content store.old store.new history.old history.new anchors.old anchors.new) }
+    ensures scalars { IfSome (next_undo text.old.history.history) (All (λ action. All IsScalar action.text)) }
+    ensures ok { OnOk result (state_in S.content text.new ≡ undone mark.0 (state_in S.content text.old)) }
+    ensures err { OnErr result (IsUnchanged S.content text.old text.new) }
     ensures fault { IfErr result (λ fault. fault ≡ Memory) }
 {
     // Where one of the limits is read, all are known to be in their bounds.
     let _chars = limits.chars();
-    if let Some(group) = history.last_undo() {
+    if let Some(group) = text.history.last_undo() {
         read_group(&group);
     }
-    match plan_undo(alloc, limits, store, history, anchors, mark) {
+    match plan_undo(alloc, limits, text, mark) {
         Err(_) => Err(Fault::Memory),
         Ok(plan) => {
-            commit(plan, store, history, anchors);
+            commit(plan, text);
             Ok(())
         }
     }
@@ -64,30 +59,26 @@ pub fn undo_group<S: TextStore>(
 pub fn redo_group<S: TextStore>(
     alloc: Global,
     limits: &Limits,
-    store: &mut S,
-    history: &mut UndoStack,
-    anchors: &mut [Anchors],
+    text: &mut EditedText<S>,
     mark: MarkNo,
 ) -> Result<(), Fault>
-    requires stand { All (AnchorsStand (length (S.content store.old).cells)) anchors.old }
-    requires fits { FitsText limits.now.chars (characters (S.content store.old).cells) history.old.history }
+    requires stand { All (AnchorsStand (length (S.content text.old.store).cells)) text.old.anchors.items }
+    requires fits { FitsText limits.now.chars (characters (S.content text.old.store).cells) text.old.history.history }
     ensures bounds { AreLimits limits.now }
-    ensures scalars { IfSome (next_redo history.old.history) (All (λ action. All IsScalar action.text)) }
-    ensures ok { OnOk result (state_of (S.content store.new) anchors.new (log_of history.new)
-        ≡ redone mark.0 (state_of (S.content store.old) anchors.old (log_of history.old))) }
-    ensures err { OnErr result
-        (AreUnchanged S.content store.old store.new history.old history.new anchors.old anchors.new) }
+    ensures scalars { IfSome (next_redo text.old.history.history) (All (λ action. All IsScalar action.text)) }
+    ensures ok { OnOk result (state_in S.content text.new ≡ redone mark.0 (state_in S.content text.old)) }
+    ensures err { OnErr result (IsUnchanged S.content text.old text.new) }
     ensures fault { IfErr result (λ fault. fault ≡ Memory) }
 {
     // Where one of the limits is read, all are known to be in their bounds.
     let _chars = limits.chars();
-    if let Some(group) = history.last_redo() {
+    if let Some(group) = text.history.last_redo() {
         read_group(&group);
     }
-    match plan_redo(alloc, limits, store, history, anchors, mark) {
+    match plan_redo(alloc, limits, text, mark) {
         Err(_) => Err(Fault::Memory),
         Ok(plan) => {
-            commit(plan, store, history, anchors);
+            commit(plan, text);
             Ok(())
         }
     }

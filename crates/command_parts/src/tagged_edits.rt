@@ -5,14 +5,14 @@ ghost use Rattle.std.specs.List.{All};
 ghost use Rattle.edit_ops.specs.Anchors.{AnchorsStand};
 ghost use Rattle.edit_ops.specs.Insertions.{inserted_texts};
 ghost use Rattle.edit_ops.specs.Removals.{replaced};
-ghost use Rattle.edit_ops.specs.States.{log_of, state_of};
+ghost use Rattle.edit_ops.specs.States.{log_of, state_in, IsUnchanged};
 ghost use Rattle.edit_ops.specs.Tagging.{SpanFits, tagged};
 ghost use Rattle.index_grammar.specs.Names.{known_tags};
 ghost use Rattle.tag_table.specs.Tags.{AreTags, names_of};
 ghost use Rattle.text_model.specs.LimitTable.{AreLimits};
 ghost use Rattle.text_model.specs.declared.limits.TheConstants.Limits.{MOST_TAGS, MOST_WIDGETS};
 ghost use Rattle.command_parts.specs.declared.answers.Fault.TheVariants.{Memory, TooManyTags};
-ghost use Rattle.command_parts.specs.Edits.{excess, length_replaced, AreUnchanged};
+ghost use Rattle.command_parts.specs.Edits.{excess, length_replaced};
 ghost use Rattle.command_parts.specs.Lists.{with_name, with_names, all_names, total};
 ghost use Rattle.command_parts.specs.Tagging.{IsFront, piece_of};
 
@@ -21,11 +21,11 @@ use crate::edits::{put_texts, replace_texts, set_slot};
 use crate::excess::excess_of;
 use crate::lists::Pair;
 use crate::tagging::{make_listed, make_tag, own_slot, pieces_of};
-use edit_ops::{Anchors, Piece, Recording, Span};
+use edit_ops::{EditRules, EditedText, Piece, Span, Target};
 use std::alloc::{AllocError, Global};
 use tag_table::TagTable;
-use text_model::{Limits, MarkNo, TagSlot, TextStore};
-use undo_stack::{EditKind, UndoStack};
+use text_model::{TagSlot, TextStore};
+use undo_stack::EditKind;
 
 /// Makes the tags of pairs that are new, of which there is room, and gives the texts with the slots of their lists.
 /// Where memory is refused, new tags may stand behind the others.
@@ -57,93 +57,80 @@ fn make_pieces(
 /// Makes the tags of pairs that are new, and puts their texts in. Where that is refused, new tags may stand behind the
 /// others.
 pub fn put_pairs<S: TextStore>(
-    alloc: Global,
-    limits: &Limits,
+    rules: &EditRules<'_>,
     tags: &mut TagTable,
     widget: TagSlot,
-    store: &mut S,
-    history: &mut UndoStack,
-    anchors: &mut [Anchors],
+    text: &mut EditedText<S>,
     at: usize,
     pairs: Vec<Pair>,
-    recording: Recording,
 ) -> Result<(), Fault>
-    requires within { at < length (S.content store.old).cells }
-    requires stand { All (AnchorsStand (length (S.content store.old).cells)) anchors.old }
+    requires within { at < length (S.content text.old.store).cells }
+    requires stand { All (AnchorsStand (length (S.content text.old.store).cells)) text.old.anchors.items }
     requires roomy { tags.old.limit ≡ MOST_TAGS }
     requires known { widget.0 < MOST_WIDGETS }
-    ensures bounds { AreLimits limits.now }
+    ensures bounds { AreLimits rules.now.limits.now }
     ensures front { IsFront tags.old tags.new }
     ensures sound { OnOk result (AreTags tags.new) }
     ensures scalars { All (λ pair. All IsScalar pair.text) pairs.items }
     ensures made { OnOk result (names_of tags.new.tags ≡ with_names (names_of tags.old.tags) (all_names pairs.items)) }
-    ensures ok { OnOk result (state_of (S.content store.new) anchors.new (log_of history.new)
-        ≡ inserted_texts recording EditKind.Insert at (map (piece_of tags.new.tags widget.0) pairs.items)
-        (state_of (S.content store.old) anchors.old (log_of history.old))) }
-    ensures room { OnOk result (excess limits.now (length (with_names (names_of tags.old.tags) (all_names pairs.items)))
-        (length (S.content store.old).cells + total pairs.items) ≡ None) }
-    ensures err { OnErr result
-        (AreUnchanged S.content store.old store.new history.old history.new anchors.old anchors.new) }
+    ensures ok { OnOk result (state_in S.content text.new
+        ≡ inserted_texts rules.now.recording EditKind.Insert at (map (piece_of tags.new.tags widget.0) pairs.items)
+        (state_in S.content text.old)) }
+    ensures room { OnOk result (excess rules.now.limits.now
+        (length (with_names (names_of tags.old.tags) (all_names pairs.items)))
+        (length (S.content text.old.store).cells + total pairs.items) ≡ None) }
+    ensures err { OnErr result (IsUnchanged S.content text.old text.new) }
     ensures fault { IfErr result (λ fault. fault ≢ Memory →
-        excess limits.now (length (with_names (names_of tags.old.tags) (all_names pairs.items)))
-        (length (S.content store.old).cells + total pairs.items) ≡ Some fault) }
+        excess rules.now.limits.now (length (with_names (names_of tags.old.tags) (all_names pairs.items)))
+        (length (S.content text.old.store).cells + total pairs.items) ≡ Some fault) }
 {
-    if let Some(fault) = excess_of(limits, tags, pairs.as_slice(), store.len()) {
+    if let Some(fault) = excess_of(rules.limits, tags, pairs.as_slice(), text.store.len()) {
         return Err(fault);
     }
-    let pieces = make_pieces(alloc, tags, widget, pairs)?;
-    put_texts(
-        alloc, limits, store, history, anchors, at, &pieces, recording,
-    )
+    let pieces = make_pieces(rules.alloc, tags, widget, pairs)?;
+    put_texts(rules, text, at, &pieces)
 }
 
-/// Makes the tags of pairs that are new, and puts their texts in the place of the characters from one offset to
-/// another, where both are cut to the last character that the widget shows. Where that is refused, new tags may stand
-/// behind the others.
+/// Makes the tags of pairs that are new, and puts their texts in the place of the characters that a target names. Where
+/// that is refused, new tags may stand behind the others.
 pub fn replace_pairs<S: TextStore>(
-    alloc: Global,
-    limits: &Limits,
+    rules: &EditRules<'_>,
     tags: &mut TagTable,
     widget: TagSlot,
-    store: &mut S,
-    history: &mut UndoStack,
-    anchors: &mut [Anchors],
-    last: usize,
-    from: usize,
-    to: usize,
+    text: &mut EditedText<S>,
+    target: Target,
     pairs: Vec<Pair>,
-    mark: MarkNo,
-    recording: Recording,
 ) -> Result<(), Fault>
-    requires within { last < length (S.content store.old).cells }
-    requires ordered { from ≤ to }
-    requires stand { All (AnchorsStand (length (S.content store.old).cells)) anchors.old }
+    requires within { target.last < length (S.content text.old.store).cells }
+    requires ordered { target.from ≤ target.to }
+    requires stand { All (AnchorsStand (length (S.content text.old.store).cells)) text.old.anchors.items }
     requires roomy { tags.old.limit ≡ MOST_TAGS }
     requires known { widget.0 < MOST_WIDGETS }
-    ensures bounds { AreLimits limits.now }
+    ensures bounds { AreLimits rules.now.limits.now }
     ensures front { IsFront tags.old tags.new }
     ensures sound { OnOk result (AreTags tags.new) }
     ensures scalars { All (λ pair. All IsScalar pair.text) pairs.items }
     ensures made { OnOk result (names_of tags.new.tags ≡ with_names (names_of tags.old.tags) (all_names pairs.items)) }
-    ensures ok { OnOk result (state_of (S.content store.new) anchors.new (log_of history.new)
-        ≡ replaced recording mark.0 last from to (map (piece_of tags.new.tags widget.0) pairs.items)
-        (state_of (S.content store.old) anchors.old (log_of history.old))) }
-    ensures room { OnOk result (excess limits.now (length (with_names (names_of tags.old.tags) (all_names pairs.items)))
-        (length_replaced (length (S.content store.old).cells) last from to + total pairs.items) ≡ None) }
-    ensures err { OnErr result
-        (AreUnchanged S.content store.old store.new history.old history.new anchors.old anchors.new) }
+    ensures ok { OnOk result (state_in S.content text.new
+        ≡ replaced rules.now.recording target.mark.0 target.last target.from target.to
+        (map (piece_of tags.new.tags widget.0) pairs.items) (state_in S.content text.old)) }
+    ensures room { OnOk result (excess rules.now.limits.now
+        (length (with_names (names_of tags.old.tags) (all_names pairs.items)))
+        (length_replaced (length (S.content text.old.store).cells) target.last target.from target.to
+        + total pairs.items) ≡ None) }
+    ensures err { OnErr result (IsUnchanged S.content text.old text.new) }
     ensures fault { IfErr result (λ fault. fault ≢ Memory →
-        excess limits.now (length (with_names (names_of tags.old.tags) (all_names pairs.items)))
-        (length_replaced (length (S.content store.old).cells) last from to + total pairs.items) ≡ Some fault) }
+        excess rules.now.limits.now (length (with_names (names_of tags.old.tags) (all_names pairs.items)))
+        (length_replaced (length (S.content text.old.store).cells) target.last target.from target.to
+        + total pairs.items) ≡ Some fault) }
 {
-    let left = store.len() - (to.min(last) - from.min(last));
-    if let Some(fault) = excess_of(limits, tags, pairs.as_slice(), left) {
+    let Target { last, from, to, .. } = target;
+    let left = text.store.len() - (to.min(last) - from.min(last));
+    if let Some(fault) = excess_of(rules.limits, tags, pairs.as_slice(), left) {
         return Err(fault);
     }
-    let pieces = make_pieces(alloc, tags, widget, pairs)?;
-    replace_texts(
-        alloc, limits, store, history, anchors, last, from, to, &pieces, mark, recording,
-    )
+    let pieces = make_pieces(rules.alloc, tags, widget, pairs)?;
+    replace_texts(rules, text, target, &pieces)
 }
 
 /// Makes a tag if it is new, of which there is room, and sets it on spans. Where memory is refused, the new tag may
@@ -152,23 +139,23 @@ pub fn tag_spans<S: TextStore>(
     alloc: Global,
     tags: &mut TagTable,
     widget: TagSlot,
-    store: &mut S,
-    history: &mut UndoStack,
+    text: &mut EditedText<S>,
     name: &str,
     spans: &[Span],
 ) -> Result<(), AllocError>
-    requires spans { All (SpanFits (length (S.content store.old).cells)) spans.now }
+    requires spans { All (SpanFits (length (S.content text.old.store).cells)) spans.now }
     requires roomy { tags.old.limit ≡ MOST_TAGS }
     requires few { length (with_name (names_of tags.old.tags) (chars name.now)) ≤ MOST_TAGS + 1 }
     requires known { widget.0 < MOST_WIDGETS }
     ensures front { IsFront tags.old tags.new }
     ensures sound { OnOk result (AreTags tags.new) }
     ensures made { OnOk result (names_of tags.new.tags ≡ with_name (names_of tags.old.tags) (chars name.now)) }
-    ensures ok { OnOk result (option_map (λ slot. tagged slot true spans.now (S.content store.old))
+    ensures ok { OnOk result (option_map (λ slot. tagged slot true spans.now (S.content text.old.store))
         (known_tags tags.new.tags widget.0 (chars name.now))
-        ≡ Some (S.content store.new)) }
-    ensures err { OnErr result (S.content store.new ≡ S.content store.old) }
-    ensures log { log_of history.new ≡ log_of history.old }
+        ≡ Some (S.content text.new.store)) }
+    ensures err { OnErr result (S.content text.new.store ≡ S.content text.old.store) }
+    ensures log { log_of text.new.history ≡ log_of text.old.history }
+    ensures anchors { text.new.anchors.items ≡ text.old.anchors.items }
 {
     match make_tag(alloc, tags, name) {
         Err(Fault::Memory) => Err(AllocError),
@@ -176,7 +163,7 @@ pub fn tag_spans<S: TextStore>(
         Ok(slot) => {
             // Where the tags are counted, they are known to be those of a table.
             let _count = tags.len();
-            match set_slot(alloc, store, history, spans, own_slot(slot, widget), true) {
+            match set_slot(alloc, text, spans, own_slot(slot, widget), true) {
                 Err(_) => Err(AllocError),
                 Ok(()) => Ok(()),
             }

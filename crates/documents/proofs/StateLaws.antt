@@ -1,10 +1,10 @@
 -- A document after what edits do to its text: a text is put in, cells are taken out, and an action is noted.
 use Rattle.std.proofs.Common.{◌≡◌, ℕ, ◌+◌, ◌-◌, ◌*◌, ◌<◌, ◌≤◌, true, false, List, [], ◌∷◌, Option, None, Some, map}
-use Rattle.std.proofs.Common.{length, take, drop, get_or, ◌++◌, refl, sym, ap, ap₂, subst, ◌∙◌, arith, eqb-true}
+use Rattle.std.proofs.Common.{length, take, drop, get_or, refl, sym, ap, ap₂, subst, ◌∙◌, arith, eqb-true}
 use Rattle.std.specs.Prelude.{Bool, option_map, slice_range, ◌==◌, if◌then◌else◌}
 use Rattle.std.specs.Char.{IsScalar}
 use Rattle.std.specs.List.{All, AllByRecursion}
-use Rattle.std.proofs.lemmas.List.{append-nil, drop_all, get_or-map, length-map, take_all}
+use Rattle.std.proofs.lemmas.List.{get_or-map, length-map}
 use Rattle.std.proofs.lemmas.List.Elements.{All-append, All-drop, All-head, All-tail, All-take}
 use Rattle.name_list.specs.Names.{Named}
 use Rattle.text_model.specs.declared.cells.Cell.{Cell}
@@ -423,34 +423,18 @@ length-span recording kind from to state ordered within =
 
 -- ---- what an edit of a store leaves
 
--- anchors that are written back whole
-pub written-back : (held new there : List Anchors) (count : ℕ) → there ≡ held → length new ≡ length there →
-    count ≡ length held → take count (new ++ drop (length new) held) ≡ new
-written-back held new there count is same all =
-    let long : length new ≡ length held = same ∙ ap length is in
-    ap (λ rest. take count (new ++ rest)) (drop_all (length new) held (omega (arith, long)))
-    ∙ ap (take count) (append-nil new) ∙ take_all count new (omega (arith, long, all))
+-- the state that an edit leaves, by the settings of the document
+pub edited-is : (edit : Recording → State → State) (before after : State) (recording given : Recording) →
+    given ≡ recording → after ≡ edit given before → after ≡ edit recording before
+edited-is edit before after recording given same made = made ∙ ap (λ r. edit r before) same
 
--- the state that an edit leaves, with the anchors that are held
-pub edited-is : (edit : Recording → State → State) (content changed : Content) (held new there kept : List Anchors)
-    (before after : Log) (recording given : Recording) → kept ≡ new → there ≡ held → given ≡ recording
-    → state_of changed new after ≡ edit given (state_of content there before) →
-    state_of changed kept after ≡ edit recording (state_of content held before)
-edited-is edit content changed held new there kept before after recording given written is same made =
-    ap (λ anchors. state_of changed anchors after) written ∙ made
-    ∙ ap₂ (λ r anchors. edit r (state_of content anchors before)) same is
+pub unedited-is : (content changed : Content) (held kept : List Anchors) (before after : Log) → changed ≡ content →
+    after ≡ before → kept ≡ held → state_of changed kept after ≡ state_of content held before
+unedited-is content changed held kept before after cells log anchors = λ i. state_of (cells i) (anchors i) (log i)
 
-pub unedited-is : (content changed : Content) (held new there kept : List Anchors) (before after : Log) → kept ≡ new →
-    there ≡ held → changed ≡ content → after ≡ before → new ≡ there
-    → state_of changed kept after ≡ state_of content held before
-unedited-is content changed held new there kept before after written is cells log anchors =
-    let all : kept ≡ held = written ∙ anchors ∙ is in
-    λ i. state_of (cells i) (all i) (log i)
-
-pub anchors-stand : (parts : Parts) (document : Document) (there : List Anchors) → Stands parts document →
-    there ≡ parts.journal.anchors → All (AnchorsStand (length parts.content.cells)) there
-anchors-stand parts document there stands is =
-    subst (All (AnchorsStand (length parts.content.cells))) (sym is) (λ k anchors within.
+pub anchors-stand : (parts : Parts) (document : Document) → Stands parts document →
+    All (AnchorsStand (length parts.content.cells)) parts.journal.anchors
+anchors-stand parts document stands = λ k anchors within.
     subst (λ n. AnchorsStand n (get_or parts.journal.anchors k anchors)) (count-characters parts.content.cells)
     (anchored-stand (model.characters parts.content.cells) (get_or parts.journal.anchors k anchors)
-    (stands.sound.views.anchored k anchors within)))
+    (stands.sound.views.anchored k anchors within))

@@ -15,7 +15,7 @@ ghost use Rattle.std.specs.Prelude.{false};
 
 use crate::views::{end_of, start_of};
 use command_parts::{DocumentSettings, Settings};
-use edit_ops::Anchors;
+use edit_ops::EditedText;
 use mark_table::MarkTable;
 use name_list::NameList;
 use std::alloc::{AllocError, Global};
@@ -24,18 +24,17 @@ use tag_table::TagTable;
 use text_model::{Limits, TextStore};
 use undo_stack::UndoStack;
 
-/// A document: the text in its store, its tags and its shared marks, its history, its options, and its widgets in the
-/// order of their creation. Each widget has a slot, by which its `sel`, its anchors and its own two marks are found.
+/// A document: the text with its history and the anchors of its widgets, its tags and its shared marks, its options,
+/// and its widgets in the order of their creation. Each widget has a slot, by which its `sel`, its anchors and its own
+/// two marks are found.
 #[derive(Drop)]
 pub struct Document<S: TextStore> {
     pub(crate) alloc: Global,
     pub(crate) seats: NameList,
     pub(crate) disabled: Vec<bool>,
-    pub(crate) anchors: Vec<Anchors>,
-    pub(crate) store: S,
+    pub(crate) text: EditedText<S>,
     pub(crate) tags: TagTable,
     pub(crate) marks: MarkTable,
-    pub(crate) history: UndoStack,
     pub(crate) settings: DocumentSettings,
 }
 
@@ -51,12 +50,12 @@ impl<S: TextStore> Model for Document<S> {
 
     ghost coded = { Prim.hlevel (codes, place.the_row.coded, set.code {R = key_cmp} key_code) };
 
-    ghost view = { λ d. document_of (parts_of d.seats d.tags d.marks d.settings d.disabled.items d.anchors.items
-        d.history (S.content d.store)) };
+    ghost view = { λ d. document_of (parts_of d.seats d.tags d.marks d.settings d.disabled.items d.text.anchors.items
+        d.text.history (S.content d.text.store)) };
 
     ghost invariant = { λ d.
-        IsSound (parts_of d.seats d.tags d.marks d.settings d.disabled.items d.anchors.items d.history
-        (S.content d.store)) };
+        IsSound (parts_of d.seats d.tags d.marks d.settings d.disabled.items d.text.anchors.items d.text.history
+        (S.content d.text.store)) };
 }
 
 /// The greatest limits that there are. A table of names is made for these, and a command counts by its own.
@@ -88,11 +87,13 @@ impl<S: TextStore> Document<S> {
             alloc,
             seats: NameList::new(alloc, Limits::MOST_WIDGETS)?,
             disabled: Vec::new(alloc),
-            anchors: Vec::new(alloc),
-            store: S::new(alloc)?,
+            text: EditedText {
+                store: S::new(alloc)?,
+                history: UndoStack::new(alloc),
+                anchors: Vec::new(alloc),
+            },
             tags: TagTable::new(alloc, &limits)?,
             marks: MarkTable::new(alloc, &limits)?,
-            history: UndoStack::new(alloc),
             settings: DocumentSettings::new(),
         })
     }
@@ -143,6 +144,7 @@ impl<S: TextStore> Document<S> {
         if self.disabled[slot as usize] {
             return true;
         }
-        start_of(&self.anchors, slot) == end_of(&self.anchors, slot, self.store.len())
+        start_of(&self.text.anchors, slot)
+            == end_of(&self.text.anchors, slot, self.text.store.len())
     }
 }

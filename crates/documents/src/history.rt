@@ -17,14 +17,14 @@ impl<S: TextStore> Document<S> {
     pub fn is_modified(&self) -> bool
         ensures { result ≡ is_modified self.now.modified }
     {
-        self.history.modified()
+        self.text.history.modified()
     }
 
     /// Says whether the text is modified.
     pub fn set_modified(&mut self, limits: &Limits, modified: bool) -> Answer
         ensures { Does limits.now self.old self.new (Ok result) (modified_set self.old modified) }
     {
-        self.history.set_modified(modified);
+        self.text.history.set_modified(modified);
         Answer::Empty
     }
 
@@ -35,7 +35,7 @@ impl<S: TextStore> Document<S> {
         if !self.settings.undo {
             return Answer::Empty;
         }
-        self.history.separator();
+        self.text.history.separator();
         Answer::Empty
     }
 
@@ -43,7 +43,7 @@ impl<S: TextStore> Document<S> {
     pub fn edit_reset(&mut self, limits: &Limits) -> Answer
         ensures { Does limits.now self.old self.new (Ok result) (edit_reset self.old) }
     {
-        self.history.reset();
+        self.text.history.reset();
         Answer::Empty
     }
 }
@@ -58,21 +58,14 @@ impl<S: TextStore> Document<S> {
         if !self.settings.undo {
             return Ok(Answer::Empty);
         }
-        let Some(_) = self.history.last_undo() else {
+        let Some(_) = self.text.history.last_undo() else {
             return Err(Fault::NothingToUndo);
         };
         if self.is_idle(widget) {
             return Ok(Answer::Empty);
         }
         let insert = MarkNo(2 * self.seats.number(widget));
-        match undo_group(
-            self.alloc,
-            limits,
-            &mut self.store,
-            &mut self.history,
-            &mut self.anchors,
-            insert,
-        ) {
+        match undo_group(self.alloc, limits, &mut self.text, insert) {
             Ok(()) => Ok(Answer::Empty),
             Err(fault) => Err(fault),
         }
@@ -87,21 +80,14 @@ impl<S: TextStore> Document<S> {
         if !self.settings.undo {
             return Ok(Answer::Empty);
         }
-        let Some(_) = self.history.last_redo() else {
+        let Some(_) = self.text.history.last_redo() else {
             return Err(Fault::NothingToRedo);
         };
         if self.is_idle(widget) {
             return Ok(Answer::Empty);
         }
         let insert = MarkNo(2 * self.seats.number(widget));
-        match redo_group(
-            self.alloc,
-            limits,
-            &mut self.store,
-            &mut self.history,
-            &mut self.anchors,
-            insert,
-        ) {
+        match redo_group(self.alloc, limits, &mut self.text, insert) {
             Ok(()) => Ok(Answer::Empty),
             Err(fault) => Err(fault),
         }

@@ -62,7 +62,7 @@ impl<S: TextStore> Document<S> {
             return false;
         }
         let view = self.view_at(widget);
-        match self.store.mark_place(self.marks.number(place)) {
+        match self.text.store.mark_place(self.marks.number(place)) {
             None => false,
             Some(found) => view.s <= found.offset && found.offset <= view.e,
         }
@@ -75,14 +75,18 @@ impl<S: TextStore> Document<S> {
         ensures within { IfSome result (λ place. place.offset ≤ length self.now.cells) }
     {
         if is_word(name, "insert") {
-            return self.store.mark_place(MarkNo(2 * self.seats.number(widget)));
+            return self
+                .text
+                .store
+                .mark_place(MarkNo(2 * self.seats.number(widget)));
         }
         if is_word(name, "current") {
             return self
+                .text
                 .store
                 .mark_place(MarkNo(2 * self.seats.number(widget) + 1));
         }
-        self.store.mark_place(self.marks.find(name)?)
+        self.text.store.mark_place(self.marks.find(name)?)
     }
 
     /// The offset for a mark of a name at a place: of the widget's own, the end is the last character.
@@ -134,9 +138,13 @@ impl<S: TextStore> Document<S> {
         requires shown { widget < length self.now.widgets }
         ensures { result ≡ next_mark origin (usable_marks self.now (widget_at self.now widget)) }
     {
-        let view = mark_view_of(&self.anchors, self.seats.number(widget), self.store.len());
+        let view = mark_view_of(
+            &self.text.anchors,
+            self.seats.number(widget),
+            self.text.store.len(),
+        );
         self.marks
-            .next(&self.store, view, origin_in(view.start, origin))
+            .next(&self.text.store, view, origin_in(view.start, origin))
     }
 
     /// The mark before another one in the order of marks, or the last before a place of the view.
@@ -144,9 +152,13 @@ impl<S: TextStore> Document<S> {
         requires shown { widget < length self.now.widgets }
         ensures { result ≡ previous_mark origin (usable_marks self.now (widget_at self.now widget)) }
     {
-        let view = mark_view_of(&self.anchors, self.seats.number(widget), self.store.len());
+        let view = mark_view_of(
+            &self.text.anchors,
+            self.seats.number(widget),
+            self.text.store.len(),
+        );
         self.marks
-            .previous(&self.store, view, origin_in(view.start, origin))
+            .previous(&self.text.store, view, origin_in(view.start, origin))
     }
 }
 
@@ -160,7 +172,7 @@ impl<S: TextStore> Document<S> {
     {
         match put_mark(
             self.alloc,
-            &mut self.store,
+            &mut self.text.store,
             MarkNo(2 * self.seats.number(widget)),
             place,
         ) {
@@ -178,7 +190,7 @@ impl<S: TextStore> Document<S> {
     {
         match put_mark(
             self.alloc,
-            &mut self.store,
+            &mut self.text.store,
             MarkNo(2 * self.seats.number(widget) + 1),
             place,
         ) {
@@ -199,7 +211,7 @@ impl<S: TextStore> Document<S> {
         match turn_mark(
             self.alloc,
             &mut self.marks,
-            &mut self.store,
+            &mut self.text.store,
             name,
             number,
             place,
@@ -250,7 +262,13 @@ impl<S: TextStore> Document<S> {
         if self.marks.len() >= limits.marks() as usize {
             return Err(Fault::TooManyMarks);
         }
-        match make_mark(self.alloc, &mut self.marks, &mut self.store, name, offset) {
+        match make_mark(
+            self.alloc,
+            &mut self.marks,
+            &mut self.text.store,
+            name,
+            offset,
+        ) {
             Err(fault) => Err(fault),
             Ok(()) => Ok(Answer::Empty),
         }
@@ -261,7 +279,7 @@ impl<S: TextStore> Document<S> {
         ensures { Does limits.now self.old self.new result (mark_unset self.old (texts_of names.now)) }
     {
         let numbers = numbers_named(self.alloc, &self.marks, names)?;
-        match take_marks(self.alloc, &mut self.store, &numbers) {
+        match take_marks(self.alloc, &mut self.text.store, &numbers) {
             Err(_) => Err(Fault::Memory),
             Ok(()) => {
                 unset_names(&mut self.marks, names);

@@ -40,7 +40,7 @@ impl<S: TextStore> Document<S> {
             marks: &self.marks,
             widget: TagSlot(slot),
         };
-        let view = view_of(&self.store, &self.anchors, slot);
+        let view = view_of(&self.text.store, &self.text.anchors, slot);
         at_position(position, locate(self.alloc, word, &names, &view))
     }
 

@@ -73,7 +73,7 @@ impl<S: TextStore> Document<S> {
             marks: &self.marks,
             widget: TagSlot(slot),
         };
-        let view = view_of(&self.store, &self.anchors, slot).lined();
+        let view = view_of(&self.text.store, &self.text.anchors, slot).lined();
         Ok(Text::new(dump(self.alloc, &view, &names, listed, from, to)?))
     }
 }

@@ -14,7 +14,7 @@ ghost use Rattle.documents.specs.Keys.{numbers_gone, seats_left};
 ghost use Rattle.documents.specs.Seats.{IsLonger};
 
 use command_parts::{is_among, is_word, put_widget_marks};
-use edit_ops::Anchors;
+use edit_ops::{Anchors, EditedText};
 use name_list::NameList;
 use std::alloc::{AllocError, Global};
 use tcl_words::push_element;
@@ -43,34 +43,34 @@ pub fn make_seat<S: TextStore>(
     alloc: Global,
     seats: &mut NameList,
     disabled: &mut Vec<bool>,
-    anchors: &mut Vec<Anchors>,
-    store: &mut S,
+    text: &mut EditedText<S>,
     name: &str,
     offset: usize,
 ) -> Result<usize, AllocError>
     requires new { place_of (chars name.now) seats.old.entries ≡ None }
     requires few { length seats.old.entries < seats.old.limit }
     requires slots { seats.old.limit ≡ MOST_WIDGETS }
-    requires within { offset ≤ length (S.content store.old).cells }
+    requires within { offset ≤ length (S.content text.old.store).cells }
     ensures least { IfOk result (IsLeastFree (numbers_of seats.old.entries)) }
     ensures below { IfOk result (λ slot. slot < MOST_WIDGETS) }
     ensures last { IfOk result (λ slot. seats.new
         ≡ record seats.old { entries = seats.old.entries ++ record { name = chars name.now; number = slot } ∷ [] }) }
     ensures sound { OnOk result (AreNames seats.new) }
-    ensures store { IfOk result (λ slot. S.content store.new
-        ≡ with_own_marks slot (record new_mark { offset = offset }) (S.content store.old)) }
-    ensures room { IfOk result (λ slot. (slot < length disabled.new.items) × (slot < length anchors.new.items)) }
+    ensures store { IfOk result (λ slot. S.content text.new.store
+        ≡ with_own_marks slot (record new_mark { offset = offset }) (S.content text.old.store)) }
+    ensures room { IfOk result (λ slot. (slot < length disabled.new.items) × (slot < length text.new.anchors.items)) }
     ensures disabled { IsLonger false disabled.old.items disabled.new.items }
-    ensures anchors { IsLonger whole anchors.old.items anchors.new.items }
+    ensures anchors { IsLonger whole text.old.anchors.items text.new.anchors.items }
+    ensures history { text.new.history ≡ text.old.history }
     ensures front { record seats.new { entries = take (length seats.old.entries) seats.new.entries } ≡ seats.old }
-    ensures err { OnErr result (S.content store.new ≡ S.content store.old) }
+    ensures err { OnErr result (S.content text.new.store ≡ S.content text.old.store) }
 {
     let Some(slot) = seats.create(String::from_str(alloc, name)?)? else {
         unreachable!()
     };
     make_room(disabled, false, slot)?;
-    make_room(anchors, WHOLE, slot)?;
-    put_widget_marks(alloc, store, TagSlot(slot), offset)?;
+    make_room(&mut text.anchors, WHOLE, slot)?;
+    put_widget_marks(alloc, &mut text.store, TagSlot(slot), offset)?;
     // Where the names are counted, they are known to be those of a list.
     let _count = seats.len();
     Ok(slot as usize)

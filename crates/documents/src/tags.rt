@@ -44,7 +44,7 @@ impl<S: TextStore> Document<S> {
     {
         let mut list = String::new(self.alloc);
         let number = self.seats.number(widget);
-        let view = view_of(&self.store, &self.anchors, number);
+        let view = view_of(&self.text.store, &self.text.anchors, number);
         let offset = view.s + place;
         if offset == view.e {
             return Ok(Text::new(list));
@@ -69,7 +69,7 @@ impl<S: TextStore> Document<S> {
         let Some(slot) = find_tag(&self.tags, TagSlot(number), name) else {
             return Ok(Text::new(list));
         };
-        let view = view_of(&self.store, &self.anchors, number);
+        let view = view_of(&self.text.store, &self.text.anchors, number);
         push_ranges(&mut list, &view, slot)?;
         Ok(Text::new(list))
     }
@@ -94,7 +94,7 @@ impl<S: TextStore> Document<S> {
         let Some(slot) = find_tag(&self.tags, TagSlot(number), name) else {
             return Ok(Text::new(list));
         };
-        let view = view_of(&self.store, &self.anchors, number);
+        let view = view_of(&self.text.store, &self.text.anchors, number);
         push_next(&mut list, &view, slot, from, to)?;
         Ok(Text::new(list))
     }
@@ -119,7 +119,7 @@ impl<S: TextStore> Document<S> {
         let Some(slot) = find_tag(&self.tags, TagSlot(number), name) else {
             return Ok(Text::new(list));
         };
-        let view = view_of(&self.store, &self.anchors, number);
+        let view = view_of(&self.text.store, &self.text.anchors, number);
         push_previous(&mut list, &view, slot, from, to)?;
         Ok(Text::new(list))
     }
@@ -134,7 +134,11 @@ impl<S: TextStore> Document<S> {
             ≡ spans_shown self.now (widget_at self.now widget) places.now) }
         ensures fit { IfOk result (λ spans. All (SpanFits (length self.now.cells)) spans.items) }
     {
-        let view = view_of(&self.store, &self.anchors, self.seats.number(widget));
+        let view = view_of(
+            &self.text.store,
+            &self.text.anchors,
+            self.seats.number(widget),
+        );
         spans_of(self.alloc, view.s, view.e - view.s, places)
     }
 
@@ -161,8 +165,7 @@ impl<S: TextStore> Document<S> {
             self.alloc,
             &mut self.tags,
             TagSlot(number),
-            &mut self.store,
-            &mut self.history,
+            &mut self.text,
             name,
             &spans,
         );
@@ -193,14 +196,7 @@ impl<S: TextStore> Document<S> {
             return Ok(Answer::Empty);
         };
         let spans = self.spans_at(widget, places)?;
-        match set_slot(
-            self.alloc,
-            &mut self.store,
-            &mut self.history,
-            &spans,
-            slot,
-            false,
-        ) {
+        match set_slot(self.alloc, &mut self.text, &spans, slot, false) {
             Ok(()) => Ok(Answer::Empty),
             Err(fault) => Err(fault),
         }
@@ -211,7 +207,7 @@ impl<S: TextStore> Document<S> {
         ensures { Does limits.now self.old self.new result (tag_delete self.old (texts_of names.now)) }
     {
         let slots = deleted_slots(self.alloc, &self.tags, names)?;
-        match clear_slots(self.alloc, &mut self.store, &mut self.history, &slots) {
+        match clear_slots(self.alloc, &mut self.text, &slots) {
             Err(fault) => Err(fault),
             Ok(()) => {
                 delete_names(&mut self.tags, names);

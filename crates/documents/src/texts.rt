@@ -9,6 +9,7 @@ ghost use Rattle.documents.specs.View.{is_idle, shown};
 use crate::documents::Document;
 use crate::views::{end_of, start_of};
 use command_parts::{Answer, Fault, Pair, delete_spans, put_pairs, replace_pairs, spans_of};
+use edit_ops::{EditRules, Target};
 use text_model::{Limits, MarkNo, TagSlot, TextStore};
 
 impl<S: TextStore> Document<S> {
@@ -27,18 +28,12 @@ impl<S: TextStore> Document<S> {
     {
         let slot = TagSlot(self.seats.number(widget));
         let front = self.tags.len();
-        let put = put_pairs(
-            self.alloc,
+        let rules = EditRules {
+            alloc: self.alloc,
             limits,
-            &mut self.tags,
-            slot,
-            &mut self.store,
-            &mut self.history,
-            &mut self.anchors,
-            at,
-            pairs,
-            self.settings.recording(),
-        );
+            recording: self.settings.recording(),
+        };
+        let put = put_pairs(&rules, &mut self.tags, slot, &mut self.text, at, pairs);
         match put {
             Ok(()) => Ok(Answer::Empty),
             Err(fault) => {
@@ -62,14 +57,12 @@ impl<S: TextStore> Document<S> {
             (delete_places self.old (widget_at self.old widget) places.now) }
     {
         let slot = self.seats.number(widget);
-        let start = start_of(&self.anchors, slot);
-        let end = end_of(&self.anchors, slot, self.store.len());
+        let start = start_of(&self.text.anchors, slot);
+        let end = end_of(&self.text.anchors, slot, self.text.store.len());
         let spans = spans_of(self.alloc, start, end - start, places)?;
         let deleted = delete_spans(
             self.alloc,
-            &mut self.store,
-            &mut self.history,
-            &mut self.anchors,
+            &mut self.text,
             start,
             end,
             &spans,
@@ -100,23 +93,27 @@ impl<S: TextStore> Document<S> {
             (insertion_offset self.old (widget_at self.old widget) to) pairs.items) }
     {
         let slot = self.seats.number(widget);
-        let start = start_of(&self.anchors, slot);
-        let last = end_of(&self.anchors, slot, self.store.len()) - 1;
+        let start = start_of(&self.text.anchors, slot);
+        let last = end_of(&self.text.anchors, slot, self.text.store.len()) - 1;
         let front = self.tags.len();
-        let replaced = replace_pairs(
-            self.alloc,
+        let rules = EditRules {
+            alloc: self.alloc,
             limits,
+            recording: self.settings.recording(),
+        };
+        let target = Target {
+            last,
+            from: start + from,
+            to: start + to,
+            mark: MarkNo(2 * slot),
+        };
+        let replaced = replace_pairs(
+            &rules,
             &mut self.tags,
             TagSlot(slot),
-            &mut self.store,
-            &mut self.history,
-            &mut self.anchors,
-            last,
-            start + from,
-            start + to,
+            &mut self.text,
+            target,
             pairs,
-            MarkNo(2 * slot),
-            self.settings.recording(),
         );
         match replaced {
             Ok(()) => Ok(Answer::Empty),

@@ -73,6 +73,10 @@ impl<S: TextStore> Document<S> {
         ensures cells { length (S.content result.store.now).cells ≡ length self.now.cells }
         ensures short { length self.now.cells ≤ MOST_CHARS }
     {
-        view_of(&self.store, &self.anchors, self.seats.number(widget))
+        view_of(
+            &self.text.store,
+            &self.text.anchors,
+            self.seats.number(widget),
+        )
     }
 }

@@ -53,7 +53,7 @@ impl<S: TextStore> Document<S> {
     pub fn lines(&self) -> usize
         ensures { result ≡ lines (characters self.now.cells) }
     {
-        self.store.lines()
+        self.text.store.lines()
     }
 
     /// The options of the document and a widget.
@@ -63,12 +63,12 @@ impl<S: TextStore> Document<S> {
         ensures lines { AreLines (lines (characters self.now.cells)) result }
     {
         let slot = self.seats.number(widget) as usize;
-        let anchors = self.anchors[slot];
+        let anchors = self.text.anchors[slot];
         Settings {
             document: self.settings,
             disabled: self.disabled[slot],
-            start: line_at(&self.store, anchors.start),
-            end: line_at(&self.store, anchors.end),
+            start: line_at(&self.text.store, anchors.start),
+            end: line_at(&self.text.store, anchors.end),
         }
     }
 
@@ -81,11 +81,11 @@ impl<S: TextStore> Document<S> {
             (answered (with_settings (widget_at self.old widget) settings self.old) Empty) }
     {
         let slot = self.seats.number(widget) as usize;
-        let start = anchor_at(&self.store, settings.start);
-        let end = anchor_at(&self.store, settings.end);
-        self.anchors[slot] = Anchors { start, end };
+        let start = anchor_at(&self.text.store, settings.start);
+        let end = anchor_at(&self.text.store, settings.end);
+        self.text.anchors[slot] = Anchors { start, end };
         self.disabled[slot] = settings.disabled;
-        settings.document.bound(&mut self.history);
+        settings.document.bound(&mut self.text.history);
         self.settings = settings.document;
         Answer::Empty
     }
@@ -102,15 +102,14 @@ impl<S: TextStore> Document<S> {
         ensures well_formed { (limits : LimitTable) → IsWellFormedDocument limits self.old →
             IsWellFormedDocument limits self.new }
     {
-        let start = anchor_at(&self.store, settings.start);
-        let end = anchor_at(&self.store, settings.end);
+        let start = anchor_at(&self.text.store, settings.start);
+        let end = anchor_at(&self.text.store, settings.end);
         let front = self.seats.len();
         let made = make_seat(
             self.alloc,
             &mut self.seats,
             &mut self.disabled,
-            &mut self.anchors,
-            &mut self.store,
+            &mut self.text,
             name,
             start.unwrap_or(0),
         );
@@ -120,9 +119,9 @@ impl<S: TextStore> Document<S> {
                 Err(error)
             }
             Ok(slot) => {
-                self.anchors[slot] = Anchors { start, end };
+                self.text.anchors[slot] = Anchors { start, end };
                 self.disabled[slot] = settings.disabled;
-                settings.document.bound(&mut self.history);
+                settings.document.bound(&mut self.text.history);
                 self.settings = settings.document;
                 Ok(())
             }
@@ -163,9 +162,9 @@ impl<S: TextStore> Document<S> {
             return drop_widgets(others, names);
         }
         let slots = slots_named(self.alloc, &self.seats, names)?;
-        let change = prepare_drop(self.alloc, &mut self.store, &slots)?;
+        let change = prepare_drop(self.alloc, &mut self.text.store, &slots)?;
         drop_widgets(others, names)?;
-        self.store.commit(change);
+        self.text.store.commit(change);
         remove_seats(&mut self.seats, names);
         Ok(())
     }

@@ -1,5 +1,5 @@
 -- What edits change: a text with its marks, the anchors of each widget, and what is kept of the edits.
-use Rattle.std.specs.Prelude.{ℕ, List, [], ◌∷◌, if◌then◌else◌}
+use Rattle.std.specs.Prelude.{◌≡◌, ℕ, List, [], ◌∷◌, if◌then◌else◌}
 use Rattle.text_model.specs.Content.{Content}
 use Rattle.text_model.specs.Steps.{after}
 use Rattle.text_model.specs.declared.edits.Step.{Step}
@@ -10,6 +10,7 @@ use Rattle.undo_stack.specs.declared.actions.Action.{Action}
 use Rattle.undo_stack.specs.declared.actions.EditKind.{EditKind}
 use Rattle.edit_ops.specs.declared.anchors.Anchors.{Anchors}
 use Rattle.edit_ops.specs.declared.plans.Recording.{Recording}
+use Rattle.edit_ops.specs.declared.texts.EditedText.{EditedText}
 
 -- what is kept of the edits; no more groups of them than `most`, if that isn't 0
 pub record Log : Type 0 where
@@ -51,3 +52,13 @@ drafted recording kind draft state = record {
 
 abbrev pub state_of : Content → List Anchors → Log → State
 state_of content anchors log = record { content = content; anchors = anchors; log = log }
+
+-- what an edited text is, where a function tells the content of its store
+abbrev pub state_in : {S P : Type 0} → (S → Content) → EditedText S P → State
+state_in content text = state_of (content text.store) text.anchors.items (log_of text.history)
+
+-- an edited text is as it was
+abbrev pub IsUnchanged : {S P : Type 0} → (S → Content) → EditedText S P → EditedText S P → Type 0
+IsUnchanged content text changed =
+    (content changed.store ≡ content text.store) × (log_of changed.history ≡ log_of text.history) ×
+    (changed.anchors.items ≡ text.anchors.items)

@@ -3,22 +3,22 @@ ghost use Rattle.std.specs.Prelude.{get_or, length, OnOk, IfOk, IfErr, if◌then
 ghost use Rattle.std.specs.List.{All};
 ghost use Rattle.edit_ops.specs.Deletions.{in_spans, delete_set, AreApart, deleted, removed_spans};
 ghost use Rattle.edit_ops.specs.Plans.{planned, HasRoom};
-ghost use Rattle.edit_ops.specs.States.{State, Log, log_of, state_of, drafted};
+ghost use Rattle.edit_ops.specs.States.{State, Log, log_of, state_of, state_in, drafted, IsUnchanged};
 ghost use Rattle.text_model.specs.Content.{characters};
 ghost use Rattle.text_model.specs.Lines.{is_newline};
 ghost use Rattle.text_model.specs.Steps.{Fits, after};
 ghost use Rattle.edit_ops.specs.declared.plans.Recording.{Recording};
 
-use crate::anchors::Anchors;
 use crate::drafts::Draft;
 use crate::faults::EditFault;
 use crate::plans::{Plan, Recording, prepare};
 use crate::runs::{spare_last, union};
 use crate::spans::Span;
+use crate::texts::EditedText;
 use std::alloc::{AllocError, Global};
 use text_cursor::{line_at, line_behind};
 use text_model::{Step, StepList, Text, TextStore};
-use undo_stack::{EditKind, UndoStack};
+use undo_stack::EditKind;
 
 /// How far behind an offset the next line begins, where the old text goes on to a border, in which the next line begins
 /// at `behind`, and from the border it is so many characters to the next line.
@@ -129,26 +129,26 @@ fn bare(alloc: Global, offset: usize, is_bared: bool) -> Result<StepList, AllocE
 /// The edit that deletes spans of what a widget shows, with the texts of its actions where these are to be kept.
 fn draft_delete<S: TextStore>(
     alloc: Global,
-    store: &S,
-    anchors: &[Anchors],
+    text: &EditedText<S>,
     start: usize,
     end: usize,
     spans: &[Span],
     keeps: bool,
 ) -> Result<Draft, AllocError>
     requires shows { start < end }
-    requires within { end ≤ length (S.content store.now).cells }
+    requires within { end ≤ length (S.content text.now.store).cells }
     requires spans { All (λ span. span.to ≤ end) spans.now }
-    ensures widgets { IfOk result (λ draft. length draft.anchors ≡ length anchors.now) }
+    ensures widgets { IfOk result (λ draft. length draft.anchors ≡ length text.now.anchors.items) }
     ensures makes { IfOk result (λ draft. (recording : Recording) (log : Log) → (recording.undo ≡ true → keeps ≡ true) →
-        Fits draft.steps (S.content store.now) ×
-        (drafted recording EditKind.Delete draft (state_of (S.content store.now) anchors.now log)
-        ≡ deleted recording start end spans.now (state_of (S.content store.now) anchors.now log))) }
+        Fits draft.steps (S.content text.now.store) ×
+        (drafted recording EditKind.Delete draft (state_of (S.content text.now.store) text.now.anchors.items log)
+        ≡ deleted recording start end spans.now (state_of (S.content text.now.store) text.now.anchors.items log))) }
 {
+    let store = &text.store;
     let mut runs = union(alloc, spans)?;
     let takes_last = spare_shown(store, start, end, &mut runs);
     let steps = bare(alloc, end - 1, takes_last)?;
-    let mut draft = Draft::of_steps(alloc, anchors, steps, runs.len())?;
+    let mut draft = Draft::of_steps(alloc, text, steps, runs.len())?;
     draft.remove_spans(alloc, store, &runs, keeps)?;
     Ok(draft)
 }
@@ -159,27 +159,24 @@ fn draft_delete<S: TextStore>(
 /// each run is an action (text(n), "delete").
 pub fn plan_delete<S: TextStore>(
     alloc: Global,
-    store: &mut S,
-    history: &mut UndoStack,
-    anchors: &[Anchors],
+    text: &mut EditedText<S>,
     start: usize,
     end: usize,
     spans: &[Span],
     recording: Recording,
 ) -> Result<Plan<S>, EditFault>
     requires shows { start < end }
-    requires within { end ≤ length (S.content store.old).cells }
+    requires within { end ≤ length (S.content text.old.store).cells }
     requires spans { All (λ span. span.to ≤ end) spans.now }
-    ensures content { S.content store.new ≡ S.content store.old }
-    ensures log { log_of history.new ≡ log_of history.old }
+    ensures same { IsUnchanged S.content text.old text.new }
     ensures refused { IfErr result (λ fault. fault ≡ EditFault.Memory) }
-    ensures ready { IfOk result (λ plan. S.ready store.new plan.prepared) }
-    ensures room { IfOk result (λ plan. HasRoom plan.notes history.new) }
-    ensures widgets { IfOk result (λ plan. length plan.anchors.items ≡ length anchors.now) }
+    ensures ready { IfOk result (λ plan. S.ready text.new.store plan.prepared) }
+    ensures room { IfOk result (λ plan. HasRoom plan.notes text.new.history) }
+    ensures widgets { IfOk result (λ plan. length plan.anchors.items ≡ length text.old.anchors.items) }
     ensures outcome { IfOk result (λ plan.
-        planned plan.notes (S.outcome store.new plan.prepared) plan.anchors.items (log_of history.old)
-        ≡ deleted recording start end spans.now (state_of (S.content store.old) anchors.now (log_of history.old))) }
+        planned plan.notes (S.outcome text.new.store plan.prepared) plan.anchors.items (log_of text.old.history)
+        ≡ deleted recording start end spans.now (state_in S.content text.old)) }
 {
-    let draft = draft_delete(alloc, store, anchors, start, end, spans, recording.undo)?;
-    Ok(prepare(store, history, draft, EditKind::Delete, recording)?)
+    let draft = draft_delete(alloc, text, start, end, spans, recording.undo)?;
+    Ok(prepare(text, draft, EditKind::Delete, recording)?)
 }

@@ -3,10 +3,11 @@ ghost use Rattle.std.specs.List.{All};
 ghost use Rattle.edit_ops.specs.Anchors.{AnchorsStand, anchors_moved, anchors_drawn};
 
 use crate::anchors::{Anchors, draw_anchors, move_anchors};
+use crate::texts::EditedText;
 use std::alloc::{AllocError, Global};
 use std::collections::VecDeque;
 use std::marker::Model;
-use text_model::{MarkNo, Place, Step, StepList, TagSet, Text};
+use text_model::{MarkNo, Place, Step, StepList, TagSet, Text, TextStore};
 use undo_stack::Action;
 
 /// What an edit does, as it is put together: steps, where the anchors of each widget stand after them, and the actions
@@ -39,21 +40,33 @@ fn copy_of(alloc: Global, text: &Text) -> Result<Text, AllocError>
 }
 
 impl Draft {
-    /// An edit that does nothing yet, with room for so many steps that are noted.
-    pub fn new(alloc: Global, anchors: &[Anchors], room: usize) -> Result<Draft, AllocError>
-        ensures { IfOk result (λ draft. draft ≡ record { steps = []; anchors = anchors.now; actions = [] }) }
+    /// An edit of a text that does nothing yet, with room for so many steps that are noted.
+    pub fn new<S: TextStore>(
+        alloc: Global,
+        text: &EditedText<S>,
+        room: usize,
+    ) -> Result<Draft, AllocError>
+        ensures { IfOk result (λ draft. draft ≡ record {
+          steps = [];
+          anchors = text.now.anchors.items;
+          actions = [];
+        }) }
     {
-        Draft::of_steps(alloc, anchors, StepList::new(alloc), room)
+        Draft::of_steps(alloc, text, StepList::new(alloc), room)
     }
 
-    /// An edit that makes steps, of which nothing is noted, with room for so many more that are.
-    pub fn of_steps(
+    /// An edit of a text that makes steps, of which nothing is noted, with room for so many more that are.
+    pub fn of_steps<S: TextStore>(
         alloc: Global,
-        anchors: &[Anchors],
+        text: &EditedText<S>,
         steps: StepList,
         room: usize,
     ) -> Result<Draft, AllocError>
-        ensures { IfOk result (λ draft. draft ≡ record { steps = steps; anchors = anchors.now; actions = [] }) }
+        ensures { IfOk result (λ draft. draft ≡ record {
+          steps = steps;
+          anchors = text.now.anchors.items;
+          actions = [];
+        }) }
     {
         let mut steps = steps;
         steps.reserve(room)?;
@@ -62,7 +75,7 @@ impl Draft {
         Ok(Draft {
             alloc,
             steps,
-            anchors: Vec::from_slice(alloc, anchors)?,
+            anchors: Vec::from_slice(alloc, &text.anchors)?,
             actions,
         })
     }

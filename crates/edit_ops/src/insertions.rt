@@ -4,19 +4,20 @@ ghost use Rattle.std.specs.List.{All};
 ghost use Rattle.edit_ops.specs.Anchors.{AnchorsStand};
 ghost use Rattle.edit_ops.specs.Insertions.{inserted_texts, slots_or, total, IsBetween};
 ghost use Rattle.edit_ops.specs.Plans.{planned, HasRoom};
-ghost use Rattle.edit_ops.specs.States.{State, Log, log_of, state_of, drafted};
+ghost use Rattle.edit_ops.specs.declared.plans.Recording.{Recording};
+ghost use Rattle.edit_ops.specs.States.{State, Log, log_of, state_of, state_in, drafted, IsUnchanged};
 ghost use Rattle.text_cursor.specs.Around.{slots_around};
 ghost use Rattle.text_model.specs.Content.{slot_sets};
 ghost use Rattle.text_model.specs.Steps.{Fits, after};
 
-use crate::anchors::Anchors;
 use crate::drafts::Draft;
 use crate::faults::EditFault;
 use crate::pieces::Piece;
-use crate::plans::{Plan, Recording, prepare};
+use crate::plans::{Plan, prepare};
+use crate::texts::{EditRules, EditedText};
 use std::alloc::{AllocError, Global};
 use text_model::{Limits, TagSet, Text, TextStore};
-use undo_stack::{EditKind, UndoStack};
+use undo_stack::EditKind;
 
 /// How many characters a text has.
 pub fn count_of(text: &Text) -> usize
@@ -109,21 +110,22 @@ impl Draft {
 /// The edit that puts texts in at an offset.
 fn draft_insert<S: TextStore>(
     alloc: Global,
-    store: &S,
-    anchors: &[Anchors],
+    text: &EditedText<S>,
     at: usize,
     pieces: &[Piece],
 ) -> Result<Draft, AllocError>
-    requires within { at < length (S.content store.now).cells }
-    requires stand { All (AnchorsStand (length (S.content store.now).cells)) anchors.now }
-    requires fits { length (S.content store.now).cells + total pieces.now < 2 ^ 64 }
-    ensures widgets { IfOk result (λ draft. length draft.anchors ≡ length anchors.now) }
+    requires within { at < length (S.content text.now.store).cells }
+    requires stand { All (AnchorsStand (length (S.content text.now.store).cells)) text.now.anchors.items }
+    requires fits { length (S.content text.now.store).cells + total pieces.now < 2 ^ 64 }
+    ensures widgets { IfOk result (λ draft. length draft.anchors ≡ length text.now.anchors.items) }
     ensures makes { IfOk result (λ draft. (recording : Recording) (kind : EditKind) (log : Log) →
-        Fits draft.steps (S.content store.now) ×
-        (drafted recording kind draft (state_of (S.content store.now) anchors.now log)
-        ≡ inserted_texts recording kind at pieces.now (state_of (S.content store.now) anchors.now log))) }
+        Fits draft.steps (S.content text.now.store) ×
+        (drafted recording kind draft (state_of (S.content text.now.store) text.now.anchors.items log)
+        ≡ inserted_texts recording kind at pieces.now
+        (state_of (S.content text.now.store) text.now.anchors.items log))) }
 {
-    let mut draft = Draft::new(alloc, anchors, pieces.len())?;
+    let mut draft = Draft::new(alloc, text, pieces.len())?;
+    let store = &text.store;
     let behind = store.tags_at(at);
     draft.insert_pieces(
         at,
@@ -140,33 +142,27 @@ fn draft_insert<S: TextStore>(
 /// A mark above the offset moves along, and so does one that stands there with right gravity; an anchor moves if it
 /// stands above it. Each text that isn't empty is an action (text(n), "insert").
 pub fn plan_insert<S: TextStore>(
-    alloc: Global,
-    limits: &Limits,
-    store: &mut S,
-    history: &mut UndoStack,
-    anchors: &[Anchors],
+    rules: &EditRules<'_>,
+    text: &mut EditedText<S>,
     at: usize,
     pieces: &[Piece],
-    recording: Recording,
 ) -> Result<Plan<S>, EditFault>
-    requires within { at < length (S.content store.old).cells }
-    requires stand { All (AnchorsStand (length (S.content store.old).cells)) anchors.now }
-    ensures content { S.content store.new ≡ S.content store.old }
-    ensures log { log_of history.new ≡ log_of history.old }
+    requires within { at < length (S.content text.old.store).cells }
+    requires stand { All (AnchorsStand (length (S.content text.old.store).cells)) text.old.anchors.items }
+    ensures same { IsUnchanged S.content text.old text.new }
     ensures too_long { (result ≡ Err EditFault.TextTooLong)
-        ↔ (limits.now.chars < length (S.content store.old).cells + total pieces.now) }
+        ↔ (rules.now.limits.now.chars < length (S.content text.old.store).cells + total pieces.now) }
     ensures never { result ≢ Err EditFault.IndexOrder }
-    ensures ready { IfOk result (λ plan. S.ready store.new plan.prepared) }
-    ensures room { IfOk result (λ plan. HasRoom plan.notes history.new) }
-    ensures widgets { IfOk result (λ plan. length plan.anchors.items ≡ length anchors.now) }
+    ensures ready { IfOk result (λ plan. S.ready text.new.store plan.prepared) }
+    ensures room { IfOk result (λ plan. HasRoom plan.notes text.new.history) }
+    ensures widgets { IfOk result (λ plan. length plan.anchors.items ≡ length text.old.anchors.items) }
     ensures outcome { IfOk result (λ plan.
-        planned plan.notes (S.outcome store.new plan.prepared) plan.anchors.items (log_of history.old)
-        ≡ inserted_texts recording EditKind.Insert at pieces.now
-        (state_of (S.content store.old) anchors.now (log_of history.old))) }
+        planned plan.notes (S.outcome text.new.store plan.prepared) plan.anchors.items (log_of text.old.history)
+        ≡ inserted_texts rules.now.recording EditKind.Insert at pieces.now (state_in S.content text.old)) }
 {
-    if is_too_long(limits, store.len(), pieces) {
+    if is_too_long(rules.limits, text.store.len(), pieces) {
         return Err(EditFault::TextTooLong);
     }
-    let draft = draft_insert(alloc, store, anchors, at, pieces)?;
-    Ok(prepare(store, history, draft, EditKind::Insert, recording)?)
+    let draft = draft_insert(rules.alloc, text, at, pieces)?;
+    Ok(prepare(text, draft, EditKind::Insert, rules.recording)?)
 }

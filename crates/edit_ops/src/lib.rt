@@ -15,6 +15,7 @@ mod reversals;
 mod runs;
 mod spans;
 mod tagging;
+mod texts;
 
 pub use anchors::{Anchors, anchors_stand};
 pub use deletions::plan_delete;
@@ -26,3 +27,4 @@ pub use replacements::plan_replace;
 pub use reversals::{plan_redo, plan_undo};
 pub use spans::Span;
 pub use tagging::{plan_clear, plan_tag};
+pub use texts::{EditRules, EditedText, Target};

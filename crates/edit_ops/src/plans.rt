@@ -1,10 +1,11 @@
 ghost use Rattle.std.specs.Prelude.{◌≡◌, ◌≤◌, true, length, IfOk};
 ghost use Rattle.text_model.specs.Steps.{Fits, after};
 ghost use Rattle.edit_ops.specs.Plans.{log_after, planned, HasRoom};
-ghost use Rattle.edit_ops.specs.States.{log_of, state_of, all_noted, drafted};
+ghost use Rattle.edit_ops.specs.States.{log_of, state_in, all_noted, drafted, IsUnchanged};
 
 use crate::anchors::Anchors;
 use crate::drafts::Draft;
+use crate::texts::EditedText;
 use std::alloc::AllocError;
 use std::collections::VecDeque;
 use text_model::{Edit, StepList, TextStore};
@@ -73,19 +74,21 @@ fn note(history: &mut UndoStack, notes: Notes)
 
 /// Makes a plan of steps, anchors and notes, with all memory that the steps take. Nothing that can be seen changes.
 pub fn prepare_steps<S: TextStore>(
-    store: &mut S,
+    text: &mut EditedText<S>,
     steps: StepList,
     anchors: Vec<Anchors>,
     notes: Notes,
 ) -> Result<Plan<S>, AllocError>
-    requires { Fits steps (S.content store.old) }
-    ensures content { S.content store.new ≡ S.content store.old }
-    ensures ready { IfOk result (λ plan. S.ready store.new plan.prepared) }
-    ensures outcome { IfOk result (λ plan. S.outcome store.new plan.prepared ≡ after steps (S.content store.old)) }
+    requires { Fits steps (S.content text.old.store) }
+    ensures same { IsUnchanged S.content text.old text.new }
+    ensures history { text.new.history ≡ text.old.history }
+    ensures ready { IfOk result (λ plan. S.ready text.new.store plan.prepared) }
+    ensures outcome { IfOk result (λ plan.
+        S.outcome text.new.store plan.prepared ≡ after steps (S.content text.old.store)) }
     ensures anchors { IfOk result (λ plan. plan.anchors.items ≡ anchors.items) }
     ensures notes { IfOk result (λ plan. plan.notes ≡ notes) }
 {
-    let prepared = store.prepare(&Edit { steps })?;
+    let prepared = text.store.prepare(&Edit { steps })?;
     Ok(Plan {
         prepared,
         anchors,
@@ -95,24 +98,22 @@ pub fn prepare_steps<S: TextStore>(
 
 /// Makes a plan of a draft, with all memory that it takes. Nothing that can be seen changes.
 pub fn prepare<S: TextStore>(
-    store: &mut S,
-    history: &mut UndoStack,
+    text: &mut EditedText<S>,
     draft: Draft,
     kind: EditKind,
     recording: Recording,
 ) -> Result<Plan<S>, AllocError>
-    requires { Fits draft.steps (S.content store.old) }
-    ensures content { S.content store.new ≡ S.content store.old }
-    ensures log { log_of history.new ≡ log_of history.old }
-    ensures ready { IfOk result (λ plan. S.ready store.new plan.prepared) }
-    ensures room { IfOk result (λ plan. HasRoom plan.notes history.new) }
+    requires { Fits draft.steps (S.content text.old.store) }
+    ensures same { IsUnchanged S.content text.old text.new }
+    ensures ready { IfOk result (λ plan. S.ready text.new.store plan.prepared) }
+    ensures room { IfOk result (λ plan. HasRoom plan.notes text.new.history) }
     ensures outcome { IfOk result (λ plan.
-        planned plan.notes (S.outcome store.new plan.prepared) plan.anchors.items (log_of history.old)
-        ≡ drafted recording kind draft (state_of (S.content store.old) draft.anchors (log_of history.old))) }
+        planned plan.notes (S.outcome text.new.store plan.prepared) plan.anchors.items (log_of text.old.history)
+        ≡ drafted recording kind draft (state_in S.content text.old)) }
     ensures widgets { IfOk result (λ plan. plan.anchors.items ≡ draft.anchors) }
 {
     if recording.undo {
-        history.reserve(draft.actions.len())?;
+        text.history.reserve(draft.actions.len())?;
     }
     let Draft {
         steps,
@@ -121,29 +122,22 @@ pub fn prepare<S: TextStore>(
         ..
     } = draft;
     let notes = Notes::Made(kind, actions, recording);
-    prepare_steps(store, steps, anchors, notes)
+    prepare_steps(text, steps, anchors, notes)
 }
 
-/// Carries out a plan, which can't fail. The store, the history and the number of widgets have to be as the call that
-/// made it left them.
-pub fn commit<S: TextStore>(
-    plan: Plan<S>,
-    store: &mut S,
-    history: &mut UndoStack,
-    anchors: &mut [Anchors],
-)
-    requires ready { S.ready store.old plan.prepared }
-    requires room { HasRoom plan.notes history.old }
-    requires widgets { length plan.anchors.items ≡ length anchors.old }
-    ensures { state_of (S.content store.new) anchors.new (log_of history.new)
-        ≡ planned plan.notes (S.outcome store.old plan.prepared) plan.anchors.items (log_of history.old) }
+/// Carries out a plan, which can't fail. The text has to be as the call that made the plan left it.
+pub fn commit<S: TextStore>(plan: Plan<S>, text: &mut EditedText<S>)
+    requires ready { S.ready text.old.store plan.prepared }
+    requires room { HasRoom plan.notes text.old.history }
+    ensures { state_in S.content text.new
+        ≡ planned plan.notes (S.outcome text.old.store plan.prepared) plan.anchors.items (log_of text.old.history) }
 {
     let Plan {
         prepared,
-        anchors: places,
+        anchors,
         notes,
     } = plan;
-    store.commit(prepared);
-    anchors.copy_from_slice(&places);
-    note(history, notes);
+    text.store.commit(prepared);
+    text.anchors = anchors;
+    note(&mut text.history, notes);
 }

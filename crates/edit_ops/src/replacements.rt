@@ -4,51 +4,52 @@ ghost use Rattle.edit_ops.specs.Anchors.{AnchorsStand};
 ghost use Rattle.edit_ops.specs.Insertions.{total};
 ghost use Rattle.edit_ops.specs.Removals.{clipped, removed_span, replaced_span, replaced};
 ghost use Rattle.edit_ops.specs.Plans.{planned, HasRoom};
-ghost use Rattle.edit_ops.specs.States.{Log, log_of, state_of, drafted};
+ghost use Rattle.edit_ops.specs.declared.plans.Recording.{Recording};
+ghost use Rattle.edit_ops.specs.States.{Log, log_of, state_of, state_in, drafted, IsUnchanged};
 ghost use Rattle.text_model.specs.Content.{characters};
 ghost use Rattle.text_model.specs.Splices.{removed};
 ghost use Rattle.text_model.specs.Steps.{Fits, after};
 
-use crate::anchors::Anchors;
 use crate::drafts::Draft;
 use crate::faults::EditFault;
 use crate::insertions::{is_too_long, shared_around, total_of};
 use crate::pieces::Piece;
-use crate::plans::{Plan, Recording, prepare};
+use crate::plans::{Plan, prepare};
+use crate::texts::{EditRules, EditedText, Target};
 use std::alloc::{AllocError, Global};
 use text_cursor::{line_at, line_behind};
-use text_model::{Limits, MarkNo, Place, Text, TextStore};
-use undo_stack::{EditKind, UndoStack};
+use text_model::{MarkNo, Place, Text, TextStore};
+use undo_stack::EditKind;
 
 /// The edit that takes the characters from one offset to another out, with room for so many steps.
 fn draft_removal<S: TextStore>(
     alloc: Global,
-    store: &S,
-    anchors: &[Anchors],
+    text: &EditedText<S>,
     from: usize,
     to: usize,
     room: usize,
 ) -> Result<Draft, AllocError>
     requires ordered { from ≤ to }
-    requires within { to < length (S.content store.now).cells }
-    requires stand { All (AnchorsStand (length (S.content store.now).cells)) anchors.now }
-    ensures widgets { IfOk result (λ draft. length draft.anchors ≡ length anchors.now) }
-    ensures stand { IfOk result (λ draft. All (AnchorsStand (length (S.content store.now).cells - (to - from)))
+    requires within { to < length (S.content text.now.store).cells }
+    requires stand { All (AnchorsStand (length (S.content text.now.store).cells)) text.now.anchors.items }
+    ensures widgets { IfOk result (λ draft. length draft.anchors ≡ length text.now.anchors.items) }
+    ensures stand { IfOk result (λ draft. All (AnchorsStand (length (S.content text.now.store).cells - (to - from)))
         draft.anchors) }
-    ensures fits { IfOk result (λ draft. Fits draft.steps (S.content store.now)) }
-    ensures cells { IfOk result (λ draft. (after draft.steps (S.content store.now)).cells
-        ≡ removed from to (S.content store.now).cells) }
+    ensures fits { IfOk result (λ draft. Fits draft.steps (S.content text.now.store)) }
+    ensures cells { IfOk result (λ draft. (after draft.steps (S.content text.now.store)).cells
+        ≡ removed from to (S.content text.now.store).cells) }
     ensures makes { IfOk result (λ draft. (recording : Recording) (kind : EditKind) (log : Log) →
-        drafted recording kind draft (state_of (S.content store.now) anchors.now log)
-        ≡ removed_span recording kind from to (state_of (S.content store.now) anchors.now log)) }
+        drafted recording kind draft (state_of (S.content text.now.store) text.now.anchors.items log)
+        ≡ removed_span recording kind from to (state_of (S.content text.now.store) text.now.anchors.items log)) }
 {
-    let mut draft = Draft::new(alloc, anchors, room)?;
+    let mut draft = Draft::new(alloc, text, room)?;
     if from == to {
         return Ok(draft);
     }
-    let text = Text::new(store.copy_text(from, to)?);
+    let store = &text.store;
+    let taken = Text::new(store.copy_text(from, to)?);
     let next = line_behind(store, to) - (to - from);
-    draft.remove(from, to, text, line_at(store, from), next)?;
+    draft.remove(from, to, taken, line_at(store, from), next)?;
     Ok(draft)
 }
 
@@ -69,24 +70,25 @@ fn clipped(place: Option<Place>, from: usize, to: usize, count: usize) -> Option
 /// The edit that puts texts in the place of the characters from one offset to another, and clips a mark.
 fn draft_replace<S: TextStore>(
     alloc: Global,
-    store: &S,
-    anchors: &[Anchors],
+    text: &EditedText<S>,
     from: usize,
     to: usize,
     pieces: &[Piece],
     mark: MarkNo,
 ) -> Result<Draft, AllocError>
     requires ordered { from ≤ to }
-    requires within { to < length (S.content store.now).cells }
-    requires stand { All (AnchorsStand (length (S.content store.now).cells)) anchors.now }
-    requires room { length (S.content store.now).cells - (to - from) + total pieces.now < 2 ^ 64 }
-    ensures widgets { IfOk result (λ draft. length draft.anchors ≡ length anchors.now) }
-    ensures fits { IfOk result (λ draft. Fits draft.steps (S.content store.now)) }
+    requires within { to < length (S.content text.now.store).cells }
+    requires stand { All (AnchorsStand (length (S.content text.now.store).cells)) text.now.anchors.items }
+    requires room { length (S.content text.now.store).cells - (to - from) + total pieces.now < 2 ^ 64 }
+    ensures widgets { IfOk result (λ draft. length draft.anchors ≡ length text.now.anchors.items) }
+    ensures fits { IfOk result (λ draft. Fits draft.steps (S.content text.now.store)) }
     ensures makes { IfOk result (λ draft. (recording : Recording) (log : Log) →
-        drafted recording EditKind.Replace draft (state_of (S.content store.now) anchors.now log)
-        ≡ replaced_span recording mark.0 from to pieces.now (state_of (S.content store.now) anchors.now log)) }
+        drafted recording EditKind.Replace draft (state_of (S.content text.now.store) text.now.anchors.items log)
+        ≡ replaced_span recording mark.0 from to pieces.now
+        (state_of (S.content text.now.store) text.now.anchors.items log)) }
 {
-    let mut draft = draft_removal(alloc, store, anchors, from, to, pieces.len() + 2)?;
+    let mut draft = draft_removal(alloc, text, from, to, pieces.len() + 2)?;
+    let store = &text.store;
     let len = store.len() - (to - from);
     let behind = store.tags_at(to);
     draft.insert_pieces(
@@ -103,46 +105,39 @@ fn draft_replace<S: TextStore>(
     Ok(draft)
 }
 
-/// A plan that puts texts in the place of the characters from one offset to another, where both are cut to `last` (the
-/// last character that the acting widget shows). The characters are taken out, and the texts put in as by
-/// `plan_insert`; each is an action of a replacement. The mark of a number, if it stands before a character that is
-/// taken out, stays as far behind the place as it was, or goes to the end of the new text (text(n), "replace").
+/// A plan that puts texts in the place of the characters from one offset to another, where both are cut to the last
+/// character that the acting widget shows. The characters are taken out, and the texts put in as by `plan_insert`; each
+/// is an action of a replacement. The target's mark, if it stands before a character that is taken out, stays as far
+/// behind the place as it was, or goes to the end of the new text (text(n), "replace").
 pub fn plan_replace<S: TextStore>(
-    alloc: Global,
-    limits: &Limits,
-    store: &mut S,
-    history: &mut UndoStack,
-    anchors: &[Anchors],
-    last: usize,
-    from: usize,
-    to: usize,
+    rules: &EditRules<'_>,
+    text: &mut EditedText<S>,
+    target: Target,
     pieces: &[Piece],
-    mark: MarkNo,
-    recording: Recording,
 ) -> Result<Plan<S>, EditFault>
-    requires within { last < length (S.content store.old).cells }
-    requires stand { All (AnchorsStand (length (S.content store.old).cells)) anchors.now }
-    ensures content { S.content store.new ≡ S.content store.old }
-    ensures log { log_of history.new ≡ log_of history.old }
-    ensures order { (result ≡ Err EditFault.IndexOrder) ↔ (to < from) }
-    ensures too_long { (result ≡ Err EditFault.TextTooLong) ↔ ((from ≤ to) ×
-        (limits.now.chars < length (S.content store.old).cells - (min to last - min from last) + total pieces.now)) }
-    ensures ready { IfOk result (λ plan. S.ready store.new plan.prepared) }
-    ensures room { IfOk result (λ plan. HasRoom plan.notes history.new) }
-    ensures widgets { IfOk result (λ plan. length plan.anchors.items ≡ length anchors.now) }
+    requires within { target.last < length (S.content text.old.store).cells }
+    requires stand { All (AnchorsStand (length (S.content text.old.store).cells)) text.old.anchors.items }
+    ensures same { IsUnchanged S.content text.old text.new }
+    ensures order { (result ≡ Err EditFault.IndexOrder) ↔ (target.to < target.from) }
+    ensures too_long { (result ≡ Err EditFault.TextTooLong) ↔ ((target.from ≤ target.to) ×
+        (rules.now.limits.now.chars < length (S.content text.old.store).cells
+        - (min target.to target.last - min target.from target.last) + total pieces.now)) }
+    ensures ready { IfOk result (λ plan. S.ready text.new.store plan.prepared) }
+    ensures room { IfOk result (λ plan. HasRoom plan.notes text.new.history) }
+    ensures widgets { IfOk result (λ plan. length plan.anchors.items ≡ length text.old.anchors.items) }
     ensures outcome { IfOk result (λ plan.
-        planned plan.notes (S.outcome store.new plan.prepared) plan.anchors.items (log_of history.old)
-        ≡ replaced recording mark.0 last from to pieces.now
-        (state_of (S.content store.old) anchors.now (log_of history.old))) }
+        planned plan.notes (S.outcome text.new.store plan.prepared) plan.anchors.items (log_of text.old.history)
+        ≡ replaced rules.now.recording target.mark.0 target.last target.from target.to pieces.now
+        (state_in S.content text.old)) }
 {
-    if to < from {
+    if target.to < target.from {
         return Err(EditFault::IndexOrder);
     }
-    let from = from.min(last);
-    let to = to.min(last);
-    if is_too_long(limits, store.len() - (to - from), pieces) {
+    let from = target.from.min(target.last);
+    let to = target.to.min(target.last);
+    if is_too_long(rules.limits, text.store.len() - (to - from), pieces) {
         return Err(EditFault::TextTooLong);
     }
-    let draft = draft_replace(alloc, store, anchors, from, to, pieces, mark)?;
-    Ok(prepare(store, history, draft, EditKind::Replace, recording)?)
+    let draft = draft_replace(rules.alloc, text, from, to, pieces, target.mark)?;
+    Ok(prepare(text, draft, EditKind::Replace, rules.recording)?)
 }

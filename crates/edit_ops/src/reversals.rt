@@ -7,21 +7,21 @@ ghost use Rattle.edit_ops.specs.Plans.{planned, HasRoom};
 ghost use Rattle.edit_ops.specs.Replays.{Follows, drawn_up, replays, replayed_group};
 ghost use Rattle.edit_ops.specs.Reversals.{put_back, taken_back, action_redone, group_redone, redo_end, stood, undone};
 ghost use Rattle.edit_ops.specs.Reversals.{redone};
-ghost use Rattle.edit_ops.specs.States.{Log, log_of, state_of};
+ghost use Rattle.edit_ops.specs.States.{Log, log_of, state_of, state_in, IsUnchanged};
 ghost use Rattle.text_model.specs.Content.{characters};
 ghost use Rattle.text_model.specs.Steps.{Fits, after};
 ghost use Rattle.text_model.specs.declared.places.Place.{Place};
 ghost use Rattle.undo_stack.specs.Fits.{repeated_group, FitsText};
 
-use crate::anchors::Anchors;
 use crate::drafts::Draft;
 use crate::faults::EditFault;
 use crate::insertions::count_of;
 use crate::plans::{Notes, Plan, prepare_steps};
+use crate::texts::EditedText;
 use std::alloc::{AllocError, Global};
 use text_cursor::Cursor;
 use text_model::{Limits, MarkNo, Place, Text, TextStore};
-use undo_stack::{Action, Group, UndoStack};
+use undo_stack::{Action, Group};
 
 /// Whether an action puts its text in, as it is made once more, or reverted.
 fn puts_in(action: &Action, back: bool) -> bool
@@ -198,21 +198,23 @@ impl Draft {
 /// The edit that makes a group once more, or, back, reverts it, and puts the mark of a number where that ends.
 fn draft_group<S: TextStore>(
     alloc: Global,
-    store: &S,
-    anchors: &[Anchors],
+    text: &EditedText<S>,
     group: &Group<'_>,
     back: bool,
     mark: MarkNo,
     limit: usize,
 ) -> Result<Draft, AllocError>
-    requires stand { All (AnchorsStand (length (S.content store.now).cells)) anchors.now }
-    requires fits { IsSome (repeated_group limit (replays back group.now) (characters (S.content store.now).cells)) }
-    ensures fits { IfOk result (λ draft. Fits draft.steps (S.content store.now)) }
-    ensures makes { IfOk result (λ draft. (log : Log) → drawn_up draft (S.content store.now) log
-        ≡ replayed_group mark.0 (Some (replays back group.now)) (state_of (S.content store.now) anchors.now log)) }
+    requires stand { All (AnchorsStand (length (S.content text.now.store).cells)) text.now.anchors.items }
+    requires fits { IsSome (repeated_group limit (replays back group.now)
+        (characters (S.content text.now.store).cells)) }
+    ensures fits { IfOk result (λ draft. Fits draft.steps (S.content text.now.store)) }
+    ensures makes { IfOk result (λ draft. (log : Log) → drawn_up draft (S.content text.now.store) log
+        ≡ replayed_group mark.0 (Some (replays back group.now))
+        (state_of (S.content text.now.store) text.now.anchors.items log)) }
 {
     let room = group.len().saturating_add(1);
-    let mut draft = Draft::new(alloc, anchors, room)?;
+    let mut draft = Draft::new(alloc, text, room)?;
+    let store = &text.store;
     let mut cursor = Cursor::new(alloc, store.len(), room.saturating_mul(2))?;
     let end = draft.replay_all(store, &mut cursor, group, back, limit)?;
     draft.put_end(store, mark, end)?;
@@ -222,53 +224,43 @@ fn draft_group<S: TextStore>(
 /// The same, if there is a group; else an edit that does nothing.
 fn draft_reversal<S: TextStore>(
     alloc: Global,
-    store: &S,
-    anchors: &[Anchors],
+    text: &EditedText<S>,
     group: Option<Group<'_>>,
     back: bool,
     mark: MarkNo,
     limit: usize,
 ) -> Result<Draft, AllocError>
-    requires stand { All (AnchorsStand (length (S.content store.now).cells)) anchors.now }
+    requires stand { All (AnchorsStand (length (S.content text.now.store).cells)) text.now.anchors.items }
     requires fits { IfSome group (λ group.
-        IsSome (repeated_group limit (replays back group) (characters (S.content store.now).cells))) }
-    ensures fits { IfOk result (λ draft. Fits draft.steps (S.content store.now)) }
-    ensures makes { IfOk result (λ draft. (log : Log) → drawn_up draft (S.content store.now) log
+        IsSome (repeated_group limit (replays back group) (characters (S.content text.now.store).cells))) }
+    ensures fits { IfOk result (λ draft. Fits draft.steps (S.content text.now.store)) }
+    ensures makes { IfOk result (λ draft. (log : Log) → drawn_up draft (S.content text.now.store) log
         ≡ replayed_group mark.0 (option_map (replays back) group.entry)
-        (state_of (S.content store.now) anchors.now log)) }
+        (state_of (S.content text.now.store) text.now.anchors.items log)) }
 {
     match group {
-        None => Draft::new(alloc, anchors, 0),
-        Some(group) => draft_group(alloc, store, anchors, &group, back, mark, limit),
+        None => Draft::new(alloc, text, 0),
+        Some(group) => draft_group(alloc, text, &group, back, mark, limit),
     }
 }
 
-/// A plan of that edit.
+/// A plan of an edit, with what it does to the history.
 fn plan_reversal<S: TextStore>(
-    alloc: Global,
-    limits: &Limits,
-    store: &mut S,
-    anchors: &[Anchors],
-    group: Option<Group<'_>>,
-    back: bool,
-    mark: MarkNo,
+    text: &mut EditedText<S>,
+    draft: Draft,
     notes: Notes,
 ) -> Result<Plan<S>, EditFault>
-    requires stand { All (AnchorsStand (length (S.content store.old).cells)) anchors.now }
-    requires fits { IfSome group (λ group.
-        IsSome (repeated_group limits.now.chars (replays back group) (characters (S.content store.old).cells))) }
-    ensures content { S.content store.new ≡ S.content store.old }
+    requires { Fits draft.steps (S.content text.old.store) }
+    ensures same { IsUnchanged S.content text.old text.new }
     ensures refused { IfErr result (λ fault. fault ≡ EditFault.Memory) }
-    ensures ready { IfOk result (λ plan. S.ready store.new plan.prepared) }
+    ensures ready { IfOk result (λ plan. S.ready text.new.store plan.prepared) }
     ensures notes { IfOk result (λ plan. plan.notes ≡ notes) }
     ensures outcome { IfOk result (λ plan. (log : Log) →
-        state_of (S.outcome store.new plan.prepared) plan.anchors.items log
-        ≡ replayed_group mark.0 (option_map (replays back) group.entry)
-        (state_of (S.content store.old) anchors.now log)) }
+        state_of (S.outcome text.new.store plan.prepared) plan.anchors.items log
+        ≡ drawn_up draft (S.content text.old.store) log) }
 {
-    let draft = draft_reversal(alloc, store, anchors, group, back, mark, limits.chars())?;
     let Draft { steps, anchors, .. } = draft;
-    Ok(prepare_steps(store, steps, anchors, notes)?)
+    Ok(prepare_steps(text, steps, anchors, notes)?)
 }
 
 /// A plan that reverts the actions of the last group, the last first; nothing, where there is no group. A text that was
@@ -279,32 +271,23 @@ fn plan_reversal<S: TextStore>(
 pub fn plan_undo<S: TextStore>(
     alloc: Global,
     limits: &Limits,
-    store: &mut S,
-    history: &UndoStack,
-    anchors: &[Anchors],
+    text: &mut EditedText<S>,
     mark: MarkNo,
 ) -> Result<Plan<S>, EditFault>
-    requires stand { All (AnchorsStand (length (S.content store.old).cells)) anchors.now }
-    requires fits { FitsText limits.now.chars (characters (S.content store.old).cells) history.now.history }
-    ensures content { S.content store.new ≡ S.content store.old }
+    requires stand { All (AnchorsStand (length (S.content text.old.store).cells)) text.old.anchors.items }
+    requires fits { FitsText limits.now.chars (characters (S.content text.old.store).cells) text.old.history.history }
+    ensures same { IsUnchanged S.content text.old text.new }
     ensures refused { IfErr result (λ fault. fault ≡ EditFault.Memory) }
-    ensures ready { IfOk result (λ plan. S.ready store.new plan.prepared) }
-    ensures room { IfOk result (λ plan. HasRoom plan.notes history.now) }
-    ensures widgets { IfOk result (λ plan. length plan.anchors.items ≡ length anchors.now) }
+    ensures ready { IfOk result (λ plan. S.ready text.new.store plan.prepared) }
+    ensures room { IfOk result (λ plan. HasRoom plan.notes text.new.history) }
+    ensures widgets { IfOk result (λ plan. length plan.anchors.items ≡ length text.old.anchors.items) }
     ensures outcome { IfOk result (λ plan.
-        planned plan.notes (S.outcome store.new plan.prepared) plan.anchors.items (log_of history.now)
-        ≡ undone mark.0 (state_of (S.content store.old) anchors.now (log_of history.now))) }
+        planned plan.notes (S.outcome text.new.store plan.prepared) plan.anchors.items (log_of text.old.history)
+        ≡ undone mark.0 (state_in S.content text.old)) }
 {
-    let plan = plan_reversal(
-        alloc,
-        limits,
-        store,
-        anchors,
-        history.last_undo(),
-        true,
-        mark,
-        Notes::Undone,
-    )?;
+    let group = text.history.last_undo();
+    let draft = draft_reversal(alloc, text, group, true, mark, limits.chars())?;
+    let plan = plan_reversal(text, draft, Notes::Undone)?;
     Ok(plan)
 }
 
@@ -314,31 +297,22 @@ pub fn plan_undo<S: TextStore>(
 pub fn plan_redo<S: TextStore>(
     alloc: Global,
     limits: &Limits,
-    store: &mut S,
-    history: &UndoStack,
-    anchors: &[Anchors],
+    text: &mut EditedText<S>,
     mark: MarkNo,
 ) -> Result<Plan<S>, EditFault>
-    requires stand { All (AnchorsStand (length (S.content store.old).cells)) anchors.now }
-    requires fits { FitsText limits.now.chars (characters (S.content store.old).cells) history.now.history }
-    ensures content { S.content store.new ≡ S.content store.old }
+    requires stand { All (AnchorsStand (length (S.content text.old.store).cells)) text.old.anchors.items }
+    requires fits { FitsText limits.now.chars (characters (S.content text.old.store).cells) text.old.history.history }
+    ensures same { IsUnchanged S.content text.old text.new }
     ensures refused { IfErr result (λ fault. fault ≡ EditFault.Memory) }
-    ensures ready { IfOk result (λ plan. S.ready store.new plan.prepared) }
-    ensures room { IfOk result (λ plan. HasRoom plan.notes history.now) }
-    ensures widgets { IfOk result (λ plan. length plan.anchors.items ≡ length anchors.now) }
+    ensures ready { IfOk result (λ plan. S.ready text.new.store plan.prepared) }
+    ensures room { IfOk result (λ plan. HasRoom plan.notes text.new.history) }
+    ensures widgets { IfOk result (λ plan. length plan.anchors.items ≡ length text.old.anchors.items) }
     ensures outcome { IfOk result (λ plan.
-        planned plan.notes (S.outcome store.new plan.prepared) plan.anchors.items (log_of history.now)
-        ≡ redone mark.0 (state_of (S.content store.old) anchors.now (log_of history.now))) }
+        planned plan.notes (S.outcome text.new.store plan.prepared) plan.anchors.items (log_of text.old.history)
+        ≡ redone mark.0 (state_in S.content text.old)) }
 {
-    let plan = plan_reversal(
-        alloc,
-        limits,
-        store,
-        anchors,
-        history.last_redo(),
-        false,
-        mark,
-        Notes::Redone,
-    )?;
+    let group = text.history.last_redo();
+    let draft = draft_reversal(alloc, text, group, false, mark, limits.chars())?;
+    let plan = plan_reversal(text, draft, Notes::Redone)?;
     Ok(plan)
 }

@@ -2,20 +2,20 @@ ghost use Rattle.std.specs.Prelude.{◌≡◌, ◌<◌, length, map, IfOk, IfErr
 ghost use Rattle.std.specs.List.{All};
 ghost use Rattle.edit_ops.specs.Tagging.{SpanFits, tagged, cleared};
 ghost use Rattle.edit_ops.specs.Plans.{planned, HasRoom};
-ghost use Rattle.edit_ops.specs.States.{log_of, state_of};
+ghost use Rattle.edit_ops.specs.States.{log_of, state_of, IsUnchanged};
 ghost use Rattle.text_model.specs.Content.{Content};
 ghost use Rattle.text_model.specs.Steps.{Fits, after};
 ghost use Rattle.text_model.specs.TagBits.{slot_count};
 ghost use Rattle.text_model.specs.declared.places.TagSlot.{TagSlot};
 
-use crate::anchors::Anchors;
 use crate::drafts::Draft;
 use crate::faults::EditFault;
 use crate::plans::{Plan, Recording, prepare};
 use crate::spans::Span;
+use crate::texts::EditedText;
 use std::alloc::{AllocError, Global};
 use text_model::{Step, StepList, TagSlot, TextStore};
-use undo_stack::{EditKind, UndoStack};
+use undo_stack::EditKind;
 
 /// The steps that set a slot on spans of a text of so many characters, or take it off them.
 fn tag_steps(
@@ -41,54 +41,49 @@ fn tag_steps(
 /// A plan that makes steps of which nothing is noted.
 fn plan_steps<S: TextStore>(
     alloc: Global,
-    store: &mut S,
-    history: &mut UndoStack,
-    anchors: &[Anchors],
+    text: &mut EditedText<S>,
     steps: StepList,
 ) -> Result<Plan<S>, EditFault>
-    requires { Fits steps (S.content store.old) }
-    ensures content { S.content store.new ≡ S.content store.old }
-    ensures log { log_of history.new ≡ log_of history.old }
+    requires { Fits steps (S.content text.old.store) }
+    ensures same { IsUnchanged S.content text.old text.new }
     ensures refused { IfErr result (λ fault. fault ≡ EditFault.Memory) }
-    ensures ready { IfOk result (λ plan. S.ready store.new plan.prepared) }
-    ensures room { IfOk result (λ plan. HasRoom plan.notes history.new) }
-    ensures widgets { IfOk result (λ plan. length plan.anchors.items ≡ length anchors.now) }
+    ensures ready { IfOk result (λ plan. S.ready text.new.store plan.prepared) }
+    ensures room { IfOk result (λ plan. HasRoom plan.notes text.new.history) }
+    ensures widgets { IfOk result (λ plan. length plan.anchors.items ≡ length text.old.anchors.items) }
     ensures outcome { IfOk result (λ plan.
-        planned plan.notes (S.outcome store.new plan.prepared) plan.anchors.items (log_of history.old)
-        ≡ state_of (after steps (S.content store.old)) anchors.now (log_of history.old)) }
+        planned plan.notes (S.outcome text.new.store plan.prepared) plan.anchors.items (log_of text.old.history)
+        ≡ state_of (after steps (S.content text.old.store)) text.old.anchors.items (log_of text.old.history)) }
 {
-    let draft = Draft::of_steps(alloc, anchors, steps, 0)?;
+    let draft = Draft::of_steps(alloc, text, steps, 0)?;
     let recording = Recording {
         undo: false,
         separators: false,
     };
-    Ok(prepare(store, history, draft, EditKind::Insert, recording)?)
+    Ok(prepare(text, draft, EditKind::Insert, recording)?)
 }
 
 /// A plan that sets a slot on spans, or takes it off them (text(n), "tag add" and "tag remove"). Nothing is noted.
 pub fn plan_tag<S: TextStore>(
     alloc: Global,
-    store: &mut S,
-    history: &mut UndoStack,
-    anchors: &[Anchors],
+    text: &mut EditedText<S>,
     spans: &[Span],
     slot: TagSlot,
     is_on: bool,
 ) -> Result<Plan<S>, EditFault>
-    requires spans { All (SpanFits (length (S.content store.old).cells)) spans.now }
+    requires spans { All (SpanFits (length (S.content text.old.store).cells)) spans.now }
     requires known { slot.0 < slot_count }
-    ensures content { S.content store.new ≡ S.content store.old }
-    ensures log { log_of history.new ≡ log_of history.old }
+    ensures same { IsUnchanged S.content text.old text.new }
     ensures refused { IfErr result (λ fault. fault ≡ EditFault.Memory) }
-    ensures ready { IfOk result (λ plan. S.ready store.new plan.prepared) }
-    ensures room { IfOk result (λ plan. HasRoom plan.notes history.new) }
-    ensures widgets { IfOk result (λ plan. length plan.anchors.items ≡ length anchors.now) }
+    ensures ready { IfOk result (λ plan. S.ready text.new.store plan.prepared) }
+    ensures room { IfOk result (λ plan. HasRoom plan.notes text.new.history) }
+    ensures widgets { IfOk result (λ plan. length plan.anchors.items ≡ length text.old.anchors.items) }
     ensures outcome { IfOk result (λ plan.
-        planned plan.notes (S.outcome store.new plan.prepared) plan.anchors.items (log_of history.old)
-        ≡ state_of (tagged slot.0 is_on spans.now (S.content store.old)) anchors.now (log_of history.old)) }
+        planned plan.notes (S.outcome text.new.store plan.prepared) plan.anchors.items (log_of text.old.history)
+        ≡ state_of (tagged slot.0 is_on spans.now (S.content text.old.store)) text.old.anchors.items
+        (log_of text.old.history)) }
 {
-    let steps = tag_steps(alloc, spans, slot, is_on, store.len())?;
-    plan_steps(alloc, store, history, anchors, steps)
+    let steps = tag_steps(alloc, spans, slot, is_on, text.store.len())?;
+    plan_steps(alloc, text, steps)
 }
 
 /// The steps that take slots off all characters.
@@ -108,23 +103,20 @@ fn clear_steps(alloc: Global, slots: &[TagSlot]) -> Result<StepList, AllocError>
 /// A plan that takes slots off all characters (text(n), "tag delete"). Nothing is noted.
 pub fn plan_clear<S: TextStore>(
     alloc: Global,
-    store: &mut S,
-    history: &mut UndoStack,
-    anchors: &[Anchors],
+    text: &mut EditedText<S>,
     slots: &[TagSlot],
 ) -> Result<Plan<S>, EditFault>
     requires { All (λ (slot : TagSlot). slot.0 < slot_count) slots.now }
-    ensures content { S.content store.new ≡ S.content store.old }
-    ensures log { log_of history.new ≡ log_of history.old }
+    ensures same { IsUnchanged S.content text.old text.new }
     ensures refused { IfErr result (λ fault. fault ≡ EditFault.Memory) }
-    ensures ready { IfOk result (λ plan. S.ready store.new plan.prepared) }
-    ensures room { IfOk result (λ plan. HasRoom plan.notes history.new) }
-    ensures widgets { IfOk result (λ plan. length plan.anchors.items ≡ length anchors.now) }
+    ensures ready { IfOk result (λ plan. S.ready text.new.store plan.prepared) }
+    ensures room { IfOk result (λ plan. HasRoom plan.notes text.new.history) }
+    ensures widgets { IfOk result (λ plan. length plan.anchors.items ≡ length text.old.anchors.items) }
     ensures outcome { IfOk result (λ plan.
-        planned plan.notes (S.outcome store.new plan.prepared) plan.anchors.items (log_of history.old)
-        ≡ state_of (cleared (map (λ (slot : TagSlot). slot.0) slots.now) (S.content store.old)) anchors.now
-        (log_of history.old)) }
+        planned plan.notes (S.outcome text.new.store plan.prepared) plan.anchors.items (log_of text.old.history)
+        ≡ state_of (cleared (map (λ (slot : TagSlot). slot.0) slots.now) (S.content text.old.store))
+        text.old.anchors.items (log_of text.old.history)) }
 {
     let steps = clear_steps(alloc, slots)?;
-    plan_steps(alloc, store, history, anchors, steps)
+    plan_steps(alloc, text, steps)
 }

@@ -21,7 +21,7 @@ pub documents::Document::drop_with-returns-in_err-change-clause-err :
 documents::Document::drop_with-returns-in_err-change-clause-err g t c =
     let old = c.self.inside in
     let same = ap (λ (content : Content).
-    document_of (parts_of old.seats old.tags old.marks old.settings old.disabled.items old.anchors.items old.history
+    document_of (parts_of old.seats old.tags old.marks old.settings old.disabled.items old.text.anchors.items old.text.history
     content)) c.prepare_drop.ensures.same in
     on_err c.from_residual-in_err-change.result (same ∙ c.self.view_is, λ _. c.args.others.now)
 
@@ -30,16 +30,16 @@ pub documents::Document::drop_with-returns-in_err-drop_widgets-clause-err :
 documents::Document::drop_with-returns-in_err-drop_widgets-clause-err g t c =
     let old = c.self.inside in
     let same = ap (λ (content : Content).
-    document_of (parts_of old.seats old.tags old.marks old.settings old.disabled.items old.anchors.items old.history
+    document_of (parts_of old.seats old.tags old.marks old.settings old.disabled.items old.text.anchors.items old.text.history
     content)) c.prepare_drop.ensures.same in
     on_err c.from_residual-in_err-drop_widgets.result (same ∙ c.self.view_is, c.in_err-drop_widgets.ensures.err)
 
 pub documents::Document::drop_with-invariant_of-self-2 : goal.documents::Document::drop_with-invariant_of-self-2
 documents::Document::drop_with-invariant_of-self-2 g t c =
     let old = c.self.inside in
-    let before = g.S.TextStore.content old.store in
+    let before = g.S.TextStore.content old.text.store in
     let after = g.S.TextStore.content c.commit.new.self in
-    let parts = parts_of old.seats old.tags old.marks old.settings old.disabled.items old.anchors.items old.history
+    let parts = parts_of old.seats old.tags old.marks old.settings old.disabled.items old.text.anchors.items old.text.history
     before in
     let stands : Stands parts c.args.self.now = record { sound = c.self.invariant; is = c.self.view_is } in
     let content = c.commit.ensures ∙ c.in_ok-change.ensures.outcome
@@ -52,9 +52,9 @@ pub documents::Document::drop_with-returns-clause-ok : goal.documents::Document:
 documents::Document::drop_with-returns-clause-ok g t c =
     let old = c.self.inside in
     let names = texts_of c.args.names.now in
-    let before = g.S.TextStore.content old.store in
+    let before = g.S.TextStore.content old.text.store in
     let after = g.S.TextStore.content c.commit.new.self in
-    let parts = parts_of old.seats old.tags old.marks old.settings old.disabled.items old.anchors.items old.history
+    let parts = parts_of old.seats old.tags old.marks old.settings old.disabled.items old.text.anchors.items old.text.history
     before in
     let stands : Stands parts c.args.self.now = record { sound = c.self.invariant; is = c.self.view_is } in
     let content = c.commit.ensures ∙ c.in_ok-change.ensures.outcome
@@ -69,9 +69,9 @@ pub documents::Document::drop_with-returns-clause-well_formed :
     goal.documents::Document::drop_with-returns-clause-well_formed
 documents::Document::drop_with-returns-clause-well_formed g t c =
     let old = c.self.inside in
-    let before = g.S.TextStore.content old.store in
+    let before = g.S.TextStore.content old.text.store in
     let after = g.S.TextStore.content c.commit.new.self in
-    let parts = parts_of old.seats old.tags old.marks old.settings old.disabled.items old.anchors.items old.history
+    let parts = parts_of old.seats old.tags old.marks old.settings old.disabled.items old.text.anchors.items old.text.history
     before in
     let stands : Stands parts c.args.self.now = record { sound = c.self.invariant; is = c.self.view_is } in
     let content = c.commit.ensures ∙ c.in_ok-change.ensures.outcome

@@ -2,7 +2,7 @@ use Rattle.std.proofs.Common.{◌≡◌, ◌≢◌, ◌+◌, ◌<◌, ◌≤◌,
 use Rattle.std.proofs.lemmas.Result.{IfErr-weaker, on_ok_weaker}
 use Rattle.edit_ops.specs.Insertions as pieces
 use Rattle.edit_ops.specs.Removals.{replaced}
-use Rattle.edit_ops.specs.States.{log_of, state_of}
+use Rattle.edit_ops.specs.States.{state_in}
 use Rattle.tag_table.specs.Tags.{names_of}
 use Rattle.command_parts.specs.declared.answers.Fault.TheVariants.{Memory, TextTooLong}
 use Rattle.command_parts.specs.Edits.{excess, length_replaced}
@@ -16,43 +16,43 @@ returns-clause-made g c =
 
 pub returns-clause-ok : goal.returns-clause-ok
 returns-clause-ok g c =
-    let state = state_of (g.S.TextStore.content c.args.store.now) c.args.anchors.now (log_of c.args.history.now) in
+    let state = state_in g.S.TextStore.content c.args.text.now in
     on_ok_weaker c.replace_texts.result (λ is. is
-    ∙ ap (λ made. replaced c.args.recording c.args.mark.0 c.args.last c.args.from c.args.to made state)
+    ∙ ap (λ made. replaced c.args.rules.now.recording c.args.target.mark.0 c.args.target.last c.args.target.from c.args.target.to made state)
     (c.deref.ensures.value ∙ c.in_ok-pieces.ensures.pieces)) c.replace_texts.ensures.ok
 
 pub returns-clause-room : goal.returns-clause-room
 returns-clause-room g c =
     let tags = length (with_names (names_of c.args.tags.now.tags) (all_names c.args.pairs.items)) in
-    let left = length_replaced (length (g.S.TextStore.content c.args.store.now).cells) c.args.last c.args.from c.args.to
+    let left = length_replaced (length (g.S.TextStore.content c.args.text.now.store).cells) c.args.target.last c.args.target.from c.args.target.to
     in
-    let few : tags ≤ c.args.limits.now.tags + 1 =
+    let few : tags ≤ c.args.rules.now.limits.now.tags + 1 =
     subst (λ (pairs : List Pair). length (with_names (names_of c.args.tags.now.tags) (all_names pairs))
-    ≤ c.args.limits.now.tags + 1) c.as_slice.ensures.value
-    (excess-few c.args.limits.now _ _ (sym c.excess_of.ensures.value ∙ c.in_default.is)) in
+    ≤ c.args.rules.now.limits.now.tags + 1) c.as_slice.ensures.value
+    (excess-few c.args.rules.now.limits.now _ _ (sym c.excess_of.ensures.value ∙ c.in_default.is)) in
     let same : pieces.total c.deref.result.now ≡ total c.args.pairs.items =
     ap pieces.total (c.deref.ensures.value ∙ c.in_ok-pieces.ensures.pieces)
     ∙ total-pieces c.make_pieces.new.tags.tags c.args.widget.0 c.args.pairs.items in
     on_ok_weaker c.replace_texts.result (λ fits.
-    excess-none c.args.limits.now tags (left + total c.args.pairs.items) few
-    (subst (λ n. left + n ≤ c.args.limits.now.chars) same fits))
+    excess-none c.args.rules.now.limits.now tags (left + total c.args.pairs.items) few
+    (subst (λ n. left + n ≤ c.args.rules.now.limits.now.chars) same fits))
     c.replace_texts.ensures.fits
 
 pub returns-clause-fault : goal.returns-clause-fault
 returns-clause-fault g c =
     let tags = length (with_names (names_of c.args.tags.now.tags) (all_names c.args.pairs.items)) in
-    let left = length_replaced (length (g.S.TextStore.content c.args.store.now).cells) c.args.last c.args.from c.args.to
+    let left = length_replaced (length (g.S.TextStore.content c.args.text.now.store).cells) c.args.target.last c.args.target.from c.args.target.to
     in
-    let few : tags ≤ c.args.limits.now.tags + 1 =
+    let few : tags ≤ c.args.rules.now.limits.now.tags + 1 =
     subst (λ (pairs : List Pair). length (with_names (names_of c.args.tags.now.tags) (all_names pairs))
-    ≤ c.args.limits.now.tags + 1) c.as_slice.ensures.value
-    (excess-few c.args.limits.now _ _ (sym c.excess_of.ensures.value ∙ c.in_default.is)) in
+    ≤ c.args.rules.now.limits.now.tags + 1) c.as_slice.ensures.value
+    (excess-few c.args.rules.now.limits.now _ _ (sym c.excess_of.ensures.value ∙ c.in_default.is)) in
     let same : pieces.total c.deref.result.now ≡ total c.args.pairs.items =
     ap pieces.total (c.deref.ensures.value ∙ c.in_ok-pieces.ensures.pieces)
     ∙ total-pieces c.make_pieces.new.tags.tags c.args.widget.0 c.args.pairs.items in
     IfErr-weaker c.replace_texts.result (λ fault. fault ≢ Memory →
-    (fault ≡ TextTooLong) × (c.args.limits.now.chars < left + pieces.total c.deref.result.now))
-    (λ fault. fault ≢ Memory → excess c.args.limits.now tags (left + total c.args.pairs.items) ≡ Some fault)
-    (λ fault why other. excess-chars c.args.limits.now tags (left + total c.args.pairs.items) fault few
-    ((why other).0, subst (λ n. c.args.limits.now.chars < left + n) same (why other).1))
+    (fault ≡ TextTooLong) × (c.args.rules.now.limits.now.chars < left + pieces.total c.deref.result.now))
+    (λ fault. fault ≢ Memory → excess c.args.rules.now.limits.now tags (left + total c.args.pairs.items) ≡ Some fault)
+    (λ fault why other. excess-chars c.args.rules.now.limits.now tags (left + total c.args.pairs.items) fault few
+    ((why other).0, subst (λ n. c.args.rules.now.limits.now.chars < left + n) same (why other).1))
     c.replace_texts.ensures.fault

@@ -6,14 +6,14 @@ use Rattle.edit_ops.proofs.deletions.draft_delete.Goals as goal
 pub remove_spans-requires : goal.remove_spans-requires
 remove_spans-requires g c = record {
   apart = rw c.deref.ensures.value
-      (apart-wider c.args.end (length (g.S.TextStore.content c.args.store.now).cells)
+      (apart-wider c.args.end (length (g.S.TextStore.content c.args.text.now.store).cells)
       c.spare_shown-takes_last.new.runs.items c.spare_shown-takes_last.ensures.apart c.requires.within);
 }
 
 pub returns-clause-makes : goal.returns-clause-makes
 returns-clause-makes g c = λ recording log kept.
-    let content = g.S.TextStore.content c.args.store.now in
-    delete-made c.args.keeps c.in_ok-draft.draft c.remove_spans.new.self content c.args.anchors.now c.args.start
+    let content = g.S.TextStore.content c.args.text.now.store in
+    delete-made c.args.keeps c.in_ok-draft.draft c.remove_spans.new.self content c.args.text.now.anchors.items c.args.start
     c.args.end c.args.spans.now c.in_ok-runs.runs.items c.spare_shown-takes_last.new.runs.items
     c.spare_shown-takes_last.result c.in_ok-steps.steps c.requires.shows c.requires.within c.in_ok-runs.ensures.covers
     c.spare_shown-takes_last.ensures.takes c.spare_shown-takes_last.ensures.apart

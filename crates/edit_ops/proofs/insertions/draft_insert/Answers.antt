@@ -4,9 +4,9 @@ use Rattle.edit_ops.proofs.insertions.draft_insert.Goals as goal
 
 pub returns-clause-makes : goal.returns-clause-makes
 returns-clause-makes g c =
-    let content = g.S.TextStore.content c.args.store.now in
+    let content = g.S.TextStore.content c.args.text.now.store in
     let counted = c.len.ensures in
-    put-in c.in_ok-draft.draft c.insert_pieces.new.self content c.args.anchors.now c.shared_around.result
+    put-in c.in_ok-draft.draft c.insert_pieces.new.self content c.args.text.now.anchors.items c.shared_around.result
     c.tags_at-behind.result c.len.result c.args.at c.args.pieces.now c.in_ok-draft.ensures
     (record {
       counted = sym c.len.ensures;

@@ -13,16 +13,16 @@ draft_insert-requires-clause-fits g c =
 pub returns-then-is_too_long-clause-too_long : goal.returns-then-is_too_long-clause-too_long
 returns-then-is_too_long-clause-too_long g c =
     let count = total c.args.pieces.now in
-    let long = ltb-true c.args.limits.now.chars (c.len.result + count) (sym c.is_too_long.ensures.value
+    let long = ltb-true c.args.rules.now.limits.now.chars (c.len.result + count) (sym c.is_too_long.ensures.value
     ∙ c.if-is_too_long.true) in
-    (λ _. subst (λ n. c.args.limits.now.chars < n + count) c.len.ensures long, λ _. refl)
+    (λ _. subst (λ n. c.args.rules.now.limits.now.chars < n + count) c.len.ensures long, λ _. refl)
 
 pub prepare-requires : goal.prepare-requires
-prepare-requires g c = (c.in_ok-draft.ensures.makes c.args.recording Insert (log_of c.args.history.now)).0
+prepare-requires g c = (c.in_ok-draft.ensures.makes c.args.rules.now.recording Insert (log_of c.args.text.now.history)).0
 
 pub returns-clause-too_long : goal.returns-clause-too_long
 returns-clause-too_long g c =
-    let most = c.args.limits.now.chars in
+    let most = c.args.rules.now.limits.now.chars in
     let len = c.len.result + total c.args.pieces.now in
     let short = ltb-false most len (sym c.is_too_long.ensures.value ∙ c.if-is_too_long.false) in (
       λ same. absurd (cc),
@@ -33,4 +33,4 @@ returns-clause-too_long g c =
 pub returns-clause-outcome : goal.returns-clause-outcome
 returns-clause-outcome g c =
     c.in_ok-prepare.ensures.outcome
-    ∙ (c.in_ok-draft.ensures.makes c.args.recording Insert (log_of c.args.history.now)).1
+    ∙ (c.in_ok-draft.ensures.makes c.args.rules.now.recording Insert (log_of c.args.text.now.history)).1

@@ -6,7 +6,7 @@ use Rattle.edit_ops.proofs.replacements.draft_removal.Goals as goal
 
 pub overflow_sub-next-2 : goal.overflow_sub-next-2
 overflow_sub-next-2 g c =
-    let cells = (g.S.TextStore.content c.args.store.now).cells in
+    let cells = (g.S.TextStore.content c.args.text.now.store).cells in
     let long = length-characters cells in
     let drawn = next_line-drawn (characters cells) c.args.from c.args.to c.requires.ordered
     (omega (arith, long, c.requires.within)) in
@@ -14,11 +14,11 @@ overflow_sub-next-2 g c =
 
 pub returns-clause-stand : goal.returns-clause-stand
 returns-clause-stand g c =
-    let cells = (g.S.TextStore.content c.args.store.now).cells in
+    let cells = (g.S.TextStore.content c.args.text.now.store).cells in
     let long = length-characters cells in
     let drawn = next_line-drawn (characters cells) c.args.from c.args.to c.requires.ordered
     (omega (arith, long, c.requires.within)) in
-    stand-out c.in_ok-draft.draft c.remove.new.self c.args.anchors.now c.new-text.result (characters cells)
+    stand-out c.in_ok-draft.draft c.remove.new.self c.args.text.now.anchors.items c.new-taken.result (characters cells)
     c.line_at.result (c.line_behind.result - (c.args.to - c.args.from))
     c.args.from c.args.to (length cells) c.in_ok-draft.ensures c.in_ok-remove.ensures c.requires.stand long
     c.requires.ordered (omega (arith, c.requires.within))
@@ -26,27 +26,27 @@ returns-clause-stand g c =
 
 pub returns-clause-makes : goal.returns-clause-makes
 returns-clause-makes g c =
-    let cells = (g.S.TextStore.content c.args.store.now).cells in
+    let cells = (g.S.TextStore.content c.args.text.now.store).cells in
     let long = length-characters cells in
     let drawn = next_line-drawn (characters cells) c.args.from c.args.to c.requires.ordered
     (omega (arith, long, c.requires.within)) in
-    taken-out c.in_ok-draft.draft c.remove.new.self (g.S.TextStore.content c.args.store.now) c.args.anchors.now
-    c.new-text.result c.line_at.result (c.line_behind.result - (c.args.to - c.args.from))
-    c.args.from c.args.to c.in_ok-draft.ensures c.in_ok-remove.ensures c.if-from-to.false (c.new-text.ensures
+    taken-out c.in_ok-draft.draft c.remove.new.self (g.S.TextStore.content c.args.text.now.store) c.args.text.now.anchors.items
+    c.new-taken.result c.line_at.result (c.line_behind.result - (c.args.to - c.args.from))
+    c.args.from c.args.to c.in_ok-draft.ensures c.in_ok-remove.ensures c.if-from-to.false (c.new-taken.ensures
     ∙ c.in_ok-copy_text.ensures)
     c.line_at.ensures (ap (λ n. n - (c.args.to - c.args.from)) c.line_behind.ensures ∙ drawn.1)
 
 pub returns-then-from-to-clause-stand : goal.returns-then-from-to-clause-stand
 returns-then-from-to-clause-stand g c =
-    none-stand c.in_ok-draft.draft c.args.anchors.now c.args.from c.args.to
-    (length (g.S.TextStore.content c.args.store.now).cells) c.in_ok-draft.ensures c.if-from-to.true c.requires.stand
+    none-stand c.in_ok-draft.draft c.args.text.now.anchors.items c.args.from c.args.to
+    (length (g.S.TextStore.content c.args.text.now.store).cells) c.in_ok-draft.ensures c.if-from-to.true c.requires.stand
 
 pub returns-then-from-to-clause-cells : goal.returns-then-from-to-clause-cells
 returns-then-from-to-clause-cells g c =
-    none-cells c.in_ok-draft.draft (g.S.TextStore.content c.args.store.now) c.args.anchors.now c.args.from c.args.to
+    none-cells c.in_ok-draft.draft (g.S.TextStore.content c.args.text.now.store) c.args.text.now.anchors.items c.args.from c.args.to
     c.in_ok-draft.ensures c.if-from-to.true
 
 pub returns-then-from-to-clause-makes : goal.returns-then-from-to-clause-makes
 returns-then-from-to-clause-makes g c =
-    none-out c.in_ok-draft.draft (g.S.TextStore.content c.args.store.now) c.args.anchors.now c.args.from c.args.to
+    none-out c.in_ok-draft.draft (g.S.TextStore.content c.args.text.now.store) c.args.text.now.anchors.items c.args.from c.args.to
     c.in_ok-draft.ensures c.if-from-to.true

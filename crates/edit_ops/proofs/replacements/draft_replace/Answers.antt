@@ -15,13 +15,13 @@ use Rattle.edit_ops.proofs.replacements.draft_replace.Goals.{in-Some+in_ok-put_m
 
 pub returns-clause-fits : goal.returns-clause-fits
 returns-clause-fits g c =
-    let content = g.S.TextStore.content c.args.store.now in
+    let content = g.S.TextStore.content c.args.text.now.store in
     let is = between-removed c.shared_around.result c.tags_at-behind.result (c.len.result - (c.args.to - c.args.from))
     c.args.from c.args.to content.cells _ c.in_ok-draft.ensures.cells c.requires.ordered c.requires.within
     (ap (λ n. n - (c.args.to - c.args.from)) c.len.ensures) (c.shared_around.ensures c.args.to c.tags_at-behind.ensures)
     c.tags_at-behind.ensures in
     let made = c.in_ok-insert_pieces.ensures.makes (record { undo = false; separators = false }) Replace
-    (state_of content c.args.anchors.now (record { history = no_history; modified = unmodified; most = 0 }))
+    (state_of content c.args.text.now.anchors.items (record { history = no_history; modified = unmodified; most = 0 }))
     c.in_ok-draft.ensures.fits is in
     let clip : c.clipped.result ≡ option_and_then (clipped c.args.from c.args.to (total c.args.pieces.now))
     (finite.get content.marks c.args.mark.0) =
@@ -42,8 +42,8 @@ returns-clause-fits g c =
 
 pub returns-clause-makes : goal.returns-clause-makes
 returns-clause-makes g c = λ recording log.
-    let content = g.S.TextStore.content c.args.store.now in
-    let state = state_of content c.args.anchors.now log in
+    let content = g.S.TextStore.content c.args.text.now.store in
+    let state = state_of content c.args.text.now.anchors.items log in
     let is = between-removed c.shared_around.result c.tags_at-behind.result (c.len.result - (c.args.to - c.args.from))
     c.args.from c.args.to content.cells _ c.in_ok-draft.ensures.cells c.requires.ordered c.requires.within
     (ap (λ n. n - (c.args.to - c.args.from)) c.len.ensures) (c.shared_around.ensures c.args.to c.tags_at-behind.ensures)

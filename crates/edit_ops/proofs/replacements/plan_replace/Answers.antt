@@ -14,33 +14,33 @@ draft_replace-requires-clause-room g c =
 pub returns-then-is_too_long-clause-too_long : goal.returns-then-is_too_long-clause-too_long
 returns-then-is_too_long-clause-too_long g c =
     let count = total c.args.pieces.now in
-    let len = length (g.S.TextStore.content c.args.store.now).cells in
+    let len = length (g.S.TextStore.content c.args.text.now.store).cells in
     let left = c.len.result - (c.min-to.result - c.min-from.result) + count in
-    let is : left ≡ len - (min c.args.to c.args.last - min c.args.from c.args.last) + count =
+    let is : left ≡ len - (min c.args.target.to c.args.target.last - min c.args.target.from c.args.target.last) + count =
     ap (λ n. n - (c.min-to.result - c.min-from.result) + count) c.len.ensures
     ∙ ap₂ (λ a b. len - (a - b) + count) c.min-to.ensures c.min-from.ensures in
-    let long = ltb-true c.args.limits.now.chars left (sym c.is_too_long.ensures.value ∙ c.if-is_too_long.true) in
-    (λ _. (c.if-to-from.false, subst (λ n. c.args.limits.now.chars < n) is long), λ _. refl)
+    let long = ltb-true c.args.rules.now.limits.now.chars left (sym c.is_too_long.ensures.value ∙ c.if-is_too_long.true) in
+    (λ _. (c.if-target.false, subst (λ n. c.args.rules.now.limits.now.chars < n) is long), λ _. refl)
 
 pub returns-clause-too_long : goal.returns-clause-too_long
 returns-clause-too_long g c =
     let count = total c.args.pieces.now in
-    let len = length (g.S.TextStore.content c.args.store.now).cells in
+    let len = length (g.S.TextStore.content c.args.text.now.store).cells in
     let left = c.len.result - (c.min-to.result - c.min-from.result) + count in
-    let is : left ≡ len - (min c.args.to c.args.last - min c.args.from c.args.last) + count =
+    let is : left ≡ len - (min c.args.target.to c.args.target.last - min c.args.target.from c.args.target.last) + count =
     ap (λ n. n - (c.min-to.result - c.min-from.result) + count) c.len.ensures
     ∙ ap₂ (λ a b. len - (a - b) + count) c.min-to.ensures c.min-from.ensures in
-    let short = ltb-false c.args.limits.now.chars left (sym c.is_too_long.ensures.value ∙ c.if-is_too_long.false) in (
+    let short = ltb-false c.args.rules.now.limits.now.chars left (sym c.is_too_long.ensures.value ∙ c.if-is_too_long.false) in (
       λ same. absurd (cc),
       λ long.
-          absurd (no-longer c.args.limits.now.chars left short
-          (subst (λ n. c.args.limits.now.chars < n) (sym is) long.1)),
+          absurd (no-longer c.args.rules.now.limits.now.chars left short
+          (subst (λ n. c.args.rules.now.limits.now.chars < n) (sym is) long.1)),
     )
 
 pub returns-clause-outcome : goal.returns-clause-outcome
 returns-clause-outcome g c =
-    let log = log_of c.args.history.now in
-    let state = state_of (g.S.TextStore.content c.args.store.now) c.args.anchors.now log in
-    c.in_ok-prepare.ensures.outcome ∙ c.in_ok-draft.ensures.makes c.args.recording log
-    ∙ ap₂ (λ from to. replaced_span c.args.recording c.args.mark.0 from to c.args.pieces.now state) c.min-from.ensures
+    let log = log_of c.args.text.now.history in
+    let state = state_of (g.S.TextStore.content c.args.text.now.store) c.args.text.now.anchors.items log in
+    c.in_ok-prepare.ensures.outcome ∙ c.in_ok-draft.ensures.makes c.args.rules.now.recording log
+    ∙ ap₂ (λ from to. replaced_span c.args.rules.now.recording c.args.target.mark.0 from to c.args.pieces.now state) c.min-from.ensures
     c.min-to.ensures

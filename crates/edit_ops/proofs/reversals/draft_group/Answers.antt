@@ -10,14 +10,14 @@ pub put_end-requires-clause-bound : goal.put_end-requires-clause-bound
 put_end-requires-clause-bound g c =
     let follows = c.in_ok-end.ensures.follows in
     subst (λ n. IfSome c.in_ok-end.end (λ at. at ≤ n))
-    (sym (follows-length (g.S.TextStore.content c.args.store.now) c.replay_all.new.self c.replay_all.new.cursor
+    (sym (follows-length (g.S.TextStore.content c.args.text.now.store) c.replay_all.new.self c.replay_all.new.cursor
     follows)) c.in_ok-end.ensures.bound
 
 pub returns-clause-makes : goal.returns-clause-makes
 returns-clause-makes g c = λ log.
-    let content = g.S.TextStore.content c.args.store.now in
+    let content = g.S.TextStore.content c.args.text.now.store in
     let all = replays c.args.back c.args.group.now in
-    let start = state_of content c.args.anchors.now log in
+    let start = state_of content c.args.text.now.anchors.items log in
     let begun : drawn_up c.in_ok-draft.draft content log
     ≡ start = ap (λ (d : Draft). drawn_up d content log) c.in_ok-draft.ensures in
     c.in_ok-put_end.ensures.makes log

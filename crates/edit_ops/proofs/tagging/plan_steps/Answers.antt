@@ -7,11 +7,11 @@ use Rattle.edit_ops.proofs.tagging.plan_steps.Goals as goal
 
 pub prepare-requires : goal.prepare-requires
 prepare-requires g c =
-    subst (λ (d : Draft). Fits d.steps (g.S.TextStore.content c.args.store.now)) (sym c.in_ok-draft.ensures) c.requires
+    subst (λ (d : Draft). Fits d.steps (g.S.TextStore.content c.args.text.now.store)) (sym c.in_ok-draft.ensures) c.requires
 
 pub returns-clause-outcome : goal.returns-clause-outcome
 returns-clause-outcome g c =
-    let content = g.S.TextStore.content c.args.store.now in
+    let content = g.S.TextStore.content c.args.text.now.store in
     c.in_ok-prepare.ensures.outcome
     ∙ steps-made (record { undo = false; separators = false }) Insert c.in_ok-draft.draft c.args.steps
-    c.args.anchors.now content _ (log_of c.args.history.now) c.in_ok-draft.ensures refl
+    c.args.text.now.anchors.items content _ (log_of c.args.text.now.history) c.in_ok-draft.ensures refl

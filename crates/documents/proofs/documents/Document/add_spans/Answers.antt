@@ -21,8 +21,8 @@ pub tag_spans-tagged-requires-clause-spans : goal.tag_spans-tagged-requires-clau
 tag_spans-tagged-requires-clause-spans g c =
     let old = c.self.inside in
     let document = c.args.self.now in
-    let parts = parts_of old.seats old.tags old.marks old.settings old.disabled.items old.anchors.items old.history
-    (g.S.TextStore.content old.store) in
+    let parts = parts_of old.seats old.tags old.marks old.settings old.disabled.items old.text.anchors.items old.text.history
+    (g.S.TextStore.content old.text.store) in
     let stands : Stands parts document = record { sound = c.self.invariant; is = c.self.view_is } in
     subst (λ (n : ℕ). All (SpanFits n) c.deref.result.now) (cells-kept parts document stands.is)
     (subst (All (SpanFits (length document.cells))) (sym c.deref.ensures.value) c.in_ok-spans.ensures.fit)
@@ -36,8 +36,8 @@ pub invariant_of-self : goal.invariant_of-self
 invariant_of-self g c =
     let old = c.self.inside in
     let document = c.args.self.now in
-    let parts = parts_of old.seats old.tags old.marks old.settings old.disabled.items old.anchors.items old.history
-    (g.S.TextStore.content old.store) in
+    let parts = parts_of old.seats old.tags old.marks old.settings old.disabled.items old.text.anchors.items old.text.history
+    (g.S.TextStore.content old.text.store) in
     let stands : Stands parts document = record { sound = c.self.invariant; is = c.self.view_is } in
     let new = c.tag_spans-tagged.new in
     let word = chars c.args.name.now in
@@ -45,7 +45,7 @@ invariant_of-self g c =
     let spans : given ≡ c.in_ok-spans.spans.items = c.deref.ensures.value in
     let widget = c.number-number.result in
     let seat = sits parts document c.args.widget widget stands c.number-number.ensures.value in
-    let content = g.S.TextStore.content new.store in
+    let content = g.S.TextStore.content new.text.store in
     let fit = subst (λ (n : ℕ). All (SpanFits n) given) (cells-kept parts document stands.is)
     (subst (All (SpanFits (length document.cells))) (sym spans) c.in_ok-spans.ensures.fit) in
     let found = found_by (λ slot. tagged slot true given parts.content) (known_tags new.tags.tags widget word) content
@@ -61,17 +61,17 @@ invariant_of-self g c =
     let few = sym c.is_one_too_many.ensures.value ∙ c.if-is_one_too_many.false in
     let room : length (with_name (names_of parts.tags.tags) word)
     ≤ c.args.limits.now.tags + 1 = grind (arith, nat_tests, few) in
-    let leaves = leaves-added c.args.limits.now parts new.tags content (log_of new.history) document c.args.widget
+    let leaves = leaves-added c.args.limits.now parts new.tags content (log_of new.text.history) document c.args.widget
     widget word c.args.places.now given c.in_ok-spans.spans.items stands seat made c.in-Ok.ensures.log
     spans c.in_ok-spans.ensures.value c.in-Ok.ensures.made room in
-    leaves.sound
+    rw c.in-Ok.ensures.anchors leaves.sound
 
 pub returns-in-Ok : goal.returns-in-Ok
 returns-in-Ok g c =
     let old = c.self.inside in
     let document = c.args.self.now in
-    let parts = parts_of old.seats old.tags old.marks old.settings old.disabled.items old.anchors.items old.history
-    (g.S.TextStore.content old.store) in
+    let parts = parts_of old.seats old.tags old.marks old.settings old.disabled.items old.text.anchors.items old.text.history
+    (g.S.TextStore.content old.text.store) in
     let stands : Stands parts document = record { sound = c.self.invariant; is = c.self.view_is } in
     let new = c.tag_spans-tagged.new in
     let word = chars c.args.name.now in
@@ -79,7 +79,7 @@ returns-in-Ok g c =
     let spans : given ≡ c.in_ok-spans.spans.items = c.deref.ensures.value in
     let widget = c.number-number.result in
     let seat = sits parts document c.args.widget widget stands c.number-number.ensures.value in
-    let content = g.S.TextStore.content new.store in
+    let content = g.S.TextStore.content new.text.store in
     let fit = subst (λ (n : ℕ). All (SpanFits n) given) (cells-kept parts document stands.is)
     (subst (All (SpanFits (length document.cells))) (sym spans) c.in_ok-spans.ensures.fit) in
     let found = found_by (λ slot. tagged slot true given parts.content) (known_tags new.tags.tags widget word) content
@@ -95,54 +95,54 @@ returns-in-Ok g c =
     let few = sym c.is_one_too_many.ensures.value ∙ c.if-is_one_too_many.false in
     let room : length (with_name (names_of parts.tags.tags) word)
     ≤ c.args.limits.now.tags + 1 = grind (arith, nat_tests, few) in
-    let leaves = leaves-added c.args.limits.now parts new.tags content (log_of new.history) document c.args.widget
+    let leaves = leaves-added c.args.limits.now parts new.tags content (log_of new.text.history) document c.args.widget
     widget word c.args.places.now given c.in_ok-spans.spans.items stands seat made c.in-Ok.ensures.log
     spans c.in_ok-spans.ensures.value c.in-Ok.ensures.made room in
-    leaves.does
+    rw c.in-Ok.ensures.anchors leaves.does
 
 pub invariant_of-self-in-Err : goal.invariant_of-self-in-Err
 invariant_of-self-in-Err g c =
     let old = c.self.inside in
     let document = c.args.self.now in
-    let parts = parts_of old.seats old.tags old.marks old.settings old.disabled.items old.anchors.items old.history
-    (g.S.TextStore.content old.store) in
+    let parts = parts_of old.seats old.tags old.marks old.settings old.disabled.items old.text.anchors.items old.text.history
+    (g.S.TextStore.content old.text.store) in
     let stands : Stands parts document = record { sound = c.self.invariant; is = c.self.view_is } in
     let new = c.tag_spans-tagged.new in
-    let content = g.S.TextStore.content new.store in
+    let content = g.S.TextStore.content new.text.store in
     let tags = table-back old.tags new.tags c.truncate.new.self c.len-front.result c.len-front.ensures.value
     c.in-Err.ensures.front c.truncate.ensures in
-    let same : relogged (retagged parts c.truncate.new.self content) (log_of new.history)
+    let same : relogged (retagged parts c.truncate.new.self content) (log_of new.text.history)
     ≡ parts = λ i. relogged (retagged parts (tags i) (c.in-Err.ensures.err i)) (c.in-Err.ensures.log i) in
-    let left = stands-same parts (relogged (retagged parts c.truncate.new.self content) (log_of new.history)) document
+    let left = stands-same parts (relogged (retagged parts c.truncate.new.self content) (log_of new.text.history)) document
     stands same in
-    left.sound
+    rw c.in-Err.ensures.anchors left.sound
 
 pub returns : goal.returns
 returns g c =
     let old = c.self.inside in
     let document = c.args.self.now in
-    let parts = parts_of old.seats old.tags old.marks old.settings old.disabled.items old.anchors.items old.history
-    (g.S.TextStore.content old.store) in
+    let parts = parts_of old.seats old.tags old.marks old.settings old.disabled.items old.text.anchors.items old.text.history
+    (g.S.TextStore.content old.text.store) in
     let stands : Stands parts document = record { sound = c.self.invariant; is = c.self.view_is } in
     let new = c.tag_spans-tagged.new in
-    let content = g.S.TextStore.content new.store in
+    let content = g.S.TextStore.content new.text.store in
     let tags = table-back old.tags new.tags c.truncate.new.self c.len-front.result c.len-front.ensures.value
     c.in-Err.ensures.front c.truncate.ensures in
-    let same : relogged (retagged parts c.truncate.new.self content) (log_of new.history)
+    let same : relogged (retagged parts c.truncate.new.self content) (log_of new.text.history)
     ≡ parts = λ i. relogged (retagged parts (tags i) (c.in-Err.ensures.err i)) (c.in-Err.ensures.log i) in
-    let left = stands-same parts (relogged (retagged parts c.truncate.new.self content) (log_of new.history)) document
+    let left = stands-same parts (relogged (retagged parts c.truncate.new.self content) (log_of new.text.history)) document
     stands same in
-    does-left c.args.limits.now document
-    (document_of (relogged (retagged parts c.truncate.new.self content) (log_of new.history))) Memory
+    rw c.in-Err.ensures.anchors (does-left c.args.limits.now document
+    (document_of (relogged (retagged parts c.truncate.new.self content) (log_of new.text.history))) Memory
     (add_spans c.args.limits.now document (widget_at document c.args.widget) (chars c.args.name.now) c.args.places.now)
-    left.is (λ other. absurd (other refl))
+    left.is (λ other. absurd (other refl)))
 
 pub returns-then-is_one_too_many : goal.returns-then-is_one_too_many
 returns-then-is_one_too_many g c =
     let old = c.self.inside in
     let document = c.args.self.now in
-    let parts = parts_of old.seats old.tags old.marks old.settings old.disabled.items old.anchors.items old.history
-    (g.S.TextStore.content old.store) in
+    let parts = parts_of old.seats old.tags old.marks old.settings old.disabled.items old.text.anchors.items old.text.history
+    (g.S.TextStore.content old.text.store) in
     let stands : Stands parts document = record { sound = c.self.invariant; is = c.self.view_is } in
     let full = sym c.is_one_too_many.ensures.value ∙ c.if-is_one_too_many.true in
     let many : c.args.limits.now.tags + 1 < length (with_name (names_of parts.tags.tags) (chars c.args.name.now))

@@ -2,7 +2,9 @@ use Rattle.std.proofs.Common.{◌≡◌, take, sym, ap, subst, ◌∙◌, arith}
 use Rattle.std.specs.Prelude.{chars}
 use Rattle.text_model.specs.Content as model
 use Rattle.edit_ops.specs.declared.anchors.Anchors.{Anchors}
+use Rattle.undo_stack.specs.Rings.{Kept}
 use Rattle.command_parts.specs.Edits.{new_mark, with_own_marks}
+use Rattle.command_parts.specs.Settings.{history_under}
 use Rattle.documents.specs.Documents.{parts_of}
 use Rattle.documents.specs.Kept.{Stands}
 use Rattle.documents.specs.WellFormed.{IsWellFormedDocument}
@@ -14,8 +16,8 @@ pub make_seat-made-requires-clause-new : goal.make_seat-made-requires-clause-new
 make_seat-made-requires-clause-new g c =
     let old = c.self.inside in
     let document = c.args.self.now in
-    let content = g.S.TextStore.content old.store in
-    let parts = parts_of old.seats old.tags old.marks old.settings old.disabled.items old.anchors.items old.history
+    let content = g.S.TextStore.content old.text.store in
+    let parts = parts_of old.seats old.tags old.marks old.settings old.disabled.items old.text.anchors.items old.text.history
     content in
     let stands : Stands parts document = record { sound = c.self.invariant; is = c.self.view_is } in
     unnamed parts document (chars c.args.name.now) stands c.requires.new
@@ -24,8 +26,8 @@ pub make_seat-made-requires-clause-within : goal.make_seat-made-requires-clause-
 make_seat-made-requires-clause-within g c =
     let old = c.self.inside in
     let document = c.args.self.now in
-    let content = g.S.TextStore.content old.store in
-    let parts = parts_of old.seats old.tags old.marks old.settings old.disabled.items old.anchors.items old.history
+    let content = g.S.TextStore.content old.text.store in
+    let parts = parts_of old.seats old.tags old.marks old.settings old.disabled.items old.text.anchors.items old.text.history
     content in
     let stands : Stands parts document = record { sound = c.self.invariant; is = c.self.view_is } in
     let own : Anchors = record { start = c.anchor_at-start.result; end = c.anchor_at-end.result } in
@@ -37,8 +39,8 @@ pub invariant_of-self-in-Ok : goal.invariant_of-self-in-Ok
 invariant_of-self-in-Ok g c =
     let old = c.self.inside in
     let document = c.args.self.now in
-    let content = g.S.TextStore.content old.store in
-    let parts = parts_of old.seats old.tags old.marks old.settings old.disabled.items old.anchors.items old.history
+    let content = g.S.TextStore.content old.text.store in
+    let parts = parts_of old.seats old.tags old.marks old.settings old.disabled.items old.text.anchors.items old.text.history
     content in
     let stands : Stands parts document = record { sound = c.self.invariant; is = c.self.view_is } in
     let name = chars c.args.name.now in
@@ -50,8 +52,8 @@ invariant_of-self-in-Ok g c =
     λ i. record { start = c.anchor_at-start.ensures i; end = c.anchor_at-end.ensures i } in
     let new = c.make_seat-made.new in
     let slot = c.in-Ok.slot in
-    let made : IsSeatMade parts old.history c.bound.new.history name slot c.args.settings new.seats new.disabled.items
-    new.anchors.items own (g.S.TextStore.content new.store) = record {
+    let made : IsSeatMade parts old.text.history c.bound.new.history name slot c.args.settings new.seats new.disabled.items
+    new.text.anchors.items own (g.S.TextStore.content new.text.store) = record {
       named = c.requires.named;
       sound = c.in-Ok.ensures.sound;
       seats_is = c.in-Ok.ensures.last;
@@ -64,12 +66,13 @@ invariant_of-self-in-Ok g c =
       own_is = own_is;
       content_is = c.in-Ok.ensures.store
           ∙ ap (λ n. with_own_marks slot (record new_mark { offset = n }) content) c.unwrap_or.ensures;
-      history = c.bound.ensures.history;
-      modified = c.bound.ensures.modified;
+      history = c.bound.ensures.history
+          ∙ ap (λ (kept : Kept). history_under c.args.settings.document kept.history) c.in-Ok.ensures.history;
+      modified = c.bound.ensures.modified ∙ ap (λ (kept : Kept). kept.modified) c.in-Ok.ensures.history;
       most = c.bound.ensures.most;
     } in
-    let seated = seated-made parts old.history c.bound.new.history document name slot c.args.settings new.seats
-    new.disabled.items new.anchors.items own (g.S.TextStore.content new.store) stands c.requires.lines
+    let seated = seated-made parts old.text.history c.bound.new.history document name slot c.args.settings new.seats
+    new.disabled.items new.text.anchors.items own (g.S.TextStore.content new.text.store) stands c.requires.lines
     c.requires.ordered made in
     seated.sound
 
@@ -77,42 +80,42 @@ pub returns-in-Err-clause-err : goal.returns-in-Err-clause-err
 returns-in-Err-clause-err g c =
     let old = c.self.inside in
     let document = c.args.self.now in
-    let content = g.S.TextStore.content old.store in
-    let parts = parts_of old.seats old.tags old.marks old.settings old.disabled.items old.anchors.items old.history
+    let content = g.S.TextStore.content old.text.store in
+    let parts = parts_of old.seats old.tags old.marks old.settings old.disabled.items old.text.anchors.items old.text.history
     content in
     let stands : Stands parts document = record { sound = c.self.invariant; is = c.self.view_is } in
     let new = c.make_seat-made.new in
     let back : c.truncate.new.self ≡ old.seats =
     c.truncate.ensures ∙ ap (λ n. record new.seats { entries = take n new.seats.entries }) c.len-front.ensures.value
     ∙ c.in-Err.ensures.front in
-    let left = unseated parts document c.truncate.new.self new.disabled.items new.anchors.items
-    (g.S.TextStore.content new.store) stands back c.in-Err.ensures.disabled c.in-Err.ensures.anchors
+    let left = unseated parts document c.truncate.new.self new.disabled.items new.text.anchors.items
+    (g.S.TextStore.content new.text.store) stands back c.in-Err.ensures.disabled c.in-Err.ensures.anchors
     c.in-Err.ensures.err in
-    left.is
+    rw c.in-Err.ensures.history left.is
 
 pub returns-in-Err-clause-well_formed : goal.returns-in-Err-clause-well_formed
 returns-in-Err-clause-well_formed g c =
     let old = c.self.inside in
     let document = c.args.self.now in
-    let content = g.S.TextStore.content old.store in
-    let parts = parts_of old.seats old.tags old.marks old.settings old.disabled.items old.anchors.items old.history
+    let content = g.S.TextStore.content old.text.store in
+    let parts = parts_of old.seats old.tags old.marks old.settings old.disabled.items old.text.anchors.items old.text.history
     content in
     let stands : Stands parts document = record { sound = c.self.invariant; is = c.self.view_is } in
     let new = c.make_seat-made.new in
     let back : c.truncate.new.self ≡ old.seats =
     c.truncate.ensures ∙ ap (λ n. record new.seats { entries = take n new.seats.entries }) c.len-front.ensures.value
     ∙ c.in-Err.ensures.front in
-    let left = unseated parts document c.truncate.new.self new.disabled.items new.anchors.items
-    (g.S.TextStore.content new.store) stands back c.in-Err.ensures.disabled c.in-Err.ensures.anchors
+    let left = unseated parts document c.truncate.new.self new.disabled.items new.text.anchors.items
+    (g.S.TextStore.content new.text.store) stands back c.in-Err.ensures.disabled c.in-Err.ensures.anchors
     c.in-Err.ensures.err in
-    λ limits formed. subst (IsWellFormedDocument limits) (sym left.is) formed
+    rw c.in-Err.ensures.history (λ limits formed. subst (IsWellFormedDocument limits) (sym left.is) formed)
 
 pub returns-in-Ok-clause-ok : goal.returns-in-Ok-clause-ok
 returns-in-Ok-clause-ok g c =
     let old = c.self.inside in
     let document = c.args.self.now in
-    let content = g.S.TextStore.content old.store in
-    let parts = parts_of old.seats old.tags old.marks old.settings old.disabled.items old.anchors.items old.history
+    let content = g.S.TextStore.content old.text.store in
+    let parts = parts_of old.seats old.tags old.marks old.settings old.disabled.items old.text.anchors.items old.text.history
     content in
     let stands : Stands parts document = record { sound = c.self.invariant; is = c.self.view_is } in
     let name = chars c.args.name.now in
@@ -124,8 +127,8 @@ returns-in-Ok-clause-ok g c =
     λ i. record { start = c.anchor_at-start.ensures i; end = c.anchor_at-end.ensures i } in
     let new = c.make_seat-made.new in
     let slot = c.in-Ok.slot in
-    let made : IsSeatMade parts old.history c.bound.new.history name slot c.args.settings new.seats new.disabled.items
-    new.anchors.items own (g.S.TextStore.content new.store) = record {
+    let made : IsSeatMade parts old.text.history c.bound.new.history name slot c.args.settings new.seats new.disabled.items
+    new.text.anchors.items own (g.S.TextStore.content new.text.store) = record {
       named = c.requires.named;
       sound = c.in-Ok.ensures.sound;
       seats_is = c.in-Ok.ensures.last;
@@ -138,12 +141,13 @@ returns-in-Ok-clause-ok g c =
       own_is = own_is;
       content_is = c.in-Ok.ensures.store
           ∙ ap (λ n. with_own_marks slot (record new_mark { offset = n }) content) c.unwrap_or.ensures;
-      history = c.bound.ensures.history;
-      modified = c.bound.ensures.modified;
+      history = c.bound.ensures.history
+          ∙ ap (λ (kept : Kept). history_under c.args.settings.document kept.history) c.in-Ok.ensures.history;
+      modified = c.bound.ensures.modified ∙ ap (λ (kept : Kept). kept.modified) c.in-Ok.ensures.history;
       most = c.bound.ensures.most;
     } in
-    let seated = seated-made parts old.history c.bound.new.history document name slot c.args.settings new.seats
-    new.disabled.items new.anchors.items own (g.S.TextStore.content new.store) stands c.requires.lines
+    let seated = seated-made parts old.text.history c.bound.new.history document name slot c.args.settings new.seats
+    new.disabled.items new.text.anchors.items own (g.S.TextStore.content new.text.store) stands c.requires.lines
     c.requires.ordered made in
     seated.is
 
@@ -151,8 +155,8 @@ pub returns-in-Ok-clause-well_formed : goal.returns-in-Ok-clause-well_formed
 returns-in-Ok-clause-well_formed g c =
     let old = c.self.inside in
     let document = c.args.self.now in
-    let content = g.S.TextStore.content old.store in
-    let parts = parts_of old.seats old.tags old.marks old.settings old.disabled.items old.anchors.items old.history
+    let content = g.S.TextStore.content old.text.store in
+    let parts = parts_of old.seats old.tags old.marks old.settings old.disabled.items old.text.anchors.items old.text.history
     content in
     let stands : Stands parts document = record { sound = c.self.invariant; is = c.self.view_is } in
     let name = chars c.args.name.now in
@@ -164,8 +168,8 @@ returns-in-Ok-clause-well_formed g c =
     λ i. record { start = c.anchor_at-start.ensures i; end = c.anchor_at-end.ensures i } in
     let new = c.make_seat-made.new in
     let slot = c.in-Ok.slot in
-    let made : IsSeatMade parts old.history c.bound.new.history name slot c.args.settings new.seats new.disabled.items
-    new.anchors.items own (g.S.TextStore.content new.store) = record {
+    let made : IsSeatMade parts old.text.history c.bound.new.history name slot c.args.settings new.seats new.disabled.items
+    new.text.anchors.items own (g.S.TextStore.content new.text.store) = record {
       named = c.requires.named;
       sound = c.in-Ok.ensures.sound;
       seats_is = c.in-Ok.ensures.last;
@@ -178,11 +182,12 @@ returns-in-Ok-clause-well_formed g c =
       own_is = own_is;
       content_is = c.in-Ok.ensures.store
           ∙ ap (λ n. with_own_marks slot (record new_mark { offset = n }) content) c.unwrap_or.ensures;
-      history = c.bound.ensures.history;
-      modified = c.bound.ensures.modified;
+      history = c.bound.ensures.history
+          ∙ ap (λ (kept : Kept). history_under c.args.settings.document kept.history) c.in-Ok.ensures.history;
+      modified = c.bound.ensures.modified ∙ ap (λ (kept : Kept). kept.modified) c.in-Ok.ensures.history;
       most = c.bound.ensures.most;
     } in
-    let seated = seated-made parts old.history c.bound.new.history document name slot c.args.settings new.seats
-    new.disabled.items new.anchors.items own (g.S.TextStore.content new.store) stands c.requires.lines
+    let seated = seated-made parts old.text.history c.bound.new.history document name slot c.args.settings new.seats
+    new.disabled.items new.text.anchors.items own (g.S.TextStore.content new.text.store) stands c.requires.lines
     c.requires.ordered made in
     seated.formed

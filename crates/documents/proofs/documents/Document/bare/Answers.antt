@@ -13,7 +13,7 @@ invariant_of-result g c =
     let marks : c.in_ok-new-4.field-0 ≡ record { marks = []; limit = MOST_MARKS } = c.in_ok-new-4.ensures
     ∙ ap (λ limit. record { marks = []; limit = limit }) c.greatest_limits-limits.ensures.marks in
     let is : parts_of c.in_ok-new.field-0 c.in_ok-new-3.field-0 c.in_ok-new-4.field-0 c.new-8.result
-    c.new-2.result.items c.new-3.result.items c.new-7.result (g.S.TextStore.content c.in_ok-new-2.field-0)
+    c.new-2.result.items c.new-5.result.items c.new-4.result (g.S.TextStore.content c.in_ok-new-2.field-0)
     ≡ bare_parts = λ i. record {
       seats = c.in_ok-new.ensures i;
       tags = tags i;
@@ -21,11 +21,11 @@ invariant_of-result g c =
       journal = record {
         settings = c.new-8.ensures i;
         disabled = c.new-2.ensures.items i;
-        anchors = c.new-3.ensures.items i;
+        anchors = c.new-5.ensures.items i;
         log = record {
-          history = c.new-7.ensures.history i;
-          modified = c.new-7.ensures.modified i;
-          most = c.new-7.ensures.most i;
+          history = c.new-4.ensures.history i;
+          modified = c.new-4.ensures.modified i;
+          most = c.new-4.ensures.most i;
         };
       };
       content = c.in_ok-new-2.ensures i;
@@ -39,7 +39,7 @@ returns-clause-well_formed g c = λ limits are.
     let marks : c.in_ok-new-4.field-0 ≡ record { marks = []; limit = MOST_MARKS } = c.in_ok-new-4.ensures
     ∙ ap (λ limit. record { marks = []; limit = limit }) c.greatest_limits-limits.ensures.marks in
     let is : parts_of c.in_ok-new.field-0 c.in_ok-new-3.field-0 c.in_ok-new-4.field-0 c.new-8.result
-    c.new-2.result.items c.new-3.result.items c.new-7.result (g.S.TextStore.content c.in_ok-new-2.field-0)
+    c.new-2.result.items c.new-5.result.items c.new-4.result (g.S.TextStore.content c.in_ok-new-2.field-0)
     ≡ bare_parts = λ i. record {
       seats = c.in_ok-new.ensures i;
       tags = tags i;
@@ -47,11 +47,11 @@ returns-clause-well_formed g c = λ limits are.
       journal = record {
         settings = c.new-8.ensures i;
         disabled = c.new-2.ensures.items i;
-        anchors = c.new-3.ensures.items i;
+        anchors = c.new-5.ensures.items i;
         log = record {
-          history = c.new-7.ensures.history i;
-          modified = c.new-7.ensures.modified i;
-          most = c.new-7.ensures.most i;
+          history = c.new-4.ensures.history i;
+          modified = c.new-4.ensures.modified i;
+          most = c.new-4.ensures.most i;
         };
       };
       content = c.in_ok-new-2.ensures i;

@@ -1,4 +1,4 @@
-use Rattle.std.proofs.Common.{◌-◌, ap, ap₂, arith, take, drop, length, ◌++◌}
+use Rattle.std.proofs.Common.{◌-◌, ap, ap₂, arith, length}
 use Rattle.edit_ops.specs.Deletions.{deleted}
 use Rattle.edit_ops.specs.States.{log_of, state_of}
 use Rattle.command_parts.specs.Settings.{recording_of}
@@ -7,7 +7,7 @@ use Rattle.documents.specs.Kept.{Stands}
 use Rattle.documents.proofs.PartsLaws.{sits}
 use Rattle.documents.proofs.RemovalLaws.{leaves-places}
 use Rattle.documents.proofs.SpanLaws.{spans-in}
-use Rattle.documents.proofs.StateLaws.{edited-is, written-back}
+use Rattle.documents.proofs.StateLaws.{edited-is}
 use Rattle.documents.proofs.ViewLaws.{active-is, end-found, shown-length, start-found}
 use Rattle.documents.proofs.documents.Document.delete_places.Goals as goal
 
@@ -15,8 +15,8 @@ pub start_of-start-requires : goal.start_of-start-requires
 start_of-start-requires g c =
     let old = c.self.inside in
     let document = c.args.self.now in
-    let parts = parts_of old.seats old.tags old.marks old.settings old.disabled.items old.anchors.items old.history
-    (g.S.TextStore.content old.store) in
+    let parts = parts_of old.seats old.tags old.marks old.settings old.disabled.items old.text.anchors.items old.text.history
+    (g.S.TextStore.content old.text.store) in
     let stands : Stands parts document = record { sound = c.self.invariant; is = c.self.view_is } in
     let slot = c.number-slot.result in
     let seated = sits parts document c.args.widget slot stands c.number-slot.ensures.value in
@@ -26,8 +26,8 @@ pub end_of-end-requires : goal.end_of-end-requires
 end_of-end-requires g c =
     let old = c.self.inside in
     let document = c.args.self.now in
-    let parts = parts_of old.seats old.tags old.marks old.settings old.disabled.items old.anchors.items old.history
-    (g.S.TextStore.content old.store) in
+    let parts = parts_of old.seats old.tags old.marks old.settings old.disabled.items old.text.anchors.items old.text.history
+    (g.S.TextStore.content old.text.store) in
     let stands : Stands parts document = record { sound = c.self.invariant; is = c.self.view_is } in
     let slot = c.number-slot.result in
     let seated = sits parts document c.args.widget slot stands c.number-slot.ensures.value in
@@ -37,8 +37,8 @@ pub spans_of-requires-clause-within : goal.spans_of-requires-clause-within
 spans_of-requires-clause-within g c =
     let old = c.self.inside in
     let document = c.args.self.now in
-    let parts = parts_of old.seats old.tags old.marks old.settings old.disabled.items old.anchors.items old.history
-    (g.S.TextStore.content old.store) in
+    let parts = parts_of old.seats old.tags old.marks old.settings old.disabled.items old.text.anchors.items old.text.history
+    (g.S.TextStore.content old.text.store) in
     let stands : Stands parts document = record { sound = c.self.invariant; is = c.self.view_is } in
     let slot = c.number-slot.result in
     let seated = sits parts document c.args.widget slot stands c.number-slot.ensures.value in
@@ -54,8 +54,8 @@ pub delete_spans-deleted-requires-clause-shows : goal.delete_spans-deleted-requi
 delete_spans-deleted-requires-clause-shows g c =
     let old = c.self.inside in
     let document = c.args.self.now in
-    let parts = parts_of old.seats old.tags old.marks old.settings old.disabled.items old.anchors.items old.history
-    (g.S.TextStore.content old.store) in
+    let parts = parts_of old.seats old.tags old.marks old.settings old.disabled.items old.text.anchors.items old.text.history
+    (g.S.TextStore.content old.text.store) in
     let stands : Stands parts document = record { sound = c.self.invariant; is = c.self.view_is } in
     let slot = c.number-slot.result in
     let seated = sits parts document c.args.widget slot stands c.number-slot.ensures.value in
@@ -70,8 +70,8 @@ pub delete_spans-deleted-requires-clause-spans : goal.delete_spans-deleted-requi
 delete_spans-deleted-requires-clause-spans g c =
     let old = c.self.inside in
     let document = c.args.self.now in
-    let parts = parts_of old.seats old.tags old.marks old.settings old.disabled.items old.anchors.items old.history
-    (g.S.TextStore.content old.store) in
+    let parts = parts_of old.seats old.tags old.marks old.settings old.disabled.items old.text.anchors.items old.text.history
+    (g.S.TextStore.content old.text.store) in
     let stands : Stands parts document = record { sound = c.self.invariant; is = c.self.view_is } in
     let slot = c.number-slot.result in
     let seated = sits parts document c.args.widget slot stands c.number-slot.ensures.value in
@@ -92,8 +92,8 @@ pub invariant_of-self : goal.invariant_of-self
 invariant_of-self g c =
     let old = c.self.inside in
     let document = c.args.self.now in
-    let parts = parts_of old.seats old.tags old.marks old.settings old.disabled.items old.anchors.items old.history
-    (g.S.TextStore.content old.store) in
+    let parts = parts_of old.seats old.tags old.marks old.settings old.disabled.items old.text.anchors.items old.text.history
+    (g.S.TextStore.content old.text.store) in
     let stands : Stands parts document = record { sound = c.self.invariant; is = c.self.view_is } in
     let slot = c.number-slot.result in
     let seated = sits parts document c.args.widget slot stands c.number-slot.ensures.value in
@@ -109,17 +109,13 @@ invariant_of-self g c =
     (ap₂ (λ e s. e - s) end start) c.requires.within (omega (arith, shows.1)) c.in_ok-spans.ensures
     c.deref-3.ensures.value in
     let new = c.delete_spans-deleted.new in
-    let content = g.S.TextStore.content old.store in
-    let changed = g.S.TextStore.content new.store in
-    let kept = take old.anchors.len (new.anchors ++ drop (length new.anchors) old.anchors.items) in
-    let written = written-back old.anchors.items new.anchors c.deref_mut.result.now old.anchors.len
-    c.deref_mut.ensures.value c.delete_spans-deleted.auto.anchors old.anchors.ok.0 in
+    let content = g.S.TextStore.content old.text.store in
+    let changed = g.S.TextStore.content new.text.store in
+    let kept = new.text.anchors.items in
     let edited = edited-is (λ recording state.
-    deleted recording c.start_of-start.result c.end_of-end.result spans state) content changed old.anchors.items
-    new.anchors c.deref_mut.result.now kept
-    (log_of old.history) (log_of new.history) (recording_of old.settings) c.recording.result written
-    c.deref_mut.ensures.value c.recording.ensures c.in-Ok.ensures.ok in
-    (leaves-places c.args.limits.now parts (state_of changed kept (log_of new.history)) document c.args.widget slot
+    deleted recording c.start_of-start.result c.end_of-end.result spans state) (state_of content old.text.anchors.items (log_of old.text.history))
+    (state_of changed kept (log_of new.text.history)) (recording_of old.settings) c.recording.result c.recording.ensures c.in-Ok.ensures.ok in
+    (leaves-places c.args.limits.now parts (state_of changed kept (log_of new.text.history)) document c.args.widget slot
     c.start_of-start.result c.end_of-end.result c.args.places.now spans stands seated
     c.requires.active start end within edited).sound
 
@@ -127,8 +123,8 @@ pub returns-in-Ok : goal.returns-in-Ok
 returns-in-Ok g c =
     let old = c.self.inside in
     let document = c.args.self.now in
-    let parts = parts_of old.seats old.tags old.marks old.settings old.disabled.items old.anchors.items old.history
-    (g.S.TextStore.content old.store) in
+    let parts = parts_of old.seats old.tags old.marks old.settings old.disabled.items old.text.anchors.items old.text.history
+    (g.S.TextStore.content old.text.store) in
     let stands : Stands parts document = record { sound = c.self.invariant; is = c.self.view_is } in
     let slot = c.number-slot.result in
     let seated = sits parts document c.args.widget slot stands c.number-slot.ensures.value in
@@ -144,16 +140,12 @@ returns-in-Ok g c =
     (ap₂ (λ e s. e - s) end start) c.requires.within (omega (arith, shows.1)) c.in_ok-spans.ensures
     c.deref-3.ensures.value in
     let new = c.delete_spans-deleted.new in
-    let content = g.S.TextStore.content old.store in
-    let changed = g.S.TextStore.content new.store in
-    let kept = take old.anchors.len (new.anchors ++ drop (length new.anchors) old.anchors.items) in
-    let written = written-back old.anchors.items new.anchors c.deref_mut.result.now old.anchors.len
-    c.deref_mut.ensures.value c.delete_spans-deleted.auto.anchors old.anchors.ok.0 in
+    let content = g.S.TextStore.content old.text.store in
+    let changed = g.S.TextStore.content new.text.store in
+    let kept = new.text.anchors.items in
     let edited = edited-is (λ recording state.
-    deleted recording c.start_of-start.result c.end_of-end.result spans state) content changed old.anchors.items
-    new.anchors c.deref_mut.result.now kept
-    (log_of old.history) (log_of new.history) (recording_of old.settings) c.recording.result written
-    c.deref_mut.ensures.value c.recording.ensures c.in-Ok.ensures.ok in
-    (leaves-places c.args.limits.now parts (state_of changed kept (log_of new.history)) document c.args.widget slot
+    deleted recording c.start_of-start.result c.end_of-end.result spans state) (state_of content old.text.anchors.items (log_of old.text.history))
+    (state_of changed kept (log_of new.text.history)) (recording_of old.settings) c.recording.result c.recording.ensures c.in-Ok.ensures.ok in
+    (leaves-places c.args.limits.now parts (state_of changed kept (log_of new.text.history)) document c.args.widget slot
     c.start_of-start.result c.end_of-end.result c.args.places.now spans stands seated
     c.requires.active start end within edited).does

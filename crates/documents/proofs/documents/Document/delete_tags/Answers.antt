@@ -11,28 +11,28 @@ pub invariant_of-self-in-Ok : goal.invariant_of-self-in-Ok
 invariant_of-self-in-Ok g c =
     let old = c.self.inside in
     let document = c.args.self.now in
-    let parts = parts_of old.seats old.tags old.marks old.settings old.disabled.items old.anchors.items old.history
-    (g.S.TextStore.content old.store) in
+    let parts = parts_of old.seats old.tags old.marks old.settings old.disabled.items old.text.anchors.items old.text.history
+    (g.S.TextStore.content old.text.store) in
     let stands : Stands parts document = record { sound = c.self.invariant; is = c.self.view_is } in
     let new = c.clear_slots.new in
-    let leaves = leaves-deleted c.args.limits.now parts c.delete_names.new.tags (g.S.TextStore.content new.store)
-    (log_of new.history) document (texts_of c.args.names.now)
+    let leaves = leaves-deleted c.args.limits.now parts c.delete_names.new.tags (g.S.TextStore.content new.text.store)
+    (log_of new.text.history) document (texts_of c.args.names.now)
     (map (λ (slot : TagSlot). slot.0) c.deref.result.now) stands c.len-count.ensures.sound c.delete_names.ensures
     (ap (map (λ (slot : TagSlot). slot.0)) c.deref.ensures.value ∙ c.in_ok-slots.ensures.value)
     c.in-Ok.ensures.ok c.in-Ok.ensures.log in
-    leaves.sound
+    rw c.in-Ok.ensures.anchors leaves.sound
 
 pub returns : goal.returns
 returns g c =
     let old = c.self.inside in
     let document = c.args.self.now in
-    let parts = parts_of old.seats old.tags old.marks old.settings old.disabled.items old.anchors.items old.history
-    (g.S.TextStore.content old.store) in
+    let parts = parts_of old.seats old.tags old.marks old.settings old.disabled.items old.text.anchors.items old.text.history
+    (g.S.TextStore.content old.text.store) in
     let stands : Stands parts document = record { sound = c.self.invariant; is = c.self.view_is } in
     let new = c.clear_slots.new in
-    let leaves = leaves-deleted c.args.limits.now parts c.delete_names.new.tags (g.S.TextStore.content new.store)
-    (log_of new.history) document (texts_of c.args.names.now)
+    let leaves = leaves-deleted c.args.limits.now parts c.delete_names.new.tags (g.S.TextStore.content new.text.store)
+    (log_of new.text.history) document (texts_of c.args.names.now)
     (map (λ (slot : TagSlot). slot.0) c.deref.result.now) stands c.len-count.ensures.sound c.delete_names.ensures
     (ap (map (λ (slot : TagSlot). slot.0)) c.deref.ensures.value ∙ c.in_ok-slots.ensures.value)
     c.in-Ok.ensures.ok c.in-Ok.ensures.log in
-    leaves.does
+    rw c.in-Ok.ensures.anchors leaves.does

@@ -1,14 +1,12 @@
-use Rattle.std.proofs.Common.{◌≡◌, ◌*◌, Some, refl, sym, ap, subst, ◌∙◌, take, drop, length, ◌++◌}
+use Rattle.std.proofs.Common.{◌≡◌, Some, sym, ap, subst, ◌∙◌}
 use Rattle.std.specs.Prelude.{IfSome, Result}
 use Rattle.std.specs.Char.{IsScalar}
 use Rattle.std.specs.List.{All}
 use Rattle.undo_stack.specs.History.{next_redo}
 use Rattle.undo_stack.specs.declared.actions.Action.{Action}
-use Rattle.edit_ops.specs.Reversals.{redone}
 use Rattle.edit_ops.specs.States.{log_of, state_of}
 use Rattle.command_parts.specs.declared.answers.Answer.{Answer}
 use Rattle.command_parts.specs.declared.answers.Fault.{Fault}
-use Rattle.command_parts.specs.Settings.{recording_of}
 use Rattle.documents.specs.Documents.{document_of, parts_of, widget_at}
 use Rattle.documents.specs.Kept.{Stands}
 use Rattle.documents.specs.Promise.{Does}
@@ -16,7 +14,7 @@ use Rattle.documents.specs.Reversals.{edit_redo}
 use Rattle.documents.proofs.ChangeLaws.{does-left, stands-same}
 use Rattle.documents.proofs.PartsLaws.{sits}
 use Rattle.documents.proofs.ReversalLaws.{CanRevert, IsReverted, leaves-redone}
-use Rattle.documents.proofs.StateLaws.{anchors-stand, edited-is, unedited-is, with_state, written-back}
+use Rattle.documents.proofs.StateLaws.{anchors-stand, unedited-is, with_state}
 use Rattle.documents.proofs.WellFormedLaws.{fits-kept}
 use Rattle.documents.proofs.documents.Document.edit_redo.Goals as goal
 use Rattle.documents.proofs.documents.Document.edit_redo.Goals.{in-Err, in-Ok}
@@ -25,17 +23,17 @@ pub redo_group-requires-clause-stand : goal.redo_group-requires-clause-stand
 redo_group-requires-clause-stand g c =
     let old = c.self.inside in
     let document = c.args.self.now in
-    let parts = parts_of old.seats old.tags old.marks old.settings old.disabled.items old.anchors.items old.history
-    (g.S.TextStore.content old.store) in
+    let parts = parts_of old.seats old.tags old.marks old.settings old.disabled.items old.text.anchors.items old.text.history
+    (g.S.TextStore.content old.text.store) in
     let stands : Stands parts document = record { sound = c.self.invariant; is = c.self.view_is } in
-    anchors-stand parts document c.deref_mut.result.now stands c.deref_mut.ensures.value
+    anchors-stand parts document stands
 
 pub redo_group-requires-clause-fits : goal.redo_group-requires-clause-fits
 redo_group-requires-clause-fits g c =
     let old = c.self.inside in
     let document = c.args.self.now in
-    let parts = parts_of old.seats old.tags old.marks old.settings old.disabled.items old.anchors.items old.history
-    (g.S.TextStore.content old.store) in
+    let parts = parts_of old.seats old.tags old.marks old.settings old.disabled.items old.text.anchors.items old.text.history
+    (g.S.TextStore.content old.text.store) in
     let stands : Stands parts document = record { sound = c.self.invariant; is = c.self.view_is } in
     fits-kept c.args.limits.now parts document stands.is c.requires.formed
 
@@ -43,18 +41,16 @@ pub invariant_of-self : goal.invariant_of-self
 invariant_of-self g c =
     let old = c.self.inside in
     let document = c.args.self.now in
-    let parts = parts_of old.seats old.tags old.marks old.settings old.disabled.items old.anchors.items old.history
-    (g.S.TextStore.content old.store) in
+    let parts = parts_of old.seats old.tags old.marks old.settings old.disabled.items old.text.anchors.items old.text.history
+    (g.S.TextStore.content old.text.store) in
     let stands : Stands parts document = record { sound = c.self.invariant; is = c.self.view_is } in
     let slot = c.number.result in
     let new = c.redo_group.new in
-    let content = g.S.TextStore.content old.store in
-    let changed = g.S.TextStore.content new.store in
-    let kept = take old.anchors.len (new.anchors ++ drop (length new.anchors) old.anchors.items) in
-    let written = written-back old.anchors.items new.anchors c.deref_mut.result.now old.anchors.len
-    c.deref_mut.ensures.value c.redo_group.auto.anchors old.anchors.ok.0 in
+    let content = g.S.TextStore.content old.text.store in
+    let changed = g.S.TextStore.content new.text.store in
+    let kept = new.text.anchors.items in
     let group = c.in-Some.field-0 in
-    let is : next_redo old.history.history ≡ Some group = sym c.last_redo.ensures ∙ c.in-Some.is in
+    let is : next_redo old.text.history.history ≡ Some group = sym c.last_redo.ensures ∙ c.in-Some.is in
     let reverted : IsReverted c.args.limits.now group =
     record {
       bounds = c.redo_group.ensures.bounds;
@@ -68,19 +64,15 @@ invariant_of-self g c =
       on = c.if-not-self.false;
       active = sym c.is_idle.ensures ∙ c.if-is_idle.false;
     } in
-    let state = state_of changed kept (log_of new.history) in
+    let state = state_of changed kept (log_of new.text.history) in
     elim c.match-redo_group.branch [
       | in-Ok w ↦
           (leaves-redone c.args.limits.now parts state document c.args.widget slot group able is reverted
           c.requires.formed
-          (edited-is (λ _ before. redone (2 * slot) before) content changed old.anchors.items new.anchors
-          c.deref_mut.result.now kept (log_of old.history) (log_of new.history)
-          (recording_of old.settings) (recording_of old.settings) written c.deref_mut.ensures.value refl
-          w.in-Ok.ensures.ok)).sound
+          w.in-Ok.ensures.ok).sound
       | in-Err w ↦
-          let same = unedited-is content changed old.anchors.items new.anchors c.deref_mut.result.now kept
-          (log_of old.history) (log_of new.history) written c.deref_mut.ensures.value
-          w.in-Err.ensures.err.0 w.in-Err.ensures.err.1 w.in-Err.ensures.err.2 in
+          let same = unedited-is content changed old.text.anchors.items kept (log_of old.text.history)
+          (log_of new.text.history) w.in-Err.ensures.err.0 w.in-Err.ensures.err.1 w.in-Err.ensures.err.2 in
           (stands-same parts (with_state parts state) document stands (ap (with_state parts) same)).sound
     ]
 
@@ -88,18 +80,16 @@ pub returns : goal.returns
 returns g c =
     let old = c.self.inside in
     let document = c.args.self.now in
-    let parts = parts_of old.seats old.tags old.marks old.settings old.disabled.items old.anchors.items old.history
-    (g.S.TextStore.content old.store) in
+    let parts = parts_of old.seats old.tags old.marks old.settings old.disabled.items old.text.anchors.items old.text.history
+    (g.S.TextStore.content old.text.store) in
     let stands : Stands parts document = record { sound = c.self.invariant; is = c.self.view_is } in
     let slot = c.number.result in
     let new = c.redo_group.new in
-    let content = g.S.TextStore.content old.store in
-    let changed = g.S.TextStore.content new.store in
-    let kept = take old.anchors.len (new.anchors ++ drop (length new.anchors) old.anchors.items) in
-    let written = written-back old.anchors.items new.anchors c.deref_mut.result.now old.anchors.len
-    c.deref_mut.ensures.value c.redo_group.auto.anchors old.anchors.ok.0 in
+    let content = g.S.TextStore.content old.text.store in
+    let changed = g.S.TextStore.content new.text.store in
+    let kept = new.text.anchors.items in
     let group = c.in-Some.field-0 in
-    let is : next_redo old.history.history ≡ Some group = sym c.last_redo.ensures ∙ c.in-Some.is in
+    let is : next_redo old.text.history.history ≡ Some group = sym c.last_redo.ensures ∙ c.in-Some.is in
     let reverted : IsReverted c.args.limits.now group =
     record {
       bounds = c.redo_group.ensures.bounds;
@@ -113,7 +103,7 @@ returns g c =
       on = c.if-not-self.false;
       active = sym c.is_idle.ensures ∙ c.if-is_idle.false;
     } in
-    let state = state_of changed kept (log_of new.history) in
+    let state = state_of changed kept (log_of new.text.history) in
     let P : Result Answer Fault → Type 0 = λ result.
     Does c.args.limits.now document (document_of (with_state parts state)) result
     (edit_redo document (widget_at document c.args.widget)) in
@@ -121,14 +111,10 @@ returns g c =
       | in-Ok w ↦ subst P (sym w.result-is)
           (leaves-redone c.args.limits.now parts state document c.args.widget slot group able is reverted
           c.requires.formed
-          (edited-is (λ _ before. redone (2 * slot) before) content changed old.anchors.items new.anchors
-          c.deref_mut.result.now kept (log_of old.history) (log_of new.history)
-          (recording_of old.settings) (recording_of old.settings) written c.deref_mut.ensures.value refl
-          w.in-Ok.ensures.ok)).does
+          w.in-Ok.ensures.ok).does
       | in-Err w ↦
-          let same = unedited-is content changed old.anchors.items new.anchors c.deref_mut.result.now kept
-          (log_of old.history) (log_of new.history) written c.deref_mut.ensures.value
-          w.in-Err.ensures.err.0 w.in-Err.ensures.err.1 w.in-Err.ensures.err.2 in
+          let same = unedited-is content changed old.text.anchors.items kept (log_of old.text.history)
+          (log_of new.text.history) w.in-Err.ensures.err.0 w.in-Err.ensures.err.1 w.in-Err.ensures.err.2 in
           let left = stands-same parts (with_state parts state) document stands (ap (with_state parts) same) in
           subst P (sym w.result-is) (does-left c.args.limits.now document (document_of (with_state parts state))
           w.in-Err.fault (edit_redo document (widget_at document c.args.widget)) left.is

@@ -6,17 +6,17 @@ use Rattle.documents.proofs.documents.Document.edit_reset.Goals as goal
 pub invariant_of-self : goal.invariant_of-self
 invariant_of-self g c =
     let old = c.self.inside in
-    let parts = parts_of old.seats old.tags old.marks old.settings old.disabled.items old.anchors.items old.history
-    (g.S.TextStore.content old.store) in
+    let parts = parts_of old.seats old.tags old.marks old.settings old.disabled.items old.text.anchors.items old.text.history
+    (g.S.TextStore.content old.text.store) in
     let stands : Stands parts c.args.self.now = record { sound = c.self.invariant; is = c.self.view_is } in
-    (leaves-reset c.args.limits.now parts old.history c.reset.new.self c.args.self.now stands c.reset.ensures.history
+    (leaves-reset c.args.limits.now parts old.text.history c.reset.new.self c.args.self.now stands c.reset.ensures.history
     c.reset.ensures.modified c.reset.ensures.most).sound
 
 pub returns : goal.returns
 returns g c =
     let old = c.self.inside in
-    let parts = parts_of old.seats old.tags old.marks old.settings old.disabled.items old.anchors.items old.history
-    (g.S.TextStore.content old.store) in
+    let parts = parts_of old.seats old.tags old.marks old.settings old.disabled.items old.text.anchors.items old.text.history
+    (g.S.TextStore.content old.text.store) in
     let stands : Stands parts c.args.self.now = record { sound = c.self.invariant; is = c.self.view_is } in
-    (leaves-reset c.args.limits.now parts old.history c.reset.new.self c.args.self.now stands c.reset.ensures.history
+    (leaves-reset c.args.limits.now parts old.text.history c.reset.new.self c.args.self.now stands c.reset.ensures.history
     c.reset.ensures.modified c.reset.ensures.most).does

@@ -1,4 +1,4 @@
-use Rattle.std.proofs.Common.{ap, ap₂, ◌∙◌, arith, map, take, drop, length, ◌++◌}
+use Rattle.std.proofs.Common.{ap, ap₂, ◌∙◌, arith, map, take}
 use Rattle.tag_table.specs.Tags.{sel, slot_of}
 use Rattle.undo_stack.specs.declared.actions.EditKind.TheVariants.{Insert}
 use Rattle.edit_ops.specs.Insertions.{inserted_texts}
@@ -11,23 +11,22 @@ use Rattle.documents.specs.Texts.{insert_at}
 use Rattle.documents.proofs.ChangeLaws.{does-left, stands-same, table-back}
 use Rattle.documents.proofs.InsertionLaws.{leaves-put, put-left, with_tags}
 use Rattle.documents.proofs.PartsLaws.{cells-kept, sits}
-use Rattle.documents.proofs.StateLaws.{anchors-stand, edited-is, unedited-is, with_state, written-back}
+use Rattle.documents.proofs.StateLaws.{anchors-stand, edited-is, unedited-is, with_state}
 use Rattle.documents.proofs.documents.Document.insert_at.Goals as goal
 
 pub put_pairs-put-requires-clause-within : goal.put_pairs-put-requires-clause-within
 put_pairs-put-requires-clause-within g c =
     let old = c.self.inside in
-    let parts = parts_of old.seats old.tags old.marks old.settings old.disabled.items old.anchors.items old.history
-    (g.S.TextStore.content old.store) in
+    let parts = parts_of old.seats old.tags old.marks old.settings old.disabled.items old.text.anchors.items old.text.history
+    (g.S.TextStore.content old.text.store) in
     omega (arith, c.requires.within, cells-kept parts c.args.self.now c.self.view_is)
 
 pub put_pairs-put-requires-clause-stand : goal.put_pairs-put-requires-clause-stand
 put_pairs-put-requires-clause-stand g c =
     let old = c.self.inside in
-    let parts = parts_of old.seats old.tags old.marks old.settings old.disabled.items old.anchors.items old.history
-    (g.S.TextStore.content old.store) in
-    anchors-stand parts c.args.self.now c.deref_mut.result.now
-    (record { sound = c.self.invariant; is = c.self.view_is }) c.deref_mut.ensures.value
+    let parts = parts_of old.seats old.tags old.marks old.settings old.disabled.items old.text.anchors.items old.text.history
+    (g.S.TextStore.content old.text.store) in
+    anchors-stand parts c.args.self.now (record { sound = c.self.invariant; is = c.self.view_is })
 
 pub truncate-requires : goal.truncate-requires
 truncate-requires g c =
@@ -38,16 +37,14 @@ pub invariant_of-self : goal.invariant_of-self
 invariant_of-self g c =
     let old = c.self.inside in
     let new = c.put_pairs-put.new in
-    let content = g.S.TextStore.content old.store in
-    let changed = g.S.TextStore.content new.store in
-    let parts = parts_of old.seats old.tags old.marks old.settings old.disabled.items old.anchors.items old.history
+    let content = g.S.TextStore.content old.text.store in
+    let changed = g.S.TextStore.content new.text.store in
+    let parts = parts_of old.seats old.tags old.marks old.settings old.disabled.items old.text.anchors.items old.text.history
     content in
     let stands : Stands parts c.args.self.now = record { sound = c.self.invariant; is = c.self.view_is } in
-    let kept = take old.anchors.len (new.anchors ++ drop (length new.anchors) old.anchors.items) in
-    let written = written-back old.anchors.items new.anchors c.deref_mut.result.now old.anchors.len
-    c.deref_mut.ensures.value c.put_pairs-put.auto.anchors old.anchors.ok.0 in
+    let kept = new.text.anchors.items in
     let told = c.in-Ok.ensures in
-    (leaves-put c.args.limits.now parts new.tags (state_of changed kept (log_of new.history)) c.args.self.now
+    (leaves-put c.args.limits.now parts new.tags (state_of changed kept (log_of new.text.history)) c.args.self.now
     c.args.widget c.number.result c.args.at c.args.pairs.items stands
     (sits parts c.args.self.now c.args.widget c.number.result stands c.number.ensures.value)
     (record {
@@ -60,24 +57,21 @@ invariant_of-self g c =
     }) c.requires.within
     (edited-is (λ recording state. inserted_texts recording Insert c.args.at
     (map (piece_of new.tags.tags c.number.result) c.args.pairs.items) state)
-    content changed old.anchors.items new.anchors c.deref_mut.result.now kept (log_of old.history) (log_of new.history)
-    (recording_of old.settings) c.recording.result written
-    c.deref_mut.ensures.value c.recording.ensures told.ok)).sound
+    (state_of content old.text.anchors.items (log_of old.text.history))
+    (state_of changed kept (log_of new.text.history)) (recording_of old.settings) c.recording.result c.recording.ensures told.ok)).sound
 
 pub returns-in-Ok : goal.returns-in-Ok
 returns-in-Ok g c =
     let old = c.self.inside in
     let new = c.put_pairs-put.new in
-    let content = g.S.TextStore.content old.store in
-    let changed = g.S.TextStore.content new.store in
-    let parts = parts_of old.seats old.tags old.marks old.settings old.disabled.items old.anchors.items old.history
+    let content = g.S.TextStore.content old.text.store in
+    let changed = g.S.TextStore.content new.text.store in
+    let parts = parts_of old.seats old.tags old.marks old.settings old.disabled.items old.text.anchors.items old.text.history
     content in
     let stands : Stands parts c.args.self.now = record { sound = c.self.invariant; is = c.self.view_is } in
-    let kept = take old.anchors.len (new.anchors ++ drop (length new.anchors) old.anchors.items) in
-    let written = written-back old.anchors.items new.anchors c.deref_mut.result.now old.anchors.len
-    c.deref_mut.ensures.value c.put_pairs-put.auto.anchors old.anchors.ok.0 in
+    let kept = new.text.anchors.items in
     let told = c.in-Ok.ensures in
-    (leaves-put c.args.limits.now parts new.tags (state_of changed kept (log_of new.history)) c.args.self.now
+    (leaves-put c.args.limits.now parts new.tags (state_of changed kept (log_of new.text.history)) c.args.self.now
     c.args.widget c.number.result c.args.at c.args.pairs.items stands
     (sits parts c.args.self.now c.args.widget c.number.result stands c.number.ensures.value)
     (record {
@@ -90,49 +84,44 @@ returns-in-Ok g c =
     }) c.requires.within
     (edited-is (λ recording state. inserted_texts recording Insert c.args.at
     (map (piece_of new.tags.tags c.number.result) c.args.pairs.items) state)
-    content changed old.anchors.items new.anchors c.deref_mut.result.now kept (log_of old.history) (log_of new.history)
-    (recording_of old.settings) c.recording.result written
-    c.deref_mut.ensures.value c.recording.ensures told.ok)).does
+    (state_of content old.text.anchors.items (log_of old.text.history))
+    (state_of changed kept (log_of new.text.history)) (recording_of old.settings) c.recording.result c.recording.ensures told.ok)).does
 
 pub invariant_of-self-in-Err : goal.invariant_of-self-in-Err
 invariant_of-self-in-Err g c =
     let old = c.self.inside in
     let new = c.put_pairs-put.new in
-    let content = g.S.TextStore.content old.store in
-    let changed = g.S.TextStore.content new.store in
-    let parts = parts_of old.seats old.tags old.marks old.settings old.disabled.items old.anchors.items old.history
+    let content = g.S.TextStore.content old.text.store in
+    let changed = g.S.TextStore.content new.text.store in
+    let parts = parts_of old.seats old.tags old.marks old.settings old.disabled.items old.text.anchors.items old.text.history
     content in
     let stands : Stands parts c.args.self.now = record { sound = c.self.invariant; is = c.self.view_is } in
-    let kept = take old.anchors.len (new.anchors ++ drop (length new.anchors) old.anchors.items) in
-    let written = written-back old.anchors.items new.anchors c.deref_mut.result.now old.anchors.len
-    c.deref_mut.ensures.value c.put_pairs-put.auto.anchors old.anchors.ok.0 in
+    let kept = new.text.anchors.items in
     let err = c.in-Err.ensures.err in
     let back = table-back old.tags new.tags c.truncate.new.self c.len-front.result c.len-front.ensures.value
     c.in-Err.ensures.front c.truncate.ensures in
-    let state = unedited-is content changed old.anchors.items new.anchors c.deref_mut.result.now kept
-    (log_of old.history) (log_of new.history) written c.deref_mut.ensures.value err.0 err.1 err.2 in
-    let after = with_state (with_tags c.truncate.new.self parts) (state_of changed kept (log_of new.history)) in
+    let state = unedited-is content changed old.text.anchors.items kept (log_of old.text.history)
+    (log_of new.text.history) err.0 err.1 err.2 in
+    let after = with_state (with_tags c.truncate.new.self parts) (state_of changed kept (log_of new.text.history)) in
     (stands-same parts after c.args.self.now stands (ap₂ (λ t s. with_state (with_tags t parts) s) back state)).sound
 
 pub returns-in-Err : goal.returns-in-Err
 returns-in-Err g c =
     let old = c.self.inside in
     let new = c.put_pairs-put.new in
-    let content = g.S.TextStore.content old.store in
-    let changed = g.S.TextStore.content new.store in
+    let content = g.S.TextStore.content old.text.store in
+    let changed = g.S.TextStore.content new.text.store in
     let document = c.args.self.now in
-    let parts = parts_of old.seats old.tags old.marks old.settings old.disabled.items old.anchors.items old.history
+    let parts = parts_of old.seats old.tags old.marks old.settings old.disabled.items old.text.anchors.items old.text.history
     content in
     let stands : Stands parts document = record { sound = c.self.invariant; is = c.self.view_is } in
-    let kept = take old.anchors.len (new.anchors ++ drop (length new.anchors) old.anchors.items) in
-    let written = written-back old.anchors.items new.anchors c.deref_mut.result.now old.anchors.len
-    c.deref_mut.ensures.value c.put_pairs-put.auto.anchors old.anchors.ok.0 in
+    let kept = new.text.anchors.items in
     let err = c.in-Err.ensures.err in
     let back = table-back old.tags new.tags c.truncate.new.self c.len-front.result c.len-front.ensures.value
     c.in-Err.ensures.front c.truncate.ensures in
-    let state = unedited-is content changed old.anchors.items new.anchors c.deref_mut.result.now kept
-    (log_of old.history) (log_of new.history) written c.deref_mut.ensures.value err.0 err.1 err.2 in
-    let after = with_state (with_tags c.truncate.new.self parts) (state_of changed kept (log_of new.history)) in
+    let state = unedited-is content changed old.text.anchors.items kept (log_of old.text.history)
+    (log_of new.text.history) err.0 err.1 err.2 in
+    let after = with_state (with_tags c.truncate.new.self parts) (state_of changed kept (log_of new.text.history)) in
     let same = stands-same parts after document stands (ap₂ (λ t s. with_state (with_tags t parts) s) back state) in
     does-left c.args.limits.now document (document_of after) c.in-Err.fault
     (insert_at c.args.limits.now document (widget_at document c.args.widget) c.args.at c.args.pairs.items) same.is

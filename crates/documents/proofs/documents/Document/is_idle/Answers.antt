@@ -9,8 +9,8 @@ use Rattle.documents.proofs.documents.Document.is_idle.Goals as goal
 pub index-requires : goal.index-requires
 index-requires g c =
     let old = c.self.inside in
-    let parts = parts_of old.seats old.tags old.marks old.settings old.disabled.items old.anchors.items old.history
-    (g.S.TextStore.content old.store) in
+    let parts = parts_of old.seats old.tags old.marks old.settings old.disabled.items old.text.anchors.items old.text.history
+    (g.S.TextStore.content old.text.store) in
     let stands : Stands parts c.args.self.now = record { sound = c.self.invariant; is = c.self.view_is } in
     let seated = sits parts c.args.self.now c.args.widget c.number-slot.result stands c.number-slot.ensures.value in
     omega (arith, seated.disabled, old.disabled.ok.0)
@@ -18,8 +18,8 @@ index-requires g c =
 pub returns-then-index : goal.returns-then-index
 returns-then-index g c =
     let old = c.self.inside in
-    let parts = parts_of old.seats old.tags old.marks old.settings old.disabled.items old.anchors.items old.history
-    (g.S.TextStore.content old.store) in
+    let parts = parts_of old.seats old.tags old.marks old.settings old.disabled.items old.text.anchors.items old.text.history
+    (g.S.TextStore.content old.text.store) in
     let stands : Stands parts c.args.self.now = record { sound = c.self.invariant; is = c.self.view_is } in
     let seated = sits parts c.args.self.now c.args.widget c.number-slot.result stands c.number-slot.ensures.value in
     let off : get_or old.disabled.items c.number-slot.result false
@@ -31,8 +31,8 @@ returns-then-index g c =
 pub start_of-requires : goal.start_of-requires
 start_of-requires g c =
     let old = c.self.inside in
-    let parts = parts_of old.seats old.tags old.marks old.settings old.disabled.items old.anchors.items old.history
-    (g.S.TextStore.content old.store) in
+    let parts = parts_of old.seats old.tags old.marks old.settings old.disabled.items old.text.anchors.items old.text.history
+    (g.S.TextStore.content old.text.store) in
     let stands : Stands parts c.args.self.now = record { sound = c.self.invariant; is = c.self.view_is } in
     let seated = sits parts c.args.self.now c.args.widget c.number-slot.result stands c.number-slot.ensures.value in
     omega (arith, seated.anchors, ap length c.deref.ensures.value)
@@ -40,8 +40,8 @@ start_of-requires g c =
 pub end_of-requires : goal.end_of-requires
 end_of-requires g c =
     let old = c.self.inside in
-    let parts = parts_of old.seats old.tags old.marks old.settings old.disabled.items old.anchors.items old.history
-    (g.S.TextStore.content old.store) in
+    let parts = parts_of old.seats old.tags old.marks old.settings old.disabled.items old.text.anchors.items old.text.history
+    (g.S.TextStore.content old.text.store) in
     let stands : Stands parts c.args.self.now = record { sound = c.self.invariant; is = c.self.view_is } in
     let seated = sits parts c.args.self.now c.args.widget c.number-slot.result stands c.number-slot.ensures.value in
     omega (arith, seated.anchors, ap length c.deref-2.ensures.value)
@@ -49,8 +49,8 @@ end_of-requires g c =
 pub returns : goal.returns
 returns g c =
     let old = c.self.inside in
-    let parts = parts_of old.seats old.tags old.marks old.settings old.disabled.items old.anchors.items old.history
-    (g.S.TextStore.content old.store) in
+    let parts = parts_of old.seats old.tags old.marks old.settings old.disabled.items old.text.anchors.items old.text.history
+    (g.S.TextStore.content old.text.store) in
     let stands : Stands parts c.args.self.now = record { sound = c.self.invariant; is = c.self.view_is } in
     let seated = sits parts c.args.self.now c.args.widget c.number-slot.result stands c.number-slot.ensures.value in
     let on : get_or old.disabled.items c.number-slot.result false

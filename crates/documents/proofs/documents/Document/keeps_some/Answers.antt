@@ -7,6 +7,6 @@ use Rattle.documents.proofs.documents.Document.keeps_some.Goals as goal
 pub returns : goal.returns
 returns g c =
     let own = c.self.inside in
-    let parts : Parts = parts_of own.seats own.tags own.marks own.settings own.disabled.items own.anchors.items
-    own.history (g.S.TextStore.content own.store) in
+    let parts : Parts = parts_of own.seats own.tags own.marks own.settings own.disabled.items own.text.anchors.items
+    own.text.history (g.S.TextStore.content own.text.store) in
     c.some_left.ensures ∙ some-kept parts c.args.self.now (texts_of c.args.names.now) c.self.view_is

@@ -19,8 +19,8 @@ pub returns-in_default : goal.returns-in_default
 returns-in_default g c =
     let old = c.self.inside in
     let document = c.args.self.now in
-    let parts = parts_of old.seats old.tags old.marks old.settings old.disabled.items old.anchors.items old.history
-    (g.S.TextStore.content old.store) in
+    let parts = parts_of old.seats old.tags old.marks old.settings old.disabled.items old.text.anchors.items old.text.history
+    (g.S.TextStore.content old.text.store) in
     let stands : Stands parts document = record { sound = c.self.invariant; is = c.self.view_is } in
     c.new.ensures ∙ ap chars c.new-list.ensures.bytes ∙ chars-nil
     ∙ ap (λ flags. list_text (range_words (shown document (widget_at document c.args.widget))
@@ -32,8 +32,8 @@ pub view_of-view-requires : goal.view_of-view-requires
 view_of-view-requires g c =
     let old = c.self.inside in
     let document = c.args.self.now in
-    let parts = parts_of old.seats old.tags old.marks old.settings old.disabled.items old.anchors.items old.history
-    (g.S.TextStore.content old.store) in
+    let parts = parts_of old.seats old.tags old.marks old.settings old.disabled.items old.text.anchors.items old.text.history
+    (g.S.TextStore.content old.text.store) in
     let stands : Stands parts document = record { sound = c.self.invariant; is = c.self.view_is } in
     let seated = sits parts document c.args.widget c.number-number.result stands c.number-number.ensures.value in
     omega (arith, seated.anchors, ap length c.deref.ensures.value)
@@ -42,8 +42,8 @@ pub push_next-requires-clause-view : goal.push_next-requires-clause-view
 push_next-requires-clause-view g c =
     let old = c.self.inside in
     let document = c.args.self.now in
-    let parts = parts_of old.seats old.tags old.marks old.settings old.disabled.items old.anchors.items old.history
-    (g.S.TextStore.content old.store) in
+    let parts = parts_of old.seats old.tags old.marks old.settings old.disabled.items old.text.anchors.items old.text.history
+    (g.S.TextStore.content old.text.store) in
     let stands : Stands parts document = record { sound = c.self.invariant; is = c.self.view_is } in
     let found = c.view_of-view in
     let content = g.S.TextStore.content found.result.store.now in
@@ -57,8 +57,8 @@ pub push_next-requires-clause-within : goal.push_next-requires-clause-within
 push_next-requires-clause-within g c =
     let old = c.self.inside in
     let document = c.args.self.now in
-    let parts = parts_of old.seats old.tags old.marks old.settings old.disabled.items old.anchors.items old.history
-    (g.S.TextStore.content old.store) in
+    let parts = parts_of old.seats old.tags old.marks old.settings old.disabled.items old.text.anchors.items old.text.history
+    (g.S.TextStore.content old.text.store) in
     let stands : Stands parts document = record { sound = c.self.invariant; is = c.self.view_is } in
     let found = c.view_of-view in
     let content = g.S.TextStore.content found.result.store.now in
@@ -77,8 +77,8 @@ pub returns : goal.returns
 returns g c =
     let old = c.self.inside in
     let document = c.args.self.now in
-    let parts = parts_of old.seats old.tags old.marks old.settings old.disabled.items old.anchors.items old.history
-    (g.S.TextStore.content old.store) in
+    let parts = parts_of old.seats old.tags old.marks old.settings old.disabled.items old.text.anchors.items old.text.history
+    (g.S.TextStore.content old.text.store) in
     let stands : Stands parts document = record { sound = c.self.invariant; is = c.self.view_is } in
     let found = c.view_of-view in
     let content = g.S.TextStore.content found.result.store.now in

@@ -9,8 +9,8 @@ pub mark_view_of-view-requires : goal.mark_view_of-view-requires
 mark_view_of-view-requires g c =
     let old = c.self.inside in
     let document = c.args.self.now in
-    let content = g.S.TextStore.content old.store in
-    let parts = parts_of old.seats old.tags old.marks old.settings old.disabled.items old.anchors.items old.history
+    let content = g.S.TextStore.content old.text.store in
+    let parts = parts_of old.seats old.tags old.marks old.settings old.disabled.items old.text.anchors.items old.text.history
     content in
     let stands : Stands parts document = record { sound = c.self.invariant; is = c.self.view_is } in
     let slot = c.number.result in
@@ -21,8 +21,8 @@ pub returns : goal.returns
 returns g c =
     let old = c.self.inside in
     let document = c.args.self.now in
-    let content = g.S.TextStore.content old.store in
-    let parts = parts_of old.seats old.tags old.marks old.settings old.disabled.items old.anchors.items old.history
+    let content = g.S.TextStore.content old.text.store in
+    let parts = parts_of old.seats old.tags old.marks old.settings old.disabled.items old.text.anchors.items old.text.history
     content in
     let stands : Stands parts document = record { sound = c.self.invariant; is = c.self.view_is } in
     let slot = c.number.result in

@@ -13,8 +13,8 @@ pub returns-then-is_word-clause-value : goal.returns-then-is_word-clause-value
 returns-then-is_word-clause-value g c =
     let old = c.self.inside in
     let document = c.args.self.now in
-    let parts = parts_of old.seats old.tags old.marks old.settings old.disabled.items old.anchors.items old.history
-    (g.S.TextStore.content old.store) in
+    let parts = parts_of old.seats old.tags old.marks old.settings old.disabled.items old.text.anchors.items old.text.history
+    (g.S.TextStore.content old.text.store) in
     let stands : Stands parts document = record { sound = c.self.invariant; is = c.self.view_is } in
     let word = chars c.args.name.now in
     let seated = sits parts document c.args.widget c.number.result stands c.number.ensures.value in
@@ -25,8 +25,8 @@ pub returns-then-is_word-2-clause-value : goal.returns-then-is_word-2-clause-val
 returns-then-is_word-2-clause-value g c =
     let old = c.self.inside in
     let document = c.args.self.now in
-    let parts = parts_of old.seats old.tags old.marks old.settings old.disabled.items old.anchors.items old.history
-    (g.S.TextStore.content old.store) in
+    let parts = parts_of old.seats old.tags old.marks old.settings old.disabled.items old.text.anchors.items old.text.history
+    (g.S.TextStore.content old.text.store) in
     let stands : Stands parts document = record { sound = c.self.invariant; is = c.self.view_is } in
     let word = chars c.args.name.now in
     let slot = c.number-then-is_word-2.result in
@@ -39,8 +39,8 @@ pub returns-in_err-find-clause-value : goal.returns-in_err-find-clause-value
 returns-in_err-find-clause-value g c =
     let old = c.self.inside in
     let document = c.args.self.now in
-    let parts = parts_of old.seats old.tags old.marks old.settings old.disabled.items old.anchors.items old.history
-    (g.S.TextStore.content old.store) in
+    let parts = parts_of old.seats old.tags old.marks old.settings old.disabled.items old.text.anchors.items old.text.history
+    (g.S.TextStore.content old.text.store) in
     let stands : Stands parts document = record { sound = c.self.invariant; is = c.self.view_is } in
     let word = chars c.args.name.now in
     let shared : IsShared word = record { insert = sym c.if-is_word.ensures; current = sym c.if-is_word-2.ensures } in
@@ -52,8 +52,8 @@ pub returns-clause-value : goal.returns-clause-value
 returns-clause-value g c =
     let old = c.self.inside in
     let document = c.args.self.now in
-    let parts = parts_of old.seats old.tags old.marks old.settings old.disabled.items old.anchors.items old.history
-    (g.S.TextStore.content old.store) in
+    let parts = parts_of old.seats old.tags old.marks old.settings old.disabled.items old.text.anchors.items old.text.history
+    (g.S.TextStore.content old.text.store) in
     let stands : Stands parts document = record { sound = c.self.invariant; is = c.self.view_is } in
     let word = chars c.args.name.now in
     let shared : IsShared word = record { insert = sym c.if-is_word.ensures; current = sym c.if-is_word-2.ensures } in

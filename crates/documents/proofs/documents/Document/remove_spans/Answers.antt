@@ -14,8 +14,8 @@ pub returns-in_default : goal.returns-in_default
 returns-in_default g c =
     let old = c.self.inside in
     let document = c.args.self.now in
-    let parts = parts_of old.seats old.tags old.marks old.settings old.disabled.items old.anchors.items old.history
-    (g.S.TextStore.content old.store) in
+    let parts = parts_of old.seats old.tags old.marks old.settings old.disabled.items old.text.anchors.items old.text.history
+    (g.S.TextStore.content old.text.store) in
     let stands : Stands parts document = record { sound = c.self.invariant; is = c.self.view_is } in
     does-remove_none c.args.limits.now parts document c.args.widget c.number-number.result (chars c.args.name.now)
     c.args.places.now stands c.in_default.ensures.value
@@ -24,8 +24,8 @@ pub set_slot-requires-clause-spans : goal.set_slot-requires-clause-spans
 set_slot-requires-clause-spans g c =
     let old = c.self.inside in
     let document = c.args.self.now in
-    let parts = parts_of old.seats old.tags old.marks old.settings old.disabled.items old.anchors.items old.history
-    (g.S.TextStore.content old.store) in
+    let parts = parts_of old.seats old.tags old.marks old.settings old.disabled.items old.text.anchors.items old.text.history
+    (g.S.TextStore.content old.text.store) in
     let stands : Stands parts document = record { sound = c.self.invariant; is = c.self.view_is } in
     subst (λ (n : ℕ). All (SpanFits n) c.deref.result.now) (cells-kept parts document stands.is)
     (subst (All (SpanFits (length document.cells))) (sym c.deref.ensures.value) c.in_ok-spans.ensures.fit)
@@ -34,8 +34,8 @@ pub invariant_of-self : goal.invariant_of-self
 invariant_of-self g c =
     let old = c.self.inside in
     let document = c.args.self.now in
-    let parts = parts_of old.seats old.tags old.marks old.settings old.disabled.items old.anchors.items old.history
-    (g.S.TextStore.content old.store) in
+    let parts = parts_of old.seats old.tags old.marks old.settings old.disabled.items old.text.anchors.items old.text.history
+    (g.S.TextStore.content old.text.store) in
     let stands : Stands parts document = record { sound = c.self.invariant; is = c.self.view_is } in
     let new = c.set_slot.new in
     let word = chars c.args.name.now in
@@ -43,7 +43,7 @@ invariant_of-self g c =
     let spans : given ≡ c.in_ok-spans.spans.items = c.deref.ensures.value in
     let widget = c.number-number.result in
     let seat = sits parts document c.args.widget widget stands c.number-number.ensures.value in
-    let content = g.S.TextStore.content new.store in
+    let content = g.S.TextStore.content new.text.store in
     let fit = subst (λ (n : ℕ). All (SpanFits n) given) (cells-kept parts document stands.is)
     (subst (All (SpanFits (length document.cells))) (sym spans) c.in_ok-spans.ensures.fit) in
     let made : IsTagged parts parts.tags content widget word false given =
@@ -55,17 +55,17 @@ invariant_of-self g c =
       fit = fit;
       content_is = c.in-Ok.ensures.ok;
     } in
-    let leaves = leaves-removed c.args.limits.now parts content (log_of new.history) document c.args.widget widget word
+    let leaves = leaves-removed c.args.limits.now parts content (log_of new.text.history) document c.args.widget widget word
     c.args.places.now given c.in_ok-spans.spans.items stands seat made c.in-Ok.ensures.log
     spans c.in_ok-spans.ensures.value in
-    leaves.sound
+    rw c.in-Ok.ensures.anchors leaves.sound
 
 pub returns-in-Ok : goal.returns-in-Ok
 returns-in-Ok g c =
     let old = c.self.inside in
     let document = c.args.self.now in
-    let parts = parts_of old.seats old.tags old.marks old.settings old.disabled.items old.anchors.items old.history
-    (g.S.TextStore.content old.store) in
+    let parts = parts_of old.seats old.tags old.marks old.settings old.disabled.items old.text.anchors.items old.text.history
+    (g.S.TextStore.content old.text.store) in
     let stands : Stands parts document = record { sound = c.self.invariant; is = c.self.view_is } in
     let new = c.set_slot.new in
     let word = chars c.args.name.now in
@@ -73,7 +73,7 @@ returns-in-Ok g c =
     let spans : given ≡ c.in_ok-spans.spans.items = c.deref.ensures.value in
     let widget = c.number-number.result in
     let seat = sits parts document c.args.widget widget stands c.number-number.ensures.value in
-    let content = g.S.TextStore.content new.store in
+    let content = g.S.TextStore.content new.text.store in
     let fit = subst (λ (n : ℕ). All (SpanFits n) given) (cells-kept parts document stands.is)
     (subst (All (SpanFits (length document.cells))) (sym spans) c.in_ok-spans.ensures.fit) in
     let made : IsTagged parts parts.tags content widget word false given =
@@ -85,7 +85,7 @@ returns-in-Ok g c =
       fit = fit;
       content_is = c.in-Ok.ensures.ok;
     } in
-    let leaves = leaves-removed c.args.limits.now parts content (log_of new.history) document c.args.widget widget word
+    let leaves = leaves-removed c.args.limits.now parts content (log_of new.text.history) document c.args.widget widget word
     c.args.places.now given c.in_ok-spans.spans.items stands seat made c.in-Ok.ensures.log
     spans c.in_ok-spans.ensures.value in
-    leaves.does
+    rw c.in-Ok.ensures.anchors leaves.does

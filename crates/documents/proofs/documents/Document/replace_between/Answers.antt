@@ -1,4 +1,4 @@
-use Rattle.std.proofs.Common.{◌+◌, ◌-◌, ◌*◌, ap, ap₂, ◌∙◌, arith, map, take, drop, length, ◌++◌}
+use Rattle.std.proofs.Common.{◌+◌, ◌-◌, ◌*◌, ap, ap₂, ◌∙◌, arith, map, take, length}
 use Rattle.tag_table.specs.Tags.{sel, slot_of}
 use Rattle.edit_ops.specs.Removals.{replaced}
 use Rattle.edit_ops.specs.States.{log_of, state_of}
@@ -10,7 +10,7 @@ use Rattle.documents.proofs.ChangeLaws.{does-left, stands-same, table-back}
 use Rattle.documents.proofs.InsertionLaws.{with_tags}
 use Rattle.documents.proofs.PartsLaws.{sits}
 use Rattle.documents.proofs.ReplacementLaws.{AreCut, leaves-replaced, replace-left, replaced_at}
-use Rattle.documents.proofs.StateLaws.{anchors-stand, edited-is, unedited-is, with_state, written-back}
+use Rattle.documents.proofs.StateLaws.{anchors-stand, edited-is, unedited-is, with_state}
 use Rattle.documents.proofs.ViewLaws.{active-is, end-found, start-found, within-is}
 use Rattle.documents.proofs.documents.Document.replace_between.Goals as goal
 
@@ -18,8 +18,8 @@ pub start_of-start-requires : goal.start_of-start-requires
 start_of-start-requires g c =
     let old = c.self.inside in
     let document = c.args.self.now in
-    let parts = parts_of old.seats old.tags old.marks old.settings old.disabled.items old.anchors.items old.history
-    (g.S.TextStore.content old.store) in
+    let parts = parts_of old.seats old.tags old.marks old.settings old.disabled.items old.text.anchors.items old.text.history
+    (g.S.TextStore.content old.text.store) in
     let stands : Stands parts document = record { sound = c.self.invariant; is = c.self.view_is } in
     let slot = c.number-slot.result in
     let seated = sits parts document c.args.widget slot stands c.number-slot.ensures.value in
@@ -29,8 +29,8 @@ pub end_of-last-requires : goal.end_of-last-requires
 end_of-last-requires g c =
     let old = c.self.inside in
     let document = c.args.self.now in
-    let parts = parts_of old.seats old.tags old.marks old.settings old.disabled.items old.anchors.items old.history
-    (g.S.TextStore.content old.store) in
+    let parts = parts_of old.seats old.tags old.marks old.settings old.disabled.items old.text.anchors.items old.text.history
+    (g.S.TextStore.content old.text.store) in
     let stands : Stands parts document = record { sound = c.self.invariant; is = c.self.view_is } in
     let slot = c.number-slot.result in
     let seated = sits parts document c.args.widget slot stands c.number-slot.ensures.value in
@@ -40,8 +40,8 @@ pub overflow_sub-last : goal.overflow_sub-last
 overflow_sub-last g c =
     let old = c.self.inside in
     let document = c.args.self.now in
-    let parts = parts_of old.seats old.tags old.marks old.settings old.disabled.items old.anchors.items old.history
-    (g.S.TextStore.content old.store) in
+    let parts = parts_of old.seats old.tags old.marks old.settings old.disabled.items old.text.anchors.items old.text.history
+    (g.S.TextStore.content old.text.store) in
     let stands : Stands parts document = record { sound = c.self.invariant; is = c.self.view_is } in
     let slot = c.number-slot.result in
     let seated = sits parts document c.args.widget slot stands c.number-slot.ensures.value in
@@ -56,8 +56,8 @@ pub replace_pairs-replaced-requires-clause-within : goal.replace_pairs-replaced-
 replace_pairs-replaced-requires-clause-within g c =
     let old = c.self.inside in
     let document = c.args.self.now in
-    let parts = parts_of old.seats old.tags old.marks old.settings old.disabled.items old.anchors.items old.history
-    (g.S.TextStore.content old.store) in
+    let parts = parts_of old.seats old.tags old.marks old.settings old.disabled.items old.text.anchors.items old.text.history
+    (g.S.TextStore.content old.text.store) in
     let stands : Stands parts document = record { sound = c.self.invariant; is = c.self.view_is } in
     let slot = c.number-slot.result in
     let seated = sits parts document c.args.widget slot stands c.number-slot.ensures.value in
@@ -72,12 +72,12 @@ pub replace_pairs-replaced-requires-clause-stand : goal.replace_pairs-replaced-r
 replace_pairs-replaced-requires-clause-stand g c =
     let old = c.self.inside in
     let document = c.args.self.now in
-    let parts = parts_of old.seats old.tags old.marks old.settings old.disabled.items old.anchors.items old.history
-    (g.S.TextStore.content old.store) in
+    let parts = parts_of old.seats old.tags old.marks old.settings old.disabled.items old.text.anchors.items old.text.history
+    (g.S.TextStore.content old.text.store) in
     let stands : Stands parts document = record { sound = c.self.invariant; is = c.self.view_is } in
     let slot = c.number-slot.result in
     let seated = sits parts document c.args.widget slot stands c.number-slot.ensures.value in
-    anchors-stand parts document c.deref_mut.result.now stands c.deref_mut.ensures.value
+    anchors-stand parts document stands
 
 pub truncate-requires : goal.truncate-requires
 truncate-requires g c =
@@ -88,8 +88,8 @@ pub invariant_of-self : goal.invariant_of-self
 invariant_of-self g c =
     let old = c.self.inside in
     let document = c.args.self.now in
-    let parts = parts_of old.seats old.tags old.marks old.settings old.disabled.items old.anchors.items old.history
-    (g.S.TextStore.content old.store) in
+    let parts = parts_of old.seats old.tags old.marks old.settings old.disabled.items old.text.anchors.items old.text.history
+    (g.S.TextStore.content old.text.store) in
     let stands : Stands parts document = record { sound = c.self.invariant; is = c.self.view_is } in
     let slot = c.number-slot.result in
     let seated = sits parts document c.args.widget slot stands c.number-slot.ensures.value in
@@ -110,18 +110,15 @@ invariant_of-self g c =
       second_is = ap (λ n. n + c.args.to) start;
     } in
     let new = c.replace_pairs-replaced.new in
-    let content = g.S.TextStore.content old.store in
-    let changed = g.S.TextStore.content new.store in
-    let kept = take old.anchors.len (new.anchors ++ drop (length new.anchors) old.anchors.items) in
-    let written = written-back old.anchors.items new.anchors c.deref_mut.result.now old.anchors.len
-    c.deref_mut.ensures.value c.replace_pairs-replaced.auto.anchors old.anchors.ok.0 in
+    let content = g.S.TextStore.content old.text.store in
+    let changed = g.S.TextStore.content new.text.store in
+    let kept = new.text.anchors.items in
     let told = c.in-Ok.ensures in
     let edited = edited-is (λ recording state.
     replaced recording (2 * slot) last first second (map (piece_of new.tags.tags slot) c.args.pairs.items) state)
-    content changed old.anchors.items new.anchors c.deref_mut.result.now kept
-    (log_of old.history) (log_of new.history) (recording_of old.settings) c.recording.result written
-    c.deref_mut.ensures.value c.recording.ensures told.ok in
-    (leaves-replaced c.args.limits.now parts new.tags (state_of changed kept (log_of new.history)) document
+    (state_of content old.text.anchors.items (log_of old.text.history))
+    (state_of changed kept (log_of new.text.history)) (recording_of old.settings) c.recording.result c.recording.ensures told.ok in
+    (leaves-replaced c.args.limits.now parts new.tags (state_of changed kept (log_of new.text.history)) document
     c.args.widget slot c.args.from c.args.to last first second c.args.pairs.items stands seated cut
     (record {
       bounds = told.bounds;
@@ -136,8 +133,8 @@ pub returns-in-Ok : goal.returns-in-Ok
 returns-in-Ok g c =
     let old = c.self.inside in
     let document = c.args.self.now in
-    let parts = parts_of old.seats old.tags old.marks old.settings old.disabled.items old.anchors.items old.history
-    (g.S.TextStore.content old.store) in
+    let parts = parts_of old.seats old.tags old.marks old.settings old.disabled.items old.text.anchors.items old.text.history
+    (g.S.TextStore.content old.text.store) in
     let stands : Stands parts document = record { sound = c.self.invariant; is = c.self.view_is } in
     let slot = c.number-slot.result in
     let seated = sits parts document c.args.widget slot stands c.number-slot.ensures.value in
@@ -158,18 +155,15 @@ returns-in-Ok g c =
       second_is = ap (λ n. n + c.args.to) start;
     } in
     let new = c.replace_pairs-replaced.new in
-    let content = g.S.TextStore.content old.store in
-    let changed = g.S.TextStore.content new.store in
-    let kept = take old.anchors.len (new.anchors ++ drop (length new.anchors) old.anchors.items) in
-    let written = written-back old.anchors.items new.anchors c.deref_mut.result.now old.anchors.len
-    c.deref_mut.ensures.value c.replace_pairs-replaced.auto.anchors old.anchors.ok.0 in
+    let content = g.S.TextStore.content old.text.store in
+    let changed = g.S.TextStore.content new.text.store in
+    let kept = new.text.anchors.items in
     let told = c.in-Ok.ensures in
     let edited = edited-is (λ recording state.
     replaced recording (2 * slot) last first second (map (piece_of new.tags.tags slot) c.args.pairs.items) state)
-    content changed old.anchors.items new.anchors c.deref_mut.result.now kept
-    (log_of old.history) (log_of new.history) (recording_of old.settings) c.recording.result written
-    c.deref_mut.ensures.value c.recording.ensures told.ok in
-    (leaves-replaced c.args.limits.now parts new.tags (state_of changed kept (log_of new.history)) document
+    (state_of content old.text.anchors.items (log_of old.text.history))
+    (state_of changed kept (log_of new.text.history)) (recording_of old.settings) c.recording.result c.recording.ensures told.ok in
+    (leaves-replaced c.args.limits.now parts new.tags (state_of changed kept (log_of new.text.history)) document
     c.args.widget slot c.args.from c.args.to last first second c.args.pairs.items stands seated cut
     (record {
       bounds = told.bounds;
@@ -184,23 +178,21 @@ pub invariant_of-self-in-Err : goal.invariant_of-self-in-Err
 invariant_of-self-in-Err g c =
     let old = c.self.inside in
     let document = c.args.self.now in
-    let parts = parts_of old.seats old.tags old.marks old.settings old.disabled.items old.anchors.items old.history
-    (g.S.TextStore.content old.store) in
+    let parts = parts_of old.seats old.tags old.marks old.settings old.disabled.items old.text.anchors.items old.text.history
+    (g.S.TextStore.content old.text.store) in
     let stands : Stands parts document = record { sound = c.self.invariant; is = c.self.view_is } in
     let slot = c.number-slot.result in
     let seated = sits parts document c.args.widget slot stands c.number-slot.ensures.value in
     let new = c.replace_pairs-replaced.new in
-    let content = g.S.TextStore.content old.store in
-    let changed = g.S.TextStore.content new.store in
-    let kept = take old.anchors.len (new.anchors ++ drop (length new.anchors) old.anchors.items) in
-    let written = written-back old.anchors.items new.anchors c.deref_mut.result.now old.anchors.len
-    c.deref_mut.ensures.value c.replace_pairs-replaced.auto.anchors old.anchors.ok.0 in
+    let content = g.S.TextStore.content old.text.store in
+    let changed = g.S.TextStore.content new.text.store in
+    let kept = new.text.anchors.items in
     let err = c.in-Err.ensures.err in
     let back = table-back old.tags new.tags c.truncate.new.self c.len-front.result c.len-front.ensures.value
     c.in-Err.ensures.front c.truncate.ensures in
-    let state = unedited-is content changed old.anchors.items new.anchors c.deref_mut.result.now kept
-    (log_of old.history) (log_of new.history) written c.deref_mut.ensures.value err.0 err.1 err.2 in
-    let after = with_state (with_tags c.truncate.new.self parts) (state_of changed kept (log_of new.history)) in
+    let state = unedited-is content changed old.text.anchors.items kept (log_of old.text.history)
+    (log_of new.text.history) err.0 err.1 err.2 in
+    let after = with_state (with_tags c.truncate.new.self parts) (state_of changed kept (log_of new.text.history)) in
     let same = stands-same parts after document stands (ap₂ (λ t s. with_state (with_tags t parts) s) back state) in
     same.sound
 
@@ -208,8 +200,8 @@ pub returns-in-Err : goal.returns-in-Err
 returns-in-Err g c =
     let old = c.self.inside in
     let document = c.args.self.now in
-    let parts = parts_of old.seats old.tags old.marks old.settings old.disabled.items old.anchors.items old.history
-    (g.S.TextStore.content old.store) in
+    let parts = parts_of old.seats old.tags old.marks old.settings old.disabled.items old.text.anchors.items old.text.history
+    (g.S.TextStore.content old.text.store) in
     let stands : Stands parts document = record { sound = c.self.invariant; is = c.self.view_is } in
     let slot = c.number-slot.result in
     let seated = sits parts document c.args.widget slot stands c.number-slot.ensures.value in
@@ -230,17 +222,15 @@ returns-in-Err g c =
       second_is = ap (λ n. n + c.args.to) start;
     } in
     let new = c.replace_pairs-replaced.new in
-    let content = g.S.TextStore.content old.store in
-    let changed = g.S.TextStore.content new.store in
-    let kept = take old.anchors.len (new.anchors ++ drop (length new.anchors) old.anchors.items) in
-    let written = written-back old.anchors.items new.anchors c.deref_mut.result.now old.anchors.len
-    c.deref_mut.ensures.value c.replace_pairs-replaced.auto.anchors old.anchors.ok.0 in
+    let content = g.S.TextStore.content old.text.store in
+    let changed = g.S.TextStore.content new.text.store in
+    let kept = new.text.anchors.items in
     let err = c.in-Err.ensures.err in
     let back = table-back old.tags new.tags c.truncate.new.self c.len-front.result c.len-front.ensures.value
     c.in-Err.ensures.front c.truncate.ensures in
-    let state = unedited-is content changed old.anchors.items new.anchors c.deref_mut.result.now kept
-    (log_of old.history) (log_of new.history) written c.deref_mut.ensures.value err.0 err.1 err.2 in
-    let after = with_state (with_tags c.truncate.new.self parts) (state_of changed kept (log_of new.history)) in
+    let state = unedited-is content changed old.text.anchors.items kept (log_of old.text.history)
+    (log_of new.text.history) err.0 err.1 err.2 in
+    let after = with_state (with_tags c.truncate.new.self parts) (state_of changed kept (log_of new.text.history)) in
     let same = stands-same parts after document stands (ap₂ (λ t s. with_state (with_tags t parts) s) back state) in
     does-left c.args.limits.now document (document_of after) c.in-Err.fault
     (replaced_at c.args.limits.now document (widget_at document c.args.widget) c.args.from c.args.to

@@ -6,17 +6,17 @@ use Rattle.documents.proofs.documents.Document.set_modified.Goals as goal
 pub invariant_of-self : goal.invariant_of-self
 invariant_of-self g c =
     let old = c.self.inside in
-    let parts = parts_of old.seats old.tags old.marks old.settings old.disabled.items old.anchors.items old.history
-    (g.S.TextStore.content old.store) in
+    let parts = parts_of old.seats old.tags old.marks old.settings old.disabled.items old.text.anchors.items old.text.history
+    (g.S.TextStore.content old.text.store) in
     let stands : Stands parts c.args.self.now = record { sound = c.self.invariant; is = c.self.view_is } in
-    (leaves-modified c.args.limits.now parts old.history c.set_modified.new.self c.args.self.now c.args.modified stands
+    (leaves-modified c.args.limits.now parts old.text.history c.set_modified.new.self c.args.self.now c.args.modified stands
     c.set_modified.ensures).sound
 
 pub returns : goal.returns
 returns g c =
     let old = c.self.inside in
-    let parts = parts_of old.seats old.tags old.marks old.settings old.disabled.items old.anchors.items old.history
-    (g.S.TextStore.content old.store) in
+    let parts = parts_of old.seats old.tags old.marks old.settings old.disabled.items old.text.anchors.items old.text.history
+    (g.S.TextStore.content old.text.store) in
     let stands : Stands parts c.args.self.now = record { sound = c.self.invariant; is = c.self.view_is } in
-    (leaves-modified c.args.limits.now parts old.history c.set_modified.new.self c.args.self.now c.args.modified stands
+    (leaves-modified c.args.limits.now parts old.text.history c.set_modified.new.self c.args.self.now c.args.modified stands
     c.set_modified.ensures).does

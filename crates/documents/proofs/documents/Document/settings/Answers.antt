@@ -15,18 +15,18 @@ pub index-anchors-requires : goal.index-anchors-requires
 index-anchors-requires g c =
     let old = c.self.inside in
     let document = c.args.self.now in
-    let parts = parts_of old.seats old.tags old.marks old.settings old.disabled.items old.anchors.items old.history
-    (g.S.TextStore.content old.store) in
+    let parts = parts_of old.seats old.tags old.marks old.settings old.disabled.items old.text.anchors.items old.text.history
+    (g.S.TextStore.content old.text.store) in
     let stands : Stands parts document = record { sound = c.self.invariant; is = c.self.view_is } in
     let seated = sits parts document c.args.widget c.number-slot.result stands c.number-slot.ensures.value in
-    omega (arith, seated.anchors, old.anchors.ok.0)
+    omega (arith, seated.anchors, old.text.anchors.ok.0)
 
 pub index-requires : goal.index-requires
 index-requires g c =
     let old = c.self.inside in
     let document = c.args.self.now in
-    let parts = parts_of old.seats old.tags old.marks old.settings old.disabled.items old.anchors.items old.history
-    (g.S.TextStore.content old.store) in
+    let parts = parts_of old.seats old.tags old.marks old.settings old.disabled.items old.text.anchors.items old.text.history
+    (g.S.TextStore.content old.text.store) in
     let stands : Stands parts document = record { sound = c.self.invariant; is = c.self.view_is } in
     let seated = sits parts document c.args.widget c.number-slot.result stands c.number-slot.ensures.value in
     omega (arith, seated.disabled, old.disabled.ok.0)
@@ -35,8 +35,8 @@ pub line_at-requires-clause-within : goal.line_at-requires-clause-within
 line_at-requires-clause-within g c =
     let old = c.self.inside in
     let document = c.args.self.now in
-    let parts = parts_of old.seats old.tags old.marks old.settings old.disabled.items old.anchors.items old.history
-    (g.S.TextStore.content old.store) in
+    let parts = parts_of old.seats old.tags old.marks old.settings old.disabled.items old.text.anchors.items old.text.history
+    (g.S.TextStore.content old.text.store) in
     let stands : Stands parts document = record { sound = c.self.invariant; is = c.self.view_is } in
     let seated = sits parts document c.args.widget c.number-slot.result stands c.number-slot.ensures.value in
     (anchors-within parts document c.args.widget c.number-slot.result c.index-anchors.result.now seated
@@ -46,8 +46,8 @@ pub line_at-requires-2-clause-within : goal.line_at-requires-2-clause-within
 line_at-requires-2-clause-within g c =
     let old = c.self.inside in
     let document = c.args.self.now in
-    let parts = parts_of old.seats old.tags old.marks old.settings old.disabled.items old.anchors.items old.history
-    (g.S.TextStore.content old.store) in
+    let parts = parts_of old.seats old.tags old.marks old.settings old.disabled.items old.text.anchors.items old.text.history
+    (g.S.TextStore.content old.text.store) in
     let stands : Stands parts document = record { sound = c.self.invariant; is = c.self.view_is } in
     let seated = sits parts document c.args.widget c.number-slot.result stands c.number-slot.ensures.value in
     (anchors-within parts document c.args.widget c.number-slot.result c.index-anchors.result.now seated
@@ -57,15 +57,15 @@ pub returns-clause-value : goal.returns-clause-value
 returns-clause-value g c =
     let old = c.self.inside in
     let document = c.args.self.now in
-    let parts = parts_of old.seats old.tags old.marks old.settings old.disabled.items old.anchors.items old.history
-    (g.S.TextStore.content old.store) in
+    let parts = parts_of old.seats old.tags old.marks old.settings old.disabled.items old.text.anchors.items old.text.history
+    (g.S.TextStore.content old.text.store) in
     let stands : Stands parts document = record { sound = c.self.invariant; is = c.self.view_is } in
     let seated = sits parts document c.args.widget c.number-slot.result stands c.number-slot.ensures.value in
     let anchors = (anchors-within parts document c.args.widget c.number-slot.result c.index-anchors.result.now seated
     c.index-anchors.ensures).0 in
     let flag = c.index.ensures ∙ get_or_default old.disabled.items c.number-slot.result c.index.result.now false
     seated.disabled in
-    let text = model.characters (g.S.TextStore.content old.store).cells in
+    let text = model.characters (g.S.TextStore.content old.text.store).cells in
     (λ i. record {
       document = old.settings;
       disabled = flag i;
@@ -77,15 +77,15 @@ pub returns-clause-lines : goal.returns-clause-lines
 returns-clause-lines g c =
     let old = c.self.inside in
     let document = c.args.self.now in
-    let parts = parts_of old.seats old.tags old.marks old.settings old.disabled.items old.anchors.items old.history
-    (g.S.TextStore.content old.store) in
+    let parts = parts_of old.seats old.tags old.marks old.settings old.disabled.items old.text.anchors.items old.text.history
+    (g.S.TextStore.content old.text.store) in
     let stands : Stands parts document = record { sound = c.self.invariant; is = c.self.view_is } in
     let seated = sits parts document c.args.widget c.number-slot.result stands c.number-slot.ensures.value in
     let anchors = (anchors-within parts document c.args.widget c.number-slot.result c.index-anchors.result.now seated
     c.index-anchors.ensures).0 in
     let flag = c.index.ensures ∙ get_or_default old.disabled.items c.number-slot.result c.index.result.now false
     seated.disabled in
-    let text = model.characters (g.S.TextStore.content old.store).cells in
+    let text = model.characters (g.S.TextStore.content old.text.store).cells in
     let settings : Settings = record {
       document = old.settings;
       disabled = c.index.result.now;

@@ -11,8 +11,8 @@ pub returns-in-None : goal.returns-in-None
 returns-in-None g c =
     let old = c.self.inside in
     let document = c.args.self.now in
-    let parts = parts_of old.seats old.tags old.marks old.settings old.disabled.items old.anchors.items old.history
-    (g.S.TextStore.content old.store) in
+    let parts = parts_of old.seats old.tags old.marks old.settings old.disabled.items old.text.anchors.items old.text.history
+    (g.S.TextStore.content old.text.store) in
     let stands : Stands parts document = record { sound = c.self.invariant; is = c.self.view_is } in
     absurd (mark-unknown parts document stands c.args.widget c.in-Shared.place c.number.result.0 c.number.ensures
     (sym c.mark_place.ensures.value ∙ c.in-None.is))
@@ -21,8 +21,8 @@ pub returns-then-view-found : goal.returns-then-view-found
 returns-then-view-found g c =
     let old = c.self.inside in
     let document = c.args.self.now in
-    let parts = parts_of old.seats old.tags old.marks old.settings old.disabled.items old.anchors.items old.history
-    (g.S.TextStore.content old.store) in
+    let parts = parts_of old.seats old.tags old.marks old.settings old.disabled.items old.text.anchors.items old.text.history
+    (g.S.TextStore.content old.text.store) in
     let stands : Stands parts document = record { sound = c.self.invariant; is = c.self.view_is } in
     let seen = c.view_at-view in
     mark-behind parts document stands c.args.widget c.in-Shared.place c.number.result.0 seen.result.s seen.result.e
@@ -34,8 +34,8 @@ pub returns-else-view-found : goal.returns-else-view-found
 returns-else-view-found g c =
     let old = c.self.inside in
     let document = c.args.self.now in
-    let parts = parts_of old.seats old.tags old.marks old.settings old.disabled.items old.anchors.items old.history
-    (g.S.TextStore.content old.store) in
+    let parts = parts_of old.seats old.tags old.marks old.settings old.disabled.items old.text.anchors.items old.text.history
+    (g.S.TextStore.content old.text.store) in
     let stands : Stands parts document = record { sound = c.self.invariant; is = c.self.view_is } in
     let seen = c.view_at-view in
     mark-before parts document stands c.args.widget c.in-Shared.place c.number.result.0 seen.result.s c.in-Some.found

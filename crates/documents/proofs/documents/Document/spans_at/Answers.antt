@@ -15,8 +15,8 @@ pub view_of-view-requires : goal.view_of-view-requires
 view_of-view-requires g c =
     let old = c.self.inside in
     let document = c.args.self.now in
-    let parts = parts_of old.seats old.tags old.marks old.settings old.disabled.items old.anchors.items old.history
-    (g.S.TextStore.content old.store) in
+    let parts = parts_of old.seats old.tags old.marks old.settings old.disabled.items old.text.anchors.items old.text.history
+    (g.S.TextStore.content old.text.store) in
     let stands : Stands parts document = record { sound = c.self.invariant; is = c.self.view_is } in
     let seat = sits parts document c.args.widget c.number.result stands c.number.ensures.value in
     subst (λ anchors. c.number.result < length anchors) (sym c.deref.ensures.value) seat.anchors
@@ -25,8 +25,8 @@ pub spans_of-requires-clause-within : goal.spans_of-requires-clause-within
 spans_of-requires-clause-within g c =
     let old = c.self.inside in
     let document = c.args.self.now in
-    let parts = parts_of old.seats old.tags old.marks old.settings old.disabled.items old.anchors.items old.history
-    (g.S.TextStore.content old.store) in
+    let parts = parts_of old.seats old.tags old.marks old.settings old.disabled.items old.text.anchors.items old.text.history
+    (g.S.TextStore.content old.text.store) in
     let stands : Stands parts document = record { sound = c.self.invariant; is = c.self.view_is } in
     let seat = sits parts document c.args.widget c.number.result stands c.number.ensures.value in
     let view = c.view_of-view.result in
@@ -41,8 +41,8 @@ pub returns-clause-value : goal.returns-clause-value
 returns-clause-value g c =
     let old = c.self.inside in
     let document = c.args.self.now in
-    let parts = parts_of old.seats old.tags old.marks old.settings old.disabled.items old.anchors.items old.history
-    (g.S.TextStore.content old.store) in
+    let parts = parts_of old.seats old.tags old.marks old.settings old.disabled.items old.text.anchors.items old.text.history
+    (g.S.TextStore.content old.text.store) in
     let stands : Stands parts document = record { sound = c.self.invariant; is = c.self.view_is } in
     let seat = sits parts document c.args.widget c.number.result stands c.number.ensures.value in
     let view = c.view_of-view.result in
@@ -62,8 +62,8 @@ pub returns-clause-fit : goal.returns-clause-fit
 returns-clause-fit g c =
     let old = c.self.inside in
     let document = c.args.self.now in
-    let parts = parts_of old.seats old.tags old.marks old.settings old.disabled.items old.anchors.items old.history
-    (g.S.TextStore.content old.store) in
+    let parts = parts_of old.seats old.tags old.marks old.settings old.disabled.items old.text.anchors.items old.text.history
+    (g.S.TextStore.content old.text.store) in
     let stands : Stands parts document = record { sound = c.self.invariant; is = c.self.view_is } in
     let seat = sits parts document c.args.widget c.number.result stands c.number.ensures.value in
     let view = c.view_of-view.result in

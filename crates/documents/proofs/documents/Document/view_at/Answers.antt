@@ -8,8 +8,8 @@ use Rattle.documents.proofs.documents.Document.view_at.Goals as goal
 pub view_of-requires : goal.view_of-requires
 view_of-requires g c =
     let old = c.self.inside in
-    let parts = parts_of old.seats old.tags old.marks old.settings old.disabled.items old.anchors.items old.history
-    (g.S.TextStore.content old.store) in
+    let parts = parts_of old.seats old.tags old.marks old.settings old.disabled.items old.text.anchors.items old.text.history
+    (g.S.TextStore.content old.text.store) in
     let stands : Stands parts c.args.self.now = record { sound = c.self.invariant; is = c.self.view_is } in
     let seated = sits parts c.args.self.now c.args.widget c.number.result stands c.number.ensures.value in
     omega (arith, seated.anchors, ap length c.deref.ensures.value)
@@ -19,8 +19,8 @@ returns-clause-lines g c =
     let old = c.self.inside in
     let found = c.view_of in
     let content = g.S.TextStore.content found.result.store.now in
-    let parts = parts_of old.seats old.tags old.marks old.settings old.disabled.items old.anchors.items old.history
-    (g.S.TextStore.content old.store) in
+    let parts = parts_of old.seats old.tags old.marks old.settings old.disabled.items old.text.anchors.items old.text.history
+    (g.S.TextStore.content old.text.store) in
     let stands : Stands parts c.args.self.now = record { sound = c.self.invariant; is = c.self.view_is } in
     let seen = see parts c.args.self.now c.args.widget c.number.result content found.result.s found.result.e
     c.deref.result.now stands c.number.ensures.value
@@ -32,8 +32,8 @@ returns-clause-text g c =
     let old = c.self.inside in
     let found = c.view_of in
     let content = g.S.TextStore.content found.result.store.now in
-    let parts = parts_of old.seats old.tags old.marks old.settings old.disabled.items old.anchors.items old.history
-    (g.S.TextStore.content old.store) in
+    let parts = parts_of old.seats old.tags old.marks old.settings old.disabled.items old.text.anchors.items old.text.history
+    (g.S.TextStore.content old.text.store) in
     let stands : Stands parts c.args.self.now = record { sound = c.self.invariant; is = c.self.view_is } in
     let seen = see parts c.args.self.now c.args.widget c.number.result content found.result.s found.result.e
     c.deref.result.now stands c.number.ensures.value
@@ -45,8 +45,8 @@ returns-clause-start g c =
     let old = c.self.inside in
     let found = c.view_of in
     let content = g.S.TextStore.content found.result.store.now in
-    let parts = parts_of old.seats old.tags old.marks old.settings old.disabled.items old.anchors.items old.history
-    (g.S.TextStore.content old.store) in
+    let parts = parts_of old.seats old.tags old.marks old.settings old.disabled.items old.text.anchors.items old.text.history
+    (g.S.TextStore.content old.text.store) in
     let stands : Stands parts c.args.self.now = record { sound = c.self.invariant; is = c.self.view_is } in
     let seen = see parts c.args.self.now c.args.widget c.number.result content found.result.s found.result.e
     c.deref.result.now stands c.number.ensures.value
@@ -58,8 +58,8 @@ returns-clause-end g c =
     let old = c.self.inside in
     let found = c.view_of in
     let content = g.S.TextStore.content found.result.store.now in
-    let parts = parts_of old.seats old.tags old.marks old.settings old.disabled.items old.anchors.items old.history
-    (g.S.TextStore.content old.store) in
+    let parts = parts_of old.seats old.tags old.marks old.settings old.disabled.items old.text.anchors.items old.text.history
+    (g.S.TextStore.content old.text.store) in
     let stands : Stands parts c.args.self.now = record { sound = c.self.invariant; is = c.self.view_is } in
     let seen = see parts c.args.self.now c.args.widget c.number.result content found.result.s found.result.e
     c.deref.result.now stands c.number.ensures.value
@@ -71,8 +71,8 @@ returns-clause-count g c =
     let old = c.self.inside in
     let found = c.view_of in
     let content = g.S.TextStore.content found.result.store.now in
-    let parts = parts_of old.seats old.tags old.marks old.settings old.disabled.items old.anchors.items old.history
-    (g.S.TextStore.content old.store) in
+    let parts = parts_of old.seats old.tags old.marks old.settings old.disabled.items old.text.anchors.items old.text.history
+    (g.S.TextStore.content old.text.store) in
     let stands : Stands parts c.args.self.now = record { sound = c.self.invariant; is = c.self.view_is } in
     let seen = see parts c.args.self.now c.args.widget c.number.result content found.result.s found.result.e
     c.deref.result.now stands c.number.ensures.value
