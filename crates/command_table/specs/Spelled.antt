@@ -2,6 +2,7 @@
 use Rattle.std.specs.Prelude.{List, [], ◌∷◌, chars, option_map}
 use Rattle.command_table.specs.Words.{Word, lent}
 use Rattle.command_table.specs.Rows.{SwitchRule, OptionRule, RowRule}
+use Rattle.command_table.specs.Table.{option_names}
 use Rattle.command_table.specs.declared.spellings.Spelling.{Spelling}
 use Rattle.command_table.specs.declared.spellings.Spelling.TheVariants.{First, Alone, Member}
 use Rattle.command_table.specs.declared.switches.Switches.{Switches}
@@ -17,7 +18,7 @@ abbrev pub switch_rule : Switches → SwitchRule
 switch_rule switches = record { names = lent switches.names.now; abbreviated = switches.abbreviated }
 
 abbrev pub option_rule : Options → OptionRule
-option_rule options = record { names = lent options.names.now; after = options.after; valued = options.valued }
+option_rule options = record { names = option_names; after = options.after; valued = options.valued }
 
 abbrev pub row_rule : Row → RowRule
 row_rule row = record {

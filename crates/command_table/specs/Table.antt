@@ -1,5 +1,5 @@
 -- The commands: the words of each subcommand, and how many words may stand behind it (text(n), "WIDGET COMMAND").
-use Rattle.std.specs.Prelude.{ℕ, ◌-◌, List, [], ◌∷◌, take, drop, true, false, Option, None, Some}
+use Rattle.std.specs.Prelude.{ℕ, ◌≡◌, ◌<◌, List, [], ◌∷◌, length, get_or, true, false, Option, None, Some}
 use Rattle.std.specs.List.{find}
 use Rattle.command_table.specs.Words.{Word, literal}
 use Rattle.command_table.specs.Rows.{RowRule, SwitchRule, begins}
@@ -151,6 +151,6 @@ table =
 abbrev pub find_in : List RowRule → List Word → Option RowRule
 find_in rows words = find (λ row. begins row.spelling words) rows
 
--- the rows from one place to before another
-abbrev pub rows_within : ℕ → ℕ → List RowRule → List RowRule
-rows_within from to rows = take (to - from) (drop from rows)
+-- at this place of the table stands the first row whose subcommand begins the words
+abbrev pub IsPlaceOf : ℕ → List Word → Type 0
+IsPlaceOf place words = (place < length table) × (find_in table words ≡ Some (get_or table place text_row))

@@ -1,15 +1,26 @@
-ghost use Rattle.std.specs.Prelude.{◌≡◌, ◌≤◌, ◌+◌, true, length};
-ghost use Rattle.command_table.specs.Words.{texts_of};
+ghost use Rattle.std.specs.Prelude.{◌≡◌, ◌≤◌, ◌+◌, true, length, chars};
+ghost use Rattle.command_table.specs.Words.{texts_of, is_among};
 ghost use Rattle.command_table.specs.Rows.{is_option_place, bad_option, are_paired};
+ghost use Rattle.command_table.specs.Table.{option_names};
 ghost use Rattle.command_table.specs.Spelled.{option_rule};
 
-use crate::words::is_among;
+use crate::words::is_word;
 
-/// The options of a command, which are found by their place among the arguments.
+/// Whether a word is the name of an option of a widget and of its document.
+fn is_option(word: &str) -> bool
+    ensures { result ≡ is_among option_names (chars word.now) }
+{
+    is_word(word, "-undo")
+        || is_word(word, "-maxundo")
+        || is_word(word, "-autoseparators")
+        || is_word(word, "-state")
+        || is_word(word, "-startline")
+        || is_word(word, "-endline")
+}
+
+/// Where options stand in a command: they are found by their place among the arguments.
 #[derive(Clone, Copy)]
 pub struct Options {
-    /// Their names, whole.
-    pub names: &'static [&'static str],
     /// How many arguments stand before them.
     pub after: usize,
     /// Whether each has a value behind it, and others may follow.
@@ -43,7 +54,7 @@ impl Options {
         ensures { result ≡ bad_option (Some (option_rule self)) at (texts_of arguments.now) }
     {
         for (place, word) in arguments.iter().enumerate() {
-            if self.stands_at(place) && !is_among(self.names, word.as_str()) {
+            if self.stands_at(place) && !is_option(word.as_str()) {
                 return Some(at + place);
             }
         }

@@ -1,8 +1,8 @@
 ghost use Rattle.std.specs.Prelude.{◌≡◌, ◌≤◌, ◌+◌, List, ◌∷◌, chars, length, take, map, true, option_map, IfSome, IfOk};
-ghost use Rattle.command_table.specs.Words.{texts_of, Word};
+ghost use Rattle.command_table.specs.Words.{texts_of, literal, Word};
 ghost use Rattle.command_table.specs.Rows.{switch_words, bad_switch, bad_option, fits, before_options};
 ghost use Rattle.command_table.specs.Reading.{decided, behind, go_on};
-ghost use Rattle.command_table.specs.Table.{destroy_row, table, text_row, rows_within, find_in};
+ghost use Rattle.command_table.specs.Table.{destroy_row, table, text_row, find_in, IsPlaceOf};
 ghost use Rattle.command_table.specs.Spelled.{spelled, row_rule};
 
 use crate::commands::Command;
@@ -24,23 +24,12 @@ pub struct Row {
     pub greatest: Option<usize>,
 }
 
-/// The options of a widget and of its document.
-const OPTIONS: &[&str] = &[
-    "-undo",
-    "-maxundo",
-    "-autoseparators",
-    "-state",
-    "-startline",
-    "-endline",
-];
-
 /// `text W ?option value ..?`.
 const TEXT: Row = Row {
     spelling: Spelling::First,
     command: Command::Text,
     switches: None,
     options: Some(Options {
-        names: OPTIONS,
         after: 1,
         valued: true,
     }),
@@ -123,7 +112,6 @@ static ROWS: [Row; 33] = [
         command: Command::Configure,
         switches: None,
         options: Some(Options {
-            names: OPTIONS,
             after: 0,
             valued: true,
         }),
@@ -135,7 +123,6 @@ static ROWS: [Row; 33] = [
         command: Command::Cget,
         switches: None,
         options: Some(Options {
-            names: OPTIONS,
             after: 0,
             valued: false,
         }),
@@ -189,7 +176,6 @@ static ROWS: [Row; 33] = [
         command: Command::PeerCreate,
         switches: None,
         options: Some(Options {
-            names: OPTIONS,
             after: 1,
             valued: true,
         }),
@@ -326,44 +312,129 @@ pub fn destroy_row() -> Row
     DESTROY
 }
 
-/// Where the rows stand, one behind the other, whose subcommands begin with the word, if there are some: from the
-/// first place to before the second.
-fn places_of(word: &str) -> (usize, usize)
-    ensures value { (rest : List Word) → find_in (rows_within result.0 result.1 table) (chars word.now ∷ rest)
-        ≡ find_in table (chars word.now ∷ rest) }
-    ensures order { result.0 ≤ result.1 }
-    ensures within { result.1 ≤ length table }
+/// The place of the row of a subcommand of one word, with arguments alone.
+fn place_plain(word: &str) -> Option<usize>
+    ensures { IfSome result (λ place. (rest : List Word) → IsPlaceOf place (chars word.now ∷ rest)) }
 {
     match word {
-        "insert" => (0, 1),
-        "delete" => (1, 2),
-        "replace" => (2, 3),
-        "get" => (3, 4),
-        "index" => (4, 5),
-        "compare" => (5, 6),
-        "mark" => (6, 12),
-        "tag" => (12, 21),
-        "edit" => (21, 26),
-        "configure" => (26, 27),
-        "cget" => (27, 28),
-        "search" => (28, 29),
-        "count" => (29, 30),
-        "dump" => (30, 31),
-        "peer" => (31, 33),
-        _ => (0, 33),
+        "insert" => Some(0),
+        "delete" => Some(1),
+        "replace" => Some(2),
+        "get" => Some(3),
+        "index" => Some(4),
+        "compare" => Some(5),
+        _ => None,
     }
 }
 
-/// Rows among which the first is whose subcommand begins the words, if there is one.
-fn rows_for(words: &[String]) -> &'static [Row]
-    ensures { find_in (map row_rule result.now) (texts_of words.now) ≡ find_in table (texts_of words.now) }
+/// The place of the row of a subcommand of one word, with switches or options.
+fn place_optioned(word: &str) -> Option<usize>
+    ensures { IfSome result (λ place. (rest : List Word) → IsPlaceOf place (chars word.now ∷ rest)) }
+{
+    match word {
+        "configure" => Some(26),
+        "cget" => Some(27),
+        "search" => Some(28),
+        "count" => Some(29),
+        "dump" => Some(30),
+        _ => None,
+    }
+}
+
+/// The place of the row of a subcommand of one word. Few words stand in each `match`, since of one of more LLVM makes
+/// calls, and no jump by the length.
+fn place_alone(word: &str) -> Option<usize>
+    ensures { IfSome result (λ place. (rest : List Word) → IsPlaceOf place (chars word.now ∷ rest)) }
+{
+    match place_plain(word) {
+        None => place_optioned(word),
+        Some(place) => Some(place),
+    }
+}
+
+/// The place of the row of `mark` with a word behind it.
+fn place_in_mark(word: &str) -> Option<usize>
+    ensures { IfSome result (λ place. (rest : List Word) → IsPlaceOf place (literal "mark" ∷ chars word.now ∷ rest)) }
+{
+    match word {
+        "gravity" => Some(6),
+        "names" => Some(7),
+        "next" => Some(8),
+        "previous" => Some(9),
+        "set" => Some(10),
+        "unset" => Some(11),
+        _ => None,
+    }
+}
+
+/// The place of the row of `tag` with a word behind it.
+fn place_in_tag(word: &str) -> Option<usize>
+    ensures { IfSome result (λ place. (rest : List Word) → IsPlaceOf place (literal "tag" ∷ chars word.now ∷ rest)) }
+{
+    match word {
+        "add" => Some(12),
+        "remove" => Some(13),
+        "delete" => Some(14),
+        "names" => Some(15),
+        "ranges" => Some(16),
+        "nextrange" => Some(17),
+        "prevrange" => Some(18),
+        "raise" => Some(19),
+        "lower" => Some(20),
+        _ => None,
+    }
+}
+
+/// The place of the row of `edit` with a word behind it.
+fn place_in_edit(word: &str) -> Option<usize>
+    ensures { IfSome result (λ place. (rest : List Word) → IsPlaceOf place (literal "edit" ∷ chars word.now ∷ rest)) }
+{
+    match word {
+        "modified" => Some(21),
+        "undo" => Some(22),
+        "redo" => Some(23),
+        "reset" => Some(24),
+        "separator" => Some(25),
+        _ => None,
+    }
+}
+
+/// The place of the row of `peer` with a word behind it.
+fn place_in_peer(word: &str) -> Option<usize>
+    ensures { IfSome result (λ place. (rest : List Word) → IsPlaceOf place (literal "peer" ∷ chars word.now ∷ rest)) }
+{
+    match word {
+        "create" => Some(31),
+        "names" => Some(32),
+        _ => None,
+    }
+}
+
+/// The place of the row of a family's word with a word behind it.
+fn place_in_family(family: &str, word: &str) -> Option<usize>
+    ensures { IfSome result (λ place.
+        (rest : List Word) → IsPlaceOf place (chars family.now ∷ chars word.now ∷ rest)) }
+{
+    match family {
+        "mark" => place_in_mark(word),
+        "tag" => place_in_tag(word),
+        "edit" => place_in_edit(word),
+        "peer" => place_in_peer(word),
+        _ => None,
+    }
+}
+
+/// The place of the first row whose subcommand begins the words.
+fn place_of(words: &[String]) -> Option<usize>
+    ensures { IfSome result (λ place. IsPlaceOf place (texts_of words.now)) }
 {
     match words {
-        [first, ..] => {
-            let (from, to) = places_of(first.as_str());
-            &rows()[from..to]
-        }
-        [] => rows(),
+        [] => None,
+        [first] => place_alone(first.as_str()),
+        [first, second, ..] => match place_in_family(first.as_str(), second.as_str()) {
+            None => place_alone(first.as_str()),
+            Some(place) => Some(place),
+        },
     }
 }
 
@@ -372,7 +443,11 @@ pub fn find_row(words: &[String]) -> Option<&'static Row>
     ensures first { option_map (λ row. row_rule row.now) result ≡ find_in table (texts_of words.now) }
     ensures short { IfSome result (λ row. length (spelled row.now.spelling) ≤ length words.now) }
 {
-    for row in rows_for(words) {
+    if let Some(place) = place_of(words) {
+        return Some(&rows()[place]);
+    }
+    // that there is none is left to the rows themselves
+    for row in rows() {
         if row.spelling.begins(words) {
             return Some(row);
         }

@@ -53,6 +53,7 @@ pub fn run<S: TextStore, R: ByteSource, W: ByteSink>(
 {
     let mut world = World::<S>::new(alloc, limits);
     let mut splitter = Splitter::new(alloc);
+    let mut words = Vec::new(alloc);
     let mut output = Output::new();
     let mut summary = RunSummary {
         commands: 0,
@@ -62,6 +63,7 @@ pub fn run<S: TextStore, R: ByteSource, W: ByteSink>(
     let ended = run_reads(
         &mut world,
         &mut splitter,
+        &mut words,
         &mut output,
         &mut summary,
         source,
@@ -74,10 +76,12 @@ pub fn run<S: TextStore, R: ByteSource, W: ByteSink>(
     }
 }
 
-/// Reads, and carries out what is read, until the script ends. It is the run, whose state its caller drops.
+/// Reads, and carries out what is read, until the script ends, each command by the same words. It is the run, whose
+/// state its caller drops.
 fn run_reads<S: TextStore, R: ByteSource, W: ByteSink>(
     world: &mut World<S>,
     splitter: &mut Splitter,
+    words: &mut Vec<String>,
     output: &mut Output,
     summary: &mut RunSummary,
     source: &mut R,
@@ -111,7 +115,7 @@ fn run_reads<S: TextStore, R: ByteSource, W: ByteSink>(
 {
     for _made in 0..limits.reads() {
         let brought = feed_read(source, splitter)?;
-        carry_out(world, splitter, output, sink, summary)?;
+        carry_out(world, splitter, words, output, sink, summary)?;
         if summary.script_fault {
             return Ok(());
         }
@@ -127,6 +131,7 @@ fn run_reads<S: TextStore, R: ByteSource, W: ByteSink>(
 fn carry_out<S: TextStore, W: ByteSink>(
     world: &mut World<S>,
     splitter: &mut Splitter,
+    words: &mut Vec<String>,
     output: &mut Output,
     sink: &mut W,
     summary: &mut RunSummary,
@@ -152,7 +157,7 @@ fn carry_out<S: TextStore, W: ByteSink>(
     ensures fault { IfErr result (λ fault. fault ≡ RunFault.Write) }
 {
     loop {
-        let turn = take_turn(world, splitter, output, sink);
+        let turn = take_turn(world, splitter, words, output, sink);
         if !turn.is_written {
             return Err(RunFault::Write);
         }

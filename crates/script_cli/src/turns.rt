@@ -33,10 +33,11 @@ pub struct Turn {
     pub is_written: bool,
 }
 
-/// Takes the next command that is at hand, and prints its answer or its fault.
+/// Takes the next command that is at hand, and prints its answer or its fault. The words lend it their memory.
 pub fn take_turn<S: TextStore, W: ByteSink>(
     world: &mut World<S>,
     splitter: &mut Splitter,
+    words: &mut Vec<String>,
     output: &mut Output,
     sink: &mut W,
 ) -> Turn
@@ -48,9 +49,9 @@ pub fn take_turn<S: TextStore, W: ByteSink>(
     ensures flag { W.is_failed sink.new ≡ not result.is_written }
     ensures same { is_fault result.met ≡ false → splitter.new ≡ record splitter.old { rest = splitter.new.rest } }
 {
-    match splitter.next_command() {
-        Ok(Some(words)) => answer(world, &words, output, sink),
-        Ok(None) => Turn {
+    match splitter.read_command(words) {
+        Ok(true) => answer(world, words, output, sink),
+        Ok(false) => Turn {
             met: Met::End,
             is_written: true,
         },

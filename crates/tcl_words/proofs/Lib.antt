@@ -7,6 +7,7 @@ pub mod Readings
 pub mod Scans
 pub mod Finding
 pub mod Splitting
+pub mod WordWriting
 pub mod Plain
 pub mod PlainWords
 pub mod Writing

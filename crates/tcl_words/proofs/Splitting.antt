@@ -20,7 +20,6 @@ use Rattle.tcl_words.specs.Unread.{Unread, IsNextCommand, HasNoCommand, TakesCom
 use Rattle.tcl_words.specs.Progression.{IsProgress, IsCommandOf, IsFound, starting_at}
 use Rattle.tcl_words.specs.declared.fault.ScriptFault.TheVariants.{Substitution}
 use Rattle.std.specs.declared.alloc.AllocError.{AllocError}
-use Rattle.tcl_words.specs.declared.plain_words.PlainCommand.{PlainCommand}
 use Rattle.tcl_words.specs.declared.progress.Progress.{Progress}
 use Rattle.tcl_words.specs.declared.stage.Stage.TheVariants.{BeforeCommand}
 use Rattle.tcl_words.specs.declared.scanner.Scan.TheVariants.{EndsAt}
@@ -246,6 +245,23 @@ texts_found finished rest slice len strings k same h =
     ∙ ap (map encode_utf8_all) k.written in
     (texts_are strings k.words spelled, strings_some strings k.words spelled (has_words finished rest len k))
 
+-- the command that is found has the strings of its pieces
+pub words_found : {Z : Type 0} (unread between : Unread) (slice : List ℕ) (len : ℕ) (strings : List (String Z)) →
+    between ≡ unread → between.fault ≡ None → IsCommandOf between.finished between.rest len
+    → slice ≡ take len between.rest
+    → map (λ s. string_bytes s) strings ≡ map encode_utf8_all (pieces_from (chars slice) BeforeCommand) →
+    IsFound unread (texts_of strings) len
+words_found unread between slice len strings same none k front made =
+    let texts = texts_found between.finished between.rest slice len strings k front made in
+    let some = texts.1 in
+    let many = length-map strings (λ s. chars (string_bytes s)) in
+    subst (λ (u : Unread). IsFound u (texts_of strings) len) same (record {
+      no_fault = none;
+      is = k;
+      same = texts.0;
+      some = omega (arith, many, some);
+    })
+
 -- the progress after the next bytes of all are left behind
 pub passed_in : (items rest : List ℕ) (given : ℕ) (progress : Progress) (n : ℕ) → drop given items ≡ rest →
     given ≤ length items → IsProgress (drop given items) progress → n ≤ length rest → IsUtf8 (take n rest)
@@ -279,13 +295,12 @@ plain_found unread progress text strings len none p is plain =
       some = omega (arith, many, some);
     }
 
-pub plain_result : (result : Result (Option PlainCommand) AllocError) (unread : Unread) (progress : Progress)
-    (text : List ℕ) → unread.fault ≡ None → IsProgress unread.rest progress
+pub plain_result : {Z : Type 0} (result : Result (Option ℕ) AllocError) (unread : Unread) (progress : Progress)
+    (text : List ℕ) (strings : List (String Z)) → unread.fault ≡ None → IsProgress unread.rest progress
     → text ≡ take progress.valid unread.rest
-    → IfOk result (λ found. IfSome found (λ plain.
-    IsPlainCommand text (map (λ s. string_bytes s) plain.words.items) plain.len))
-    → IfOk result (λ found. IfSome found (λ plain. IsFound unread (texts_of plain.words.items) plain.len))
-plain_result (Err fault) unread progress text none p is h = tt
-plain_result (Ok None) unread progress text none p is h = tt
-plain_result (Ok (Some plain)) unread progress text none p is h =
-    plain_found unread progress text plain.words.items plain.len none p is h
+    → IfOk result (λ found. IfSome found (λ len. IsPlainCommand text (map (λ s. string_bytes s) strings) len))
+    → IfOk result (λ found. IfSome found (λ len. IsFound unread (texts_of strings) len))
+plain_result (Err fault) unread progress text strings none p is h = tt
+plain_result (Ok None) unread progress text strings none p is h = tt
+plain_result (Ok (Some len)) unread progress text strings none p is h =
+    plain_found unread progress text strings len none p is h

@@ -1,6 +1,7 @@
 //! Commands of words that stand in the script as they are, which are read in one go.
 
-ghost use Rattle.std.specs.Prelude.{◌≡◌, ◌<◌, ◌≤◌, ◌+◌, length, slice_index, map, take, string_bytes, IfOk, IfSome};
+ghost use Rattle.std.specs.Prelude.{◌≡◌, ◌<◌, ◌≤◌, ◌+◌, ◌++◌, ◌∷◌, [], length, slice_index, map, take, vec_len};
+ghost use Rattle.std.specs.Prelude.{string_bytes, IfOk, OnOk, IfSome};
 ghost use Rattle.tcl_words.specs.PlainWords.{IsPlainWord, IsClosed, IsPlainCommand};
 ghost use Rattle.tcl_words.specs.declared.stage.Stage.TheVariants.{BeforeWord};
 
@@ -21,16 +22,14 @@ pub struct PlainWord {
     pub is_last: bool,
 }
 
-/// A command at the front of a text.
-#[derive(Drop)]
-pub struct PlainCommand {
-    pub words: Vec<String>,
-    /// How many bytes it has.
-    pub len: usize,
-}
-
 // A command of more words is none of these: so none is made before the end of its command is found.
 const MOST: usize = 8;
+
+// Room for more bytes isn't kept for another word,
+const LONG: usize = 4_096;
+
+// nor is room for more words.
+const MANY: usize = 2 * MOST;
 
 // Words as they stand in a text, of which the first so many are those of the command at its front.
 #[derive(Clone, Copy)]
@@ -145,28 +144,66 @@ fn found_words(text: &str) -> Option<FoundWords<'_>>
     None
 }
 
-// The words, each with its own memory.
-fn owned_words(alloc: Global, words: &[&str]) -> Result<Vec<String>, AllocError>
-    ensures { IfOk result (λ made. map (λ word. string_bytes word) made.items ≡ map (λ word. word.now) words.now) }
+// Writes a word over the one that stands at a place, whose memory is used again, or behind them all.
+fn write_word(
+    alloc: Global,
+    words: &mut Vec<String>,
+    place: usize,
+    text: &str,
+) -> Result<(), AllocError>
+    requires { place ≤ vec_len words.old }
+    ensures len { OnOk result (place < vec_len words.new) }
+    ensures words { OnOk result (take (place + 1) (map (λ word. string_bytes word) words.new.items)
+        ≡ take place (map (λ word. string_bytes word) words.old.items) ++ text.now ∷ []) }
 {
-    let mut made = Vec::with_capacity(alloc, words.len())?;
-    for word in words {
-        made.push(String::from_str(alloc, word)?)?;
+    if place < words.len() {
+        let word = &mut words[place];
+        word.clear();
+        word.push_str(text)?;
+    } else {
+        words.push(String::from_str(alloc, text)?)?;
     }
-    Ok(made)
+    Ok(())
 }
 
-/// The command at the front of a text, if it is of few such words alone.
-pub fn plain_command(alloc: Global, text: &str) -> Result<Option<PlainCommand>, AllocError>
-    ensures { IfOk result (λ found. IfSome found (λ plain.
-        IsPlainCommand text.now (map (λ word. string_bytes word) plain.words.items) plain.len)) }
+// Writes words over those that stand there, whose memory is used again.
+fn write_words(alloc: Global, words: &mut Vec<String>, texts: &[&str]) -> Result<(), AllocError>
+    ensures { OnOk result (map (λ word. string_bytes word) words.new.items ≡ map (λ text. text.now) texts.now) }
+{
+    words.reserve(texts.len().saturating_sub(words.len()))?;
+    for (place, text) in texts.iter().enumerate() {
+        write_word(alloc, words, place, text)?;
+    }
+    words.truncate(texts.len());
+    Ok(())
+}
+
+/// Lets go of memory for long words and for many, so that what is kept for the next command doesn't grow with those
+/// before. What the words are then isn't said.
+pub fn leave_long(alloc: Global, words: &mut Vec<String>) {
+    if words.capacity() > MANY {
+        *words = Vec::new(alloc);
+    }
+    for word in words.iter_mut() {
+        if word.capacity() > LONG {
+            *word = String::new(alloc);
+        }
+    }
+}
+
+/// How many bytes the command at the front of a text has, if it is of few such words alone. They are written over the
+/// words, whose memory is used again.
+pub fn plain_command(
+    alloc: Global,
+    text: &str,
+    words: &mut Vec<String>,
+) -> Result<Option<usize>, AllocError>
+    ensures { IfOk result (λ found. IfSome found (λ len.
+        IsPlainCommand text.now (map (λ word. string_bytes word) words.new.items) len)) }
 {
     let Some(found) = found_words(text) else {
         return Ok(None);
     };
-    let words = owned_words(alloc, &found.words[..found.count])?;
-    Ok(Some(PlainCommand {
-        words,
-        len: found.len,
-    }))
+    write_words(alloc, words, &found.words[..found.count])?;
+    Ok(Some(found.len))
 }

@@ -5,7 +5,7 @@ ghost use Rattle.tcl_words.specs.Unread.{nothing_fed, fed, TakesCommand, HasNoCo
 
 use crate::fault::ScriptFault;
 use crate::pieces::words_of;
-use crate::plain_words::{PlainCommand, plain_command};
+use crate::plain_words::{leave_long, plain_command};
 use crate::progress::Progress;
 use std::alloc::{AllocError, Global};
 use std::marker::Model;
@@ -115,23 +115,33 @@ impl Splitter {
             (self.new ≡ self.old) × (self.old.fault ≡ None) × ¬ HasNoCommand self.old.finished self.old.rest }
         ensures again { IfSome self.old.fault (λ fault. result ≡ Err fault) }
     {
-        let is_refused = match self.plain_command() {
-            Ok(Some(plain)) => {
-                self.pass(plain.len);
-                return Ok(Some(plain.words));
-            }
-            Ok(None) => false,
-            Err(_) => true,
-        };
-        let Some(len) = self.find_command()? else {
+        let mut words = Vec::new(*self.script.allocator());
+        if !self.read_command(&mut words)? {
             return Ok(None);
-        };
-        if is_refused {
-            return Err(ScriptFault::Memory);
         }
-        let words = words_of(*self.script.allocator(), self.front(len))?;
-        self.pass(len);
         Ok(Some(words))
+    }
+
+    /// Takes the next command as `next_command` does, into `words`, and answers whether there was one. Whatever they
+    /// were before, they are then its words alone; else nothing is said of them. The memory of those that were there
+    /// is used again, but for long ones.
+    pub fn read_command(&mut self, words: &mut Vec<String>) -> Result<bool, ScriptFault>
+        ensures command { result ≡ Ok true → TakesCommand self.old (texts_of words.new.items) self.new }
+        ensures words { result ≡ Ok true → 0 < vec_len words.new }
+        ensures shorter { result ≡ Ok true → length self.new.rest < length self.old.rest }
+        ensures none { result ≡ Ok false →
+            (self.new ≡ self.old) × (self.old.fault ≡ None) × HasNoCommand self.old.finished self.old.rest }
+        ensures no_fault { result ≡ Ok false → HasNoFault self.old.finished self.old.rest }
+        ensures fault { IfErr result (λ fault. fault ≢ ScriptFault.Memory → StopsAt self.old fault self.new) }
+        ensures memory { result ≡ Err ScriptFault.Memory →
+            (self.new ≡ self.old) × (self.old.fault ≡ None) × ¬ HasNoCommand self.old.finished self.old.rest }
+        ensures again { IfSome self.old.fault (λ fault. result ≡ Err fault) }
+    {
+        let found = self.find_words(words)?;
+        if let Some(len) = found {
+            self.pass(len);
+        }
+        Ok(found.is_some())
     }
 
     /// Drops the command that `next_command` would take and answers true, or answers false where none is left, or
@@ -162,11 +172,41 @@ impl Splitter {
         unsafe { str::from_utf8_unchecked(&rest[..len]) }
     }
 
-    // The next command, if nothing of it was read and it is of words that stand in it as they are.
-    fn plain_command(&mut self) -> Result<Option<PlainCommand>, AllocError>
+    // How many bytes the next command has, if there is one, with its words written over those that are there.
+    fn find_words(&mut self, words: &mut Vec<String>) -> Result<Option<usize>, ScriptFault>
+        ensures found { IfOk result (λ found. IfSome found (λ len.
+            IsFound self.old (texts_of words.new.items) len)) }
+        ensures none { IfOk result (λ found. IfNone found (HasNoCommand self.old.finished self.old.rest)) }
+        ensures no_fault { IfOk result (λ found. IfNone found (HasNoFault self.old.finished self.old.rest)) }
+        ensures same { OnOk result ((self.new ≡ self.old) × (self.old.fault ≡ None)) }
+        ensures fault { IfErr result (λ fault. fault ≢ ScriptFault.Memory → StopsAt self.old fault self.new) }
+        ensures memory { result ≡ Err ScriptFault.Memory →
+            (self.new ≡ self.old) × (self.old.fault ≡ None) × ¬ HasNoCommand self.old.finished self.old.rest }
+        ensures again { IfSome self.old.fault (λ fault. result ≡ Err fault) }
+    {
+        let alloc = *self.script.allocator();
+        leave_long(alloc, words);
+        let is_refused = match self.plain_command(words) {
+            Ok(Some(len)) => return Ok(Some(len)),
+            Ok(None) => false,
+            Err(_) => true,
+        };
+        let Some(len) = self.find_command()? else {
+            return Ok(None);
+        };
+        if is_refused {
+            return Err(ScriptFault::Memory);
+        }
+        *words = words_of(alloc, self.front(len))?;
+        Ok(Some(len))
+    }
+
+    // How many bytes the next command has, if nothing of it was read and it is of words that stand in it as they are.
+    // They are written over those that are there.
+    fn plain_command(&mut self, words: &mut Vec<String>) -> Result<Option<usize>, AllocError>
         ensures same { self.new ≡ self.old }
-        ensures found { IfOk result (λ found. IfSome found (λ plain.
-            IsFound self.old (texts_of plain.words.items) plain.len)) }
+        ensures found { IfOk result (λ found. IfSome found (λ len.
+            IsFound self.old (texts_of words.new.items) len)) }
     {
         let rest = &self.script[self.given..];
         if self.fault.is_some() || self.progress.seen > 0 {
@@ -174,7 +214,7 @@ impl Splitter {
         }
         self.progress.read_text(rest);
         let text = unsafe { str::from_utf8_unchecked(&rest[..self.progress.valid]) };
-        plain_command(*self.script.allocator(), text)
+        plain_command(*self.script.allocator(), text, words)
     }
 
     // How many bytes the next command has, if there is one. A fault is kept.

@@ -28,10 +28,29 @@ fn write_commands(splitter: &mut Splitter, text: &mut String) -> Result<(), Fail
     }
 }
 
+// Does so with the commands that can be read, each into the words of the one before.
+fn read_commands(
+    splitter: &mut Splitter,
+    words: &mut Vec<String>,
+    text: &mut String,
+) -> Result<(), Fail>
+    ensures { splitter.new.finished ≡ splitter.old.finished }
+{
+    loop {
+        match splitter.read_command(words) {
+            Ok(true) => write_words(text, words)?,
+            Err(ScriptFault::Memory) => return Err(Fail::from(ScriptFault::Memory)),
+            _ => return Ok(()),
+        }
+    }
+}
+
 // What a splitter is asked, and what it gives.
 enum Step {
     // All commands that it can give.
     Gives(&'static str),
+    // The same, read into one list of words.
+    Reads(&'static str),
     // No command can be given, and no fault.
     Waits,
     // A command is skipped, or none is there.
@@ -45,6 +64,15 @@ fn gives(alloc: Global, splitter: &mut Splitter, commands: &str) -> Result<bool,
 {
     let mut text = String::new(alloc);
     write_commands(splitter, &mut text)?;
+    Ok(text.as_str() == commands)
+}
+
+fn reads(alloc: Global, splitter: &mut Splitter, commands: &str) -> Result<bool, Fail>
+    ensures { splitter.new.finished ≡ splitter.old.finished }
+{
+    let mut words = Vec::new(alloc);
+    let mut text = String::new(alloc);
+    read_commands(splitter, &mut words, &mut text)?;
     Ok(text.as_str() == commands)
 }
 
@@ -66,6 +94,7 @@ fn goes(alloc: Global, splitter: &mut Splitter, step: &Step) -> Result<bool, Fai
 {
     match step {
         Step::Gives(commands) => gives(alloc, splitter, commands),
+        Step::Reads(commands) => reads(alloc, splitter, commands),
         Step::Waits => Ok(waits(splitter)),
         Step::Skips(is_there) => Ok(splitter.skip_command() == Ok(*is_there)),
         Step::Meets(fault) => Ok(meets(splitter, *fault)),
@@ -130,6 +159,26 @@ static IN_BRACES: Course = Course {
 #[test]
 fn waits_in_braces(rt: HostRuntime) -> Result<(), Fail> {
     check_course(&rt, rt.alloc(), &IN_BRACES)
+}
+
+// Words stand over longer and shorter ones, and over more and fewer; one command has an escape, and one many words.
+static READ_OVER: Course = Course {
+    pieces: &[
+        (
+            b"abc {d e}\nf\ng h i\nj\\ k l\nm {} n\n",
+            &[Step::Reads("|abc|d e\n|f\n|g|h|i\n|j k|l\n|m||n\n")],
+        ),
+        (
+            b"1 2 3 4 5 6 7 8 9 10 11 12 13 14 15 16 17\na b\nc",
+            &[Step::Reads("|1|2|3|4|5|6|7|8|9|10|11|12|13|14|15|16|17\n|a|b\n")],
+        ),
+    ],
+    last: &[Step::Reads("|c\n"), Step::Waits],
+};
+
+#[test]
+fn reads_over_words(rt: HostRuntime) -> Result<(), Fail> {
+    check_course(&rt, rt.alloc(), &READ_OVER)
 }
 
 // What is fed behind a fault is not read.

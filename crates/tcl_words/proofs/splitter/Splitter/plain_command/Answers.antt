@@ -12,6 +12,6 @@ returns-clause-found c =
     let rest = take_rest c.deref.result.now given ∙ ap (drop given) c.deref.ensures.value
     ∙ ap (λ (u : Unread). u.rest) c.self.view_is in
     let none : c.self.inside.fault ≡ None = search rules in
-    plain_result c.plain_command.result c.args.self.now progress _ (sym (ap (λ (u : Unread). u.fault) c.self.view_is)
+    plain_result c.plain_command.result c.args.self.now progress _ _ (sym (ap (λ (u : Unread). u.fault) c.self.view_is)
     ∙ none) (subst (λ l. IsProgress l progress) rest c.read_text.ensures.progress)
     (c.from_utf8_unchecked-text.ensures ∙ ap (take progress.valid) rest) c.plain_command.ensures
