@@ -273,7 +273,7 @@ module _ (m : Records) (h : ℕ) (p : NodePtr) (k : ℕ) (can : CanChange m (suc
       now-lines : lines_of h now ≡ lines_of h before ++ (lines_in l h f.child ++ lines_of h after)
       now-lines = flat_map-append (lines h) before (tree_at l h f.child ∷ after)
 
-      lines-changed : lines_of h now ≡ changed k to (lines_in m (suc h) p)
+      pub lines-changed : lines_of h now ≡ changed k to (lines_in m (suc h) p)
       lines-changed =
           let e = counted m h (take f.slot (kids m p)) (all-left (Holds m h) before (child ∷ after) whole) in
           let place = finds.place in

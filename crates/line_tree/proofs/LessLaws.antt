@@ -1,5 +1,6 @@
 -- What is left of a sum where a part goes.
 --     less-plus        a part without toggles
+--     without-plus     a part whose toggled slots are toggled in the rest too
 --     sum_all-remove   a child
 --     line-gone        a line
 use Rattle.std.proofs.Common.{◌≡◌, ℕ, zero, suc, ◌+◌, ◌-◌, List, [], ◌∷◌, sym, ap, ◌∙◌, arith}
@@ -7,8 +8,9 @@ use Rattle.std.specs.Prelude.{Some, slice_get}
 use Rattle.std.specs.List.{remove}
 use Rattle.std.proofs.lemmas.Option.{none-some, same_Some}
 use Rattle.text_model.specs.SlotSets.{differing}
-use Rattle.toggle_sums.specs.CountLaws.{differing-empty, plus-associative, plus-commutative, union-empty}
-use Rattle.toggle_sums.specs.Counts.{Count, IsBare, less, plus}
+use Rattle.toggle_sums.specs.CountLaws.{differing-associative, differing-empty, differing-self, plus-associative, plus-commutative}
+use Rattle.toggle_sums.specs.CountLaws.{union-empty}
+use Rattle.toggle_sums.specs.Counts.{Count, IsBare, IsWithin, less, plus, without}
 use Rattle.segments.specs.Columns.{line_count}
 use Rattle.raw_nodes.specs.Records.{Records}
 use Rattle.raw_nodes.specs.declared.names.NodePtr.{NodePtr}
@@ -33,6 +35,21 @@ less-plus rest part bare =
       marks = marks i;
       parity = parity i;
       presence = presence i;
+    }
+
+pub without-plus : (rest part : Count) → IsWithin part rest → without part (plus rest part) ≡ rest
+without-plus rest part within =
+    let lines : (rest.lines + part.lines) - part.lines ≡ rest.lines = omega arith in
+    let characters : (rest.characters + part.characters) - part.characters ≡ rest.characters = omega arith in
+    let marks : (rest.marks + part.marks) - part.marks ≡ rest.marks = omega arith in
+    let parity = differing-associative rest.parity part.parity part.parity
+    ∙ ap (differing rest.parity) (differing-self part.parity) ∙ differing-empty rest.parity in
+    λ i. record {
+      lines = lines i;
+      characters = characters i;
+      marks = marks i;
+      parity = parity i;
+      presence = within i;
     }
 
 pub sum_all-remove : (m : Records) (cs : List NodePtr) (k : ℕ) (c : NodePtr) → slice_get cs k ≡ Some c →

@@ -2,10 +2,13 @@
 --     puts-line                the line itself
 --     child-fits               what the next step down asks
 --     change-sum, change-fits  what a node's sum is made anew by
+--     within-both              of slots that are toggled in a part of a part
+--     within-node              the slots of the line are toggled in the node above it
 --     replaces-node            the node above it
-use Rattle.std.proofs.Common.{◌≡◌, ℕ, suc, sym, ap, ◌∙◌, subst}
-use Rattle.toggle_sums.specs.CountLaws.{plus-commutative}
-use Rattle.toggle_sums.specs.Counts.{Count, plus}
+use Rattle.std.proofs.Common.{◌≡◌, ℕ, zero, suc, ◌<◌, List, [], ◌∷◌, length, sym, ap, ◌∙◌, subst, arith}
+use Rattle.std.specs.FinSet as set
+use Rattle.toggle_sums.specs.CountLaws.{plus-commutative, union-associative, union-commutative, union-self}
+use Rattle.toggle_sums.specs.Counts.{Count, IsWithin, plus}
 use Rattle.segments.specs.Columns.{LineContent, line_count}
 use Rattle.raw_nodes.specs.Records.{Records}
 use Rattle.raw_nodes.specs.Rows.{kids, row}
@@ -14,10 +17,10 @@ use Rattle.line_tree.specs.Changes.{FitsSum, resummed, sums}
 use Rattle.line_tree.specs.Finds.{Finds}
 use Rattle.line_tree.specs.Replacing.{PutsOver}
 use Rattle.line_tree.specs.Shape.{lines_in, sum_at}
-use Rattle.line_tree.specs.Taking.{CanChange, Changes}
-use Rattle.line_tree.specs.Trees.{total}
+use Rattle.line_tree.specs.Taking.{CanChange, Changes, changed}
+use Rattle.line_tree.specs.Trees.{Named, total}
 use Rattle.line_tree.specs.declared.find.Found.{Found}
-use Rattle.line_tree.proofs.ChangingLaws.{changes-line, changes-node, node-sum, row-sum, sum-changed, was-parts}
+use Rattle.line_tree.proofs.ChangingLaws.{changes-line, changes-node, lines-changed, node-sum, row-sum, sum-changed, was-parts}
 use Rattle.line_tree.proofs.SumLaws.{fits-part}
 
 pub puts-line : (m n : Records) (p : NodePtr) (k : ℕ) (new : LineContent) (gone more : Count) → CanChange m 0 p k →
@@ -29,6 +32,29 @@ puts-line m n p k new gone more can puts = changes-line m n p k (λ _. new) gone
   sum = ap (plus (line_count new)) puts.went ∙ plus-commutative (line_count new) (line_count puts.line)
       ∙ ap (plus (line_count puts.line)) (sym puts.came);
 })
+
+-- ---- slots
+pub within-both : (a b c : Count) → IsWithin a b → IsWithin b c → IsWithin a c
+within-both a b c first second =
+    ap (λ s. set.union s a.presence) (sym second) ∙ union-associative c.presence b.presence a.presence
+    ∙ ap (set.union c.presence) first ∙ second
+
+within-first : (a b : Count) → IsWithin a (plus a b)
+within-first a b =
+    union-commutative (set.union a.presence b.presence) a.presence
+    ∙ sym (union-associative a.presence a.presence b.presence)
+    ∙ ap (λ s. set.union s b.presence) (union-self a.presence)
+
+within-rest : (a b c : Count) → IsWithin a c → IsWithin a (plus b c)
+within-rest a b c within =
+    union-associative b.presence c.presence a.presence ∙ ap (set.union b.presence) within
+
+within-changed : (ls : List Named) (k : ℕ) (new : LineContent) → k < length ls →
+    IsWithin (line_count new) (total (changed k (λ _. new) ls))
+within-changed [] k new h = absurd (omega arith)
+within-changed (l ∷ ls) zero new h = within-first (line_count new) (total ls)
+within-changed (l ∷ ls) (suc k) new h = within-rest (line_count new) (line_count l.1) (total (changed k (λ _. new) ls))
+    (within-changed ls k new (omega arith))
 
 -- ---- above it
 module _ (m : Records) (h : ℕ) (p : NodePtr) (k : ℕ) (can : CanChange m (suc h) p k) (f : Found) (finds : Finds m p k f)
@@ -49,6 +75,13 @@ module _ (m : Records) (h : ℕ) (p : NodePtr) (k : ℕ) (can : CanChange m (suc
     pub change-fits : FitsSum (plus (sum_at l p) more)
     change-fits = subst FitsSum
         (sym (λ i. plus (node-sum m h p k can f finds l (λ _. new) gone more done i) (came i))) fits
+
+    pub within-node : IsWithin more (sums l (row (kids l p)))
+    within-node = subst (λ s. IsWithin s (sums l (row (kids l p)))) (sym came)
+        (subst (IsWithin (line_count new))
+        (sym (row-sum m h p k can f finds l (λ _. new) gone more done
+        ∙ ap total (lines-changed m h p k can f finds l (λ _. new) gone more done)))
+        (within-changed (lines_in m (suc h) p) k new can.place))
 
     pub replaces-node : (n : Records) → n ≡ resummed l p (row (kids l p)) →
         Changes m n (suc h) p k (λ _. new) gone more

@@ -2,7 +2,7 @@ ghost use Rattle.std.specs.Prelude.{◌≡◌};
 ghost use Rattle.raw_nodes.specs.Names.{records, rooms, spares};
 ghost use Rattle.raw_nodes.specs.Rows.{kids, row};
 ghost use Rattle.segments.specs.Columns.{line_count};
-ghost use Rattle.toggle_sums.specs.Counts.{plus};
+ghost use Rattle.toggle_sums.specs.Counts.{IsWithin, plus};
 ghost use Rattle.line_tree.specs.Changes.{FitsSum, resummed, sums};
 ghost use Rattle.line_tree.specs.Finds.{HasRow};
 ghost use Rattle.line_tree.specs.Shape.{IsTree, lines_in, sum_at};
@@ -65,6 +65,33 @@ fn mend_sum<C: Ticks>(
     }
 }
 
+/// As `mend_sum`, where what came is known to stand below the node: where each slot that is toggled in what went is
+/// toggled in what came too, it is toggled below the node still, and no child need be asked.
+fn exchange_sum<C: Ticks>(
+    store: &mut NodeStore<C>,
+    node: NodePtr,
+    gone: &Sums<WORDS>,
+    more: &Sums<WORDS>,
+    ticks: &mut C,
+)
+    requires row { HasRow (records store.old) node }
+    requires sum { plus (sums (records store.old) (row (kids (records store.old) node))) gone.now
+        ≡ plus (sum_at (records store.old) node) more.now }
+    requires came { IsWithin more.now (sums (records store.old) (row (kids (records store.old) node))) }
+    requires fits { FitsSum (plus (sum_at (records store.old) node) more.now) }
+    ensures records { records store.new ≡ resummed (records store.old) node (row (kids (records store.old) node)) }
+    ensures spares { spares store.new ≡ spares store.old }
+    ensures rooms { rooms store.new ≡ rooms store.old }
+{
+    if !gone.is_bare() && gone.is_within(more) {
+        let sum = store.sum(node, ticks);
+        let both = sum.plus(more);
+        store.set_sum(node, both.without(gone));
+    } else {
+        mend_sum(store, node, gone, more, ticks);
+    }
+}
+
 /// Puts a line in the place of line `k` below a node of this height, under its name.
 pub fn replace_in<C: Ticks>(
     store: &mut NodeStore<C>,
@@ -88,6 +115,6 @@ pub fn replace_in<C: Ticks>(
     let lines = store.lines(node, ticks);
     let found = find_at(store, node, height - 1, lines, k, ticks);
     let sums = replace_in(store, found.child, height - 1, found.rest, line, ticks);
-    mend_sum(store, node, &sums.gone, &sums.more, ticks);
+    exchange_sum(store, node, &sums.gone, &sums.more, ticks);
     sums
 }

@@ -30,6 +30,18 @@ fn sums_lose_numbers(rt: HostRuntime) {
 }
 
 #[test]
+fn sums_lose_a_part(rt: HostRuntime) {
+    let sums = joined();
+    let part = Sums::counting(1, 5, 2).toggled(TagSlot(64));
+    assert!(rt; part.is_within(&sums) && !sums.is_within(&part));
+    assert!(rt; part.lines() == 1 && part.characters() == 5 && part.marks() == 2);
+    assert!(rt; sums.lines() == 3 && sums.characters() == 12 && sums.marks() == 2);
+    let rest = sums.without(&part);
+    assert!(rt; rest.lines() == 2 && rest.characters() == 7 && rest.marks() == 0);
+    assert!(rt; rest.has(TagSlot(64)) && !rest.parity(TagSlot(64)));
+}
+
+#[test]
 fn sets_differ(rt: HostRuntime) {
     let some = TagSet::empty().with(TagSlot(3)).with(TagSlot(64));
     let other = TagSet::empty().with(TagSlot(3)).with(TagSlot(255));

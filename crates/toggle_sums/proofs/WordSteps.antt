@@ -129,6 +129,14 @@ slots_of-joined count a b c words =
     ∙ sym (set.contains-union nat_cmp_total (slots_of count a) (slots_of count b) q
     ∙ ap₂ (λ s t. s || t) (contains-slots_below n a q) (contains-slots_below n b q)))
 
+pub AreWords-joined : (count : ℕ) (a b c : List ℕ) → AreWords count a → AreWords count b → length c ≡ count →
+    ((i : ℕ) → i < count → slice_index c i ≡ bit_or (slice_index a i) (slice_index b i)) → AreWords count c
+AreWords-joined count a b c first second long words = record {
+  long = long;
+  each = λ i within. rw (words i within) (or_lt 64 (slice_index a i) (slice_index b i) (first.each i within)
+      (second.each i within));
+}
+
 -- ---- one bit
 -- the bit of a slot, as the code makes it, and the word with it
 abbrev pub bit_of : ℕ → ℕ

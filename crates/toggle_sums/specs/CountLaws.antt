@@ -44,6 +44,10 @@ either-commutative true false = refl
 either-commutative false true = refl
 either-commutative false false = refl
 
+either-self : (a : Bool) → either a a ≡ false
+either-self true = refl
+either-self false = refl
+
 or-associative : (a b c : Bool) → ((a || b) || c) ≡ (a || (b || c))
 or-associative true b c = refl
 or-associative false b c = refl
@@ -57,6 +61,10 @@ or-commutative false false = refl
 or-false : (a : Bool) → (a || false) ≡ a
 or-false true = refl
 or-false false = refl
+
+or-self : (a : Bool) → (a || a) ≡ a
+or-self true = refl
+or-self false = refl
 
 pub differing-associative : (r s t : Slots) → differing (differing r s) t ≡ differing r (differing s t)
 differing-associative r s t =
@@ -79,6 +87,10 @@ differing-empty s =
 pub empty-differing : (s : Slots) → differing set.empty s ≡ s
 empty-differing s = differing-commutative set.empty s ∙ differing-empty s
 
+pub differing-self : (s : Slots) → differing s s ≡ set.empty
+differing-self s = same_slots _ _ (λ q. contains-differing s s q ∙ either-self (set.contains s q)
+    ∙ sym (set.contains-empty nat_cmp q))
+
 pub union-associative : (r s t : Slots) → set.union (set.union r s) t ≡ set.union r (set.union s t)
 union-associative r s t =
     same_slots _ _ (λ q.
@@ -100,6 +112,9 @@ union-empty s =
 
 pub empty-union : (s : Slots) → set.union set.empty s ≡ s
 empty-union s = union-commutative set.empty s ∙ union-empty s
+
+pub union-self : (s : Slots) → set.union s s ≡ s
+union-self s = same_slots _ _ (λ q. set.contains-union nat_cmp_total s s q ∙ or-self (set.contains s q))
 
 add_groups : (a b c : ℕ) → (a + b) + c ≡ a + (b + c)
 add_groups a b c = omega arith

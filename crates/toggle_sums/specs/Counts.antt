@@ -52,12 +52,25 @@ pub record IsBare (count : Count) : Type 0 where
   pub parity : count.parity ≡ set.empty
   pub presence : count.presence ≡ set.empty
 
+-- each slot that is toggled in one is toggled in the other too
+abbrev pub IsWithin : Count → Count → Type 0
+IsWithin part whole = set.union whole.presence part.presence ≡ whole.presence
+
 -- so many lines, characters and marks less
 abbrev pub less : ℕ → ℕ → ℕ → Count → Count
 less lines characters marks count = record count {
   lines = count.lines - lines;
   characters = count.characters - characters;
   marks = count.marks - marks;
+}
+
+-- so much less, where the slots that are toggled at all stay
+abbrev pub without : Count → Count → Count
+without gone count = record count {
+  lines = count.lines - gone.lines;
+  characters = count.characters - gone.characters;
+  marks = count.marks - gone.marks;
+  parity = differing count.parity gone.parity;
 }
 
 -- one toggle of a slot more

@@ -1,6 +1,6 @@
 ghost use Rattle.std.specs.Prelude.{◌≡◌, ◌+◌, ◌*◌, ◌^◌, ◌<◌, ◌≤◌, slice_index, bit_or, bit_xor, true};
 ghost use Rattle.std.specs.FinSet as set;
-ghost use Rattle.toggle_sums.specs.Counts.{IsBare, counting, less, toggled, with_toggles};
+ghost use Rattle.toggle_sums.specs.Counts.{IsBare, IsWithin, counting, less, toggled, with_toggles, without};
 
 use crate::summary::Summary;
 use std::marker::Model;
@@ -134,6 +134,14 @@ impl<const K: usize> Sums<K> {
         self.parity == [0; K] && self.presence == [0; K]
     }
 
+    /// Whether each slot that is toggled here is toggled in the other sum too.
+    pub fn is_within(&self, other: &Sums<K>) -> bool
+        ensures yes { result ≡ true → IsWithin self.now other.now }
+        ensures no { IsWithin self.now other.now → result ≡ true }
+    {
+        joined_words(&other.presence, &self.presence) == other.presence
+    }
+
     /// The sum with so many lines, characters and marks less.
     pub fn less(&self, lines: usize, characters: usize, marks: usize) -> Sums<K>
         requires lines { lines ≤ self.now.lines }
@@ -146,6 +154,22 @@ impl<const K: usize> Sums<K> {
         sums.characters -= characters;
         sums.marks -= marks;
         sums
+    }
+
+    /// The sum with so much less, where each slot that is toggled in what goes is toggled in what stays too.
+    pub fn without(&self, gone: &Sums<K>) -> Sums<K>
+        requires lines { gone.now.lines ≤ self.now.lines }
+        requires characters { gone.now.characters ≤ self.now.characters }
+        requires marks { gone.now.marks ≤ self.now.marks }
+        ensures { result ≡ without gone.now self.now }
+    {
+        Sums {
+            lines: self.lines - gone.lines,
+            characters: self.characters - gone.characters,
+            marks: self.marks - gone.marks,
+            parity: differing_words(&self.parity, &gone.parity),
+            presence: self.presence,
+        }
     }
 
     /// The sum with one toggle of a slot more.

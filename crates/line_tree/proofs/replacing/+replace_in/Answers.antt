@@ -9,7 +9,7 @@ use Rattle.line_tree.specs.Shape.{lines_in}
 use Rattle.line_tree.specs.Taking.{CanChange, Changes}
 use Rattle.line_tree.specs.Trees.{total}
 use Rattle.line_tree.proofs.ChangingLaws.{can-child, node-row}
-use Rattle.line_tree.proofs.ReplacingLaws.{change-fits, change-sum, child-fits, puts-line, replaces-node}
+use Rattle.line_tree.proofs.ReplacingLaws.{change-fits, change-sum, child-fits, puts-line, replaces-node, within-node}
 use Rattle.line_tree.proofs.RowLaws.{lines_is}
 use Rattle.line_tree.proofs.TreeLaws.{below-tree, named-tree, whole-below}
 use Rattle.line_tree.proofs.replacing.+replace_in.Goals as goal
@@ -84,16 +84,16 @@ replace_in-sums-requires g t c κs inside = let m = records c.args.store.now in 
       ),
     )
 
-pub mend_sum-requires-clause-row : goal.mend_sum-requires-clause-row
-mend_sum-requires-clause-row g t c = let m = records c.args.store.now in
+pub exchange_sum-requires-clause-row : goal.exchange_sum-requires-clause-row
+exchange_sum-requires-clause-row g t c = let m = records c.args.store.now in
     let l = records c.replace_in-sums.new.store in let p = c.args.node in let k = c.args.k in
     let sums = c.replace_in-sums.result in
     let can = above m c.args.height p k c.requires.change c.if-height-eq0.false in
     node-row m (c.args.height - 1) p k can c.find_at-found.result c.find_at-found.ensures.found l (λ _. c.args.line)
     sums.gone sums.more c.replace_in-sums.ensures.changes
 
-pub mend_sum-requires-clause-sum : goal.mend_sum-requires-clause-sum
-mend_sum-requires-clause-sum g t c = let m = records c.args.store.now in
+pub exchange_sum-requires-clause-sum : goal.exchange_sum-requires-clause-sum
+exchange_sum-requires-clause-sum g t c = let m = records c.args.store.now in
     let l = records c.replace_in-sums.new.store in let p = c.args.node in let k = c.args.k in
     let sums = c.replace_in-sums.result in let high = c.if-height-eq0.false in
     let can = above m c.args.height p k c.requires.change high in
@@ -101,8 +101,8 @@ mend_sum-requires-clause-sum g t c = let m = records c.args.store.now in
     change-sum m (c.args.height - 1) p k can c.find_at-found.result c.find_at-found.ensures.found c.args.line fits l
     sums.gone sums.more c.replace_in-sums.ensures.changes c.replace_in-sums.ensures.more
 
-pub mend_sum-requires-clause-fits : goal.mend_sum-requires-clause-fits
-mend_sum-requires-clause-fits g t c = let m = records c.args.store.now in
+pub exchange_sum-requires-clause-fits : goal.exchange_sum-requires-clause-fits
+exchange_sum-requires-clause-fits g t c = let m = records c.args.store.now in
     let l = records c.replace_in-sums.new.store in let p = c.args.node in let k = c.args.k in
     let sums = c.replace_in-sums.result in let high = c.if-height-eq0.false in
     let can = above m c.args.height p k c.requires.change high in
@@ -110,13 +110,22 @@ mend_sum-requires-clause-fits g t c = let m = records c.args.store.now in
     change-fits m (c.args.height - 1) p k can c.find_at-found.result c.find_at-found.ensures.found c.args.line fits l
     sums.gone sums.more c.replace_in-sums.ensures.changes c.replace_in-sums.ensures.more
 
+pub exchange_sum-requires-clause-came : goal.exchange_sum-requires-clause-came
+exchange_sum-requires-clause-came g t c = let m = records c.args.store.now in
+    let l = records c.replace_in-sums.new.store in let p = c.args.node in let k = c.args.k in
+    let sums = c.replace_in-sums.result in let high = c.if-height-eq0.false in
+    let can = above m c.args.height p k c.requires.change high in
+    let fits = fit m c.args.height p c.args.line high c.requires.fits in
+    within-node m (c.args.height - 1) p k can c.find_at-found.result c.find_at-found.ensures.found c.args.line fits l
+    sums.gone sums.more c.replace_in-sums.ensures.changes c.replace_in-sums.ensures.more
+
 pub returns-clause-changes : goal.returns-clause-changes
 returns-clause-changes g t c = let m = records c.args.store.now in
-    let l = records c.replace_in-sums.new.store in let n = records c.mend_sum.new.store in
+    let l = records c.replace_in-sums.new.store in let n = records c.exchange_sum.new.store in
     let p = c.args.node in let k = c.args.k in
     let sums = c.replace_in-sums.result in let high = c.if-height-eq0.false in
     let can = above m c.args.height p k c.requires.change high in
     let fits = fit m c.args.height p c.args.line high c.requires.fits in
     back m n c.args.height p k c.args.line sums.gone sums.more high
     (replaces-node m (c.args.height - 1) p k can c.find_at-found.result c.find_at-found.ensures.found c.args.line fits l
-    sums.gone sums.more c.replace_in-sums.ensures.changes c.replace_in-sums.ensures.more n c.mend_sum.ensures.records)
+    sums.gone sums.more c.replace_in-sums.ensures.changes c.replace_in-sums.ensures.more n c.exchange_sum.ensures.records)
