@@ -107,7 +107,7 @@ fn drop_range(toggles: &mut Vec<Toggled>, from: usize, to: usize)
         return;
     }
     let end = toggles.len();
-    toggles[from..].rotate_left(to - from);
+    toggles.copy_within(to.., from);
     toggles.truncate(end - (to - from));
 }
 
