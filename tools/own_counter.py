@@ -17,9 +17,9 @@ import tempfile
 
 TOP = pathlib.Path(__file__).resolve().parent.parent
 CRATES = ["text_model", "toggle_sums", "segments", "line_lists", "raw_nodes", "line_tree"]
-FILE = "src/find.rt"
-OLD = "find_at(store, at, level - 1, rest, ticks)"
-NEW = "find_at(store, at, level - 1, rest, &mut raw_nodes::Steps::new())"
+FILE = "src/select.rt"
+OLD = "find_at(store, at, level - 1, lines, rest, ticks)"
+NEW = "find_at(store, at, level - 1, lines, rest, &mut raw_nodes::Steps::new())"
 WANTED = "error[mismatched-types]: expected `&mut C`, found `&mut Steps`"
 
 
