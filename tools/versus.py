@@ -22,6 +22,7 @@ import subprocess
 import sys
 import tempfile
 import time
+from itertools import zip_longest
 from typing import NamedTuple
 
 import workloads
@@ -47,6 +48,8 @@ PARTS = {
     "tree": ("line_tree", "raw_nodes", "toggle_sums"),
 }
 MEMORY = re.compile(r"malloc|free|alloc_|_alloc|dealloc")
+# The place that Tk tells for the end of any line that is longer.
+LONGEST = re.compile(rb"(\d+)\.1000000")
 INSTALL = "apt-get install xvfb tk8.6 valgrind"
 
 # What runs before the clock: no window, and a first text, which loads fonts and options.
@@ -183,6 +186,18 @@ def read(path):
         return file.read()
 
 
+def is_same_answer(theirs, ours):
+    """Whether two answers are the same, but for the end of a line that is too long for Tk."""
+    longest = LONGEST.fullmatch(theirs)
+    return theirs == ours or (longest is not None and ours.startswith(longest.group(1) + b"."))
+
+
+def are_same(theirs, ours):
+    """Whether all answers of two runs are."""
+    pairs = list(zip_longest(theirs.split(b"\n"), ours.split(b"\n"), fillvalue=b""))
+    return theirs == ours or all(is_same_answer(*pair) for pair in pairs)
+
+
 def measure(program, tk, workload, folder, repeat, is_quick):
     """One workload, run by both in turn."""
     commands = workload.commands()
@@ -192,7 +207,7 @@ def measure(program, tk, workload, folder, repeat, is_quick):
     path = tk.wrapped(commands)
     runs = [(tk.time(path, tk_answers), time_ours(program, script, answers)) for _ in range(repeat)]
     (tk_seconds, tk_size), (seconds, size) = (map(min, zip(*side)) for side in zip(*runs))
-    is_same = read(tk_answers) == read(answers)
+    is_same = are_same(read(tk_answers), read(answers))
     profile = os.path.join(folder, "profile")
     return Line(
         workload,
