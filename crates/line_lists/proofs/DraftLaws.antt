@@ -10,7 +10,7 @@ use Rattle.segments.specs.Columns.{LineContent}
 use Rattle.line_lists.specs.declared.drafts.Copied.{Copied}
 use Rattle.line_lists.specs.declared.drafts.Reached.{Reached}
 use Rattle.line_lists.specs.declared.drafts.Stop.{Stop}
-use Rattle.line_lists.specs.Drafts.{AreStops, BeginsBehind, BeginsBy, CanFollow, IsDraft, IsReached, NextBegins}
+use Rattle.line_lists.specs.Drafts.{AreStops, BeginsBehind, BeginsBy, CanFollow, IsDraft, IsReached, LastBeginsBehind, NextBegins}
 use Rattle.line_lists.specs.Drafts.{copies_of, covered, drafted, in_order, line_start, lines_before, made_lines, used}
 use Rattle.line_lists.specs.Lists.{IsCounted, count_of}
 use Rattle.line_lists.specs.Texts.{whole}
@@ -286,6 +286,20 @@ pub begins-by : (lines : List LineContent) (offset : ℕ) (front : List Stop) (b
     → Some stop ≡ slice_get front (length front - 1) → line_start stop.reached stop.copy lines ≤ offset →
     BeginsBy lines offset front
 begins-by lines offset front back stop draft last small before other is =
+    let same = last_same front before stop other last is in
+    let stops = subst (AreStops lines []) is draft.stops in
+    omega (
+      arith,
+      small,
+      ap (λ (x : Stop). line_start x.reached x.copy lines) same,
+      start-is lines (copies_of before) other.reached other.copy (stops-last lines [] before other stops),
+    )
+
+pub last-begins-behind : (lines : List LineContent) (offset : ℕ) (front : List Stop) (back : List Copied) (stop : Stop) →
+    IsDraft lines front back
+    → Some stop ≡ slice_get front (length front - 1) → offset < line_start stop.reached stop.copy lines →
+    LastBeginsBehind lines offset front
+last-begins-behind lines offset front back stop draft last small before other is =
     let same = last_same front before stop other last is in
     let stops = subst (AreStops lines []) is draft.stops in
     omega (

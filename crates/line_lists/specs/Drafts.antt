@@ -78,6 +78,12 @@ BeginsBy lines offset front =
     (before : List Stop) (stop : Stop) → front ≡ before ++ stop ∷ [] →
     length (whole (lines_before (copies_of before) stop.copy lines)).columns ≤ offset
 
+-- it begins behind an offset
+abbrev pub LastBeginsBehind : List LineContent → ℕ → List Stop → Type 0
+LastBeginsBehind lines offset front =
+    (before : List Stop) (stop : Stop) → front ≡ before ++ stop ∷ [] →
+    offset < length (whole (lines_before (copies_of before) stop.copy lines)).columns
+
 -- the line of the first copy behind the place, if there is one, begins behind an offset
 abbrev pub BeginsBehind : List LineContent → ℕ → List Stop → List Copied → Type 0
 BeginsBehind lines offset front back =

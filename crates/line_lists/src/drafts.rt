@@ -5,6 +5,7 @@ ghost use Rattle.text_model.specs.Lines.{lines};
 ghost use Rattle.segments.specs.Columns.{LineContent, after_text};
 ghost use Rattle.line_lists.specs.Texts.{whole};
 ghost use Rattle.line_lists.specs.Drafts.{BeginsBehind, BeginsBy, CanFollow, IsDraft, IsFound, IsReached, IsTaken};
+ghost use Rattle.line_lists.specs.Drafts.{LastBeginsBehind};
 ghost use Rattle.line_lists.specs.Drafts.{IsText, NextBegins, StandsAt, StandsBy, copies_of, drafted_at, line_start};
 ghost use Rattle.line_lists.specs.Drafts.{lines_before, made_lines, taken_lines, text_at};
 ghost use Rattle.line_lists.specs.Edits.{with_mark, with_toggled, without_mark};
@@ -209,6 +210,8 @@ impl<'a, L: LineList> Draft<'a, L> {
             ≡ length (whole (made_lines (copies_of self.now.front.items) (L.lines self.now.list.now))).columns }
         ensures begun { result ≡ true → BeginsBy (L.lines self.now.list.now) offset self.now.front.items }
         ensures within { result ≡ true → offset < end }
+        ensures other { result ≡ false → offset < end →
+            LastBeginsBehind (L.lines self.now.list.now) offset self.now.front.items }
     {
         match self.front.last() {
             None => false,

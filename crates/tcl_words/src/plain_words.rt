@@ -1,7 +1,7 @@
 //! Commands of words that stand in the script as they are, which are read in one go.
 
-ghost use Rattle.std.specs.Prelude.{◌≡◌, ◌<◌, ◌≤◌, ◌+◌, ◌++◌, ◌∷◌, [], length, slice_index, map, take, vec_len};
-ghost use Rattle.std.specs.Prelude.{string_bytes, IfOk, OnOk, IfSome};
+ghost use Rattle.std.specs.Prelude.{◌≡◌, ◌<◌, ◌≤◌, ◌+◌, ◌++◌, ◌∷◌, [], length, slice_index, map, filter, nat_lt, take, vec_len, vec_capacity};
+ghost use Rattle.std.specs.Prelude.{string_bytes, string_capacity, IfOk, OnOk, IfSome};
 ghost use Rattle.tcl_words.specs.PlainWords.{IsPlainWord, IsClosed, IsPlainCommand};
 ghost use Rattle.tcl_words.specs.declared.stage.Stage.TheVariants.{BeforeWord};
 
@@ -25,7 +25,7 @@ pub struct PlainWord {
 // A command of more words is none of these: so none is made before the end of its command is found.
 const MOST: usize = 8;
 
-// Room for more bytes isn't kept for another word,
+// Room for so many bytes isn't kept for another word,
 const LONG: usize = 4_096;
 
 // nor is room for more words.
@@ -178,17 +178,25 @@ fn write_words(alloc: Global, words: &mut Vec<String>, texts: &[&str]) -> Result
     Ok(())
 }
 
+// Lets go of the words with much memory.
+fn keep_short(words: &mut Vec<String>)
+    ensures kept { words.new.items ≡ filter (λ word. nat_lt (string_capacity word) 4096) words.old.items }
+    ensures capacity { vec_capacity words.new ≡ vec_capacity words.old }
+{
+    words.retain(|word| word.capacity() < LONG);
+}
+
 /// Lets go of memory for long words and for many, so that what is kept for the next command doesn't grow with those
-/// before. What the words are then isn't said.
-pub fn leave_long(alloc: Global, words: &mut Vec<String>) {
+/// before.
+pub fn leave_long(alloc: Global, words: &mut Vec<String>)
+    ensures few { vec_capacity words.new ≤ 16 }
+    ensures short { vec_capacity words.old ≤ 16 →
+        words.new.items ≡ filter (λ word. nat_lt (string_capacity word) 4096) words.old.items }
+{
     if words.capacity() > MANY {
         *words = Vec::new(alloc);
     }
-    for word in words.iter_mut() {
-        if word.capacity() > LONG {
-            *word = String::new(alloc);
-        }
-    }
+    keep_short(words);
 }
 
 /// How many bytes the command at the front of a text has, if it is of few such words alone. They are written over the
