@@ -35,7 +35,7 @@ use Rattle.documents.specs.Texts.{insert_at, insertion_offset}
 use Rattle.documents.specs.View.{shown, view_end}
 use Rattle.documents.proofs.CarriedLaws.{IsCarried, carried-active, carried-with}
 use Rattle.documents.proofs.IndexPlaceLaws.{place-within}
-use Rattle.peers.specs.Command.{done}
+use Rattle.peers.specs.Command.{Call, done}
 use Rattle.peers.specs.Deletions.{delete, replace, replace_places, replace_words}
 use Rattle.peers.specs.History.{edit_modified, modified_word}
 use Rattle.peers.specs.Marks.{gravity_asked, gravity_given, gravity_words, mark_gravity, mark_set, set_at, set_words}
@@ -88,6 +88,17 @@ IsOther Configure = ⊤
 IsOther EditReset = ⊤
 IsOther PeerCreate = ⊤
 IsOther command = ⊥
+
+-- the call of a widget's command with these words
+abbrev pub calling : LimitTable → List (List ℕ) → Widget → List (List ℕ) → ℕ → List (List ℕ) → Call
+calling limits windows widget switches at arguments = record {
+  limits = limits;
+  windows = windows;
+  widget = widget;
+  switches = switches;
+  at = at;
+  arguments = arguments;
+}
 
 module _ (limits : LimitTable) (document : Document) (widget : Widget) (P : Document →
     Type 0) (carried : IsCarried limits document widget P) where
@@ -197,8 +208,8 @@ module _ (limits : LimitTable) (document : Document) (widget : Widget) (P : Docu
   -- ---- any command but three
 
   pub carried-done : (command : Command) (windows switches : List (List ℕ)) (at : ℕ) (arguments : List (List ℕ))
-      → (IsOther command → P (done command limits windows document widget switches at arguments).document)
-      → P (done command limits windows document widget switches at arguments).document
+      → (IsOther command → P (done command document (calling limits windows widget switches at arguments)).document)
+      → P (done command document (calling limits windows widget switches at arguments)).document
   carried-done Insert windows switches at arguments other = inserts at arguments
   carried-done Delete windows switches at arguments other = deletes at arguments
   carried-done Replace windows switches at arguments other = replaces at arguments

@@ -42,7 +42,7 @@ use Rattle.peers.specs.Undoing.{AreSpared, BeginsToKeep, after_all, forgets, for
 use Rattle.peers.specs.Undoing.{names_dropped, names_read, place_after, place_after_all, text_at}
 use Rattle.peers.specs.WellFormed.{IsWellFormed}
 use Rattle.peers.specs.World.{World, all_windows, document_at, home, windows_of}
-use Rattle.peers.proofs.DoneLaws.{IsOther, carried-done}
+use Rattle.peers.proofs.DoneLaws.{IsOther, calling, carried-done}
 use Rattle.peers.proofs.FrontLaws.{IsBefore, before-grown, front-changed, front-stays, left-among, left-at, left-front}
 use Rattle.peers.proofs.FrontLaws.{neither, set-at, set-length, set-other}
 use Rattle.peers.proofs.KeepingLaws.{leads-configured, leads-peered, named-configured, named-peered}
@@ -62,9 +62,9 @@ pub record Follows (start : List ℕ) (world : World) (place : ℕ) : Type 0 whe
 module _ (limits : LimitTable) (windows : List (List ℕ)) (document : Document) (widget : Widget) where
   leads-other : (start : List ℕ) (switches : List (List ℕ)) (at : ℕ) (arguments : List (List ℕ)) (given : Command) →
       Leads limits.chars start document
-      → (is_ok (done given limits windows document widget switches at arguments).reply && forgets given arguments)
+      → (is_ok (done given document (calling limits windows widget switches at arguments)).reply && forgets given arguments)
       ≡ false → IsOther given
-      → Leads limits.chars start (done given limits windows document widget switches at arguments).document
+      → Leads limits.chars start (done given document (calling limits windows widget switches at arguments)).document
   leads-other start switches at arguments Configure leads spared other =
       leads-configured limits.chars start document widget at arguments leads spared
   leads-other start switches at arguments EditReset leads spared other = absurd (true≢false spared)
@@ -73,7 +73,7 @@ module _ (limits : LimitTable) (windows : List (List ℕ)) (document : Document)
   leads-other start switches at arguments given leads spared other = absurd other
 
   named-other : (switches : List (List ℕ)) (at : ℕ) (arguments : List (List ℕ)) (given : Command) → IsOther given
-      → AreNamed windows document (done given limits windows document widget switches at arguments).document
+      → AreNamed windows document (done given document (calling limits windows widget switches at arguments)).document
   named-other switches at arguments Configure other = named-configured windows document widget at arguments
   named-other switches at arguments EditReset other = named-same windows document (edit_reset document).document refl
   named-other switches at arguments PeerCreate other = named-peered limits windows document widget at arguments

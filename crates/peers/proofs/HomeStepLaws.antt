@@ -18,7 +18,7 @@ use Rattle.command_table.specs.Reading.{reading}
 use Rattle.command_table.specs.declared.commands.Command.TheVariants.{PeerCreate}
 use Rattle.command_table.specs.declared.shapes.Shape.{Shape}
 use Rattle.command_table.specs.declared.shapes.ShapeFault.{ShapeFault}
-use Rattle.peers.specs.Command.{arguments_of, command, done, shaped, switches_of}
+use Rattle.peers.specs.Command.{arguments_of, call_of, command, done, shaped}
 use Rattle.peers.specs.Peers.{peer_create}
 use Rattle.documents.specs.WellFormed.{IsWellFormedDocument, window_names}
 use Rattle.peers.specs.Step.{changed, on_found}
@@ -100,8 +100,7 @@ pub peer-command : (limits : LimitTable) (windows : List (List ℕ)) (document :
     ≡ peer_create limits windows document widget shape.arguments (arguments_of shape words)
 peer-command limits windows document widget words shape is peer =
     ap (shaped limits windows document widget words) is
-    ∙ ap (λ which. done which limits windows document widget (switches_of shape words) shape.arguments
-    (arguments_of shape words)) peer
+    ∙ ap (λ which. done which document (call_of limits windows widget shape words)) peer
 
 -- words that are no command
 pub bad-command : (limits : LimitTable) (windows : List (List ℕ)) (document : Document) (widget : Widget)

@@ -40,54 +40,52 @@ switches_of shape words = take (shape.arguments - shape.switches) (drop shape.sw
 abbrev pub arguments_of : Shape → List (List ℕ) → List (List ℕ)
 arguments_of shape words = drop shape.arguments words
 
--- a command with its arguments, which stand from a position on, where the names of all windows are known
-abbrev pub done : Command → LimitTable → List (List ℕ) → Document → Widget → List (List ℕ) → ℕ → List (List ℕ) → Change
-done Insert limits windows document widget switches at arguments = insert limits document widget at arguments
-done Delete limits windows document widget switches at arguments = delete document widget at arguments
-done Replace limits windows document widget switches at arguments = replace limits document widget at arguments
-done Get limits windows document widget switches at arguments = asked document (get document widget at arguments)
-done Index limits windows document widget switches at arguments = asked document (index document widget at arguments)
-done Compare limits windows document widget switches at arguments =
-    asked document (compare document widget at arguments)
-done MarkGravity limits windows document widget switches at arguments = mark_gravity document widget at arguments
-done MarkNames limits windows document widget switches at arguments = asked document (mark_names_of document)
-done MarkNext limits windows document widget switches at arguments =
-    asked document (mark_next document widget at arguments)
-done MarkPrevious limits windows document widget switches at arguments =
-    asked document (mark_previous document widget at arguments)
-done MarkSet limits windows document widget switches at arguments = mark_set limits document widget at arguments
-done MarkUnset limits windows document widget switches at arguments = mark_unset document arguments
-done TagAdd limits windows document widget switches at arguments = tag_add limits document widget at arguments
-done TagRemove limits windows document widget switches at arguments = tag_remove document widget at arguments
-done TagDelete limits windows document widget switches at arguments = tag_delete document arguments
-done TagNames limits windows document widget switches at arguments =
-    asked document (tag_names document widget at arguments)
-done TagRanges limits windows document widget switches at arguments =
-    asked document (tag_ranges_of document widget arguments)
-done TagNextRange limits windows document widget switches at arguments =
-    asked document (tag_nextrange document widget at arguments)
-done TagPreviousRange limits windows document widget switches at arguments =
-    asked document (tag_prevrange document widget at arguments)
-done TagRaise limits windows document widget switches at arguments = tag_raise document at arguments
-done TagLower limits windows document widget switches at arguments = tag_lower document at arguments
-done Configure limits windows document widget switches at arguments = configure document widget at arguments
-done Cget limits windows document widget switches at arguments = asked document (cget document widget arguments)
-done EditUndo limits windows document widget switches at arguments = edit_undo document widget
-done EditRedo limits windows document widget switches at arguments = edit_redo document widget
-done EditModified limits windows document widget switches at arguments = edit_modified document at arguments
-done EditReset limits windows document widget switches at arguments = edit_reset document
-done EditSeparator limits windows document widget switches at arguments = edit_separator document
-done Search limits windows document widget switches at arguments =
-    asked document (search document widget switches at arguments)
-done Count limits windows document widget switches at arguments =
-    asked document (count document widget switches at arguments)
-done Dump limits windows document widget switches at arguments =
-    asked document (dump document widget switches at arguments)
-done PeerCreate limits windows document widget switches at arguments =
-    peer_create limits windows document widget at arguments
-done PeerNames limits windows document widget switches at arguments = asked document (peer_names document widget)
-done Text limits windows document widget switches at arguments = refused document (BadOption 1)
-done Destroy limits windows document widget switches at arguments = refused document (BadOption 1)
+-- who calls a command, and with which words: its switches, and its arguments, which stand from a position on
+pub record Call : Type 0 where
+  pub limits : LimitTable
+  pub windows : List (List ℕ)
+  pub widget : Widget
+  pub switches : List (List ℕ)
+  pub at : ℕ
+  pub arguments : List (List ℕ)
+
+-- a command as it is called, where the names of all windows are known
+abbrev pub done : Command → Document → Call → Change
+done Insert document call = insert call.limits document call.widget call.at call.arguments
+done Delete document call = delete document call.widget call.at call.arguments
+done Replace document call = replace call.limits document call.widget call.at call.arguments
+done Get document call = asked document (get document call.widget call.at call.arguments)
+done Index document call = asked document (index document call.widget call.at call.arguments)
+done Compare document call = asked document (compare document call.widget call.at call.arguments)
+done MarkGravity document call = mark_gravity document call.widget call.at call.arguments
+done MarkNames document call = asked document (mark_names_of document)
+done MarkNext document call = asked document (mark_next document call.widget call.at call.arguments)
+done MarkPrevious document call = asked document (mark_previous document call.widget call.at call.arguments)
+done MarkSet document call = mark_set call.limits document call.widget call.at call.arguments
+done MarkUnset document call = mark_unset document call.arguments
+done TagAdd document call = tag_add call.limits document call.widget call.at call.arguments
+done TagRemove document call = tag_remove document call.widget call.at call.arguments
+done TagDelete document call = tag_delete document call.arguments
+done TagNames document call = asked document (tag_names document call.widget call.at call.arguments)
+done TagRanges document call = asked document (tag_ranges_of document call.widget call.arguments)
+done TagNextRange document call = asked document (tag_nextrange document call.widget call.at call.arguments)
+done TagPreviousRange document call = asked document (tag_prevrange document call.widget call.at call.arguments)
+done TagRaise document call = tag_raise document call.at call.arguments
+done TagLower document call = tag_lower document call.at call.arguments
+done Configure document call = configure document call.widget call.at call.arguments
+done Cget document call = asked document (cget document call.widget call.arguments)
+done EditUndo document call = edit_undo document call.widget
+done EditRedo document call = edit_redo document call.widget
+done EditModified document call = edit_modified document call.at call.arguments
+done EditReset document call = edit_reset document
+done EditSeparator document call = edit_separator document
+done Search document call = asked document (search document call.widget call.switches call.at call.arguments)
+done Count document call = asked document (count document call.widget call.switches call.at call.arguments)
+done Dump document call = asked document (dump document call.widget call.switches call.at call.arguments)
+done PeerCreate document call = peer_create call.limits call.windows document call.widget call.at call.arguments
+done PeerNames document call = asked document (peer_names document call.widget)
+done Text document call = refused document (BadOption 1)
+done Destroy document call = refused document (BadOption 1)
 
 -- commands that take no memory
 abbrev pub is_frugal : Command → Bool
@@ -101,10 +99,22 @@ abbrev pub is_frugal_reading : Result Shape ShapeFault → Bool
 is_frugal_reading (Err fault) = true
 is_frugal_reading (Ok shape) = is_frugal shape.command
 
+-- the call of a command of this shape
+abbrev pub call_of : LimitTable → List (List ℕ) → Widget → Shape → List (List ℕ) → Call
+call_of limits windows widget shape words = record {
+  limits = limits;
+  windows = windows;
+  widget = widget;
+  switches = switches_of shape words;
+  at = shape.arguments;
+  arguments = arguments_of shape words;
+}
+
+-- a command of this shape, or none
 abbrev pub shaped : LimitTable → List (List ℕ) → Document → Widget → List (List ℕ) → Result Shape ShapeFault → Change
 shaped limits windows document widget words (Err fault) = refused document (shape_fault fault)
-shaped limits windows document widget words (Ok shape) = done shape.command limits windows document widget
-    (switches_of shape words) shape.arguments (arguments_of shape words)
+shaped limits windows document widget words (Ok shape) =
+    done shape.command document (call_of limits windows widget shape words)
 
 -- a command of a widget: all its words, of which the first names the widget
 abbrev pub command : LimitTable → List (List ℕ) → Document → Widget → List (List ℕ) → Change

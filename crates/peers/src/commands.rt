@@ -24,27 +24,46 @@ use command_table::{Command, Shape};
 use documents::Document;
 use text_model::{Limits, TextStore};
 
-/// A command of a widget but `peer create`, with its switches, and its arguments and options, which stand from a
-/// position on.
+/// Who calls a command, and with which words: its switches, and its arguments and options, which stand from a position
+/// on.
+#[derive(Clone, Copy)]
+struct Call<'a> {
+    limits: &'a Limits,
+    widget: usize,
+    switches: &'a [String],
+    at: usize,
+    arguments: &'a [String],
+}
+
+/// A command of a widget but `peer create`, as it is called.
 fn carry_out<S: TextStore>(
     document: &mut Document<S>,
-    limits: &Limits,
-    widget: usize,
     command: Command,
-    switches: &[String],
-    at: usize,
-    arguments: &[String],
+    call: Call<'_>,
 ) -> Result<Answer, Fault>
-    requires shown { widget < length document.old.widgets }
-    requires formed { IsWellFormedDocument limits.now document.old }
-    requires near { at + 2 ≤ usize.MAX }
-    requires all { at + length arguments.now ≤ usize.MAX }
+    requires shown { call.widget < length document.old.widgets }
+    requires formed { IsWellFormedDocument call.limits.now document.old }
+    requires near { call.at + 2 ≤ usize.MAX }
+    requires all { call.at + length call.arguments.now ≤ usize.MAX }
     requires own { command ≢ PeerCreate }
-    ensures does { (windows : List (List ℕ)) → Does limits.now document.old document.new result
-        (done command limits.now windows document.old (widget_at document.old widget) (texts_of switches.now) at
-        (texts_of arguments.now)) }
+    ensures does { (windows : List (List ℕ)) → Does call.limits.now document.old document.new result
+        (done command document.old (record {
+          limits = call.limits.now;
+          windows = windows;
+          widget = widget_at document.old call.widget;
+          switches = texts_of call.switches.now;
+          at = call.at;
+          arguments = texts_of call.arguments.now;
+        })) }
     ensures sure { is_frugal command ≡ true → result ≢ Err Memory }
 {
+    let Call {
+        limits,
+        widget,
+        switches,
+        at,
+        arguments,
+    } = call;
     match command {
         Command::Insert => insert(document, limits, widget, at, arguments),
         Command::Delete => delete(document, limits, widget, at, arguments),
@@ -101,13 +120,12 @@ pub fn command<S: TextStore>(
         (command limits.now windows document.old (widget_at document.old widget) (texts_of words.now)) }
     ensures sure { is_frugal shape.command ≡ true → result ≢ Err Memory }
 {
-    carry_out(
-        document,
+    let call = Call {
         limits,
         widget,
-        shape.command,
-        &words[shape.switches..shape.arguments],
-        shape.arguments,
-        &words[shape.arguments..],
-    )
+        switches: &words[shape.switches..shape.arguments],
+        at: shape.arguments,
+        arguments: &words[shape.arguments..],
+    };
+    carry_out(document, shape.command, call)
 }

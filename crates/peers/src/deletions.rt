@@ -82,8 +82,7 @@ fn replace_places<S: TextStore>(
     limits: &Limits,
     widget: usize,
     second: usize,
-    from: usize,
-    to: usize,
+    (from, to): (usize, usize),
     pairs: Vec<Pair>,
 ) -> Result<Answer, Fault>
     requires shown { widget < length document.old.widgets }
@@ -97,58 +96,58 @@ fn replace_places<S: TextStore>(
     replace_ordered(document, limits, widget, from, to, pairs)
 }
 
+/// Puts the texts of words in the place of the characters between two places, of which the first is the word at a
+/// position, if both are there.
 fn replace_found<S: TextStore>(
     document: &mut Document<S>,
     limits: &Limits,
     widget: usize,
     at: usize,
-    from: Result<usize, Fault>,
-    to: Result<usize, Fault>,
+    places: (Result<usize, Fault>, Result<usize, Fault>),
     words: &[String],
 ) -> Result<Answer, Fault>
     requires shown { widget < length document.old.widgets }
-    requires within { IfOk to (λ to. to ≤ length (shown document.old (widget_at document.old widget))) }
+    requires within { IfOk places.1 (λ to. to ≤ length (shown document.old (widget_at document.old widget))) }
     requires near { at + 2 + length words.now ≤ usize.MAX }
     ensures { Does limits.now document.old document.new result
-        (change_with document.old from (λ from. change_with document.old to (λ to.
+        (change_with document.old places.0 (λ from. change_with document.old places.1 (λ to.
         change_with document.old (pairs_at (at + 2) (texts_of words.now))
         (replace_places limits.now document.old (widget_at document.old widget) (at + 1) from to)))) }
 {
-    let from = match from {
+    let from = match places.0 {
         Err(fault) => return Err(fault),
         Ok(place) => place,
     };
-    let to = match to {
+    let to = match places.1 {
         Err(fault) => return Err(fault),
         Ok(place) => place,
     };
     match pairs_at(document.allocator(), at + 2, words) {
         Err(fault) => Err(fault),
-        Ok(pairs) => replace_places(document, limits, widget, at + 1, from, to, pairs),
+        Ok(pairs) => replace_places(document, limits, widget, at + 1, (from, to), pairs),
     }
 }
 
+/// Puts the texts of words in the place of the characters between two indices, of which the first stands at a position.
 fn replace_words<S: TextStore>(
     document: &mut Document<S>,
     limits: &Limits,
     widget: usize,
     at: usize,
-    first: &str,
-    second: &str,
-    words: &[String],
+    words: (&str, &str, &[String]),
 ) -> Result<Answer, Fault>
     requires shown { widget < length document.old.widgets }
-    requires near { at + 2 + length words.now ≤ usize.MAX }
+    requires near { at + 2 + length words.2.now ≤ usize.MAX }
     ensures { Does limits.now document.old document.new result
         (replace_words limits.now document.old (widget_at document.old widget) at (
-          chars first.now,
-          chars second.now,
-          texts_of words.now,
+          chars words.0.now,
+          chars words.1.now,
+          texts_of words.2.now,
         )) }
 {
-    let from = document.place_at(widget, at, first);
-    let to = document.place_at(widget, at + 1, second);
-    replace_found(document, limits, widget, at, from, to, words)
+    let from = document.place_at(widget, at, words.0);
+    let to = document.place_at(widget, at + 1, words.1);
+    replace_found(document, limits, widget, at, (from, to), words.2)
 }
 
 /// `W replace A B chars ?tagList chars ..?` (text(n), "replace"). The arguments stand from a position on.
@@ -166,8 +165,6 @@ pub fn replace<S: TextStore>(
 {
     match first_two(arguments) {
         Err(fault) => Err(fault),
-        Ok((first, second, words)) => replace_words(
-            document, limits, widget, at, first, second, words,
-        ),
+        Ok(words) => replace_words(document, limits, widget, at, words),
     }
 }

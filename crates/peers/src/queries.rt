@@ -174,20 +174,20 @@ fn searched<S: TextStore>(
     }
 }
 
+/// The matches of a pattern from an index on, up to another one, if it is there; the pattern stands at a position.
 fn search_words<S: TextStore>(
     document: &Document<S>,
     widget: usize,
     switches: SearchSwitches,
     at: usize,
-    pattern: &str,
-    first: &str,
-    last: Option<&str>,
+    words: (&str, &str, Option<&str>),
 ) -> Result<Answer, Fault>
     requires shown { widget < length document.now.widgets }
     requires near { at + 2 ≤ usize.MAX }
     ensures { Gives result (search_words document.now (widget_at document.now widget) switches at
-        (chars pattern.now, chars first.now, option_map (λ word. chars word.now) last.entry)) }
+        (chars words.0.now, chars words.1.now, option_map (λ word. chars word.now) words.2.entry)) }
 {
+    let (pattern, first, last) = words;
     let from = document.place_at(widget, at + 1, first);
     let stop = stop_at(document, widget, at + 2, last);
     searched(document, widget, switches, pattern, from, stop)
@@ -208,17 +208,7 @@ pub fn search<S: TextStore>(
 {
     match two_or_three(arguments) {
         Err(fault) => Err(fault),
-        Ok((pattern, first, last)) => {
-            search_words(
-                document,
-                widget,
-                search_switches(switches),
-                at,
-                pattern,
-                first,
-                last,
-            )
-        }
+        Ok(words) => search_words(document, widget, search_switches(switches), at, words),
     }
 }
 

@@ -54,6 +54,13 @@ impl Listed {
     }
 }
 
+/// What a widget sees: its lines, and the names of tags and marks.
+#[derive(Drop)]
+struct Sight<'a, S: TextStore> {
+    view: &'a View<'a, S>,
+    names: &'a Names<'a>,
+}
+
 /// Appends what it is, its name or characters, and where, as elements of a list.
 fn push_dumped<S: TextStore>(
     list: &mut String,
@@ -76,24 +83,23 @@ fn push_dumped<S: TextStore>(
 /// Appends the tag at a place of the table as one that begins or ends, if it is one.
 fn push_tag<S: TextStore>(
     list: &mut String,
-    view: &View<'_, S>,
-    names: &Names<'_>,
+    sight: &Sight<'_, S>,
     key: &str,
     place: usize,
     at: usize,
     is_listed: bool,
 ) -> Result<(), AllocError>
-    requires view { ShowsLines S.content view.now }
-    requires within { view.now.s + place ≤ view.now.e }
-    requires tag { at < length names.now.tags.now.tags }
+    requires view { ShowsLines S.content sight.now.view.now }
+    requires within { sight.now.view.now.s + place ≤ sight.now.view.now.e }
+    requires tag { at < length sight.now.names.now.tags.now.tags }
     ensures { OnOk result (Goes (string_bytes list.old) (string_bytes list.new) (if_listed is_listed
-        (element (chars key.now) (text_in S.content view.now) place
-        (slice_index_or (names_of names.now.tags.now.tags) at [])))) }
+        (element (chars key.now) (text_in S.content sight.now.view.now) place
+        (slice_index_or (names_of sight.now.names.now.tags.now.tags) at [])))) }
 {
     if !is_listed {
         return Ok(());
     }
-    push_dumped(list, view, key, names.tags.name(at), place)
+    push_dumped(list, sight.view, key, sight.names.tags.name(at), place)
 }
 
 /// Whether a slot is on in one set and not in another.
@@ -114,26 +120,25 @@ fn are_same(on: TagSet, off: TagSet) -> bool
 /// Appends the tags at a place that stand in one set and not in another, from the lowest.
 fn push_tags<S: TextStore>(
     list: &mut String,
-    view: &View<'_, S>,
-    names: &Names<'_>,
+    sight: &Sight<'_, S>,
     key: &str,
     place: usize,
     on: TagSet,
     off: TagSet,
 ) -> Result<(), AllocError>
-    requires view { ShowsLines S.content view.now }
-    requires widget { names.now.widget.0 < MOST_WIDGETS }
-    requires within { view.now.s + place ≤ view.now.e }
+    requires view { ShowsLines S.content sight.now.view.now }
+    requires widget { sight.now.names.now.widget.0 < MOST_WIDGETS }
+    requires within { sight.now.view.now.s + place ≤ sight.now.view.now.e }
     ensures { OnOk result (Goes (string_bytes list.old) (string_bytes list.new) (flat_map
-        (only_in on off names.now.widget.0 (chars key.now) (text_in S.content view.now) place)
-        names.now.tags.now.tags)) }
+        (only_in on off sight.now.names.now.widget.0 (chars key.now) (text_in S.content sight.now.view.now) place)
+        sight.now.names.now.tags.now.tags)) }
 {
     if are_same(on, off) {
         return Ok(());
     }
-    for at in 0..names.tags.len() {
-        let slot = own_slot(names, at);
-        push_tag(list, view, names, key, place, at, is_only_in(on, off, slot))?;
+    for at in 0..sight.names.tags.len() {
+        let slot = own_slot(sight.names, at);
+        push_tag(list, sight, key, place, at, is_only_in(on, off, slot))?;
     }
     Ok(())
 }
@@ -142,72 +147,69 @@ fn push_tags<S: TextStore>(
 /// those of the character at it.
 fn push_tags_at<S: TextStore>(
     list: &mut String,
-    view: &View<'_, S>,
-    names: &Names<'_>,
+    sight: &Sight<'_, S>,
     place: usize,
     before: TagSet,
 ) -> Result<TagSet, AllocError>
-    requires view { ShowsLines S.content view.now }
-    requires widget { names.now.widget.0 < MOST_WIDGETS }
-    requires within { view.now.s + place ≤ view.now.e }
-    requires before { AreTagsBefore S.content view.now names.now place before }
+    requires view { ShowsLines S.content sight.now.view.now }
+    requires widget { sight.now.names.now.widget.0 < MOST_WIDGETS }
+    requires within { sight.now.view.now.s + place ≤ sight.now.view.now.e }
+    requires before { AreTagsBefore S.content sight.now.view.now sight.now.names.now place before }
     ensures goes { OnOk result (Goes (string_bytes list.old) (string_bytes list.new)
-        (tagoff_elements (seen_in S.content view.now names.now) place
-        ++ tagon_elements (seen_in S.content view.now names.now) place)) }
-    ensures behind { IfOk result (λ behind. AreTagsAt S.content view.now names.now place behind) }
+        (tagoff_elements (seen_in S.content sight.now.view.now sight.now.names.now) place
+        ++ tagon_elements (seen_in S.content sight.now.view.now sight.now.names.now) place)) }
+    ensures behind { IfOk result (λ behind. AreTagsAt S.content sight.now.view.now sight.now.names.now place behind) }
 {
-    let behind = tags_behind(view, place);
-    push_tags(list, view, names, "tagoff", place, before, behind)?;
-    push_tags(list, view, names, "tagon", place, behind, before)?;
+    let behind = tags_behind(sight.view, place);
+    push_tags(list, sight, "tagoff", place, before, behind)?;
+    push_tags(list, sight, "tagon", place, behind, before)?;
     Ok(behind)
 }
 
 /// Appends a mark that stands at a place, if it is listed.
 fn push_mark<S: TextStore>(
     list: &mut String,
-    view: &View<'_, S>,
-    names: &Names<'_>,
+    sight: &Sight<'_, S>,
     is_listed: bool,
     place: usize,
     mark: Marked,
 ) -> Result<(), AllocError>
-    requires view { ShowsLines S.content view.now }
-    requires within { view.now.s + place ≤ view.now.e }
-    requires usable { Has (marks_in S.content view.now names.now) (shown_of view.now.s mark) }
+    requires view { ShowsLines S.content sight.now.view.now }
+    requires within { sight.now.view.now.s + place ≤ sight.now.view.now.e }
+    requires usable { Has (marks_in S.content sight.now.view.now sight.now.names.now) (shown_of sight.now.view.now.s mark) }
     ensures { OnOk result (Goes (string_bytes list.old) (string_bytes list.new) (if_listed is_listed
-        (mark_element (text_in S.content view.now) (marks.names_of names.now.marks.now.marks) place
-        (shown_of view.now.s mark)))) }
+        (mark_element (text_in S.content sight.now.view.now) (marks.names_of sight.now.names.now.marks.now.marks) place
+        (shown_of sight.now.view.now.s mark)))) }
 {
     if !is_listed {
         return Ok(());
     }
-    push_dumped(list, view, "mark", mark.name(names), place)
+    push_dumped(list, sight.view, "mark", mark.name(sight.names), place)
 }
 
 /// Appends the marks at a place from the first one on, if they are listed, and answers the first mark behind the place.
 fn push_marks_at<S: TextStore>(
     list: &mut String,
-    view: &View<'_, S>,
-    names: &Names<'_>,
+    sight: &Sight<'_, S>,
     is_listed: bool,
     place: usize,
     first: Option<Marked>,
 ) -> Result<Option<Marked>, AllocError>
-    requires view { ShowsLines S.content view.now }
-    requires widget { names.now.widget.0 < MOST_WIDGETS }
-    requires within { view.now.s + place ≤ view.now.e }
-    requires first { IsFirstMark S.content view.now names.now (view.now.s + place) first }
+    requires view { ShowsLines S.content sight.now.view.now }
+    requires widget { sight.now.names.now.widget.0 < MOST_WIDGETS }
+    requires within { sight.now.view.now.s + place ≤ sight.now.view.now.e }
+    requires first { IsFirstMark S.content sight.now.view.now sight.now.names.now (sight.now.view.now.s + place) first }
     ensures goes { OnOk result (Goes (string_bytes list.old) (string_bytes list.new)
-        (if_listed is_listed (mark_elements (seen_in S.content view.now names.now) place))) }
-    ensures next { IfOk result (λ next. IsFirstMark S.content view.now names.now (view.now.s + place + 1) next) }
+        (if_listed is_listed (mark_elements (seen_in S.content sight.now.view.now sight.now.names.now) place))) }
+    ensures next { IfOk result (λ next. IsFirstMark S.content sight.now.view.now sight.now.names.now (sight.now.view.now.s + place + 1) next) }
 {
     let mut next = first;
     while let Some(mark) = next {
         if mark.place != place {
             return Ok(next);
         }
-        push_mark(list, view, names, is_listed, place, mark)?;
-        next = mark.next(view, names);
+        push_mark(list, sight, is_listed, place, mark)?;
+        next = mark.next(sight.view, sight.names);
     }
     Ok(None)
 }
@@ -216,23 +218,22 @@ fn push_marks_at<S: TextStore>(
 /// answers those of the character at the place by those of the one before.
 fn push_listed_tags<S: TextStore>(
     list: &mut String,
-    view: &View<'_, S>,
-    names: &Names<'_>,
+    sight: &Sight<'_, S>,
     listed: Listed,
     place: usize,
     before: TagSet,
     may_change: bool,
 ) -> Result<TagSet, AllocError>
-    requires view { ShowsLines S.content view.now }
-    requires widget { names.now.widget.0 < MOST_WIDGETS }
-    requires within { view.now.s + place ≤ view.now.e }
-    requires before { IsTrue listed.tags → AreTagsBefore S.content view.now names.now place before }
+    requires view { ShowsLines S.content sight.now.view.now }
+    requires widget { sight.now.names.now.widget.0 < MOST_WIDGETS }
+    requires within { sight.now.view.now.s + place ≤ sight.now.view.now.e }
+    requires before { IsTrue listed.tags → AreTagsBefore S.content sight.now.view.now sight.now.names.now place before }
     requires still { may_change ≡ false → IsTrue listed.tags
-        → has_tag_at (seen_in S.content view.now names.now) place ≡ false }
+        → has_tag_at (seen_in S.content sight.now.view.now sight.now.names.now) place ≡ false }
     ensures goes { OnOk result (Goes (string_bytes list.old) (string_bytes list.new)
-        (tags_at listed (seen_in S.content view.now names.now) place)) }
+        (tags_at listed (seen_in S.content sight.now.view.now sight.now.names.now) place)) }
     ensures behind { IfOk result (λ behind. IsTrue listed.tags →
-        AreTagsAt S.content view.now names.now place behind) }
+        AreTagsAt S.content sight.now.view.now sight.now.names.now place behind) }
 {
     if !listed.tags {
         return Ok(before);
@@ -240,34 +241,33 @@ fn push_listed_tags<S: TextStore>(
     if !may_change {
         return Ok(before);
     }
-    push_tags_at(list, view, names, place, before)
+    push_tags_at(list, sight, place, before)
 }
 
 /// Appends the marks at a place, if marks are listed, and answers the first mark behind the place, if a dump stops at
 /// marks.
 fn push_listed_marks<S: TextStore>(
     list: &mut String,
-    view: &View<'_, S>,
-    names: &Names<'_>,
+    sight: &Sight<'_, S>,
     listed: Listed,
     place: usize,
     first: Option<Marked>,
 ) -> Result<Option<Marked>, AllocError>
-    requires view { ShowsLines S.content view.now }
-    requires widget { names.now.widget.0 < MOST_WIDGETS }
-    requires within { view.now.s + place ≤ view.now.e }
+    requires view { ShowsLines S.content sight.now.view.now }
+    requires widget { sight.now.names.now.widget.0 < MOST_WIDGETS }
+    requires within { sight.now.view.now.s + place ≤ sight.now.view.now.e }
     requires first { IsTrue (stops_at_marks listed) →
-        IsFirstMark S.content view.now names.now (view.now.s + place) first }
+        IsFirstMark S.content sight.now.view.now sight.now.names.now (sight.now.view.now.s + place) first }
     ensures goes { OnOk result (Goes (string_bytes list.old) (string_bytes list.new)
-        (if_listed listed.marks (mark_elements (seen_in S.content view.now names.now) place))) }
+        (if_listed listed.marks (mark_elements (seen_in S.content sight.now.view.now sight.now.names.now) place))) }
     ensures next { IfOk result (λ next. IsTrue (stops_at_marks listed) →
-        IsFirstMark S.content view.now names.now (view.now.s + place + 1) next) }
+        IsFirstMark S.content sight.now.view.now sight.now.names.now (sight.now.view.now.s + place + 1) next) }
     ensures behind { IfOk result (λ next. IfSome next (λ mark. place < mark.place)) }
 {
     if !listed.stops_at_marks() {
         return Ok(None);
     }
-    push_marks_at(list, view, names, listed.marks, place, first)
+    push_marks_at(list, sight, listed.marks, place, first)
 }
 
 /// Appends the text from one place to another, if text is listed.
@@ -308,28 +308,27 @@ fn next_line<S: TextStore>(view: &View<'_, S>, place: usize) -> usize
 /// doesn't stop at tags.
 fn stop_at_tag<S: TextStore>(
     changes: &mut TagChanges,
-    view: &View<'_, S>,
-    names: &Names<'_>,
+    sight: &Sight<'_, S>,
     listed: Listed,
     place: usize,
     to: usize,
 ) -> usize
-    requires view { ShowsLines S.content view.now }
-    requires widget { names.now.widget.0 < MOST_WIDGETS }
+    requires view { ShowsLines S.content sight.now.view.now }
+    requires widget { sight.now.names.now.widget.0 < MOST_WIDGETS }
     requires some { place < to }
-    requires within { view.now.s + to ≤ view.now.e }
-    requires ahead { AreAhead (S.content view.now.store.now) view.now.s view.now.e place changes.old.next }
-    ensures ahead { AreAhead (S.content view.now.store.now) view.now.s view.now.e place changes.new.next }
+    requires within { sight.now.view.now.s + to ≤ sight.now.view.now.e }
+    requires ahead { AreAhead (S.content sight.now.view.now.store.now) sight.now.view.now.s sight.now.view.now.e place changes.old.next }
+    ensures ahead { AreAhead (S.content sight.now.view.now.store.now) sight.now.view.now.s sight.now.view.now.e place changes.new.next }
     ensures above { place < result }
     ensures below { result ≤ to }
     ensures stop { IsTrue (stops_at_tags listed) →
-        IsNextStop (has_tag_at (seen_in S.content view.now names.now)) place to result }
+        IsNextStop (has_tag_at (seen_in S.content sight.now.view.now sight.now.names.now)) place to result }
 {
     if !listed.stops_at_tags() {
         return to;
     }
-    changes.pass(view, names, place);
-    changes.nearest(names, to)
+    changes.pass(sight.view, sight.names, place);
+    changes.nearest(sight.names, to)
 }
 
 /// The place of a mark, or another place, if that stands before it.
@@ -368,30 +367,29 @@ struct Stop {
 /// The next stop of a dump behind a place, or another place, if that stands before it.
 fn next_stop<S: TextStore>(
     changes: &mut TagChanges,
-    view: &View<'_, S>,
-    names: &Names<'_>,
+    sight: &Sight<'_, S>,
     listed: Listed,
     mark: Option<Marked>,
     place: usize,
     to: usize,
 ) -> Stop
-    requires view { ShowsLines S.content view.now }
-    requires widget { names.now.widget.0 < MOST_WIDGETS }
+    requires view { ShowsLines S.content sight.now.view.now }
+    requires widget { sight.now.names.now.widget.0 < MOST_WIDGETS }
     requires some { place < to }
-    requires within { view.now.s + to ≤ view.now.e }
-    requires ahead { AreAhead (S.content view.now.store.now) view.now.s view.now.e place changes.old.next }
+    requires within { sight.now.view.now.s + to ≤ sight.now.view.now.e }
+    requires ahead { AreAhead (S.content sight.now.view.now.store.now) sight.now.view.now.s sight.now.view.now.e place changes.old.next }
     requires mark { IsTrue (stops_at_marks listed) →
-        IsFirstMark S.content view.now names.now (view.now.s + place + 1) mark }
+        IsFirstMark S.content sight.now.view.now sight.now.names.now (sight.now.view.now.s + place + 1) mark }
     requires behind { IfSome mark (λ next. place < next.place) }
-    ensures ahead { AreAhead (S.content view.now.store.now) view.now.s view.now.e result.place changes.new.next }
+    ensures ahead { AreAhead (S.content sight.now.view.now.store.now) sight.now.view.now.s sight.now.view.now.e result.place changes.new.next }
     ensures mark { IsTrue (stops_at_marks listed) →
-        IsFirstMark S.content view.now names.now (view.now.s + result.place) mark }
-    ensures stop { IsStop listed (seen_in S.content view.now names.now) place to result.place }
+        IsFirstMark S.content sight.now.view.now sight.now.names.now (sight.now.view.now.s + result.place) mark }
+    ensures stop { IsStop listed (seen_in S.content sight.now.view.now sight.now.names.now) place to result.place }
     ensures still { result.may_change ≡ false → IsTrue listed.tags
-        → has_tag_at (seen_in S.content view.now names.now) result.place ≡ false }
+        → has_tag_at (seen_in S.content sight.now.view.now sight.now.names.now) result.place ≡ false }
 {
-    let tag = stop_at_tag(changes, view, names, listed, place, to);
-    let next = stop_at_line(view, listed, place, stop_at_mark(mark, tag));
+    let tag = stop_at_tag(changes, sight, listed, place, to);
+    let next = stop_at_line(sight.view, listed, place, stop_at_mark(mark, tag));
     Stop {
         place: next,
         may_change: next == tag,
@@ -399,40 +397,30 @@ fn next_stop<S: TextStore>(
 }
 
 /// The first mark at a place or behind it, if a dump stops at marks.
-fn listed_mark<S: TextStore>(
-    view: &View<'_, S>,
-    names: &Names<'_>,
-    listed: Listed,
-    place: usize,
-) -> Option<Marked>
-    requires view { ShowsLines S.content view.now }
-    requires widget { names.now.widget.0 < MOST_WIDGETS }
-    requires within { view.now.s + place ≤ view.now.e }
+fn listed_mark<S: TextStore>(sight: &Sight<'_, S>, listed: Listed, place: usize) -> Option<Marked>
+    requires view { ShowsLines S.content sight.now.view.now }
+    requires widget { sight.now.names.now.widget.0 < MOST_WIDGETS }
+    requires within { sight.now.view.now.s + place ≤ sight.now.view.now.e }
     ensures { IsTrue (stops_at_marks listed) →
-        IsFirstMark S.content view.now names.now (view.now.s + place) result }
+        IsFirstMark S.content sight.now.view.now sight.now.names.now (sight.now.view.now.s + place) result }
 {
     if !listed.stops_at_marks() {
         return None;
     }
-    mark_from(view, names, place)
+    mark_from(sight.view, sight.names, place)
 }
 
 /// The tags of the character before a place, if tags are listed.
-fn listed_before<S: TextStore>(
-    view: &View<'_, S>,
-    names: &Names<'_>,
-    listed: Listed,
-    place: usize,
-) -> TagSet
-    requires view { ShowsLines S.content view.now }
-    requires within { view.now.s + place ≤ view.now.e }
-    ensures { IsTrue listed.tags → AreTagsBefore S.content view.now names.now place result }
+fn listed_before<S: TextStore>(sight: &Sight<'_, S>, listed: Listed, place: usize) -> TagSet
+    requires view { ShowsLines S.content sight.now.view.now }
+    requires within { sight.now.view.now.s + place ≤ sight.now.view.now.e }
+    ensures { IsTrue listed.tags → AreTagsBefore S.content sight.now.view.now sight.now.names.now place result }
 {
-    let _widget = names.widget;
+    let _widget = sight.names.widget;
     if !listed.tags {
         return TagSet::empty();
     }
-    tags_before(view, place)
+    tags_before(sight.view, place)
 }
 
 /// What a dump knows at a place: the first mark that isn't passed, and the tags of the character before.
@@ -445,33 +433,32 @@ struct Reached {
 /// Appends the elements of the places from one to before another, and answers what is known there.
 fn push_elements<S: TextStore>(
     list: &mut String,
-    view: &View<'_, S>,
-    names: &Names<'_>,
+    sight: &Sight<'_, S>,
     listed: Listed,
     from: usize,
     to: usize,
 ) -> Result<Reached, AllocError>
-    requires view { ShowsLines S.content view.now }
-    requires widget { names.now.widget.0 < MOST_WIDGETS }
+    requires view { ShowsLines S.content sight.now.view.now }
+    requires widget { sight.now.names.now.widget.0 < MOST_WIDGETS }
     requires ordered { from ≤ to }
-    requires within { view.now.s + to ≤ view.now.e }
+    requires within { sight.now.view.now.s + to ≤ sight.now.view.now.e }
     ensures goes { OnOk result (Goes (string_bytes list.old) (string_bytes list.new)
-        (flat_map (elements_at listed (seen_in S.content view.now names.now) from to) (places from to))) }
+        (flat_map (elements_at listed (seen_in S.content sight.now.view.now sight.now.names.now) from to) (places from to))) }
     ensures mark { IfOk result (λ reached. IsTrue (stops_at_marks listed) →
-        IsFirstMark S.content view.now names.now (view.now.s + to) reached.mark) }
+        IsFirstMark S.content sight.now.view.now sight.now.names.now (sight.now.view.now.s + to) reached.mark) }
     ensures before { IfOk result (λ reached. IsTrue listed.tags →
-        AreTagsBefore S.content view.now names.now to reached.before) }
+        AreTagsBefore S.content sight.now.view.now sight.now.names.now to reached.before) }
 {
     let mut changes = TagChanges::new(from);
-    let mut mark = listed_mark(view, names, listed, from);
-    let mut tags = listed_before(view, names, listed, from);
+    let mut mark = listed_mark(sight, listed, from);
+    let mut tags = listed_before(sight, listed, from);
     let mut may_change = true;
     let mut place = from;
     while place < to {
-        tags = push_listed_tags(list, view, names, listed, place, tags, may_change)?;
-        mark = push_listed_marks(list, view, names, listed, place, mark)?;
-        let next = next_stop(&mut changes, view, names, listed, mark, place, to);
-        push_listed_text(list, view, listed, place, next.place)?;
+        tags = push_listed_tags(list, sight, listed, place, tags, may_change)?;
+        mark = push_listed_marks(list, sight, listed, place, mark)?;
+        let next = next_stop(&mut changes, sight, listed, mark, place, to);
+        push_listed_text(list, sight.view, listed, place, next.place)?;
         may_change = next.may_change;
         place = next.place;
     }
@@ -481,51 +468,49 @@ fn push_elements<S: TextStore>(
 /// Appends what is listed at the end of the view, by what is known there.
 fn push_end<S: TextStore>(
     list: &mut String,
-    view: &View<'_, S>,
-    names: &Names<'_>,
+    sight: &Sight<'_, S>,
     listed: Listed,
     end: usize,
     reached: Reached,
 ) -> Result<(), AllocError>
-    requires view { ShowsLines S.content view.now }
-    requires widget { names.now.widget.0 < MOST_WIDGETS }
-    requires end { end ≡ length (text_in S.content view.now) }
+    requires view { ShowsLines S.content sight.now.view.now }
+    requires widget { sight.now.names.now.widget.0 < MOST_WIDGETS }
+    requires end { end ≡ length (text_in S.content sight.now.view.now) }
     requires mark { IsTrue (stops_at_marks listed) →
-        IsFirstMark S.content view.now names.now (view.now.s + end) reached.mark }
-    requires before { IsTrue listed.tags → AreTagsBefore S.content view.now names.now end reached.before }
+        IsFirstMark S.content sight.now.view.now sight.now.names.now (sight.now.view.now.s + end) reached.mark }
+    requires before { IsTrue listed.tags → AreTagsBefore S.content sight.now.view.now sight.now.names.now end reached.before }
     ensures { OnOk result (Goes (string_bytes list.old) (string_bytes list.new)
-        (if_listed listed.tags (tagoff_elements (seen_in S.content view.now names.now) end)
-        ++ if_listed listed.marks (mark_elements (seen_in S.content view.now names.now) end))) }
+        (if_listed listed.tags (tagoff_elements (seen_in S.content sight.now.view.now sight.now.names.now) end)
+        ++ if_listed listed.marks (mark_elements (seen_in S.content sight.now.view.now sight.now.names.now) end))) }
 {
-    push_listed_tags(list, view, names, listed, end, reached.before, true)?;
-    push_listed_marks(list, view, names, listed, end, reached.mark)?;
+    push_listed_tags(list, sight, listed, end, reached.before, true)?;
+    push_listed_marks(list, sight, listed, end, reached.mark)?;
     Ok(())
 }
 
 /// Appends what stands in the view from one place to before another.
 fn push_dump<S: TextStore>(
     list: &mut String,
-    view: &View<'_, S>,
-    names: &Names<'_>,
+    sight: &Sight<'_, S>,
     listed: Listed,
     from: usize,
     to: usize,
 ) -> Result<(), AllocError>
-    requires view { ShowsLines S.content view.now }
-    requires widget { names.now.widget.0 < MOST_WIDGETS }
-    requires from { view.now.s + from ≤ view.now.e }
-    requires to { view.now.s + to ≤ view.now.e }
+    requires view { ShowsLines S.content sight.now.view.now }
+    requires widget { sight.now.names.now.widget.0 < MOST_WIDGETS }
+    requires from { sight.now.view.now.s + from ≤ sight.now.view.now.e }
+    requires to { sight.now.view.now.s + to ≤ sight.now.view.now.e }
     ensures { OnOk result (Goes (string_bytes list.old) (string_bytes list.new)
-        (dump_elements listed (seen_in S.content view.now names.now) from to)) }
+        (dump_elements listed (seen_in S.content sight.now.view.now sight.now.names.now) from to)) }
 {
     if to < from {
         return Ok(());
     }
-    let reached = push_elements(list, view, names, listed, from, to)?;
-    if to != view.len() {
+    let reached = push_elements(list, sight, listed, from, to)?;
+    if to != sight.view.len() {
         return Ok(());
     }
-    push_end(list, view, names, listed, to, reached)
+    push_end(list, sight, listed, to, reached)
 }
 
 /// What stands in the view from one place to before another (text(n), "dump"), as the text of a list: at each place the
@@ -549,6 +534,6 @@ pub fn dump<S: TextStore>(
         names.now.widget.0) from to))) }
 {
     let mut list = String::new(alloc);
-    push_dump(&mut list, view, names, listed, from, to)?;
+    push_dump(&mut list, &Sight { view, names }, listed, from, to)?;
     Ok(list)
 }

@@ -14,8 +14,8 @@ use Rattle.search_dump.proofs.dumping.push_elements.Goals as goal
 
 pub loop-place-init : goal.loop-place-init
 loop-place-init g c =
-    let view = c.args.view.now in
-    let names = c.args.names.now in
+    let view = c.args.sight.now.view.now in
+    let names = c.args.sight.now.names.now in
     let content = g.S.TextStore.content view.store.now in
     let seen = seen_by content view.s view.e names.tags.now.tags names.marks.now.marks names.widget.0 in
     record {
@@ -33,8 +33,8 @@ loop-place-init g c =
 
 pub loop-place-preserved : goal.loop-place-preserved
 loop-place-preserved g c =
-    let view = c.args.view.now in
-    let names = c.args.names.now in
+    let view = c.args.sight.now.view.now in
+    let names = c.args.sight.now.names.now in
     let content = g.S.TextStore.content view.store.now in
     let seen = seen_by content view.s view.e names.tags.now.tags names.marks.now.marks names.widget.0 in
     let before = c.loop-place.invariant in
@@ -59,7 +59,7 @@ loop-place-preserved g c =
 
 pub returns-clause-goes : goal.returns-clause-goes
 returns-clause-goes g c =
-    let each = elements_at c.args.listed (seen_in g.S.TextStore.content c.args.view.now c.args.names.now) c.args.from
+    let each = elements_at c.args.listed (seen_in g.S.TextStore.content c.args.sight.now.view.now c.args.sight.now.names.now) c.args.from
     c.args.to in
     let end : c.loop-place.place ≡ c.args.to = omega (arith, c.loop-place.invariant.within, c.loop-place-test.false) in
     subst (λ place. Goes (string_bytes c.args.list.now) (string_bytes c.loop-place.list)
@@ -67,15 +67,15 @@ returns-clause-goes g c =
 
 pub returns-clause-mark : goal.returns-clause-mark
 returns-clause-mark g c =
-    let view = c.args.view.now in
+    let view = c.args.sight.now.view.now in
     let end : c.loop-place.place ≡ c.args.to = omega (arith, c.loop-place.invariant.within, c.loop-place-test.false) in
     subst (λ place. IsTrue (stops_at_marks c.args.listed) →
-    IsFirstMark g.S.TextStore.content view c.args.names.now (view.s + place) c.loop-place.mark) end
+    IsFirstMark g.S.TextStore.content view c.args.sight.now.names.now (view.s + place) c.loop-place.mark) end
     c.loop-place.invariant.mark
 
 pub returns-clause-before : goal.returns-clause-before
 returns-clause-before g c =
     let end : c.loop-place.place ≡ c.args.to = omega (arith, c.loop-place.invariant.within, c.loop-place-test.false) in
     subst (λ place. IsTrue c.args.listed.tags →
-    AreTagsBefore g.S.TextStore.content c.args.view.now c.args.names.now place c.loop-place.tags) end
+    AreTagsBefore g.S.TextStore.content c.args.sight.now.view.now c.args.sight.now.names.now place c.loop-place.tags) end
     c.loop-place.invariant.tags

@@ -11,20 +11,20 @@ use Rattle.search_dump.proofs.dumping.push_elements.Given as goal
 
 abbrev pub invariant-loop-place : goal.invariant-loop-place
 invariant-loop-place g l =
-    let content = g.S.TextStore.content l.view.store.now in
-    let marks = l.names.marks.now.marks in
-    let seen = seen_by content l.view.s l.view.e l.names.tags.now.tags marks l.names.widget.0 in
+    let content = g.S.TextStore.content l.sight.view.now.store.now in
+    let marks = l.sight.names.now.marks.now.marks in
+    let seen = seen_by content l.sight.view.now.s l.sight.view.now.e l.sight.names.now.tags.now.tags marks l.sight.names.now.widget.0 in
     record {
       goes : Goes (string_bytes l.fn.list) (string_bytes l.list)
           (flat_map (elements_at l.listed seen l.from l.to) (places l.from l.place));
       begun : l.from ≤ l.place;
       within : l.place ≤ l.to;
-      ahead : AreAhead content l.view.s l.view.e l.place l.changes.next;
+      ahead : AreAhead content l.sight.view.now.s l.sight.view.now.e l.place l.changes.next;
       mark : stops_at_marks l.listed ≡ true →
-          IsMarkFrom (usable_by content l.view.s l.view.e marks l.names.widget.0) (l.view.s + l.place)
-          (option_map (shown_of l.view.s) l.mark);
+          IsMarkFrom (usable_by content l.sight.view.now.s l.sight.view.now.e marks l.sight.names.now.widget.0) (l.sight.view.now.s + l.place)
+          (option_map (shown_of l.sight.view.now.s) l.mark);
       tags : l.listed.tags ≡ true →
-          AreBefore content l.view.s l.view.e l.names.tags.now.tags l.names.widget.0 l.place l.tags;
+          AreBefore content l.sight.view.now.s l.sight.view.now.e l.sight.names.now.tags.now.tags l.sight.names.now.widget.0 l.place l.tags;
       still : l.may_change ≡ false → l.listed.tags ≡ true → has_tag_at seen l.place ≡ false;
       cut : l.listed.text ≡ true → (l.place ≡ l.to) ⊎ ((l.place == l.from || is_cut seen l.place) ≡ true);
     }

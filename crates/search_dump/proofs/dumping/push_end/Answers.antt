@@ -4,8 +4,8 @@ use Rattle.search_dump.proofs.dumping.push_end.Goals as goal
 
 pub returns : goal.returns
 returns g c =
-    let view = c.args.view.now in
-    let names = c.args.names.now in
+    let view = c.args.sight.now.view.now in
+    let names = c.args.sight.now.names.now in
     end-goes c.args.listed (g.S.TextStore.content view.store.now) view.s view.e names.tags.now.tags
     names.marks.now.marks names.widget.0 c.args.end
     (string_bytes c.args.list.now) (string_bytes c.push_listed_tags.new.list)

@@ -8,14 +8,14 @@ use Rattle.search_dump.proofs.dumping.push_listed_tags.Goals as goal
 
 pub returns-then-not-may_change-clause-goes : goal.returns-then-not-may_change-clause-goes
 returns-then-not-may_change-clause-goes g c =
-    let seen = seen_in g.S.TextStore.content c.args.view.now c.args.names.now in
+    let seen = seen_in g.S.TextStore.content c.args.sight.now.view.now c.args.sight.now.names.now in
     subst (Goes (string_bytes c.args.list.now) (string_bytes c.args.list.now))
     (sym (tags-none c.args.listed seen c.args.place (c.requires.still c.if-not-may_change.true)))
     (goes_nowhere (string_bytes c.args.list.now))
 
 pub returns-then-not-may_change-clause-behind : goal.returns-then-not-may_change-clause-behind
 returns-then-not-may_change-clause-behind g c is =
-    let view = c.args.view.now in
-    let names = c.args.names.now in
+    let view = c.args.sight.now.view.now in
+    let names = c.args.sight.now.names.now in
     at-still (g.S.TextStore.content view.store.now) view.s view.e names.tags.now.tags names.marks.now.marks
     names.widget.0 c.args.place c.args.before (c.requires.still c.if-not-may_change.true is) (c.requires.before is)

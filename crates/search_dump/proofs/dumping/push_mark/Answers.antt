@@ -12,16 +12,16 @@ use Rattle.search_dump.proofs.dumping.push_mark.Goals as goal
 
 pub name-requires : goal.name-requires
 name-requires g c =
-    let view = c.args.view.now in
-    let names = c.args.names.now in
+    let view = c.args.sight.now.view.now in
+    let names = c.args.sight.now.names.now in
     let placed = usable-placed (g.S.TextStore.content view.store.now) view.s view.e names.marks.now.marks names.widget.0
     (shown_of view.s c.args.mark) c.requires.view.ordered c.requires.usable in
     omega (arith, placed.known, length-map names.marks.now.marks (λ (mark : Mark). mark.number))
 
 pub returns : goal.returns
 returns g c =
-    let view = c.args.view.now in
-    let names = names_of c.args.names.now.marks.now.marks in
+    let view = c.args.sight.now.view.now in
+    let names = names_of c.args.sight.now.names.now.marks.now.marks in
     let text = shown (g.S.TextStore.content view.store.now) view.s view.e in
     subst (λ xs. OnOk c.push_dumped.result (Goes (string_bytes c.args.list.now) (string_bytes c.push_dumped.new.list)
     xs))

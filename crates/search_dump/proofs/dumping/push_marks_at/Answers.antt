@@ -12,8 +12,8 @@ use Rattle.search_dump.proofs.dumping.push_marks_at.Goals as goal
 
 pub loop-next-init : goal.loop-next-init
 loop-next-init g c =
-    let view = c.args.view.now in
-    let names = c.args.names.now in
+    let view = c.args.sight.now.view.now in
+    let names = c.args.sight.now.names.now in
     let content = g.S.TextStore.content view.store.now in
     let marks = names.marks.now.marks in
     let all = usable_by content view.s view.e marks names.widget.0 in
@@ -28,8 +28,8 @@ loop-next-init g c =
 
 pub returns-then-mark-place-clause-goes : goal.returns-then-mark-place-clause-goes
 returns-then-mark-place-clause-goes g c =
-    let view = c.args.view.now in
-    let names = c.args.names.now in
+    let view = c.args.sight.now.view.now in
+    let names = c.args.sight.now.names.now in
     let content = g.S.TextStore.content view.store.now in
     let marks = names.marks.now.marks in
     let all = usable_by content view.s view.e marks names.widget.0 in
@@ -44,8 +44,8 @@ returns-then-mark-place-clause-goes g c =
 
 pub loop-next-smaller : goal.loop-next-smaller
 loop-next-smaller g c =
-    let view = c.args.view.now in
-    let names = c.args.names.now in
+    let view = c.args.sight.now.view.now in
+    let names = c.args.sight.now.names.now in
     let content = g.S.TextStore.content view.store.now in
     let marks = names.marks.now.marks in
     let all = usable_by content view.s view.e marks names.widget.0 in
@@ -59,8 +59,8 @@ loop-next-smaller g c =
 
 pub loop-next-preserved : goal.loop-next-preserved
 loop-next-preserved g c =
-    let view = c.args.view.now in
-    let names = c.args.names.now in
+    let view = c.args.sight.now.view.now in
+    let names = c.args.sight.now.names.now in
     let content = g.S.TextStore.content view.store.now in
     let marks = names.marks.now.marks in
     let all = usable_by content view.s view.e marks names.widget.0 in
@@ -85,8 +85,8 @@ loop-next-preserved g c =
 
 pub returns-clause-goes : goal.returns-clause-goes
 returns-clause-goes g c =
-    let view = c.args.view.now in
-    let names = c.args.names.now in
+    let view = c.args.sight.now.view.now in
+    let names = c.args.sight.now.names.now in
     let content = g.S.TextStore.content view.store.now in
     let marks = names.marks.now.marks in
     let all = usable_by content view.s view.e marks names.widget.0 in

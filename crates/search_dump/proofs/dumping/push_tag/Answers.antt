@@ -9,9 +9,9 @@ use Rattle.search_dump.proofs.dumping.push_tag.Goals as goal
 
 pub returns : goal.returns
 returns g c =
-    let tags = names_of c.args.names.now.tags.now.tags in
+    let tags = names_of c.args.sight.now.names.now.tags.now.tags in
     let written : List ℕ → List (List ℕ) = λ name.
-    element (chars c.args.key.now) (text_in g.S.TextStore.content c.args.view.now) c.args.place name in
+    element (chars c.args.key.now) (text_in g.S.TextStore.content c.args.sight.now.view.now) c.args.place name in
     subst (λ words. OnOk c.push_dumped.result
     (Goes (string_bytes c.args.list.now) (string_bytes c.push_dumped.new.list) words))
     (ap written (sym (get_or_from_slice_get tags c.args.at (chars c.name.result.now) [] c.name.ensures))

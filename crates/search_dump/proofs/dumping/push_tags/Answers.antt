@@ -8,11 +8,11 @@ use Rattle.search_dump.proofs.dumping.push_tags.Goals as goal
 
 pub loop-at-preserved : goal.loop-at-preserved
 loop-at-preserved g c =
-    let view = c.args.view.now in
+    let view = c.args.sight.now.view.now in
     let text = shown (g.S.TextStore.content view.store.now) view.s view.e in
-    let tags = c.args.names.now.tags.now.tags in
+    let tags = c.args.sight.now.names.now.tags.now.tags in
     let key = chars c.args.key.now in
-    let widget = c.args.names.now.widget.0 in
+    let widget = c.args.sight.now.names.now.widget.0 in
     goes_flat (only_in c.args.on c.args.off widget key text c.args.place) (string_bytes c.args.list.now)
     (string_bytes c.loop-at.list) (string_bytes c.push_tag.new.list) tags c.loop-at.at no_tag
     (if_listed c.is_only_in.result (element key text c.args.place (slice_index_or (names_of tags) c.loop-at.at [])))
@@ -24,7 +24,7 @@ loop-at-preserved g c =
 
 pub returns-then-are_same : goal.returns-then-are_same
 returns-then-are_same g c =
-    let view = c.args.view.now in
-    goes-same c.args.on c.args.off c.args.names.now.widget.0 (chars c.args.key.now)
-    (shown (g.S.TextStore.content view.store.now) view.s view.e) c.args.place c.args.names.now.tags.now.tags
+    let view = c.args.sight.now.view.now in
+    goes-same c.args.on c.args.off c.args.sight.now.names.now.widget.0 (chars c.args.key.now)
+    (shown (g.S.TextStore.content view.store.now) view.s view.e) c.args.place c.args.sight.now.names.now.tags.now.tags
     (string_bytes c.args.list.now) (c.are_same.ensures c.if-are_same.true)

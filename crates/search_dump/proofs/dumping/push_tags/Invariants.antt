@@ -8,5 +8,5 @@ use Rattle.search_dump.proofs.dumping.push_tags.Given as goal
 abbrev pub invariant-loop-at : goal.invariant-loop-at
 invariant-loop-at g l =
     Goes (string_bytes l.fn.list) (string_bytes l.list)
-    (flat_map (only_in l.on l.off l.names.widget.0 (chars l.key)
-    (shown (g.S.TextStore.content l.view.store.now) l.view.s l.view.e) l.place) (take l.at l.names.tags.now.tags))
+    (flat_map (only_in l.on l.off l.sight.names.now.widget.0 (chars l.key)
+    (shown (g.S.TextStore.content l.sight.view.now.store.now) l.sight.view.now.s l.sight.view.now.e) l.place) (take l.at l.sight.names.now.tags.now.tags))

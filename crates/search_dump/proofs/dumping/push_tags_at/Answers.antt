@@ -11,12 +11,12 @@ use Rattle.search_dump.proofs.dumping.push_tags_at.Goals as goal
 
 pub returns-clause-goes : goal.returns-clause-goes
 returns-clause-goes g c =
-    let view = c.args.view.now in
+    let view = c.args.sight.now.view.now in
     let content = g.S.TextStore.content view.store.now in
     let text = shown content view.s view.e in
-    let tags = c.args.names.now.tags.now.tags in
-    let marks = c.args.names.now.marks.now.marks in
-    let widget = c.args.names.now.widget.0 in
+    let tags = c.args.sight.now.names.now.tags.now.tags in
+    let marks = c.args.sight.now.names.now.marks.now.marks in
+    let widget = c.args.sight.now.names.now.widget.0 in
     let place = c.args.place in
     let before = c.args.before in
     let behind = c.tags_behind-behind.result in

@@ -10,8 +10,8 @@ use Rattle.search_dump.proofs.dumping.stop_at_tag.Goals as goal
 
 pub returns-clause-stop : goal.returns-clause-stop
 returns-clause-stop g c = λ stops.
-    let view = c.args.view.now in
-    let names = c.args.names.now in
+    let view = c.args.sight.now.view.now in
+    let names = c.args.sight.now.names.now in
     let content = g.S.TextStore.content view.store.now in
     let tags = names.tags.now.tags in
     let long = λ (slot : ℕ). length-part (flags slot content.cells) view.s view.e
@@ -25,8 +25,8 @@ returns-clause-stop g c = λ stops.
 
 pub returns-clause-above : goal.returns-clause-above
 returns-clause-above g c =
-    let view = c.args.view.now in
-    let names = c.args.names.now in
+    let view = c.args.sight.now.view.now in
+    let names = c.args.sight.now.names.now in
     let content = g.S.TextStore.content view.store.now in
     let tags = names.tags.now.tags in
     let long = λ (slot : ℕ). length-part (flags slot content.cells) view.s view.e
