@@ -2,9 +2,10 @@
 use Rattle.std.proofs.Common.{◌≡◌, ℕ, ◌+◌, ◌<◌, ◌≤◌, true, false, List, [], ◌∷◌, None, Some, length, map, refl, sym, ap}
 use Rattle.std.proofs.Common.{ap₂, ◌∙◌, arith}
 use Rattle.std.proofs.lemmas.Bool.Decides.{nat_tests}
-use Rattle.std.specs.Prelude.{nat_lt, if◌then◌else◌}
+use Rattle.std.specs.Prelude.{nat_lt, if◌then◌else◌, encode_utf8_all}
 use Rattle.std.proofs.lemmas.Bool.{le-ltb, lt-ltb}
 use Rattle.std.proofs.lemmas.List.Sums.{sum_by-cons}
+use Rattle.std.proofs.lemmas.Str.{length-le-encodes}
 use Rattle.edit_ops.specs.Insertions as pieces
 use Rattle.edit_ops.specs.declared.pieces.Piece.{Piece}
 use Rattle.tag_table.specs.Tags.{Tag}
@@ -13,7 +14,7 @@ use Rattle.command_parts.specs.declared.answers.Fault.{Fault}
 use Rattle.command_parts.specs.declared.answers.Fault.TheVariants.{TooManyTags, TextTooLong}
 use Rattle.command_parts.specs.declared.lists.Pair.{Pair}
 use Rattle.command_parts.specs.Edits.{excess}
-use Rattle.command_parts.specs.Lists.{total}
+use Rattle.command_parts.specs.Lists.{total, total_bytes}
 use Rattle.command_parts.specs.Tagging.{piece_of}
 
 pub excess-none : (limits : LimitTable) (tags chars : ℕ) → tags ≤ limits.tags + 1 → chars ≤ limits.chars →
@@ -33,6 +34,18 @@ pub excess-chars : (limits : LimitTable) (tags chars : ℕ) (fault : Fault) → 
 excess-chars limits tags chars fault few why =
     ap₂ (λ a b. if a then Some TooManyTags else (if b then Some TextTooLong else None))
     (le-ltb (limits.tags + 1) tags few) (lt-ltb limits.chars chars why.1) ∙ ap Some (sym why.0)
+
+-- texts have no more characters than bytes
+pub total-in-bytes : (pairs : List Pair) → total pairs ≤ total_bytes pairs
+total-in-bytes [] = omega arith
+total-in-bytes (pair ∷ pairs) =
+    omega (
+      arith,
+      sum_by-cons (λ (p : Pair). length p.text) pair pairs,
+      sum_by-cons (λ (p : Pair). length (encode_utf8_all p.text)) pair pairs,
+      length-le-encodes pair.text,
+      total-in-bytes pairs,
+    )
 
 -- the pieces of some pairs have as many characters as these
 pub total-pieces : (tags : List Tag) (widget : ℕ) (pairs : List Pair) →

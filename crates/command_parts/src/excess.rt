@@ -7,15 +7,16 @@ ghost use Rattle.tag_table.specs.Tags.{names_of};
 ghost use Rattle.tcl_words.specs.Unread.{texts_of};
 ghost use Rattle.text_model.specs.LimitTable.{AreLimits};
 ghost use Rattle.command_parts.specs.Edits.{excess};
-ghost use Rattle.command_parts.specs.Lists.{all_names, total, with_name, with_names};
+ghost use Rattle.command_parts.specs.Lists.{all_names, total, total_bytes, with_name, with_names};
 ghost use Rattle.command_parts.specs.Words.{is_among};
 
 use crate::answers::Fault;
 use crate::lists::Pair;
 use crate::tagging::listed_names;
 use crate::words::is_word;
+use edit_ops::count_of;
 use tag_table::TagTable;
-use text_model::{Limits, Text};
+use text_model::Limits;
 
 /// Whether a name is one of these. The last are looked at first, so that a name which comes again and again is found
 /// soon.
@@ -114,13 +115,6 @@ fn has_too_many_tags(limits: &Limits, tags: &TagTable, pairs: &[Pair]) -> bool
     false
 }
 
-/// How many characters a text has.
-fn count_of(text: &Text) -> usize
-    ensures { result ≡ length text.now }
-{
-    text.as_str().chars().count()
-}
-
 /// How many characters the texts of pairs have, or the greatest number where that is more.
 fn total_of(pairs: &[Pair]) -> usize
     ensures { result ≡ min (total pairs.now) (2 ^ 64 - 1) }
@@ -130,6 +124,29 @@ fn total_of(pairs: &[Pair]) -> usize
         most = most.saturating_add(count_of(&pair.text));
     }
     most
+}
+
+/// How many bytes the texts of pairs have, or the greatest number where that is more.
+fn bytes_of(pairs: &[Pair]) -> usize
+    ensures { result ≡ min (total_bytes pairs.now) (2 ^ 64 - 1) }
+{
+    let mut most = 0usize;
+    for pair in pairs {
+        most = most.saturating_add(pair.text.as_str().len());
+    }
+    most
+}
+
+/// Whether so many characters and those of the texts of pairs are more than there may be. They are counted only where
+/// their bytes are too many.
+fn is_too_long(limits: &Limits, len: usize, pairs: &[Pair]) -> bool
+    ensures { result ≡ nat_lt limits.now.chars (len + total pairs.now) }
+{
+    let most = limits.chars();
+    if len.saturating_add(bytes_of(pairs)) <= most {
+        return false;
+    }
+    len.saturating_add(total_of(pairs)) > most
 }
 
 /// The texts of pairs are of Unicode scalar values, as the bytes of each show.
@@ -150,12 +167,12 @@ pub fn excess_of(limits: &Limits, tags: &TagTable, pairs: &[Pair], len: usize) -
     ensures scalars { All (λ pair. All IsScalar pair.text) pairs.now }
 {
     // Where one of the limits is read, all are known to be in their bounds.
-    let most = limits.chars();
+    let _chars = limits.chars();
     read_texts(pairs);
     if has_too_many_tags(limits, tags, pairs) {
         return Some(Fault::TooManyTags);
     }
-    if len.saturating_add(total_of(pairs)) > most {
+    if is_too_long(limits, len, pairs) {
         return Some(Fault::TextTooLong);
     }
     None

@@ -1,11 +1,12 @@
 -- One text more is put in.
 use Rattle.std.proofs.Common.{◌≡◌, ℕ, ◌+◌, ◌-◌, ◌^◌, ◌<◌, ◌≤◌, true, false, List, [], ◌∷◌, ◌++◌, Option, Some, None}
 use Rattle.std.proofs.Common.{map, length, get_or, drop, refl, sym, ap, ap₂, ◌∙◌, arith, ne_eqb, eq-eqb, subst}
-use Rattle.std.specs.Prelude.{slice_get, IfSome, option_map, nat_lt, if◌then◌else◌}
+use Rattle.std.specs.Prelude.{slice_get, IfSome, option_map, nat_lt, if◌then◌else◌, encode_utf8_all}
 use Rattle.std.specs.FinSet as set
 use Rattle.std.specs.List.{All}
 use Rattle.std.proofs.lemmas.List.{length-map, get_or-map, drop_more}
 use Rattle.std.proofs.lemmas.Option.{get_or_from_slice_get}
+use Rattle.std.proofs.lemmas.Str.{length-le-encodes}
 use Rattle.std.proofs.lemmas.List.Sums.{sum_by-cons}
 use Rattle.std.proofs.lemmas.List.Elements.{All-map}
 use Rattle.text_model.specs.declared.cells.Cell.{Cell}
@@ -24,7 +25,7 @@ use Rattle.edit_ops.specs.declared.plans.Recording.{Recording}
 use Rattle.edit_ops.specs.Anchors.{AnchorsStand, anchor_moved, anchors_moved}
 use Rattle.text_cursor.specs.Around.{shared_slots}
 use Rattle.text_cursor.proofs.AroundLaws.{length-slot_sets}
-use Rattle.edit_ops.specs.Insertions.{slots_or, inserted_text, inserted_texts, total, IsBetween}
+use Rattle.edit_ops.specs.Insertions.{slots_or, inserted_text, inserted_texts, total, total_bytes, IsBetween}
 use Rattle.edit_ops.specs.States.{State, Log, Draft, log_noted, all_noted, drafted, state_of}
 
 pub noted-append : (recording : Recording) (kind : EditKind) (actions others : List Action) (log : Log)
@@ -176,6 +177,18 @@ pub record Inserting (draft new : Draft) (from start : ℕ) (around : Slots) (pi
 
 pub total-cons : (piece : Piece) (rest : List Piece) → total (piece ∷ rest) ≡ length piece.text + total rest
 total-cons piece rest = sum_by-cons (λ (p : Piece). length p.text) piece rest
+
+-- texts have no more characters than bytes
+pub total-in-bytes : (pieces : List Piece) → total pieces ≤ total_bytes pieces
+total-in-bytes [] = omega arith
+total-in-bytes (piece ∷ rest) =
+    omega (
+      arith,
+      total-cons piece rest,
+      sum_by-cons (λ (p : Piece). length (encode_utf8_all p.text)) piece rest,
+      length-le-encodes piece.text,
+      total-in-bytes rest,
+    )
 
 -- a text more
 pub inserting-more : (draft now new : Draft) (from start : ℕ) (around : Slots) (pieces : List Piece) (at len : ℕ)

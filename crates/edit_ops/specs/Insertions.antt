@@ -1,6 +1,6 @@
 -- What it does to put texts in.
 use Rattle.std.specs.Prelude.{◌≡◌, ◌<◌, ℕ, ◌+◌, ◌==◌, true, List, [], ◌∷◌, length, map, get_or, sum_by, Option, None}
-use Rattle.std.specs.Prelude.{Some, if◌then◌else◌}
+use Rattle.std.specs.Prelude.{Some, if◌then◌else◌, encode_utf8_all}
 use Rattle.std.specs.FinSet as set
 use Rattle.text_model.specs.declared.cells.Cell.{Cell}
 use Rattle.text_model.specs.Content.{Slots, slot_sets}
@@ -37,6 +37,10 @@ inserted_texts recording kind at (piece ∷ pieces) state =
 -- how many characters the texts have
 abbrev pub total : List Piece → ℕ
 total pieces = sum_by (λ (piece : Piece). length piece.text) pieces
+
+-- how many bytes the texts have
+abbrev pub total_bytes : List Piece → ℕ
+total_bytes pieces = sum_by (λ (piece : Piece). length (encode_utf8_all piece.text)) pieces
 
 -- Before a place in a text of so many cells, and behind it, stand cells that share some slots, and the one behind has
 -- these.

@@ -2,7 +2,7 @@ ghost use Rattle.std.specs.Prelude.{◌≡◌, ◌≢◌, ◌+◌, ◌<◌, ◌�
 ghost use Rattle.std.specs.Prelude.{false, ℕ, Some, slice_get};
 ghost use Rattle.std.specs.List.{All};
 ghost use Rattle.edit_ops.specs.Anchors.{AnchorsStand};
-ghost use Rattle.edit_ops.specs.Insertions.{inserted_texts, slots_or, total, IsBetween};
+ghost use Rattle.edit_ops.specs.Insertions.{inserted_texts, slots_or, total, total_bytes, IsBetween};
 ghost use Rattle.edit_ops.specs.Plans.{planned, HasRoom};
 ghost use Rattle.edit_ops.specs.declared.plans.Recording.{Recording};
 ghost use Rattle.edit_ops.specs.States.{State, Log, log_of, state_of, state_in, drafted, IsUnchanged};
@@ -37,12 +37,28 @@ pub fn total_of(pieces: &[Piece]) -> usize
     most
 }
 
-/// Whether a text of so many characters is too long with these texts more.
+/// How many bytes texts have, or the greatest number where that is more.
+fn bytes_of(pieces: &[Piece]) -> usize
+    ensures { result ≡ min (total_bytes pieces.now) (2 ^ 64 - 1) }
+{
+    let mut most = 0usize;
+    for piece in pieces {
+        most = most.saturating_add(piece.text.as_str().len());
+    }
+    most
+}
+
+/// Whether a text of so many characters is too long with these texts more. Their characters are counted only where
+/// their bytes are too many.
 pub fn is_too_long(limits: &Limits, len: usize, pieces: &[Piece]) -> bool
     ensures value { result ≡ nat_lt limits.now.chars (len + total pieces.now) }
     ensures short { result ≡ false → len + total pieces.now < 2 ^ 64 }
 {
-    len.saturating_add(total_of(pieces)) > limits.chars()
+    let most = limits.chars();
+    if len.saturating_add(bytes_of(pieces)) <= most {
+        return false;
+    }
+    len.saturating_add(total_of(pieces)) > most
 }
 
 /// The slots that the character before an offset shares with the one at another offset, which has those of a set; none

@@ -20,7 +20,7 @@ mod texts;
 pub use anchors::{Anchors, anchors_stand};
 pub use deletions::plan_delete;
 pub use faults::EditFault;
-pub use insertions::plan_insert;
+pub use insertions::{count_of, plan_insert};
 pub use pieces::Piece;
 pub use plans::{Notes, Plan, Recording, commit};
 pub use replacements::plan_replace;

@@ -1,0 +1,7 @@
+use Rattle.std.proofs.Common.{◌≡◌, ◌-◌, ◌^◌, take}
+use Rattle.std.specs.Prelude.{min}
+use Rattle.edit_ops.specs.Insertions.{total_bytes}
+use Rattle.edit_ops.proofs.insertions.bytes_of.Given as goal
+
+abbrev pub invariant-loop-piece : goal.invariant-loop-piece
+invariant-loop-piece l = l.most ≡ min (total_bytes (take l.piece-index l.pieces)) (2 ^ 64 - 1)
