@@ -201,7 +201,8 @@ fn push_marks_at<S: TextStore>(
     requires first { IsFirstMark S.content sight.now.view.now sight.now.names.now (sight.now.view.now.s + place) first }
     ensures goes { OnOk result (Goes (string_bytes list.old) (string_bytes list.new)
         (if_listed is_listed (mark_elements (seen_in S.content sight.now.view.now sight.now.names.now) place))) }
-    ensures next { IfOk result (λ next. IsFirstMark S.content sight.now.view.now sight.now.names.now (sight.now.view.now.s + place + 1) next) }
+    ensures next { IfOk result (λ next. IsFirstMark S.content sight.now.view.now sight.now.names.now
+        (sight.now.view.now.s + place + 1) next) }
 {
     let mut next = first;
     while let Some(mark) = next {
@@ -317,8 +318,10 @@ fn stop_at_tag<S: TextStore>(
     requires widget { sight.now.names.now.widget.0 < MOST_WIDGETS }
     requires some { place < to }
     requires within { sight.now.view.now.s + to ≤ sight.now.view.now.e }
-    requires ahead { AreAhead (S.content sight.now.view.now.store.now) sight.now.view.now.s sight.now.view.now.e place changes.old.next }
-    ensures ahead { AreAhead (S.content sight.now.view.now.store.now) sight.now.view.now.s sight.now.view.now.e place changes.new.next }
+    requires ahead { AreAhead (S.content sight.now.view.now.store.now) sight.now.view.now.s sight.now.view.now.e
+        place changes.old.next }
+    ensures ahead { AreAhead (S.content sight.now.view.now.store.now) sight.now.view.now.s sight.now.view.now.e
+        place changes.new.next }
     ensures above { place < result }
     ensures below { result ≤ to }
     ensures stop { IsTrue (stops_at_tags listed) →
@@ -377,11 +380,13 @@ fn next_stop<S: TextStore>(
     requires widget { sight.now.names.now.widget.0 < MOST_WIDGETS }
     requires some { place < to }
     requires within { sight.now.view.now.s + to ≤ sight.now.view.now.e }
-    requires ahead { AreAhead (S.content sight.now.view.now.store.now) sight.now.view.now.s sight.now.view.now.e place changes.old.next }
+    requires ahead { AreAhead (S.content sight.now.view.now.store.now) sight.now.view.now.s sight.now.view.now.e
+        place changes.old.next }
     requires mark { IsTrue (stops_at_marks listed) →
         IsFirstMark S.content sight.now.view.now sight.now.names.now (sight.now.view.now.s + place + 1) mark }
     requires behind { IfSome mark (λ next. place < next.place) }
-    ensures ahead { AreAhead (S.content sight.now.view.now.store.now) sight.now.view.now.s sight.now.view.now.e result.place changes.new.next }
+    ensures ahead { AreAhead (S.content sight.now.view.now.store.now) sight.now.view.now.s sight.now.view.now.e
+        result.place changes.new.next }
     ensures mark { IsTrue (stops_at_marks listed) →
         IsFirstMark S.content sight.now.view.now sight.now.names.now (sight.now.view.now.s + result.place) mark }
     ensures stop { IsStop listed (seen_in S.content sight.now.view.now sight.now.names.now) place to result.place }
@@ -478,7 +483,8 @@ fn push_end<S: TextStore>(
     requires end { end ≡ length (text_in S.content sight.now.view.now) }
     requires mark { IsTrue (stops_at_marks listed) →
         IsFirstMark S.content sight.now.view.now sight.now.names.now (sight.now.view.now.s + end) reached.mark }
-    requires before { IsTrue listed.tags → AreTagsBefore S.content sight.now.view.now sight.now.names.now end reached.before }
+    requires before { IsTrue listed.tags → AreTagsBefore S.content sight.now.view.now sight.now.names.now
+        end reached.before }
     ensures { OnOk result (Goes (string_bytes list.old) (string_bytes list.new)
         (if_listed listed.tags (tagoff_elements (seen_in S.content sight.now.view.now sight.now.names.now) end)
         ++ if_listed listed.marks (mark_elements (seen_in S.content sight.now.view.now sight.now.names.now) end))) }
