@@ -31,6 +31,11 @@ update-same : (m : Records) (p : NodePtr) (f : Record → Record) (r : Record) �
 unfolding update
 update-same m p f r is same = ap (updated m p f) is ∙ ap (finite.insert m p) same ∙ insert-same m p r is
 
+pub update-as : (m : Records) (p : NodePtr) (f g : Record → Record) (r : Record) → finite.get m p ≡ Some r → f r ≡ g r →
+    update m p f ≡ update m p g
+unfolding update
+update-as m p f g r is same = ap (updated m p f) is ∙ ap (finite.insert m p) same ∙ sym (ap (updated m p g) is)
+
 -- ---- one child
 set-same : {X : Type 0} (xs : List X) (i : ℕ) (y : X) → slice_get xs i ≡ Some y → set xs i y ≡ xs
 set-same [] i y is = absurd (none-some y is)

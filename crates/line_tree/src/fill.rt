@@ -76,7 +76,8 @@ pub fn resum<C: Ticks>(store: &mut NodeStore<C>, node: NodePtr, ticks: &mut C)
     store.set_sum(node, sum);
 }
 
-/// Makes a node's sum that of its children, below which stands so much more than before.
+/// Makes a node's sum that of its children, below which stands so much more than before. Where no slot is toggled in
+/// that, only the counts change.
 pub fn add<C: Ticks>(store: &mut NodeStore<C>, node: NodePtr, more: &Sums<WORDS>, ticks: &mut C)
     requires row { HasRow (records store.old) node }
     requires sum { plus (sum_at (records store.old) node) more.now
@@ -86,8 +87,12 @@ pub fn add<C: Ticks>(store: &mut NodeStore<C>, node: NodePtr, more: &Sums<WORDS>
     ensures spares { spares store.new ≡ spares store.old }
     ensures rooms { rooms store.new ≡ rooms store.old }
 {
-    let sum = store.sum(node, ticks);
-    store.set_sum(node, sum.plus(more));
+    if more.is_bare() {
+        store.add_counts(node, more.lines(), more.characters(), more.marks());
+    } else {
+        let sum = store.sum(node, ticks);
+        store.set_sum(node, sum.plus(more));
+    }
 }
 
 /// Makes a node's sum that of its children, below which stands so much less than before. Which slots are toggled is
