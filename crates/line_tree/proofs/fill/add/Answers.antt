@@ -1,7 +1,7 @@
 use Rattle.std.proofs.Common.{◌≡◌, sym, ap, ◌∙◌, subst, arith}
 use Rattle.std.specs.Prelude.{IfSome}
 use Rattle.raw_nodes.specs.Names.{records}
-use Rattle.raw_nodes.specs.Records.{Record, Records, update, with_sum}
+use Rattle.raw_nodes.specs.Records.{Records, update, with_sum}
 use Rattle.raw_nodes.specs.declared.names.NodePtr.{NodePtr}
 use Rattle.toggle_sums.specs.Counts.{Count, CountsFit, counting, plus}
 use Rattle.line_tree.specs.Changes.{FitsSum}
