@@ -31,6 +31,11 @@ update-same : (m : Records) (p : NodePtr) (f : Record → Record) (r : Record) �
 unfolding update
 update-same m p f r is same = ap (updated m p f) is ∙ ap (finite.insert m p) same ∙ insert-same m p r is
 
+pub update-as : (m : Records) (p : NodePtr) (f g : Record → Record) (r : Record) → finite.get m p ≡ Some r → f r ≡ g r →
+    update m p f ≡ update m p g
+unfolding update
+update-as m p f g r is same = ap (updated m p f) is ∙ ap (finite.insert m p) same ∙ sym (ap (updated m p g) is)
+
 -- ---- one child
 set-same : {X : Type 0} (xs : List X) (i : ℕ) (y : X) → slice_get xs i ≡ Some y → set xs i y ≡ xs
 set-same [] i y is = absurd (none-some y is)
@@ -76,7 +81,7 @@ links-front : (m : Records) (p : NodePtr) (i : ℕ) (xs ys : List NodePtr) → L
 links-front m p i [] ys links = tt
 links-front m p i (x ∷ xs) ys links = (links.0, links-front m p (suc i) xs ys links.1)
 
-drop-front : (xs : List NodePtr) (os : List (Option NodePtr)) → drop (length xs) (map (λ x. Some x) xs ++ os) ≡ os
+pub drop-front : (xs : List NodePtr) (os : List (Option NodePtr)) → drop (length xs) (map (λ x. Some x) xs ++ os) ≡ os
 drop-front [] os = refl
 drop-front (x ∷ xs) os = drop-front xs os
 
@@ -114,7 +119,7 @@ take-short (suc n) (suc m) [] less = refl
 take-short (suc n) (suc m) (x ∷ xs) less = ap (λ zs. x ∷ zs) (take-short n m xs (omega arith))
 
 -- ---- all of them
-empty-same : (m : Records) (p : NodePtr) (r : Record) → finite.get m p ≡ Some r → (i n : ℕ) →
+pub empty-same : (m : Records) (p : NodePtr) (r : Record) → finite.get m p ≡ Some r → (i n : ℕ) →
     ((j : ℕ) → j < n → slice_get r.children (i + j) ≡ Some None) → relinked m p i (replicate n None) ≡ m
 empty-same m p r is i zero at = refl
 empty-same m p r is i (suc n) at =

@@ -51,7 +51,7 @@ split_at m n p all (Some s) puts = puts.half
 
 -- ---- the parts fit
 module _ (m : Records) (p : NodePtr) (at : ℕ) (x : NodePtr) (can : CanPut m p at x) where
-  long : length can.row.found.children ≡ 12
+  pub long : length can.row.found.children ≡ 12
   long = ap length can.row.children ∙ length-row (kids m p) can.row.few
 
   pub named-all : (c : NodePtr) → Among c (insert (kids m p) at x) → IsSome (finite.get m c)

@@ -76,7 +76,8 @@ pub fn resum<C: Ticks>(store: &mut NodeStore<C>, node: NodePtr, ticks: &mut C)
     store.set_sum(node, sum);
 }
 
-/// Makes a node's sum that of its children, below which stands so much more than before.
+/// Makes a node's sum that of its children, below which stands so much more than before. Where no slot is toggled in
+/// that, only the counts change.
 pub fn add<C: Ticks>(store: &mut NodeStore<C>, node: NodePtr, more: &Sums<WORDS>, ticks: &mut C)
     requires row { HasRow (records store.old) node }
     requires sum { plus (sum_at (records store.old) node) more.now
@@ -86,8 +87,12 @@ pub fn add<C: Ticks>(store: &mut NodeStore<C>, node: NodePtr, more: &Sums<WORDS>
     ensures spares { spares store.new ≡ spares store.old }
     ensures rooms { rooms store.new ≡ rooms store.old }
 {
-    let sum = store.sum(node, ticks);
-    store.set_sum(node, sum.plus(more));
+    if more.is_bare() {
+        store.add_counts(node, more.lines(), more.characters(), more.marks());
+    } else {
+        let sum = store.sum(node, ticks);
+        store.set_sum(node, sum.plus(more));
+    }
 }
 
 /// Makes a node's sum that of its children, below which stands so much less than before. Which slots are toggled is
@@ -264,6 +269,30 @@ fn part<C: Ticks>(
     part
 }
 
+/// Puts one more child among those of a node that has room for it: each from there on goes one slot on.
+fn shift<C: Ticks>(
+    store: &mut NodeStore<C>,
+    node: NodePtr,
+    at: usize,
+    extra: NodePtr,
+    ticks: &mut C,
+)
+    requires put { CanPut (records store.old) node at extra }
+    requires few { length (kids (records store.old) node) < 12 }
+    ensures records { records store.new ≡ relinked (records store.old) node 0
+        (row (insert (kids (records store.old) node) at extra)) }
+    ensures spares { spares store.new ≡ spares store.old }
+    ensures rooms { rooms store.new ≡ rooms store.old }
+{
+    let mut next = Some(extra);
+    let mut slot = at;
+    while let Some(child) = next {
+        next = store.child(node, slot, ticks);
+        link(store, node, slot, Some(child));
+        slot += 1;
+    }
+}
+
 /// How many of 13 children stay where they split: six where the new one is put, so that a node which lines are put into
 /// one behind the other leaves seven behind.
 fn first_half(at: usize) -> usize
@@ -293,13 +322,13 @@ pub fn put<C: Ticks>(
     ensures spares { spares store.new + length (option_to_list result) ≡ spares store.old }
     ensures rooms { rooms store.new + length (option_to_list result) ≡ rooms store.old }
 {
-    let old = store.sum(node, ticks);
-    let sum = old.plus(more);
-    if store.children(node) < 12 {
-        let all = part(store, node, at, extra, 0, 12, ticks);
-        refill(store, node, at, &all, sum);
+    if store.child(node, 11, ticks).is_none() {
+        shift(store, node, at, extra, ticks);
+        add(store, node, more, ticks);
         None
     } else {
+        let old = store.sum(node, ticks);
+        let sum = old.plus(more);
         let half = first_half(at);
         let left = part(store, node, at, extra, 0, half, ticks);
         let right = part(store, node, at, extra, half, 13 - half, ticks);

@@ -3,7 +3,7 @@ ghost use Rattle.std.specs.FinMap as finite;
 ghost use Rattle.raw_nodes.specs.Names.{records, rooms, spares};
 ghost use Rattle.raw_nodes.specs.Rows.{kids};
 ghost use Rattle.line_tree.specs.Finds.{HasRow, Leads, lines_below};
-ghost use Rattle.line_tree.specs.Shape.{lines_at};
+ghost use Rattle.line_tree.specs.Shape.{lines_at, sum_at};
 ghost use Rattle.line_tree.specs.Growth.{CanInsert, Inserts, NewLine};
 
 use crate::fill::{add, put};
@@ -11,6 +11,8 @@ use crate::find::Found;
 use crate::near::find_near;
 use raw_nodes::{NodePtr, NodeStore, Ticks};
 use segments::Line;
+use text_model::WORDS;
+use toggle_sums::Sums;
 
 /// The child below which line `k` is put in.
 fn lead<C: Ticks>(store: &NodeStore<C>, node: NodePtr, k: usize, ticks: &mut C) -> Found
@@ -48,7 +50,7 @@ pub fn new_line<C: Ticks>(store: &mut NodeStore<C>, line: Line) -> NodePtr
     store.make(Some(line))
 }
 
-/// Puts in a line below a node of this height. A node with 13 children gives the last ones to a
+/// Puts in a line of which so much is counted below a node of this height. A node with 13 children gives the last ones to a
 /// new one.
 pub fn insert_in<C: Ticks>(
     store: &mut NodeStore<C>,
@@ -56,10 +58,12 @@ pub fn insert_in<C: Ticks>(
     height: usize,
     k: usize,
     line: NodePtr,
+    more: &Sums<WORDS>,
     ticks: &mut C,
 ) -> Option<NodePtr>
     requires node { 0 < height }
     requires insert { CanInsert (records store.old) height node k line }
+    requires more { more.now ≡ sum_at (records store.old) line }
     requires spares { height ≤ spares store.old }
     requires rooms { height ≤ rooms store.old }
     ensures inserts { Inserts (records store.old) (records store.new) height node k line result }
@@ -68,15 +72,22 @@ pub fn insert_in<C: Ticks>(
     ensures count { spares store.new + finite.len (records store.new)
         ≡ spares store.old + finite.len (records store.old) }
 {
-    let more = store.sum(line, ticks);
     if height == 1 {
-        return put(store, node, k, line, &more, ticks);
+        return put(store, node, k, line, more, ticks);
     }
     let found = lead(store, node, k, ticks);
-    match insert_in(store, found.child, height - 1, found.rest, line, ticks) {
-        Some(sibling) => put(store, node, found.slot + 1, sibling, &more, ticks),
+    match insert_in(
+        store,
+        found.child,
+        height - 1,
+        found.rest,
+        line,
+        more,
+        ticks,
+    ) {
+        Some(sibling) => put(store, node, found.slot + 1, sibling, more, ticks),
         None => {
-            add(store, node, &more, ticks);
+            add(store, node, more, ticks);
             None
         }
     }

@@ -281,8 +281,18 @@ impl<C: Ticks> LineTree<C> {
         ensures room { line_room self.old ≤ line_room self.new + 1 }
     {
         self.count += 1;
+        let more = line.sum();
         let name = new_line(&mut self.store, line);
-        if let Some(sibling) = insert_in(&mut self.store, self.root, self.height, k, name, ticks) {
+        let split = insert_in(
+            &mut self.store,
+            self.root,
+            self.height,
+            k,
+            name,
+            &more,
+            ticks,
+        );
+        if let Some(sibling) = split {
             self.root = join(&mut self.store, self.root, sibling, ticks);
             self.height += 1;
         }

@@ -5,7 +5,7 @@ use lib.ListN.{length-set}
 use mathlib.Core.Bool.{false≢true}
 use Rattle.std.specs.Prelude.{IfSome, IsSome, Option, None, Some, is_some}
 use Rattle.segments.specs.Columns.{LineContent}
-use Rattle.toggle_sums.specs.Counts.{Count}
+use Rattle.toggle_sums.specs.Counts.{Count, plus}
 use Rattle.std.specs.FinMap.{get, insert, remove}
 use Rattle.std.specs.List.{range_with_len, sum_by}
 use Rattle.std.proofs.lemmas.List.{map-append, map-set, length-map, get_or-map}
@@ -154,6 +154,15 @@ pub summed : (h : Held) (old new : Branch) (parent : Option NodePtr) (slot : ℕ
 unfolding room_record
 summed h old new parent slot sum e d =
     ap (room_record parent slot) d ∙ ap (λ k. with_sum (record_in k parent slot) sum) (sym e)
+
+pub added : (h : Held) (old new : Branch) (parent : Option NodePtr) (slot : ℕ) (more : Count) → h ≡ Inner old →
+    new.room.value ≡ with_room_sum old.room.value (plus old.room.value.sum more)
+    → record_in (Inner new) parent slot
+    ≡ with_sum (record_in h parent slot) (plus (record_in h parent slot).sum more)
+unfolding room_record
+added h old new parent slot more e d =
+    ap (room_record parent slot) d
+    ∙ ap (λ k. with_sum (record_in k parent slot) (plus (record_in k parent slot).sum more)) (sym e)
 
 pub lodged : (h : Held) (old new : Branch) (parent : Option NodePtr) (slot i : ℕ) (link : Link) (child : Option NodePtr)
     → h ≡ Inner old → new.room.value ≡ with_room_child old.room.value i link → link_name link ≡ child

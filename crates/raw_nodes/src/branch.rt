@@ -19,7 +19,7 @@ pub struct Branch {
 impl Branch {
     ghost use Rattle.raw_nodes.specs.Rooms.{with_room_child, with_room_sum};
     ghost use Rattle.std.specs.Prelude.{◌<◌};
-    ghost use Rattle.toggle_sums.specs.Counts.{no_text};
+    ghost use Rattle.toggle_sums.specs.Counts.{CountsFit, counting, no_text, plus};
 
     /// Of a room without text below.
     pub fn of(room: Box<Room>) -> Branch
@@ -44,6 +44,17 @@ impl Branch {
         self.lines = sum.lines();
         self.characters = sum.characters();
         self.room.sum = sum;
+    }
+
+    /// The room's sum counts so much more. Its toggles aren't touched.
+    pub fn add_counts(&mut self, lines: usize, characters: usize, marks: usize)
+        requires { CountsFit self.old.room.value.sum (counting lines characters marks) }
+        ensures { self.new.room.value ≡ with_room_sum self.old.room.value
+            (plus self.old.room.value.sum (counting lines characters marks)) }
+    {
+        self.lines += lines;
+        self.characters += characters;
+        self.room.sum.add_counts(lines, characters, marks);
     }
 
     pub fn set_child(&mut self, i: usize, child: Link)

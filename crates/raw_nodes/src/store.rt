@@ -47,6 +47,7 @@ impl<C: Ticks> NodeStore<C> {
     ghost use Rattle.raw_nodes.specs.Records.{blank, update, with_child, with_parent, with_sum};
     ghost use Rattle.std.specs.Borrow.{sem};
     ghost use Rattle.text_model.specs.TagBits.{slot_count};
+    ghost use Rattle.toggle_sums.specs.Counts.{CountsFit, counting, plus};
 
     /// A store without nodes. It takes no memory.
     pub fn new(alloc: Global) -> NodeStore<C>
@@ -235,6 +236,19 @@ impl<C: Ticks> NodeStore<C> {
         ensures rooms { rooms self.new ≡ rooms self.old }
     {
         self.heap.node_mut(name).held.branch_mut().set_sum(sum);
+    }
+
+    /// Counts so many lines, characters and marks more of the text below an inner node.
+    pub fn add_counts(&mut self, name: NodePtr, lines: usize, characters: usize, marks: usize)
+        requires name { IsInner self.old name }
+        requires fits { IfSome (entry self.old name) (λ r. CountsFit r.sum (counting lines characters marks)) }
+        ensures records { records self.new ≡ update (records self.old) name
+            (λ r. with_sum r (plus r.sum (counting lines characters marks))) }
+        ensures spares { spares self.new ≡ spares self.old }
+        ensures rooms { rooms self.new ≡ rooms self.old }
+    {
+        let branch = self.heap.node_mut(name).held.branch_mut();
+        branch.add_counts(lines, characters, marks);
     }
 
     /// Links a node to its parent, where it has a slot number, or to none.

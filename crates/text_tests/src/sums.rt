@@ -30,6 +30,14 @@ fn sums_lose_numbers(rt: HostRuntime) {
 }
 
 #[test]
+fn sums_gain_numbers(rt: HostRuntime) {
+    let mut sums = joined();
+    sums.add_counts(1, 5, 2);
+    assert!(rt; sums.lines() == 4 && sums.characters() == 17 && sums.marks() == 4);
+    assert!(rt; sums.has(TagSlot(3)) && sums.parity(TagSlot(64)) && !sums.is_bare());
+}
+
+#[test]
 fn sums_lose_a_part(rt: HostRuntime) {
     let sums = joined();
     let part = Sums::counting(1, 5, 2).toggled(TagSlot(64));

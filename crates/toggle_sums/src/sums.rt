@@ -1,6 +1,7 @@
 ghost use Rattle.std.specs.Prelude.{◌≡◌, ◌+◌, ◌*◌, ◌^◌, ◌<◌, ◌≤◌, slice_index, bit_or, bit_xor, true};
 ghost use Rattle.std.specs.FinSet as set;
-ghost use Rattle.toggle_sums.specs.Counts.{IsBare, IsWithin, counting, less, toggled, with_toggles, without};
+ghost use Rattle.toggle_sums.specs.Counts.{CountsFit, IsBare, IsWithin, counting, less, plus, toggled, with_toggles};
+ghost use Rattle.toggle_sums.specs.Counts.{without};
 
 use crate::summary::Summary;
 use std::marker::Model;
@@ -140,6 +141,16 @@ impl<const K: usize> Sums<K> {
         ensures no { IsWithin self.now other.now → result ≡ true }
     {
         joined_words(&other.presence, &self.presence) == other.presence
+    }
+
+    /// Counts so many lines, characters and marks more. The toggles aren't touched.
+    pub fn add_counts(&mut self, lines: usize, characters: usize, marks: usize)
+        requires { CountsFit self.old (counting lines characters marks) }
+        ensures { self.new ≡ plus self.old (counting lines characters marks) }
+    {
+        self.lines += lines;
+        self.characters += characters;
+        self.marks += marks;
     }
 
     /// The sum with so many lines, characters and marks less.

@@ -1,5 +1,5 @@
 use Rattle.std.proofs.Common.{◌≡◌, ◌-◌, ◌≤◌, ℕ, List, Some, length, take, drop, ap, refl, sym, ◌∙◌, subst, arith}
-use Rattle.std.proofs.Common.{length-drop, None}
+use Rattle.std.proofs.Common.{length-drop, None, not}
 use Rattle.std.specs.FinMap as finite
 use Rattle.std.specs.List.{insert}
 use Rattle.std.proofs.lemmas.List.{take_all}
@@ -12,7 +12,7 @@ use Rattle.std.specs.Prelude.{IfSome, IsSome, slice_get}
 use Rattle.std.specs.declared.option.Option.{Option}
 use Rattle.toggle_sums.specs.Counts.{Count, plus}
 use Rattle.raw_nodes.specs.Records.{Records}
-use Rattle.line_tree.specs.Changes.{Among, CanFill, CanPut, FitsSum, Stay, refilled, relinked, sum_all, sums}
+use Rattle.line_tree.specs.Changes.{Among, CanFill, CanPut, FitsSum, Stay, refilled, sum_all, sums}
 use Rattle.line_tree.specs.Finds.{HasRow}
 use Rattle.line_tree.specs.Shape.{sum_at}
 use Rattle.line_tree.proofs.AmongLaws.{among-drop, among-take, get-among}
@@ -20,12 +20,10 @@ use Rattle.line_tree.proofs.FillLaws.{row-some, sums-row}
 use Rattle.line_tree.proofs.RowLaws.{sum_is}
 use Rattle.line_tree.proofs.SumLaws.{fits-both}
 use Rattle.line_tree.proofs.TreeLaws.{named-row}
-use Rattle.line_tree.proofs.PutLaws.{count-row, fill-left, fill-right, fill-room, first-fits, halves-sum, kept-left}
-use Rattle.line_tree.proofs.PutLaws.{kept-put, last-fits, left-sums, named-all, right-sums}
+use Rattle.line_tree.proofs.PutLaws.{fill-left, fill-right, first-fits, halves-sum, kept-left}
+use Rattle.line_tree.proofs.PutLaws.{last-fits, left-sums, named-all, right-sums}
+use Rattle.line_tree.proofs.ShiftLaws.{has-none, has-room, shifted-fills, shifted-fits, shifted-row, shifted-sum}
 use Rattle.line_tree.proofs.fill.put.Goals as goal
-
-short : (all : List NodePtr) → length all ≤ 12 → row (take 12 (drop 0 all)) ≡ row all
-short all few = ap row (take_all 12 all few)
 
 -- the last ones of thirteen
 last : (all : List NodePtr) (half : ℕ) → half ≤ 7 → length all ≤ 13 →
@@ -38,6 +36,38 @@ summed : (m : Records) (p : NodePtr) (s more all : Count) → HasRow m p → IfS
     plus (sum_at m p) more ≡ all → plus s more ≡ all
 summed m p s more all has says is = ap (λ x. plus x more) (sum_is m p s (named-row m p has) says) ∙ is
 
+pub shift-requires-clause-few : goal.shift-requires-clause-few
+shift-requires-clause-few g c = has-room (records c.args.store.now) c.args.node c.requires.put.row c.child.result
+    c.child.ensures.value (c.is_none.ensures ∙ ap not c.if-is_none.true)
+
+pub add-requires-clause-row : goal.add-requires-clause-row
+add-requires-clause-row g c = let m = records c.args.store.now in
+    let few = has-room m c.args.node c.requires.put.row c.child.result c.child.ensures.value (c.is_none.ensures
+    ∙ ap not c.if-is_none.true) in
+    shifted-row m c.args.node c.args.at c.args.extra c.requires.put few (records c.shift.new.store)
+    c.shift.ensures.records
+
+pub add-requires-clause-sum : goal.add-requires-clause-sum
+add-requires-clause-sum g c = let m = records c.args.store.now in
+    let few = has-room m c.args.node c.requires.put.row c.child.result c.child.ensures.value (c.is_none.ensures
+    ∙ ap not c.if-is_none.true) in
+    shifted-sum m c.args.node c.args.at c.args.extra c.requires.put few (records c.shift.new.store)
+    c.shift.ensures.records c.args.more.now c.requires.sum
+
+pub add-requires-clause-fits : goal.add-requires-clause-fits
+add-requires-clause-fits g c = let m = records c.args.store.now in
+    let few = has-room m c.args.node c.requires.put.row c.child.result c.child.ensures.value (c.is_none.ensures
+    ∙ ap not c.if-is_none.true) in
+    shifted-fits m c.args.node c.args.at c.args.extra c.requires.put few (records c.shift.new.store)
+    c.shift.ensures.records
+
+pub returns-then-is_none-clause-puts : goal.returns-then-is_none-clause-puts
+returns-then-is_none-clause-puts g c = let m = records c.args.store.now in
+    let few = has-room m c.args.node c.requires.put.row c.child.result c.child.ensures.value (c.is_none.ensures
+    ∙ ap not c.if-is_none.true) in
+    shifted-fills m c.args.node c.args.at c.args.extra c.requires.put few (records c.shift.new.store)
+    c.shift.ensures.records (records c.add.new.store) c.add.ensures.records
+
 pub sum-old-requires : goal.sum-old-requires
 sum-old-requires g c = named-row (records c.args.store.now) c.args.node c.requires.put.row
 
@@ -47,22 +77,6 @@ plus-sum-requires g c = let m = records c.args.store.now in let p = c.args.node 
     let now = summed m p c.sum-old.result c.args.more.now (sum_all m all) c.requires.put.row c.sum-old.ensures.value
     c.requires.sum in
     (omega arith, fits-both c.sum-old.result c.args.more.now (subst FitsSum (sym now) c.requires.put.fits))
-
-pub refill-requires : goal.refill-requires
-refill-requires g c = let m = records c.args.store.now in let p = c.args.node in
-    let all = insert (kids m p) c.args.at c.args.extra in
-    let n = count-row m p c.children.result c.requires.put.row c.children.ensures in
-    let more = length-insert (kids m p) c.args.at c.args.extra c.requires.put.place in
-    let few : length all ≤ 12 = omega (arith, c.if-children-lt12.true) in
-    let is = c.part-all.ensures ∙ short all few in
-    record {
-      fill = (all, is, fill-room m p c.args.at c.args.extra c.requires.put few);
-      from = omega (arith, c.requires.put.place, c.requires.put.row.few);
-      kept = ap (relinked m p 0) is ∙ kept-put m p c.args.at c.args.extra c.requires.put
-          ∙ sym (ap (λ os. relinked m p c.args.at (drop c.args.at os)) is);
-      sum = c.plus-sum.ensures ∙ summed m p c.sum-old.result c.args.more.now (sum_all m all) c.requires.put.row
-          c.sum-old.ensures.value c.requires.sum ∙ sym (ap (sums m) is ∙ sums-row m all);
-    }
 
 -- the parts of a node that splits
 named-part : (m : Records) (p : NodePtr) (at : ℕ) (x : NodePtr) → CanPut m p at x → (cs : List NodePtr) →
@@ -101,8 +115,8 @@ sum_less-first-requires g c = let m = records c.args.store.now in let half = c.f
           (first-fits m p c.args.at c.args.extra c.requires.put half);
     }
 
-pub refill-requires-else-children-lt12 : goal.refill-requires-else-children-lt12
-refill-requires-else-children-lt12 g c = let m = records c.args.store.now in let half = c.first_half-half.result in
+pub refill-requires : goal.refill-requires
+refill-requires g c = let m = records c.args.store.now in let half = c.first_half-half.result in
     let p = c.args.node in let all = insert (kids m p) c.args.at c.args.extra in
     record {
       fill = (
@@ -124,12 +138,12 @@ refill-requires-else-children-lt12 g c = let m = records c.args.store.now in let
           half);
     }
 
-pub refill-requires-else-children-lt12-2 : goal.refill-requires-else-children-lt12-2
-refill-requires-else-children-lt12-2 g c = let m = records c.args.store.now in let half = c.first_half-half.result in
+pub refill-requires-else-is_none : goal.refill-requires-else-is_none
+refill-requires-else-is_none g c = let m = records c.args.store.now in let half = c.first_half-half.result in
     let p = c.args.node in let all = insert (kids m p) c.args.at c.args.extra in let s = c.make-sibling.result in
     let more = length-insert (kids m p) c.args.at c.args.extra c.requires.put.place in
     let few : length all ≤ 13 = omega (arith, c.requires.put.row.few) in
-    let now = c.refill-else-children-lt12.ensures.records
+    let now = c.refill.ensures.records
     ∙ ap (λ n. refilled n p c.part-left.result) c.make-sibling.ensures.records
     ∙ ap (refilled (finite.insert m s (blank None)) p) c.part-left.ensures in
     record {
@@ -150,30 +164,23 @@ refill-requires-else-children-lt12-2 g c = let m = records c.args.store.now in l
           ∙ right-sums m p c.args.at c.args.extra c.requires.put s c.make-sibling.ensures.fresh half);
     }
 
-pub returns-then-children-lt12-clause-puts : goal.returns-then-children-lt12-clause-puts
-returns-then-children-lt12-clause-puts g c = let m = records c.args.store.now in let p = c.args.node in
-    let all = insert (kids m p) c.args.at c.args.extra in
-    let n = count-row m p c.children.result c.requires.put.row c.children.ensures in
-    let more = length-insert (kids m p) c.args.at c.args.extra c.requires.put.place in
-    let few : length all ≤ 12 = omega (arith, c.if-children-lt12.true) in
-    record { few = few; same = c.refill.ensures.records ∙ ap (refilled m p) (c.part-all.ensures ∙ short all few) }
-
-pub returns-else-children-lt12-clause-puts : goal.returns-else-children-lt12-clause-puts
-returns-else-children-lt12-clause-puts g c = let m = records c.args.store.now in let half = c.first_half-half.result in
+pub returns-else-is_none-clause-puts : goal.returns-else-is_none-clause-puts
+returns-else-is_none-clause-puts g c = let m = records c.args.store.now in let half = c.first_half-half.result in
     let p = c.args.node in let all = insert (kids m p) c.args.at c.args.extra in let s = c.make-sibling.result in
-    let n = count-row m p c.children.result c.requires.put.row c.children.ensures in
+    let full = has-none m p c.requires.put.row c.child.result c.child.ensures.value (c.is_none.ensures
+    ∙ ap not c.if-is_none.false) in
     let more = length-insert (kids m p) c.args.at c.args.extra c.requires.put.place in
     let few : length all ≤ 13 = omega (arith, c.requires.put.row.few) in
-    let left = c.refill-else-children-lt12.ensures.records
+    let left = c.refill.ensures.records
     ∙ ap (λ x. refilled x p c.part-left.result) c.make-sibling.ensures.records
     ∙ ap (refilled (finite.insert m s (blank None)) p) c.part-left.ensures in
     record {
-      many = omega (arith, c.if-children-lt12.false, c.requires.put.row.few);
+      many = omega (arith, full, c.requires.put.row.few);
       fresh = c.make-sibling.ensures.fresh;
       half = half;
       low = c.first_half-half.ensures.low;
       high = c.first_half-half.ensures.high;
-      same = c.refill-else-children-lt12-2.ensures.records ∙ ap (λ x. refilled x s c.part-right.result) left
+      same = c.refill-else-is_none.ensures.records ∙ ap (λ x. refilled x s c.part-right.result) left
           ∙ ap (refilled (refilled (finite.insert m s (blank None)) p (row (take half all))) s) (c.part-right.ensures
           ∙ last all half c.first_half-half.ensures.high few);
     }

@@ -16,10 +16,8 @@ use Rattle.line_tree.proofs.InsertLaws.{can-child, has-node, has-now, low-can_pu
 use Rattle.line_tree.proofs.InsertLaws.{one-inserts, one-sum, two-can_put, two-inserts, two-sum}
 use Rattle.line_tree.proofs.RoomLaws.{len-puts, len-resummed}
 use Rattle.toggle_sums.specs.Counts.{Count, plus}
-use Rattle.std.specs.Prelude.{IfSome, IsSome}
 use Rattle.line_tree.specs.Changes.{sum_all}
-use Rattle.line_tree.proofs.RowLaws.{sum_is}
-use Rattle.line_tree.proofs.TreeLaws.{below-tree, named-tree, whole-below}
+use Rattle.line_tree.proofs.TreeLaws.{below-tree, whole-below}
 use Rattle.line_tree.proofs.insert.+insert_in.Goals as goal
 
 -- the height as one more than another
@@ -50,23 +48,23 @@ put-requires-clause-put g t c = low-can_put (records c.args.store.now) c.args.no
     c.requires.insert)
 
 -- what the line adds
-line-sum : (m l : Records) (p x : NodePtr) (s : Count) (all : Count) → IsSome (finite.get m x) →
-    IfSome (finite.get m x) (λ r. s ≡ r.sum) → plus (sum_at l p) (sum_at m x) ≡ all → plus (sum_at l p) s ≡ all
-line-sum m l p x s all named says is = ap (plus (sum_at l p)) (sum_is m x s named says) ∙ is
+line-sum : (m l : Records) (p x : NodePtr) (s : Count) (all : Count) → s ≡ sum_at m x →
+    plus (sum_at l p) (sum_at m x) ≡ all → plus (sum_at l p) s ≡ all
+line-sum m l p x s all adds is = ap (plus (sum_at l p)) adds ∙ is
 
 pub put-requires-clause-sum : goal.put-requires-clause-sum
 put-requires-clause-sum g t c = let m = records c.args.store.now in
-    line-sum m m c.args.node c.args.line c.sum-more.result
+    line-sum m m c.args.node c.args.line c.args.more.now
     (sum_all m (insert (kids m c.args.node) c.args.k c.args.line))
-    (named-tree m 0 c.args.line c.requires.insert.line) c.sum-more.ensures.value
+    c.requires.more
     (low-sum m c.args.node c.args.k c.args.line
     (subst (λ h. CanInsert m h c.args.node c.args.k c.args.line) c.if-height-eq1.true c.requires.insert))
 
 pub put-requires-in-Some-clause-sum : goal.put-requires-in-Some-clause-sum
 put-requires-in-Some-clause-sum g t c = let m = records c.args.store.now in let l = records c.insert_in.new.store in
-    line-sum m l c.args.node c.args.line c.sum-more.result
+    line-sum m l c.args.node c.args.line c.args.more.now
     (sum_all l (insert (kids l c.args.node) (c.lead-found.result.slot + 1) c.in-Some.sibling))
-    (named-tree m 0 c.args.line c.requires.insert.line) c.sum-more.ensures.value
+    c.requires.more
     (two-sum m (c.args.height - 1) c.args.node c.args.k c.args.line
     (above m c.args.height c.args.node c.args.k c.args.line c.requires.insert c.requires.node) c.lead-found.result
     c.lead-found.ensures l c.in-Some.sibling
@@ -115,7 +113,7 @@ insert_in-requires g t c κs inside = let m = records c.args.store.now in
                 (above m c.args.height c.args.node c.args.k c.args.line c.requires.insert c.requires.node)
                 c.lead-found.result
                 c.lead-found.ensures,
-            (omega arith, omega arith),
+            (c.requires.more, (omega arith, omega arith)),
           ),
         ),
       ),
@@ -149,14 +147,9 @@ add-requires-clause-fits g t c = let m = records c.args.store.now in let l = rec
     (subst (λ o. Inserts m l (c.args.height - 1) c.lead-found.result.child c.lead-found.result.rest c.args.line o)
     c.in-None.is c.insert_in.ensures.inserts)
 
-pub sum-more-requires : goal.sum-more-requires
-sum-more-requires g t c = let m = records c.args.store.now in
-    named-tree m 0 c.args.line c.requires.insert.line
-
 pub add-requires-clause-sum : goal.add-requires-clause-sum
 add-requires-clause-sum g t c = let m = records c.args.store.now in let l = records c.insert_in.new.store in
-    ap (λ s. plus (sum_at l c.args.node) s) (sum_is m c.args.line c.sum-more.result
-    (named-tree m 0 c.args.line c.requires.insert.line) c.sum-more.ensures.value)
+    ap (λ s. plus (sum_at l c.args.node) s) c.requires.more
     ∙ one-sum m (c.args.height - 1) c.args.node c.args.k c.args.line
     (above m c.args.height c.args.node c.args.k c.args.line c.requires.insert c.requires.node) c.lead-found.result
     c.lead-found.ensures l

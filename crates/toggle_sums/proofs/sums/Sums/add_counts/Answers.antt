@@ -1,0 +1,15 @@
+use Rattle.std.proofs.Common.{◌+◌, sym}
+use Rattle.toggle_sums.specs.CountLaws.{differing-empty, union-empty}
+use Rattle.toggle_sums.specs.SlotWords.{slots_of}
+use Rattle.toggle_sums.proofs.sums.Sums.add_counts.Goals as goal
+
+pub returns : goal.returns
+returns g c =
+    let now = c.self.inside in
+    rw (← c.self.view_is) (λ i. record {
+      lines = now.lines + c.args.lines;
+      characters = now.characters + c.args.characters;
+      marks = now.marks + c.args.marks;
+      parity = sym (differing-empty (slots_of g.row.K now.parity)) i;
+      presence = sym (union-empty (slots_of g.row.K now.presence)) i;
+    })
