@@ -9,6 +9,7 @@ pub mod Finding
 pub mod Splitting
 pub mod WordWriting
 pub mod Plain
+pub mod Pairs
 pub mod PlainWords
 pub mod Writing
 pub mod ListStages

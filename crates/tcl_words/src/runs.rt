@@ -12,6 +12,7 @@ fn is_bare(byte: u8) -> bool
     ensures { result ≡ is_bare byte }
 {
     byte > b'\\'
+        || byte > b'$' && byte < b'[' && byte != b';'
         || !matches!(
             byte,
             b'\n' | b';' | b' ' | b'\t' | b'\r' | 0x0b | 0x0c | b'[' | b'$' | b'\\'
@@ -32,11 +33,11 @@ fn begins_command(byte: u8) -> bool
     byte != b'#' && begins_word(byte)
 }
 
-// Whether the byte is an ordinary one of a quoted word.
-fn is_quoted(byte: u8) -> bool
+/// Whether the byte is an ordinary one of a quoted word.
+pub fn is_quoted(byte: u8) -> bool
     ensures { result ≡ is_quoted byte }
 {
-    !matches!(byte, b'"' | b'[' | b'$' | b'\\')
+    byte > b'\\' || byte < b'"' || !matches!(byte, b'"' | b'[' | b'$' | b'\\')
 }
 
 // Whether the byte is an ordinary one of a braced word.
