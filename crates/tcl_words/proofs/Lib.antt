@@ -9,9 +9,9 @@ pub mod Finding
 pub mod Splitting
 pub mod WordWriting
 pub mod Plain
-pub mod Pairs
 pub mod PlainWords
 pub mod Writing
+pub mod Pairs
 pub mod ListStages
 pub mod ListWriting
 pub mod SpellsBack

@@ -9,7 +9,7 @@ use Rattle.std.proofs.lemmas.Str.{IsCharBoundary-after_ascii}
 use Rattle.std.proofs.lemmas.List.{drop_more}
 use Rattle.tcl_words.specs.Characters.{is_end, is_blank}
 use Rattle.tcl_words.specs.Steps.{step_of, closes, no_output}
-use Rattle.tcl_words.specs.Scanning.{later, scan_next, scanned, written, words_next, pieces_from}
+use Rattle.tcl_words.specs.Scanning.{prefixed, later, scan_next, scanned, written, words_next, pieces_from}
 use Rattle.tcl_words.specs.Runs.{is_plain, is_quoted, is_braced, begun, IsSeam}
 use Rattle.tcl_words.specs.PlainWords.{scan_behind, words_behind, spelled_from, EndsWord, IsPlainWord, IsClosed}
 use Rattle.tcl_words.specs.declared.runs.Seam.TheVariants as seams
@@ -26,7 +26,7 @@ use Rattle.tcl_words.proofs.Verdicts.{scanned-cons, pieces-cons}
 use Rattle.tcl_words.proofs.Spelling.{below_or, later-later}
 use Rattle.tcl_words.proofs.Plain.{scan_skips, scan_begun, run_of, RunOf, front_range, blank_step, end_step, by_true}
 use Rattle.tcl_words.proofs.Plain.{by_false}
-use Rattle.tcl_words.proofs.Writing.{prefixed, spelled, prefixed_nil, run_written, pieces_begun, ascii_cons, low_blank}
+use Rattle.tcl_words.proofs.Writing.{spelled, prefixed_nil, run_written, pieces_begun, ascii_cons, low_blank}
 use Rattle.tcl_words.proofs.Writing.{low_end}
 
 -- what ends a word, and the command where it is the last
