@@ -47,7 +47,8 @@ fn is_braced(byte: u8) -> bool
     !matches!(byte, b'{' | b'}' | b'\\')
 }
 
-fn bare_run(bytes: &[u8]) -> usize
+/// How many bytes at the front are ordinary ones of a bare word.
+pub fn bare_run(bytes: &[u8]) -> usize
     ensures within { result ≤ length bytes.now }
     ensures plain { (k : ℕ) → k < result → is_bare (slice_index bytes.now k) ≡ true }
     ensures longest { result < length bytes.now → is_bare (slice_index bytes.now result) ≡ false }
@@ -61,7 +62,7 @@ fn bare_run(bytes: &[u8]) -> usize
     bytes.len()
 }
 
-/// How many bytes at the front are ordinary ones of a quoted word.
+/// The same of a quoted word.
 pub fn quoted_run(bytes: &[u8]) -> usize
     ensures within { result ≤ length bytes.now }
     ensures plain { (k : ℕ) → k < result → is_quoted (slice_index bytes.now k) ≡ true }
