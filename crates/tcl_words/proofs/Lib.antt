@@ -11,6 +11,7 @@ pub mod WordWriting
 pub mod Plain
 pub mod PlainWords
 pub mod Writing
+pub mod Pairs
 pub mod ListStages
 pub mod ListWriting
 pub mod SpellsBack

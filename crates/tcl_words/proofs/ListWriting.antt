@@ -10,7 +10,7 @@ use Rattle.tcl_words.specs.ListText.{is_white, AtElement, onto_element, read_lis
 use Rattle.tcl_words.specs.ListSteps.{list_keeps, text_element, step_in_element, close_brace, element_by, list_step}
 use Rattle.tcl_words.specs.ListSteps.{last_list_step, open_braces, script_stage}
 use Rattle.tcl_words.specs.Runs.{is_bare, is_quoted, is_braced, is_plain}
-use Rattle.tcl_words.specs.Scanning.{word_with, words_after, word_after}
+use Rattle.tcl_words.specs.Scanning.{prefixed, word_with, words_after, word_after}
 use Rattle.tcl_words.specs.Unread.{texts_of}
 use Rattle.tcl_words.specs.declared.escapes.EscapeStep.{EscapeStep}
 use Rattle.tcl_words.specs.declared.escapes.EscapeStep.TheVariants as escape_steps
@@ -23,7 +23,7 @@ use Rattle.tcl_words.specs.declared.list_steps.ListNext.{ListNext}
 use Rattle.tcl_words.specs.declared.list_steps.ListNext.TheVariants.{Go, Bad}
 use Rattle.tcl_words.specs.declared.list_steps.ListStep.{ListStep}
 use Rattle.tcl_words.proofs.Plain.{AllPlain, RunOf}
-use Rattle.tcl_words.proofs.Writing.{prefixed, spelled, prefixed_onto, prefixed_nil, written_more}
+use Rattle.tcl_words.proofs.Writing.{spelled, prefixed_onto, prefixed_nil, written_more}
 use Rattle.tcl_words.proofs.ListStages.{Found, list_from, list_put, list_arrive, list_does, list_end, list-step}
 use Rattle.tcl_words.proofs.ListStages.{list-end, put_some, put_none, onto_some}
 use Rattle.tcl_words.proofs.Splitting.{texts_are}

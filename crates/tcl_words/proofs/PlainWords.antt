@@ -9,10 +9,9 @@ use Rattle.std.proofs.lemmas.Str.{IsCharBoundary-after_ascii}
 use Rattle.std.proofs.lemmas.List.{drop_more}
 use Rattle.tcl_words.specs.Characters.{is_end, is_blank}
 use Rattle.tcl_words.specs.Steps.{step_of, closes, no_output}
-use Rattle.tcl_words.specs.Scanning.{later, scan_next, scanned, written, words_next, pieces_from}
-use Rattle.tcl_words.specs.Runs.{is_plain, is_quoted, is_braced, begun, IsSeam}
+use Rattle.tcl_words.specs.Scanning.{prefixed, later, scan_next, scanned, written, words_next, pieces_from}
+use Rattle.tcl_words.specs.Runs.{is_plain, is_bare, is_quoted, is_braced, begun}
 use Rattle.tcl_words.specs.PlainWords.{scan_behind, words_behind, spelled_from, EndsWord, IsPlainWord, IsClosed}
-use Rattle.tcl_words.specs.declared.runs.Seam.TheVariants as seams
 use Rattle.tcl_words.specs.declared.stage.TextWord.TheVariants.{Bare, Quoted}
 use Rattle.tcl_words.specs.declared.stage.Closing.{Closing}
 use Rattle.tcl_words.specs.declared.stage.Closing.TheVariants.{Brace, Quote}
@@ -26,7 +25,7 @@ use Rattle.tcl_words.proofs.Verdicts.{scanned-cons, pieces-cons}
 use Rattle.tcl_words.proofs.Spelling.{below_or, later-later}
 use Rattle.tcl_words.proofs.Plain.{scan_skips, scan_begun, run_of, RunOf, front_range, blank_step, end_step, by_true}
 use Rattle.tcl_words.proofs.Plain.{by_false}
-use Rattle.tcl_words.proofs.Writing.{prefixed, spelled, prefixed_nil, run_written, pieces_begun, ascii_cons, low_blank}
+use Rattle.tcl_words.proofs.Writing.{spelled, prefixed_nil, run_written, pieces_begun, ascii_cons, low_blank}
 use Rattle.tcl_words.proofs.Writing.{low_end}
 
 -- what ends a word, and the command where it is the last
@@ -105,24 +104,6 @@ bare_is stage here bytes c n last is first bare within plain low ends =
           ∙ ap (λ l. l ∷ spelled (words_behind last (drop (n + 1) bytes))) (sym (front_range n bytes));
     }
 
-pub bare_passes : (stage here : Stage) (bytes : List ℕ) (c n : ℕ) (last : Bool) → here ≡ begun stage c →
-    c ≡ get_or bytes 0 0 → ((k : ℕ) → k < n → is_plain here (get_or bytes k 0) ≡ true)
-    → IsSeam here bytes n seams.Blank → last ≡ false →
-    IsPlainWord stage bytes (record { from = 0; to = n; len = n + 1; is_last = last })
-bare_passes stage here bytes c n last is first plain seam same =
-    subst (λ l. IsPlainWord stage bytes (record { from = 0; to = n; len = n + 1; is_last = l })) (sym same)
-    (bare_is stage here bytes c n false is first seam.0 seam.2 plain (low_blank (get_or bytes n 0) seam.3)
-    (blank_step (get_or bytes n 0) seam.3 seam.4))
-
-pub bare_ends : (stage here : Stage) (bytes : List ℕ) (c n : ℕ) (last : Bool) → here ≡ begun stage c →
-    c ≡ get_or bytes 0 0 → ((k : ℕ) → k < n → is_plain here (get_or bytes k 0) ≡ true)
-    → IsSeam here bytes n seams.End → last ≡ true →
-    IsPlainWord stage bytes (record { from = 0; to = n; len = n + 1; is_last = last })
-bare_ends stage here bytes c n last is first plain seam same =
-    subst (λ l. IsPlainWord stage bytes (record { from = 0; to = n; len = n + 1; is_last = l })) (sym same)
-    (bare_is stage here bytes c n true is first seam.0 seam.2 plain (low_end (get_or bytes n 0) seam.3)
-    (end_step (get_or bytes n 0) seam.3))
-
 -- what follows what closed a word
 behind_is : (closing : Closing) (c : ℕ) (last : Bool) → EndsWord c last →
     step_of (Behind closing) c ≡ record { output = no_output; next = next_of last }
@@ -132,6 +113,19 @@ behind_is closing c false blank = by_false Step (is_end c) _ _ blank.1 ∙ by_tr
 low_ends : (c : ℕ) (last : Bool) → EndsWord c last → c < 128
 low_ends c true end = low_end c end
 low_ends c false blank = low_blank c blank.0
+
+ends_step : (c : ℕ) (last : Bool) → EndsWord c last → step_of (Text Bare) c ≡ closes (next_of last)
+ends_step c true end = end_step c end
+ends_step c false blank = blank_step c blank.0 blank.1
+
+pub bare_found : (stage : Stage) (bytes : List ℕ) (n : ℕ) (last : Bool) →
+    (is_bare (get_or bytes 0 0) ≡ true → begun stage (get_or bytes 0 0) ≡ Text Bare)
+    → 0 < n → n < length bytes → ((k : ℕ) → k < n → is_bare (get_or bytes k 0) ≡ true) →
+    EndsWord (get_or bytes n 0) last
+    → IsPlainWord stage bytes (record { from = 0; to = n; len = n + 1; is_last = last })
+bare_found stage bytes n last opens some within plain ends =
+    bare_is stage (Text Bare) bytes (get_or bytes 0 0) n last (sym (opens (plain 0 some))) refl refl within plain
+    (low_ends (get_or bytes n 0) last ends) (ends_step (get_or bytes n 0) last ends)
 
 -- A word between two bytes: what stands behind the first is read at a stage of its own.
 closed_is : (o : ℕ) (ys : List ℕ) (n : ℕ) (inside : Stage) (closing : Closing) (last : Bool) → o < 128

@@ -10,7 +10,7 @@ use Rattle.std.proofs.lemmas.List.{drop_more}
 use Rattle.tcl_words.specs.Characters.{is_end, is_blank}
 use Rattle.tcl_words.specs.Steps.{step_of, last_step, closes, word_end}
 use Rattle.tcl_words.specs.Scanning.{onto_piece, given_onto, kept_onto, ended_before, written, words_next, pieces_from}
-use Rattle.tcl_words.specs.Scanning.{given_bytes, kept_bytes, word_with, words_after, word_after}
+use Rattle.tcl_words.specs.Scanning.{prefixed, given_bytes, kept_bytes, word_with, words_after, word_after}
 use Rattle.tcl_words.specs.declared.fault.ScriptFault.{ScriptFault}
 use Rattle.tcl_words.specs.declared.stage.Stage.{Stage}
 use Rattle.tcl_words.specs.declared.stage.Stage.TheVariants.{BeforeCommand, BeforeWord, Text}
@@ -23,11 +23,6 @@ use Rattle.tcl_words.specs.Runs.{begun, IsSeam}
 use Rattle.tcl_words.specs.declared.runs.Seam.TheVariants as seams
 use Rattle.tcl_words.specs.declared.stage.TextWord.TheVariants.{Bare}
 use Rattle.tcl_words.proofs.Plain.{AllPlain, plain_step, char_step, blank_step, end_step, RunOf}
-
--- bytes go onto the first word
-abbrev pub prefixed : List ℕ → List (List ℕ) → List (List ℕ)
-prefixed bytes [] = []
-prefixed bytes (word ∷ words) = (bytes ++ word) ∷ words
 
 -- words in their bytes
 abbrev pub spelled : List (List ℕ) → List (List ℕ)

@@ -62,6 +62,16 @@ backslash_step c =
     else (if c == 10 then step.Goes Gap
     else plain_step c))))
 
+-- the character that an escape gives which ends at this one, if it is whole then
+abbrev pub given_at : ℕ → EscapeStep → Option ℕ
+given_at c (step.Gives d) = Some d
+given_at c step.Keeps = Some c
+given_at c _ = None
+
+-- what a backslash and this character give, if they are all of an escape
+abbrev pub pair_gives : ℕ → Option ℕ
+pair_gives c = given_at c (backslash_step c)
+
 abbrev pub escape_step : EscapeStage → ℕ → EscapeStep
 escape_step Backslash c = backslash_step c
 escape_step (Letter letter more) c = letter_step letter more c

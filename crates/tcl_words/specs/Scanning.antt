@@ -1,5 +1,6 @@
 -- How a scan goes over a command one by one, and what it writes.
 use Rattle.std.specs.Prelude.{ℕ, ◌+◌, Bool, if◌then◌else◌, List, [], ◌∷◌, ◌++◌, Option, Some, None, encode_utf8}
+use Rattle.std.specs.Prelude.{map, chars, encode_utf8_all}
 use Rattle.tcl_words.specs.Steps.{step_of, last_step}
 use Rattle.tcl_words.specs.declared.stage.Stage.{Stage}
 use Rattle.tcl_words.specs.declared.stage.Next.{Next}
@@ -53,6 +54,15 @@ words_next (Refuse fault) after = []
 unfoldable pub pieces_from : List ℕ → Stage → List (List ℕ)
 pieces_from [] stage = written (last_step stage).output 0 []
 pieces_from (c ∷ cs) stage = written (step_of stage c).output c (words_next (step_of stage c).next (pieces_from cs))
+
+-- bytes go onto the first word
+abbrev pub prefixed : List ℕ → List (List ℕ) → List (List ℕ)
+prefixed bytes [] = []
+prefixed bytes (word ∷ words) = (bytes ++ word) ∷ words
+
+-- the words of a text from a stage, in their bytes, behind bytes of the first
+abbrev pub words_on : List ℕ → List ℕ → Stage → List (List ℕ)
+words_on word text stage = prefixed word (map encode_utf8_all (pieces_from (chars text) stage))
 
 -- What is written so far: the bytes of the words that ended, and of the one that is under way.
 

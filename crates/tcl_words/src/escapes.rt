@@ -2,7 +2,8 @@
 
 ghost use Rattle.std.specs.Prelude.{◌≡◌, ◌<◌, ◌≤◌};
 ghost use Rattle.tcl_words.specs.EscapeSteps.{is_gap, base_of, limit_of, joined, given, before, digit_step};
-ghost use Rattle.tcl_words.specs.EscapeSteps.{letter_step, backslash_step, gap_step, escape_step, last_given};
+ghost use Rattle.tcl_words.specs.EscapeSteps.{letter_step, backslash_step, pair_gives, gap_step, escape_step};
+ghost use Rattle.tcl_words.specs.EscapeSteps.{last_given};
 
 /// What an escape's digits are digits of.
 #[derive(Clone, Copy)]
@@ -136,6 +137,17 @@ fn step_backslash(c: char) -> EscapeStep
         't' => EscapeStep::Gives('\t'),
         'v' => EscapeStep::Gives('\x0b'),
         _ => EscapeStep::Keeps,
+    }
+}
+
+/// What a backslash and this character give, if they are all of an escape.
+pub fn pair_gives(c: char) -> Option<char>
+    ensures { result ≡ pair_gives c }
+{
+    match step_backslash(c) {
+        EscapeStep::Gives(given) => Some(given),
+        EscapeStep::Keeps => Some(c),
+        EscapeStep::Goes(_) | EscapeStep::Before(_) | EscapeStep::NoCharacter => None,
     }
 }
 

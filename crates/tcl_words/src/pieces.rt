@@ -1,10 +1,12 @@
-ghost use Rattle.std.specs.Prelude.{◌≡◌, ◌<◌, [], ◌∷◌, ◌++◌, ℕ, List, IfOk, OnOk, map, chars, length, ◌≤◌};
+ghost use Rattle.std.specs.Prelude.{◌≡◌, ◌<◌, [], ◌∷◌, ◌++◌, ℕ, List, IfOk, OnOk, map, chars, length, ◌≤◌, IsUtf8};
 ghost use Rattle.std.specs.Prelude.{string_bytes, string_capacity, encode_utf8, encode_utf8_all};
-ghost use Rattle.tcl_words.specs.Scanning.{pieces_from, word_with, words_after, word_after};
-ghost use Rattle.tcl_words.specs.declared.stage.Stage.TheVariants.{BeforeCommand};
+ghost use Rattle.tcl_words.specs.Scanning.{pieces_from, word_with, words_after, word_after, words_on};
+ghost use Rattle.tcl_words.specs.declared.stage.Stage.TheVariants.{BeforeCommand, Text};
+ghost use Rattle.tcl_words.specs.declared.stage.TextWord.TheVariants.{Quoted};
 
-use crate::runs::{Seam, begun, plain_run, seam_behind};
-use crate::stage::{Next, Output, Stage};
+use crate::escapes::pair_gives;
+use crate::runs::{Seam, begun, plain_run, quoted_run, seam_behind};
+use crate::stage::{Next, Output, Stage, TextWord};
 use crate::steps::{last_from, step_from};
 use std::alloc::{AllocError, Global};
 
@@ -50,6 +52,63 @@ impl Writer {
         self.make_room()?;
         self.word.push_str(part)?;
         Ok(())
+    }
+
+    /// Adds a character to the word under way.
+    fn push(&mut self, c: char) -> Result<(), AllocError>
+        ensures words { map (λ word. string_bytes word) self.new.words.items
+            ≡ map (λ word. string_bytes word) self.old.words.items }
+        ensures word { OnOk result (string_bytes self.new.word ≡ string_bytes self.old.word ++ encode_utf8 c) }
+    {
+        self.make_room()?;
+        self.word.push(c)?;
+        Ok(())
+    }
+
+    /// Adds the front of a text that leaves a quoted word as it is: ordinary characters, and escapes of two. Answers
+    /// what follows.
+    fn keep_quoted<'a>(&mut self, text: &'a str) -> Result<&'a str, AllocError>
+        ensures words { map (λ word. string_bytes word) self.new.words.items
+            ≡ map (λ word. string_bytes word) self.old.words.items }
+        ensures word { IfOk result (λ rest. words_on (string_bytes self.old.word) text.now (Text Quoted)
+            ≡ words_on (string_bytes self.new.word) rest.now (Text Quoted)) }
+        ensures shorter { IfOk result (λ rest. length rest.now ≤ length text.now) }
+        ensures utf8 { IfOk result (λ rest. IsUtf8 rest.now) }
+    {
+        let mut rest = text;
+        while !rest.is_empty() {
+            let bytes = rest.as_bytes();
+            let run = quoted_run(bytes);
+            if run > 0 {
+                self.keep(&rest[..run])?;
+                rest = &rest[run..];
+                continue;
+            }
+            if bytes[0] != b'\\' || bytes.len() < 2 || bytes[1] > 127 {
+                return Ok(rest);
+            }
+            let Some(given) = pair_gives(char::from(bytes[1])) else {
+                return Ok(rest);
+            };
+            self.push(given)?;
+            rest = &rest[2..];
+        }
+        Ok(rest)
+    }
+
+    /// The same from a stage, where that is within a quoted word.
+    fn keep_front<'a>(&mut self, stage: Stage, text: &'a str) -> Result<&'a str, AllocError>
+        ensures words { map (λ word. string_bytes word) self.new.words.items
+            ≡ map (λ word. string_bytes word) self.old.words.items }
+        ensures word { IfOk result (λ rest. words_on (string_bytes self.old.word) text.now stage
+            ≡ words_on (string_bytes self.new.word) rest.now stage) }
+        ensures shorter { IfOk result (λ rest. length rest.now ≤ length text.now) }
+        ensures utf8 { IfOk result (λ rest. IsUtf8 rest.now) }
+    {
+        match stage {
+            Stage::Text(TextWord::Quoted) => self.keep_quoted(text),
+            _ => Ok(text),
+        }
     }
 
     /// Adds a word that is whole.
@@ -134,7 +193,7 @@ pub fn words_of(alloc: Global, text: &str) -> Result<Vec<String>, AllocError>
             Next::Go(next) => stage = next,
             Next::End | Next::Refuse(_) => return Ok(writer.words),
         }
-        rest = &rest[c.len_utf8()..];
+        rest = writer.keep_front(stage, &rest[c.len_utf8()..])?;
     }
     writer.write(alloc, last_from(stage).output, '\0')?;
     Ok(writer.words)

@@ -1,11 +1,13 @@
 //! Commands of words that stand in the script as they are, which are read in one go.
 
 ghost use Rattle.std.specs.Prelude.{◌≡◌, ◌<◌, ◌≤◌, ◌+◌, ◌++◌, ◌∷◌, [], length, slice_index, map, filter, nat_lt, take, vec_len, vec_capacity};
-ghost use Rattle.std.specs.Prelude.{string_bytes, string_capacity, IfOk, OnOk, IfSome};
-ghost use Rattle.tcl_words.specs.PlainWords.{IsPlainWord, IsClosed, IsPlainCommand};
-ghost use Rattle.tcl_words.specs.declared.stage.Stage.TheVariants.{BeforeWord};
+ghost use Rattle.std.specs.Prelude.{string_bytes, string_capacity, IfOk, OnOk, IfSome, true};
+ghost use Rattle.tcl_words.specs.PlainWords.{IsPlainWord, IsClosed, IsPlainCommand, EndsWord};
+ghost use Rattle.tcl_words.specs.Runs.{is_bare, begun};
+ghost use Rattle.tcl_words.specs.declared.stage.Stage.TheVariants.{BeforeWord, Text};
+ghost use Rattle.tcl_words.specs.declared.stage.TextWord.TheVariants.{Bare};
 
-use crate::runs::{Seam, begun, braced_run, plain_run, quoted_run, seam_behind};
+use crate::runs::{bare_run, braced_run, quoted_run};
 use crate::stage::Stage;
 use crate::steps::{is_blank, is_end};
 use std::alloc::{AllocError, Global};
@@ -31,13 +33,37 @@ const LONG: usize = 4_096;
 // nor is room for more words.
 const MANY: usize = 2 * MOST;
 
-// Words as they stand in a text, of which the first so many are those of the command at its front.
+// The words at the front of a command.
 #[derive(Clone, Copy)]
-struct FoundWords<'a> {
-    words: [&'a str; MOST],
+struct FoundWords {
     count: usize,
     // How many bytes the command has.
     len: usize,
+}
+
+// Whether the byte begins a bare word if it is an ordinary one of such a word.
+fn opens_bare(stage: Stage, byte: u8) -> bool
+    ensures { result ≡ true → is_bare byte ≡ true → begun stage byte ≡ Text Bare }
+{
+    match stage {
+        Stage::BeforeCommand => byte != b'{' && byte != b'"' && byte != b'#',
+        Stage::BeforeWord => byte != b'{' && byte != b'"',
+        _ => false,
+    }
+}
+
+// Whether a byte that ends a word ends the command too.
+fn end_of_word(byte: u8) -> Option<bool>
+    ensures { IfSome result (λ is_last. EndsWord byte is_last) }
+{
+    let behind = char::from(byte);
+    if is_end(behind) {
+        Some(true)
+    } else if is_blank(behind) {
+        Some(false)
+    } else {
+        None
+    }
 }
 
 // A bare word without escapes.
@@ -45,13 +71,14 @@ fn bare_word(stage: Stage, bytes: &[u8]) -> Option<PlainWord>
     requires { 0 < length bytes.now }
     ensures { IfSome result (λ word. IsPlainWord stage bytes.now word) }
 {
-    let here = begun(stage, bytes[0]);
-    let run = plain_run(here, bytes);
-    let is_last = match seam_behind(here, bytes, run) {
-        Seam::Blank => false,
-        Seam::End => true,
-        Seam::Other => return None,
-    };
+    if !opens_bare(stage, bytes[0]) {
+        return None;
+    }
+    let run = bare_run(bytes);
+    if run == 0 || run >= bytes.len() {
+        return None;
+    }
+    let is_last = end_of_word(bytes[run])?;
     Some(PlainWord {
         from: 0,
         to: run,
@@ -69,11 +96,7 @@ fn closed_word(bytes: &[u8], run: usize, close: u8) -> Option<PlainWord>
     if left < 3 || bytes[run + 1] != close {
         return None;
     }
-    let behind = char::from(bytes[run + 2]);
-    let is_last = is_end(behind);
-    if !is_last && !is_blank(behind) {
-        return None;
-    }
+    let is_last = end_of_word(bytes[run + 2])?;
     Some(PlainWord {
         from: 1,
         to: run + 1,
@@ -116,12 +139,11 @@ fn plain_word(stage: Stage, bytes: &[u8]) -> Option<PlainWord>
 }
 
 // The words of the command at the front of a text, if they are few and such.
-fn found_words(text: &str) -> Option<FoundWords<'_>>
-    ensures { IfSome result (λ found. (found.count ≤ 8)
-        × IsPlainCommand text.now (map (λ word. word.now) (take found.count found.words)) found.len) }
+fn found_words<'a>(text: &'a str, words: &mut [&'a str; MOST]) -> Option<FoundWords>
+    ensures { IfSome result (λ found. (found.count ≤ length words.new)
+        × IsPlainCommand text.now (map (λ word. word.now) (take found.count words.new)) found.len) }
 {
     let bytes = text.as_bytes();
-    let mut words = [""; MOST];
     let mut stage = Stage::BeforeCommand;
     let mut index = 0;
     for count in 0..MOST {
@@ -134,7 +156,6 @@ fn found_words(text: &str) -> Option<FoundWords<'_>>
         index += word.len;
         if word.is_last {
             return Some(FoundWords {
-                words,
                 count: count + 1,
                 len: index,
             });
@@ -209,9 +230,10 @@ pub fn plain_command(
     ensures { IfOk result (λ found. IfSome found (λ len.
         IsPlainCommand text.now (map (λ word. string_bytes word) words.new.items) len)) }
 {
-    let Some(found) = found_words(text) else {
+    let mut texts = [""; MOST];
+    let Some(found) = found_words(text, &mut texts) else {
         return Ok(None);
     };
-    write_words(alloc, words, &found.words[..found.count])?;
+    write_words(alloc, words, &texts[..found.count])?;
     Ok(Some(found.len))
 }

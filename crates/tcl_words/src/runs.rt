@@ -12,6 +12,7 @@ fn is_bare(byte: u8) -> bool
     ensures { result ≡ is_bare byte }
 {
     byte > b'\\'
+        || byte > b'$' && byte < b'[' && byte != b';'
         || !matches!(
             byte,
             b'\n' | b';' | b' ' | b'\t' | b'\r' | 0x0b | 0x0c | b'[' | b'$' | b'\\'
@@ -32,11 +33,11 @@ fn begins_command(byte: u8) -> bool
     byte != b'#' && begins_word(byte)
 }
 
-// Whether the byte is an ordinary one of a quoted word.
-fn is_quoted(byte: u8) -> bool
+/// Whether the byte is an ordinary one of a quoted word.
+pub fn is_quoted(byte: u8) -> bool
     ensures { result ≡ is_quoted byte }
 {
-    !matches!(byte, b'"' | b'[' | b'$' | b'\\')
+    byte > b'\\' || byte < b'"' || !matches!(byte, b'"' | b'[' | b'$' | b'\\')
 }
 
 // Whether the byte is an ordinary one of a braced word.
@@ -46,7 +47,8 @@ fn is_braced(byte: u8) -> bool
     !matches!(byte, b'{' | b'}' | b'\\')
 }
 
-fn bare_run(bytes: &[u8]) -> usize
+/// How many bytes at the front are ordinary ones of a bare word.
+pub fn bare_run(bytes: &[u8]) -> usize
     ensures within { result ≤ length bytes.now }
     ensures plain { (k : ℕ) → k < result → is_bare (slice_index bytes.now k) ≡ true }
     ensures longest { result < length bytes.now → is_bare (slice_index bytes.now result) ≡ false }
@@ -60,7 +62,7 @@ fn bare_run(bytes: &[u8]) -> usize
     bytes.len()
 }
 
-/// How many bytes at the front are ordinary ones of a quoted word.
+/// The same of a quoted word.
 pub fn quoted_run(bytes: &[u8]) -> usize
     ensures within { result ≤ length bytes.now }
     ensures plain { (k : ℕ) → k < result → is_quoted (slice_index bytes.now k) ≡ true }

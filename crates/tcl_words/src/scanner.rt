@@ -1,10 +1,13 @@
-ghost use Rattle.std.specs.Prelude.{◌≡◌, ◌+◌, ◌≤◌, length};
-ghost use Rattle.tcl_words.specs.Scanning.{scanned};
+ghost use Rattle.std.specs.Prelude.{◌≡◌, ◌+◌, ◌≤◌, length, drop};
+ghost use Rattle.tcl_words.specs.Scanning.{scanned, later};
 ghost use Rattle.tcl_words.specs.Steps.{depth_of};
+ghost use Rattle.tcl_words.specs.declared.stage.Stage.TheVariants.{Text};
+ghost use Rattle.tcl_words.specs.declared.stage.TextWord.TheVariants.{Quoted};
 
+use crate::escapes::pair_gives;
 use crate::fault::ScriptFault;
-use crate::runs::{Seam, begun, plain_run, seam_behind};
-use crate::stage::{Next, Stage};
+use crate::runs::{Seam, begun, is_quoted, plain_run, seam_behind};
+use crate::stage::{Next, Stage, TextWord};
 use crate::steps::step_from;
 
 /// How far some bytes lead.
@@ -17,6 +20,28 @@ pub enum Scan {
     Reaches(Stage),
 }
 
+// How many bytes at the front leave a quoted word as it is: ordinary ones, and escapes of two.
+fn quoted_front(bytes: &[u8]) -> usize
+    ensures within { result ≤ length bytes.now }
+    ensures scans { scanned bytes.now (Text Quoted) ≡ later result (scanned (drop result bytes.now) (Text Quoted)) }
+{
+    let mut index = 0;
+    while index < bytes.len() {
+        if is_quoted(bytes[index]) {
+            index += 1;
+            continue;
+        }
+        if bytes[index] != b'\\' || index + 1 >= bytes.len() {
+            return index;
+        }
+        let Some(_) = pair_gives(char::from(bytes[index + 1])) else {
+            return index;
+        };
+        index += 2;
+    }
+    index
+}
+
 /// Goes over the bytes once, from a stage.
 pub fn scan_bytes(bytes: &[u8], from: Stage) -> Scan
     requires { depth_of from + length bytes.now ≤ usize.MAX }
@@ -25,6 +50,13 @@ pub fn scan_bytes(bytes: &[u8], from: Stage) -> Scan
     let mut stage = from;
     let mut index = 0;
     while index < bytes.len() {
+        if let Stage::Text(TextWord::Quoted) = stage {
+            let front = quoted_front(&bytes[index..]);
+            if front > 0 {
+                index += front;
+                continue;
+            }
+        }
         let here = begun(stage, bytes[index]);
         let rest = &bytes[index..];
         let run = plain_run(here, rest);

@@ -5,6 +5,7 @@ use Rattle.tcl_words.proofs.Scans.{depth_on}
 use Rattle.tcl_words.specs.Runs.{IsSeam}
 use Rattle.tcl_words.proofs.Plain.{run_at, depth_from, front_range, char_boundary, after_char, none_left}
 use Rattle.tcl_words.proofs.Writing.{writing_begun, writing_passes, writing_closes, writing_same, writing_runs}
+use Rattle.tcl_words.proofs.Pairs.{writing_kept}
 use Rattle.tcl_words.proofs.Writing.{writing_goes, writing_stops, writing_ends, is_last, seam_boundary}
 use Rattle.tcl_words.proofs.pieces.words_of.Goals as goal
 
@@ -97,8 +98,8 @@ returns-in-End-next c =
     c.first_char-c.ensures.2 c.step_from-step.ensures (is_last c.step_from-step.result.next c.in-End-next.is)
     c.in_ok-write.ensures.words c.in_ok-write.ensures.word
 
-pub range_from-rest-requires-in-loop-rest : goal.range_from-rest-requires-in-loop-rest
-range_from-rest-requires-in-loop-rest c =
+pub range_from-requires : goal.range_from-requires
+range_from-requires c =
     λ h. char_boundary c.loop-rest.rest.now c.first_char-c.ensures.0 c.first_char-c.result c.len_utf8.result
     c.loop-rest.invariant.utf8 c.first_char-c.ensures.1 c.len_utf8.ensures.value
 
@@ -106,21 +107,22 @@ pub loop-rest-preserved : goal.loop-rest-preserved
 loop-rest-preserved c =
     let rest = c.loop-rest.rest.now in
     let n = c.len_utf8.result in
-    let boundary = char_boundary rest c.first_char-c.ensures.0 c.first_char-c.result n c.loop-rest.invariant.utf8
-    c.first_char-c.ensures.1 c.len_utf8.ensures.value in
-    let after = c.range_from-rest-in-loop-rest.ensures.value in
+    let after = c.range_from.ensures.value in
     let behind = after ∙ after_char rest c.first_char-c.ensures.0 c.first_char-c.result n c.first_char-c.ensures.1
     c.len_utf8.ensures.len in
     let deeper = depth_on c.loop-rest.stage c.in-Go.next _ _ c.in-Go.is c.step_from-step.ensures in
     let depth = c.loop-rest.invariant.depth in
-    let long = c.range_from-rest-in-loop-rest.ensures.len in
+    let long = c.range_from.ensures.len in
     let some = c.len_utf8.ensures.lower_bound in
+    let shorter = c.in_ok-rest.ensures.shorter in
     record {
-      utf8 = subst IsUtf8 (sym after) (IsUtf8-drop rest n c.loop-rest.invariant.utf8 boundary);
-      written = rw behind (writing_goes (chars c.args.text.now) (chars rest) _ c.loop-rest.stage c.in-Go.next _ _ _ _
+      utf8 = c.in_ok-rest.ensures.utf8;
+      written = writing_kept (chars c.args.text.now) c.range_from.result.now _ c.in-Go.next _ _ _ _
+          (rw behind (writing_goes (chars c.args.text.now) (chars rest) _ c.loop-rest.stage c.in-Go.next _ _ _ _
           c.step_from-step.result c.first_char-c.result c.loop-rest.invariant.written
           c.first_char-c.ensures.2 c.step_from-step.ensures c.in-Go.is c.in_ok-write.ensures.words
-          c.in_ok-write.ensures.word);
+          c.in_ok-write.ensures.word))
+          c.keep_front.ensures.words c.in_ok-rest.ensures.word;
       depth = omega arith;
     }
 

@@ -1,0 +1,24 @@
+use Rattle.std.proofs.Common.{◌∙◌, sym, ap, arith}
+use Rattle.tcl_words.specs.EscapeSteps.{pair_gives}
+use Rattle.tcl_words.specs.declared.stage.Stage.TheVariants.{Text}
+use Rattle.tcl_words.specs.declared.stage.TextWord.TheVariants.{Quoted}
+use Rattle.tcl_words.proofs.Pairs.{scan_plain, scan_pair}
+use Rattle.tcl_words.proofs.scanner.quoted_front.Goals as goal
+
+pub loop-index-preserved-then-is_quoted : goal.loop-index-preserved-then-is_quoted
+loop-index-preserved-then-is_quoted c =
+    let less = c.loop-index-test.true in
+    record {
+      within = omega arith;
+      scans = scan_plain c.args.bytes.now c.loop-index.index (Text Quoted) less
+          (sym c.is_quoted.ensures ∙ c.if-is_quoted.true) c.loop-index.invariant.scans;
+    }
+
+pub loop-index-preserved : goal.loop-index-preserved
+loop-index-preserved c =
+    let less = c.if-index-bytes.false in
+    record {
+      within = omega arith;
+      scans = scan_pair c.args.bytes.now c.loop-index.index _ (omega arith) c.if-bytes-index-ne92.false
+          (ap pair_gives (sym c.from.ensures) ∙ sym c.pair_gives.ensures ∙ c.in-Some.is) c.loop-index.invariant.scans;
+    }

@@ -1,0 +1,14 @@
+use Rattle.std.proofs.Common.{◌≡◌, ◌-◌, ◌≤◌, length, drop}
+use Rattle.tcl_words.specs.Scanning.{scanned, later}
+use Rattle.tcl_words.specs.declared.stage.Stage.TheVariants.{Text}
+use Rattle.tcl_words.specs.declared.stage.TextWord.TheVariants.{Quoted}
+use Rattle.tcl_words.proofs.scanner.quoted_front.Given as goal
+
+abbrev pub invariant-loop-index : goal.invariant-loop-index
+invariant-loop-index l = record {
+  within : l.index ≤ length l.bytes;
+  scans : scanned l.bytes (Text Quoted) ≡ later l.index (scanned (drop l.index l.bytes) (Text Quoted));
+}
+
+abbrev pub decreases-loop-index : goal.decreases-loop-index
+decreases-loop-index l = length l.bytes - l.index
