@@ -1,10 +1,12 @@
 -- The characters of lines in a row, from one offset to another.
 use Rattle.std.proofs.Common.{◌≡◌, ℕ, zero, suc, ◌+◌, ◌-◌, ◌<◌, ◌≤◌, List, [], ◌∷◌, ◌++◌, length, take, drop, refl, sym}
-use Rattle.std.proofs.Common.{ap, ap₂, ◌∙◌, arith, add-one, inl, inr, length-drop}
+use Rattle.std.proofs.Common.{ap, ap₂, ◌∙◌, arith, add-one, append_assoc, inl, inr, length-append, length-drop}
+use Rattle.std.proofs.Common.{take-append-drop}
 use Rattle.std.specs.Prelude.{slice_get, slice_range, Some}
 use Rattle.std.proofs.lemmas.Bool.{cases_lt}
 use Rattle.std.proofs.Math.Seq.{drop-append-add, take-nil}
-use Rattle.std.proofs.lemmas.List.{drop-append-le, length-map, map-append, take-append-le}
+use Rattle.std.proofs.lemmas.List.{append-nil, drop-append-le, length-map, map-append, take-append-le, take_all}
+use Rattle.std.proofs.lemmas.Option.{none-some, same_Some}
 use Rattle.segments.specs.Columns.{Column, LineContent, characters}
 use Rattle.text_model.specs.Content.{characters as cell_characters}
 use Rattle.line_lists.specs.Places.{IsAt}
@@ -13,6 +15,7 @@ use Rattle.line_lists.proofs.LineStarts.{at-before, at-within, length_at, lent, 
 use Rattle.line_lists.proofs.LineStarts.{start-rises, start_of, there}
 use Rattle.line_lists.proofs.PlaceRows.{characters-content, whole-at}
 use Rattle.line_lists.proofs.SearchRows.{line_at}
+use Rattle.line_lists.proofs.WholeLaws.{whole-append, whole-one}
 
 take-both : {A : Type 0} (m n : ℕ) (xs : List A) → take (m + n) xs ≡ take m xs ++ take n (drop m xs)
 take-both zero n xs = ap (λ k. take k xs) (let same : 0 + n ≡ n = omega arith in same)
@@ -77,6 +80,81 @@ slice-front lines k to line is within inside =
     ap (λ (here : LineContent). slice_range (characters here.columns) 0 to) (sym (lent lines k line is))
     ∙ sym (slice-line lines k 0 to within none inner)
     ∙ ap (λ n. slice_range (characters (whole lines).columns) n (start_of lines k + to)) here
+
+-- ---- lines behind one another
+slice-one : {A : Type 0} (xs : List A) (k : ℕ) (x : A) → slice_get xs k ≡ Some x → slice_range xs k (k + 1) ≡ x ∷ []
+slice-one {A = A} xs k x is = ap (λ n. take n (drop k xs)) (let one : (k + 1) - k ≡ 1 = omega arith in one)
+    ∙ next xs k is where
+  next : (xs : List A) (k : ℕ) → slice_get xs k ≡ Some x → take 1 (drop k xs) ≡ x ∷ []
+  next [] k is = absurd (none-some x is)
+  next (y ∷ ys) zero is = ap (λ z. z ∷ []) (same_Some y x is)
+  next (y ∷ ys) (suc k) is = next ys k is
+
+characters-append : (xs ys : List LineContent) → characters (whole (xs ++ ys)).columns
+    ≡ characters (whole xs).columns ++ characters (whole ys).columns
+characters-append xs ys =
+    ap (λ (row : LineContent). characters row.columns) (whole-append xs ys)
+    ∙ map-append (λ (column : Column). column.character) (whole xs).columns (whole ys).columns
+
+-- a text behind which no line is put
+pub pushed-none : (lines : List LineContent) (from : ℕ) (text : List ℕ) →
+    text ≡ text ++ characters (whole (slice_range lines from from)).columns
+pushed-none lines from text =
+    sym (ap (λ part. text ++ characters (whole part).columns) (slice-none lines from) ∙ append-nil text)
+
+-- a text behind which a lent line is put, where it ended with the lines before that
+pub pushed-line : (lines : List LineContent) (from k count : ℕ) (line : LineContent) (first old new : List ℕ) →
+    slice_get lines k ≡ Some line → from ≤ k → count ≡ length line.columns
+    → old ≡ first ++ characters (whole (slice_range lines from k)).columns
+    → new ≡ old ++ slice_range (characters line.columns) 0 count
+    → new ≡ first ++ characters (whole (slice_range lines from (k + 1))).columns
+pushed-line lines from k count line first old new is ordered count_is old_is new_is =
+    let here = slice_range lines from k in
+    let text = characters line.columns in
+    let long : length text ≡ length line.columns = length-map line.columns (λ (column : Column). column.character) in
+    let none : count - 0 ≡ count = omega arith in
+    let all : slice_range text 0 count ≡ text = ap (λ n. take n text) none
+    ∙ take_all count text (omega (arith, long, count_is)) in
+    let more : here ++ line ∷ [] ≡ slice_range lines from (k + 1) =
+    ap (λ next. here ++ next) (sym (slice-one lines k line is))
+    ∙ slice-join lines from k (k + 1) ordered (omega arith) in
+    let one = ap (λ (row : LineContent). characters row.columns) (whole-one line) in
+    new_is ∙ ap₂ (λ front part. front ++ part) old_is (all ∙ sym one)
+    ∙ append_assoc first (characters (whole here).columns) (characters (whole (line ∷ [])).columns)
+    ∙ ap (λ part. first ++ part) (sym (characters-append here (line ∷ [])))
+    ∙ ap (λ (part : List LineContent). first ++ characters (whole part).columns) more
+
+-- lines from one to another are what stands from the start of the one to that of the other
+pub lines-between : (lines : List LineContent) (from to : ℕ) → from ≤ to →
+    characters (whole (slice_range lines from to)).columns
+    ≡ slice_range (characters (whole lines).columns) (start_of lines from) (start_of lines to)
+lines-between lines from to ordered =
+    let middle = slice_range lines from to in
+    let one = characters (whole (take from lines)).columns in
+    let two = characters (whole middle).columns in
+    let three = characters (whole (drop to lines)).columns in
+    let all : from + (to - from) ≡ to = omega arith in
+    let parts : take from lines ++ middle ≡ take to lines = sym (take-both from (to - from) lines)
+    ∙ ap (λ n. take n lines) all in
+    let row : one ++ (two ++ three) ≡ characters (whole lines).columns =
+    sym (append_assoc one two three)
+    ∙ ap (λ part. part ++ three) (sym (characters-append (take from lines) middle))
+    ∙ sym (characters-append (take from lines ++ middle) (drop to lines))
+    ∙ ap (λ part. characters (whole (part ++ drop to lines)).columns) parts
+    ∙ ap (λ part. characters (whole part).columns) (take-append-drop to lines) in
+    let of = λ (column : Column). column.character in
+    let start : length one ≡ start_of lines from = length-map (whole (take from lines)).columns of in
+    let end : length one + length two ≡ start_of lines to = sym (length-append one two)
+    ∙ ap length (sym (characters-append (take from lines) middle))
+    ∙ length-map (whole (take from lines ++ middle)).columns of
+    ∙ ap (λ part. length (whole part).columns) parts in
+    let at : start_of lines from ≡ length one + 0 = omega (arith, start) in
+    let count : start_of lines to - start_of lines from ≡ length two = omega (arith, start, end) in
+    let same : length two ≤ length two = omega arith in
+    sym (ap₂ (λ n xs. take n (drop (start_of lines from) xs)) count (sym row)
+    ∙ ap (λ n. take (length two) (drop n (one ++ (two ++ three)))) at
+    ∙ ap (take (length two)) (drop-append-add one (two ++ three) 0)
+    ∙ take-append-le (length two) two three same ∙ take_all (length two) two same)
 
 pub slice-content : (lines : List LineContent) (from to : ℕ) →
     slice_range (cell_characters (content_of lines).cells) from to

@@ -1,9 +1,9 @@
 ghost use Rattle.std.specs.Prelude.{◌≡◌, ℕ, ◌+◌, ◌<◌, ◌≤◌, List, [], ◌∷◌, length, map, take, slice_get, Some, IfOk};
-ghost use Rattle.std.specs.Prelude.{OnOk};
+ghost use Rattle.std.specs.Prelude.{◌++◌, OnOk, chars, slice_range, string_bytes};
 ghost use Rattle.std.specs.List.{All};
 ghost use Rattle.text_model.specs.TagBits.{slot_count};
 ghost use Rattle.toggle_sums.specs.Counts.{plus};
-ghost use Rattle.segments.specs.Columns.{LineContent, plain_line};
+ghost use Rattle.segments.specs.Columns.{LineContent, characters, plain_line};
 ghost use Rattle.line_lists.specs.Edits.{without_mark};
 ghost use Rattle.line_lists.specs.Lists.{AreLines, Holds, IsCounted, NumbersBelow, count_of, has_mark, has_marks};
 ghost use Rattle.line_lists.specs.Lists.{has_toggle, next_line, previous_line, spliced};
@@ -94,6 +94,21 @@ pub trait LineList: Drop {
     /// The line in which the mark of a number stands.
     fn mark_line(&self, number: MarkNo) -> Option<usize>
         ensures { result ≡ next_line (has_mark number.0) 0 (lines self.now) };
+
+    /// Adds the characters of the lines from one to another to a text. Fails for want of memory; the text may then have
+    /// some of them.
+    fn push_lines(&self, from: usize, to: usize, text: &mut String) -> Result<(), AllocError>
+        requires ordered { from ≤ to }
+        requires within { to ≤ length (lines self.now) }
+        ensures { OnOk result (chars (string_bytes text.new)
+            ≡ chars (string_bytes text.old) ++ characters (whole (slice_range (lines self.now) from to)).columns) }
+    {
+        for index in from..to {
+            let line = self.line(index);
+            line.push_text(0, line.len(), text)?;
+        }
+        Ok(())
+    }
 
     /// Reserves room for so many lines, and for marks with numbers below a bound.
     fn reserve(&mut self, count: usize, numbers: usize) -> Result<(), AllocError>

@@ -1,13 +1,12 @@
 //! The queries of a text over any list of its lines: sums say where a line stands, the rest is asked of that line.
 
-ghost use Rattle.std.specs.Prelude.{◌≡◌, ◌+◌, ◌<◌, ◌≤◌, ◌++◌, length, take, slice_get, slice_range, Some, IfSome, IfOk};
-ghost use Rattle.std.specs.Prelude.{OnOk, chars, string_bytes};
+ghost use Rattle.std.specs.Prelude.{◌≡◌, ◌+◌, ◌<◌, ◌≤◌, length, take, slice_get, slice_range, Some, IfSome, IfOk};
+ghost use Rattle.std.specs.Prelude.{chars, string_bytes};
 ghost use Rattle.std.specs.FinMap as finite;
 ghost use Rattle.text_model.specs.Changes.{next_change, previous_change};
 ghost use Rattle.text_model.specs.Content.{characters, flags, slot_sets};
 ghost use Rattle.text_model.specs.Lines.{lines, line_of, line_start};
 ghost use Rattle.text_model.specs.MarkOrder.{marks_at, next_mark, previous_mark};
-ghost use Rattle.segments.specs.Columns.{characters as line_characters};
 ghost use Rattle.text_model.specs.TagBits.{slot_count};
 ghost use Rattle.line_lists.specs.Places.{IsAt};
 ghost use Rattle.line_lists.specs.Texts.{content_of, whole};
@@ -200,27 +199,6 @@ pub fn previous_change<L: LineList>(list: &L, offset: usize, slot: TagSlot) -> u
     }
 }
 
-/// Adds the characters of the lines from one to another to a text.
-fn push_lines<L: LineList>(
-    list: &L,
-    from: usize,
-    to: usize,
-    text: &mut String,
-) -> Result<(), AllocError>
-    requires ordered { from ≤ to }
-    requires within { to ≤ length (L.lines list.now) }
-    ensures { OnOk result (chars (string_bytes text.new) ≡ chars (string_bytes text.old)
-        ++ slice_range (line_characters (whole (L.lines list.now)).columns)
-        (length (whole (take from (L.lines list.now))).columns)
-        (length (whole (take to (L.lines list.now))).columns)) }
-{
-    for index in from..to {
-        let line = list.line(index);
-        line.push_text(0, line.len(), text)?;
-    }
-    Ok(())
-}
-
 /// The characters from one offset to another.
 pub fn copy_text<L: LineList>(list: &L, start: usize, end: usize) -> Result<String, AllocError>
     requires ordered { start ≤ end }
@@ -237,7 +215,7 @@ pub fn copy_text<L: LineList>(list: &L, start: usize, end: usize) -> Result<Stri
     let mut text = line.copy_text(column, len)?;
     text.reserve(to - len)?;
     let (last, to, line) = place_of(list, end);
-    push_lines(list, first + 1, last, &mut text)?;
+    list.push_lines(first + 1, last, &mut text)?;
     line.push_text(0, to, &mut text)?;
     Ok(text)
 }

@@ -73,9 +73,21 @@ fn check_found<L: LineList>(rt: &impl Abort, list: &L)
     assert!(rt; list.mark_line(MARK) == Some(1) && list.mark_line(MarkNo(2)) == None);
 }
 
+// The text of the last line, and behind it that of both.
+fn check_text<L: LineList>(rt: &impl Abort, alloc: Global, list: &L) -> Result<(), AllocError>
+    requires { L.lines list.now ≡ worked_lines }
+{
+    let mut text = String::new(alloc);
+    list.push_lines(1, 2, &mut text)?;
+    list.push_lines(0, 2, &mut text)?;
+    assert!(rt; text.as_str() == "b\na\nb\n");
+    Ok(())
+}
+
 fn check<L: LineList>(rt: &impl Abort, alloc: Global) -> Result<(), AllocError> {
     let mut list: L = worked_list(alloc)?;
     check_places(rt, &list);
+    check_text(rt, alloc, &list)?;
     check_found(rt, &list);
     list.take_mark(MARK);
     assert!(rt; list.len() == 2 && list.mark_line(MARK) == None);

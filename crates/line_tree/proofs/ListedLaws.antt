@@ -61,6 +61,17 @@ place-holds ls offset line column at =
       within = omega (arith, within, l);
     }
 
+-- a line that is lent by its name
+pub listed : (ls : List Named) (k : ℕ) (p : NodePtr) (line : LineContent) → slice_get ls k ≡ Some (p, line) →
+    slice_get (contents ls) k ≡ Some line
+listed ls k p line is = slice_get-map (λ (l : Named). l.1) ls k ∙ ap (option_map (λ (l : Named). l.1)) is
+
+-- the line that a walk comes to
+pub walked : (ls : List Named) (k : ℕ) (o : Option NodePtr) →
+    o ≡ option_map (λ (l : Named). l.0) (slice_get ls k) → IfSome o (IsLineAt ls k)
+walked ls k None is = tt
+walked ls k (Some p) is = sym is
+
 -- ---- the line of a mark
 pub nowhere : (n : ℕ) (ls : List Named) → holder n ls ≡ None → next_line (has_mark n) 0 (contents ls) ≡ None
 nowhere n ls none = next-no (has_mark n) 0 (contents ls) (fails ls none) where

@@ -1,7 +1,8 @@
-ghost use Rattle.std.specs.Prelude.{◌≡◌, length};
+ghost use Rattle.std.specs.Prelude.{◌≡◌, ◌<◌, IfSome, length};
 ghost use Rattle.line_lists.specs.Lists.{AreLines};
 ghost use Rattle.line_lists.specs.RowLaws.{AreLines-prop};
 ghost use Rattle.line_tree.specs.MarkTable.{IsTable, IsTable-prop};
+ghost use Rattle.line_tree.specs.Places.{IsLineAt};
 ghost use Rattle.line_tree.specs.Room.{line_room};
 ghost use Rattle.line_tree.specs.Trees.{contents};
 
@@ -31,6 +32,18 @@ impl TreeLines {
         ensures are { AreLines (contents result.now.lines) }
     {
         &self.tree
+    }
+}
+
+/// The name of line `k`: what a walk found where it came to the line, else it is looked for.
+fn name_at(tree: &LineTree<Steps>, k: usize, found: Option<NodePtr>) -> NodePtr
+    requires within { k < length tree.now.lines }
+    requires found { IfSome found (IsLineAt tree.now.lines k) }
+    ensures { IsLineAt tree.now.lines k result }
+{
+    match found {
+        Some(name) => name,
+        None => tree.select(k, &mut Steps::new()),
     }
 }
 
@@ -98,6 +111,18 @@ impl LineList for TreeLines {
     fn mark_line(&self, number: MarkNo) -> Option<usize> {
         let name = name_of(&self.names, number)?;
         Some(self.tree.rank(name, &mut Steps::new()))
+    }
+
+    fn push_lines(&self, from: usize, to: usize, text: &mut String) -> Result<(), AllocError> {
+        let mut next = None;
+        for index in from..to {
+            // The first line alone is found from the root.
+            let name = name_at(&self.tree, index, next);
+            let line = self.tree.line(name);
+            line.push_text(0, line.len(), text)?;
+            next = self.tree.next_name(name, &mut Steps::new());
+        }
+        Ok(())
     }
 
     fn reserve(&mut self, count: usize, numbers: usize) -> Result<(), AllocError> {

@@ -541,6 +541,13 @@ static ALL: [PlainStep; 8] = [
     PlainStep::TakeMark(MarkNo(3)),
 ];
 
+/// More lines than a node has.
+static LINES: [PlainStep; 1] = [PlainStep::Insert(
+    0,
+    "a\nbé\n\nd\ne\nf\ng\nh\ni\nj\nk\nl\nm\nn\no\np",
+    &[],
+)];
+
 /// A store and a text that are to be the same.
 #[derive(Drop)]
 struct Pair<S: TextStore> {
@@ -582,6 +589,13 @@ fn check_each_step<S: TextStore>(rt: &impl Abort, alloc: Global) -> Result<(), A
 fn is_text<S: TextStore>(rt: &impl Abort, store: &S, text: &str) -> Result<bool, AllocError> {
     let copied = store.copy_text(0, store.len())?;
     Ok(copied.as_str() == text)
+}
+
+/// Copies a text of many lines.
+fn check_lines<S: TextStore>(rt: &impl Abort, alloc: Global) -> Result<(), AllocError> {
+    let mut pair: Pair<S> = make_pair(alloc)?;
+    let steps = steps_of(alloc, &LINES)?;
+    make_and_check(rt, alloc, &mut pair.store, &mut pair.text, steps)
 }
 
 /// Makes one edit for all steps.
@@ -634,6 +648,13 @@ fn all_steps_are_made(rt: HostRuntime) -> Result<(), Fail> {
     check_all_steps::<PlainStore>(&rt, rt.alloc())?;
     check_all_steps::<LineStore<LineVec>>(&rt, rt.alloc())?;
     check_all_steps::<TreeStore>(&rt, rt.alloc())?;
+    Ok(())
+}
+
+#[test]
+fn many_lines_are_copied(rt: HostRuntime) -> Result<(), Fail> {
+    check_lines::<LineStore<LineVec>>(&rt, rt.alloc())?;
+    check_lines::<TreeStore>(&rt, rt.alloc())?;
     Ok(())
 }
 

@@ -4,9 +4,9 @@ use Rattle.std.proofs.lemmas.Result.{IfOk-weaker}
 use Rattle.segments.specs.Columns.{LineContent, characters}
 use Rattle.line_lists.specs.Texts.{whole}
 use Rattle.line_lists.proofs.CountRows.{count-lines}
-use Rattle.line_lists.proofs.LineStarts.{at-within, length_at, lent, lent-length, start_of}
+use Rattle.line_lists.proofs.LineStarts.{at-within, length_at, lent, lent-length}
 use Rattle.line_lists.proofs.PlaceRows.{length-content}
-use Rattle.line_lists.proofs.TextRows.{at-later, copied-line, copied-lines, slice-front}
+use Rattle.line_lists.proofs.TextRows.{at-later, copied-line, copied-lines, lines-between, slice-front}
 use Rattle.line_lists.proofs.queries.copy_text.Goals as goal
 
 pub returns-then-to-len : goal.returns-then-to-len
@@ -97,13 +97,14 @@ returns g c =
       at-within list c.args.end last to back.place within,
       lent-length list last stop back.line,
     ) in
+    let more : first + 1 ≤ last = omega (arith, less) in
     copied-lines list c.args.start first column c.args.end last to
     (chars (string_bytes c.in_ok-text.text)) (chars (string_bytes c.push_lines.new.text))
     (chars (string_bytes c.push_text.new.text))
     front.place back.place c.requires.ordered within less
     (c.in_ok-text.ensures ∙ ap₂ (λ (l : LineContent) n. slice_range (characters l.columns) column n)
     (sym (lent list first line front.line)) (c.len-len.ensures ∙ sym same))
-    (c.in_ok-push_lines.ensures ∙ ap (λ bytes. chars bytes ++ slice_range (characters (whole list).columns)
-    (start_of list (first + 1)) (start_of list last)) c.reserve.ensures.bytes)
+    (c.in_ok-push_lines.ensures
+    ∙ ap₂ (λ bytes part. chars bytes ++ part) c.reserve.ensures.bytes (lines-between list (first + 1) last more))
     (c.in_ok-push_text.ensures ∙ ap (λ part. chars (string_bytes c.push_lines.new.text) ++ part)
     (slice-front list last to stop back.line back.place.within inside))

@@ -1,8 +1,5 @@
-use Rattle.std.proofs.Common.{ap, ◌∙◌, arith}
-use Rattle.std.specs.Prelude.{option_map}
-use Rattle.std.proofs.lemmas.Option.{slice_get-map}
-use Rattle.line_tree.specs.Trees.{Named}
-use Rattle.line_tree.proofs.ListedLaws.{characters-in, place-holds}
+use Rattle.std.proofs.Common.{arith}
+use Rattle.line_tree.proofs.ListedLaws.{characters-in, listed, place-holds}
 use Rattle.line_tree.proofs.tree_lines.TreeLinesLineList.line_at.Goals as goal
 
 pub locate_line-found-requires : goal.locate_line-found-requires
@@ -18,5 +15,4 @@ returns-clause-place c = let found = c.locate_line-found in
 
 pub returns-clause-line : goal.returns-clause-line
 returns-clause-line c = let ls = c.args.self.now.tree.lines in let k = c.locate_line-found.result.line in
-    slice_get-map (λ (l : Named). l.1) ls k
-    ∙ ap (option_map (λ (l : Named). l.1)) (c.line.ensures k c.locate_line-found.ensures.name)
+    listed ls k c.locate_line-found.result.name c.line.result.now (c.line.ensures k c.locate_line-found.ensures.name)

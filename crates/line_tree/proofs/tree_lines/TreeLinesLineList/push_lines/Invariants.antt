@@ -1,0 +1,14 @@
+use Rattle.std.proofs.Common.{◌≡◌, ◌++◌}
+use Rattle.std.specs.Prelude.{IfSome, chars, slice_range, string_bytes}
+use Rattle.segments.specs.Columns.{characters}
+use Rattle.line_lists.specs.Texts.{whole}
+use Rattle.line_tree.specs.Places.{IsLineAt}
+use Rattle.line_tree.specs.Trees.{contents}
+use Rattle.line_tree.proofs.tree_lines.TreeLinesLineList.push_lines.Given as goal
+
+abbrev pub invariant-loop-index : goal.invariant-loop-index
+invariant-loop-index l = record {
+  next : IfSome l.next (IsLineAt l.self.tree.lines l.index);
+  text : chars (string_bytes l.text) ≡ chars (string_bytes l.initial.text)
+      ++ characters (whole (slice_range (contents l.self.tree.lines) l.from l.index)).columns;
+}
