@@ -1,11 +1,14 @@
 //! A document with the widgets that show it: its text, tags, marks, history and options.
 #![tactic(auto)]
 
+mod deletions;
 mod documents;
 mod history;
+mod indices;
 mod marks;
-mod places;
+mod options;
 mod queries;
+mod reversals;
 mod seats;
 mod tags;
 mod texts;

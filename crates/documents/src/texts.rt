@@ -1,18 +1,51 @@
-ghost use Rattle.std.specs.Prelude.{◌≡◌, ◌<◌, ◌≤◌, false, length};
-ghost use Rattle.std.specs.List.{All};
-ghost use Rattle.documents.specs.Deletions.{delete_places, replace_span};
+ghost use Rattle.std.specs.Prelude.{◌≡◌, ◌<◌, ◌≤◌, ◌-◌, false, suc, min, length, slice_range, IfOk};
 ghost use Rattle.documents.specs.Documents.{widget_at};
 ghost use Rattle.documents.specs.Promise.{Does};
 ghost use Rattle.documents.specs.Texts.{insert_at, insertion_offset};
 ghost use Rattle.documents.specs.View.{is_idle, shown};
 
 use crate::documents::Document;
-use crate::views::{end_of, start_of};
-use command_parts::{Answer, Fault, Pair, delete_spans, put_pairs, replace_pairs, spans_of};
-use edit_ops::{EditRules, Target};
-use text_model::{Limits, MarkNo, TagSlot, TextStore};
+use command_parts::{Answer, Fault, Pair, put_pairs};
+use edit_ops::EditRules;
+use std::alloc::AllocError;
+use text_model::{Limits, TagSlot, Text, TextStore};
 
 impl<S: TextStore> Document<S> {
+    /// The characters from one place to another; none where the second isn't behind the first.
+    pub fn text_between(&self, widget: usize, from: usize, to: usize) -> Result<Text, AllocError>
+        requires shown { widget < length self.now.widgets }
+        requires from { from ≤ length (shown self.now (widget_at self.now widget)) }
+        requires to { to ≤ length (shown self.now (widget_at self.now widget)) }
+        ensures { IfOk result (λ text. text ≡ slice_range (shown self.now (widget_at self.now widget)) from to) }
+    {
+        let view = self.view_at(widget);
+        Ok(Text::new(view.store.copy_text(view.s + from, view.s + to.max(from))?))
+    }
+
+    /// The character at a place, or nothing at the end.
+    pub fn character_at(&self, widget: usize, place: usize) -> Result<Text, AllocError>
+        requires shown { widget < length self.now.widgets }
+        requires within { place ≤ length (shown self.now (widget_at self.now widget)) }
+        ensures { IfOk result (λ text. text
+            ≡ slice_range (shown self.now (widget_at self.now widget)) place (suc place)) }
+    {
+        let view = self.view_at(widget);
+        let start = view.s + place;
+        Ok(Text::new(view.store.copy_text(start, (start + 1).min(view.e))?))
+    }
+
+    /// The offset before which a text goes that is put in at a place: before the last newline where that is the end.
+    pub fn insertion_offset(&self, widget: usize, place: usize) -> usize
+        requires shown { widget < length self.now.widgets }
+        requires active { is_idle self.now (widget_at self.now widget) ≡ false }
+        requires near { place ≤ length (shown self.now (widget_at self.now widget)) }
+        ensures value { result ≡ insertion_offset self.now (widget_at self.now widget) place }
+        ensures within { result < length self.now.cells }
+    {
+        let view = self.view_at(widget);
+        (view.s + place).min(view.e - 1)
+    }
+
     /// Puts texts in at an offset, each behind the one before it, and makes the tags of their lists.
     pub fn insert_at(
         &mut self,
@@ -35,87 +68,6 @@ impl<S: TextStore> Document<S> {
         };
         let put = put_pairs(&rules, &mut self.tags, slot, &mut self.text, at, pairs);
         match put {
-            Ok(()) => Ok(Answer::Empty),
-            Err(fault) => {
-                self.tags.truncate(front);
-                Err(fault)
-            }
-        }
-    }
-
-    /// Deletes the ranges between pairs of places.
-    pub fn delete_places(
-        &mut self,
-        limits: &Limits,
-        widget: usize,
-        places: &[usize],
-    ) -> Result<Answer, Fault>
-        requires shown { widget < length self.old.widgets }
-        requires active { is_idle self.old (widget_at self.old widget) ≡ false }
-        requires within { All (λ place. place ≤ length (shown self.old (widget_at self.old widget))) places.now }
-        ensures { Does limits.now self.old self.new result
-            (delete_places self.old (widget_at self.old widget) places.now) }
-    {
-        let slot = self.seats.number(widget);
-        let start = start_of(&self.text.anchors, slot);
-        let end = end_of(&self.text.anchors, slot, self.text.store.len());
-        let spans = spans_of(self.alloc, start, end - start, places)?;
-        let deleted = delete_spans(
-            self.alloc,
-            &mut self.text,
-            start,
-            end,
-            &spans,
-            self.settings.recording(),
-        );
-        match deleted {
-            Ok(()) => Ok(Answer::Empty),
-            Err(fault) => Err(fault),
-        }
-    }
-
-    /// Puts texts in the place of the characters between two places, and makes the tags of their lists. The end of the
-    /// view counts as the place of its last character.
-    pub fn replace_between(
-        &mut self,
-        limits: &Limits,
-        widget: usize,
-        from: usize,
-        to: usize,
-        pairs: Vec<Pair>,
-    ) -> Result<Answer, Fault>
-        requires shown { widget < length self.old.widgets }
-        requires active { is_idle self.old (widget_at self.old widget) ≡ false }
-        requires ordered { from ≤ to }
-        requires within { to ≤ length (shown self.old (widget_at self.old widget)) }
-        ensures { Does limits.now self.old self.new result (replace_span limits.now self.old (widget_at self.old widget)
-            (insertion_offset self.old (widget_at self.old widget) from)
-            (insertion_offset self.old (widget_at self.old widget) to) pairs.items) }
-    {
-        let slot = self.seats.number(widget);
-        let start = start_of(&self.text.anchors, slot);
-        let last = end_of(&self.text.anchors, slot, self.text.store.len()) - 1;
-        let front = self.tags.len();
-        let rules = EditRules {
-            alloc: self.alloc,
-            limits,
-            recording: self.settings.recording(),
-        };
-        let target = Target {
-            last,
-            from: start + from,
-            to: start + to,
-            mark: MarkNo(2 * slot),
-        };
-        let replaced = replace_pairs(
-            &rules,
-            &mut self.tags,
-            TagSlot(slot),
-            &mut self.text,
-            target,
-            pairs,
-        );
-        match replaced {
             Ok(()) => Ok(Answer::Empty),
             Err(fault) => {
                 self.tags.truncate(front);

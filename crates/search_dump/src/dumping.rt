@@ -176,7 +176,8 @@ fn push_mark<S: TextStore>(
 ) -> Result<(), AllocError>
     requires view { ShowsLines S.content sight.now.view.now }
     requires within { sight.now.view.now.s + place ≤ sight.now.view.now.e }
-    requires usable { Has (marks_in S.content sight.now.view.now sight.now.names.now) (shown_of sight.now.view.now.s mark) }
+    requires usable { Has (marks_in S.content sight.now.view.now sight.now.names.now)
+        (shown_of sight.now.view.now.s mark) }
     ensures { OnOk result (Goes (string_bytes list.old) (string_bytes list.new) (if_listed is_listed
         (mark_element (text_in S.content sight.now.view.now) (marks.names_of sight.now.names.now.marks.now.marks) place
         (shown_of sight.now.view.now.s mark)))) }
@@ -448,7 +449,8 @@ fn push_elements<S: TextStore>(
     requires ordered { from ≤ to }
     requires within { sight.now.view.now.s + to ≤ sight.now.view.now.e }
     ensures goes { OnOk result (Goes (string_bytes list.old) (string_bytes list.new)
-        (flat_map (elements_at listed (seen_in S.content sight.now.view.now sight.now.names.now) from to) (places from to))) }
+        (flat_map (elements_at listed (seen_in S.content sight.now.view.now sight.now.names.now) from to)
+        (places from to))) }
     ensures mark { IfOk result (λ reached. IsTrue (stops_at_marks listed) →
         IsFirstMark S.content sight.now.view.now sight.now.names.now (sight.now.view.now.s + to) reached.mark) }
     ensures before { IfOk result (λ reached. IsTrue listed.tags →

@@ -3,7 +3,7 @@ use Rattle.std.proofs.lemmas.List.{length-map}
 use Rattle.text_model.specs.declared.cells.Cell.{Cell}
 use Rattle.text_model.specs.Content.{characters}
 use Rattle.documents.proofs.WidgetLaws.{line-short}
-use Rattle.documents.proofs.widgets.line_at.Goals as goal
+use Rattle.documents.proofs.options.line_at.Goals as goal
 
 pub overflow_add-result : goal.overflow_add-result
 overflow_add-result g c =
