@@ -5,7 +5,8 @@ ghost use Rattle.tcl_words.specs.declared.stage.Stage.TheVariants.{BeforeCommand
 ghost use Rattle.tcl_words.specs.declared.stage.TextWord.TheVariants.{Quoted};
 
 use crate::escapes::pair_gives;
-use crate::runs::{Seam, begun, plain_run, quoted_run, seam_behind};
+use crate::plain_words::plain_word;
+use crate::runs::{plain_run, quoted_run};
 use crate::stage::{Next, Output, Stage, TextWord};
 use crate::steps::{last_from, step_from};
 use std::alloc::{AllocError, Global};
@@ -163,26 +164,21 @@ pub fn words_of(alloc: Global, text: &str) -> Result<Vec<String>, AllocError>
     let mut rest = text;
     while !rest.is_empty() {
         let bytes = rest.as_bytes();
-        let here = begun(stage, bytes[0]);
-        let run = plain_run(here, bytes);
         if writer.word.as_str().is_empty() {
-            match seam_behind(here, bytes, run) {
-                Seam::Blank => {
-                    writer.add(alloc, &rest[..run])?;
-                    stage = Stage::BeforeWord;
-                    rest = &rest[run + 1..];
-                    continue;
-                }
-                Seam::End => {
-                    writer.add(alloc, &rest[..run])?;
+            if let Some(word) = plain_word(stage, bytes) {
+                let text = unsafe { str::from_utf8_unchecked(&bytes[word.from..word.to]) };
+                writer.add(alloc, text)?;
+                if word.is_last {
                     return Ok(writer.words);
                 }
-                Seam::Other => {}
+                stage = Stage::BeforeWord;
+                rest = unsafe { str::from_utf8_unchecked(&bytes[word.len..]) };
+                continue;
             }
         }
+        let run = plain_run(stage, bytes);
         if run > 0 {
             writer.keep(&rest[..run])?;
-            stage = here;
             rest = &rest[run..];
             continue;
         }

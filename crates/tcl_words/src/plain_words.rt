@@ -58,10 +58,10 @@ fn end_of_word(byte: u8) -> Option<bool>
     ensures { IfSome result (λ is_last. EndsWord byte is_last) }
 {
     let behind = char::from(byte);
-    if is_end(behind) {
-        Some(true)
-    } else if is_blank(behind) {
+    if is_blank(behind) {
         Some(false)
+    } else if is_end(behind) {
+        Some(true)
     } else {
         None
     }
@@ -128,7 +128,8 @@ fn quoted_word(bytes: &[u8]) -> Option<PlainWord>
     closed_word(bytes, quoted_run(&bytes[1..]), b'"')
 }
 
-fn plain_word(stage: Stage, bytes: &[u8]) -> Option<PlainWord>
+/// The word at the front of some bytes, if it stands in them as it is.
+pub fn plain_word(stage: Stage, bytes: &[u8]) -> Option<PlainWord>
     requires { 0 < length bytes.now }
     ensures { IfSome result (λ word. IsPlainWord stage bytes.now word) }
 {

@@ -6,7 +6,8 @@ ghost use Rattle.tcl_words.specs.declared.stage.TextWord.TheVariants.{Quoted};
 
 use crate::escapes::pair_gives;
 use crate::fault::ScriptFault;
-use crate::runs::{Seam, begun, is_quoted, plain_run, seam_behind};
+use crate::plain_words::plain_word;
+use crate::runs::{is_quoted, plain_run};
 use crate::stage::{Next, Stage, TextWord};
 use crate::steps::step_from;
 
@@ -57,20 +58,17 @@ pub fn scan_bytes(bytes: &[u8], from: Stage) -> Scan
                 continue;
             }
         }
-        let here = begun(stage, bytes[index]);
         let rest = &bytes[index..];
-        let run = plain_run(here, rest);
-        match seam_behind(here, rest, run) {
-            Seam::Blank => {
-                stage = Stage::BeforeWord;
-                index += run + 1;
-                continue;
+        if let Some(word) = plain_word(stage, rest) {
+            if word.is_last {
+                return Scan::EndsAt(index + word.len);
             }
-            Seam::End => return Scan::EndsAt(index + run + 1),
-            Seam::Other => {}
+            stage = Stage::BeforeWord;
+            index += word.len;
+            continue;
         }
+        let run = plain_run(stage, rest);
         if run > 0 {
-            stage = here;
             index += run;
             continue;
         }

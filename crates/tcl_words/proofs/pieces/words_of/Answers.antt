@@ -2,100 +2,40 @@ use Rattle.std.proofs.Common.{◌+◌, ◌<◌, ◌++◌, [], ◌∷◌, ◌∙�
 use Rattle.std.proofs.Common.{arith, IsUtf8}
 use Rattle.std.proofs.lemmas.Str.{IsUtf8-drop}
 use Rattle.tcl_words.proofs.Scans.{depth_on}
-use Rattle.tcl_words.specs.Runs.{IsSeam}
-use Rattle.tcl_words.proofs.Plain.{run_at, depth_from, front_range, char_boundary, after_char, none_left}
+use Rattle.tcl_words.proofs.Plain.{run_at, front_range, char_boundary, after_char, none_left}
 use Rattle.tcl_words.proofs.Writing.{writing_begun, writing_passes, writing_closes, writing_same, writing_runs}
 use Rattle.tcl_words.proofs.Pairs.{writing_kept}
 use Rattle.tcl_words.proofs.Writing.{writing_goes, writing_stops, writing_ends, is_last, seam_boundary}
 use Rattle.tcl_words.proofs.pieces.words_of.Goals as goal
 
-pub range_from-rest-requires : goal.range_from-rest-requires
-range_from-rest-requires c =
-    let seam = subst (IsSeam _ _ _) c.in-Blank.is c.seam_behind.ensures in
-    λ h. seam_boundary c.loop-rest.rest.now _ c.plain_run-run.result c.begun-here.result c.as_bytes-bytes.ensures.value
-    c.loop-rest.invariant.utf8 seam
-
-pub loop-rest-preserved-in-Blank : goal.loop-rest-preserved-in-Blank
-loop-rest-preserved-in-Blank c =
+pub loop-rest-preserved-then-run-gt0 : goal.loop-rest-preserved-then-run-gt0
+loop-rest-preserved-then-run-gt0 c =
     let rest = c.loop-rest.rest.now in
     let n = c.plain_run-run.result in
-    let here = c.begun-here.result in
+    let stage = c.loop-rest.stage in
     let bytes = c.as_bytes-bytes.ensures.value in
-    let seam = subst (IsSeam _ _ _) c.in-Blank.is c.seam_behind.ensures in
-    let within = seam.2 in
-    let run = run_at here rest _ n bytes c.loop-rest.invariant.utf8 seam.1 c.plain_run-run.ensures.within
-    c.plain_run-run.ensures.plain c.plain_run-run.ensures.end in
-    let some : 0 < length rest = omega (arith, ap length bytes) in
-    let begun = writing_begun (chars c.args.text.now) rest _ c.loop-rest.stage here _ _ _ c.loop-rest.invariant.written
-    c.loop-rest.invariant.utf8 bytes some c.begun-here.ensures refl in
-    let empty = sym (ap length c.as_str.ensures.value)
-    ∙ none_left c.as_str.result.now _ c.is_empty-in-loop-rest.ensures c.if-is_empty.true in
+    let run = run_at stage rest _ n bytes c.loop-rest.invariant.utf8 c.if-run-gt0.true
+    c.plain_run-run.ensures.within c.plain_run-run.ensures.plain c.plain_run-run.ensures.end in
     let after = c.range_from-rest.ensures.value in
     let depth = c.loop-rest.invariant.depth in
+    let within = c.plain_run-run.ensures.within in
+    let positive = c.if-run-gt0.true in
     let long = c.range_from-rest.ensures.len in
-    let new = c.in_ok-add-in-Blank.ensures.words
-    ∙ ap (λ l. map (λ word. string_bytes word) c.loop-rest.writer.words.items ++ l ∷ []) (c.range.ensures.value
-    ∙ front_range n rest) in
     record {
-      utf8 = subst IsUtf8 (sym after) (IsUtf8-drop rest (n + 1) c.loop-rest.invariant.utf8
-          (seam_boundary rest _ n here bytes c.loop-rest.invariant.utf8 seam));
-      written = rw after (writing_passes (chars c.args.text.now) rest _ n here _ _ _ _ begun empty run.1 bytes seam new
-          c.add.ensures.word);
+      utf8 = subst IsUtf8 (sym after) (IsUtf8-drop rest n c.loop-rest.invariant.utf8 run.0);
+      written = rw after (writing_same (chars c.args.text.now) _ stage _ _ _
+          (writing_runs (chars c.args.text.now) rest n stage _ _ _ c.loop-rest.invariant.written run.1
+          (c.in_ok-keep.ensures.word ∙ ap (λ l. string_bytes c.loop-rest.writer.word ++ l)
+          (c.range.ensures.value ∙ front_range n rest)))
+          c.keep.ensures.words);
       depth = omega arith;
     }
 
 pub returns-in-End : goal.returns-in-End
 returns-in-End c =
-    let rest = c.loop-rest.rest.now in
-    let n = c.plain_run-run.result in
-    let here = c.begun-here.result in
-    let bytes = c.as_bytes-bytes.ensures.value in
-    let seam = subst (IsSeam _ _ _) c.in-End.is c.seam_behind.ensures in
-    let within = seam.2 in
-    let run = run_at here rest _ n bytes c.loop-rest.invariant.utf8 seam.1 c.plain_run-run.ensures.within
-    c.plain_run-run.ensures.plain c.plain_run-run.ensures.end in
-    let some : 0 < length rest = omega (arith, ap length bytes) in
-    let begun = writing_begun (chars c.args.text.now) rest _ c.loop-rest.stage here _ _ _ c.loop-rest.invariant.written
-    c.loop-rest.invariant.utf8 bytes some c.begun-here.ensures refl in
-    let empty = sym (ap length c.as_str.ensures.value)
-    ∙ none_left c.as_str.result.now _ c.is_empty-in-loop-rest.ensures c.if-is_empty.true in
-    let new = c.in_ok-add-in-End.ensures.words
-    ∙ ap (λ l. map (λ word. string_bytes word) c.loop-rest.writer.words.items ++ l ∷ [])
-    (c.range-in-End.ensures.value ∙ front_range n rest) in
-    writing_closes (chars c.args.text.now) rest _ n here _ _ _ begun empty run.1 bytes seam new
-
-pub loop-rest-preserved-then-run-gt0 : goal.loop-rest-preserved-then-run-gt0
-loop-rest-preserved-then-run-gt0 c =
-    let rest = c.loop-rest.rest.now in
-    let n = c.plain_run-run.result in
-    let here = c.begun-here.result in
-    let bytes = c.as_bytes-bytes.ensures.value in
-    let run = run_at here rest _ n bytes c.loop-rest.invariant.utf8 c.if-run-gt0.true
-    c.plain_run-run.ensures.within c.plain_run-run.ensures.plain c.plain_run-run.ensures.end in
-    let after = c.range_from-rest-then-run-gt0.ensures.value in
-    let depth = c.loop-rest.invariant.depth in
-    let less = depth_from c.loop-rest.stage here _ c.begun-here.ensures in
-    let within = c.plain_run-run.ensures.within in
-    let positive = c.if-run-gt0.true in
-    let some : 0 < length rest = omega (arith, ap length bytes) in
-    let long = c.range_from-rest-then-run-gt0.ensures.len in
-    let begun = writing_begun (chars c.args.text.now) rest _ c.loop-rest.stage here _ _ _ c.loop-rest.invariant.written
-    c.loop-rest.invariant.utf8 bytes some c.begun-here.ensures refl in
-    record {
-      utf8 = subst IsUtf8 (sym after) (IsUtf8-drop rest n c.loop-rest.invariant.utf8 run.0);
-      written = rw after (writing_same (chars c.args.text.now) _ here _ _ _
-          (writing_runs (chars c.args.text.now) rest n here _ _ _ begun run.1
-          (c.in_ok-keep.ensures.word ∙ ap (λ l. string_bytes c.loop-rest.writer.word ++ l)
-          (c.range-then-run-gt0.ensures.value ∙ front_range n rest)))
-          c.keep.ensures.words);
-      depth = omega arith;
-    }
-
-pub returns-in-End-next : goal.returns-in-End-next
-returns-in-End-next c =
     writing_stops (chars c.args.text.now) (chars c.loop-rest.rest.now) _ c.loop-rest.stage _ _ _ _
     c.step_from-step.result c.first_char-c.result c.loop-rest.invariant.written
-    c.first_char-c.ensures.2 c.step_from-step.ensures (is_last c.step_from-step.result.next c.in-End-next.is)
+    c.first_char-c.ensures.2 c.step_from-step.ensures (is_last c.step_from-step.result.next c.in-End.is)
     c.in_ok-write.ensures.words c.in_ok-write.ensures.word
 
 pub range_from-requires : goal.range_from-requires

@@ -9,60 +9,27 @@ use Rattle.tcl_words.proofs.Scans.{scan_by, scan_over, depth_on}
 use Rattle.tcl_words.proofs.Plain.{scan_skips, scan_begun, seam_passes, seam_ends, depth_from}
 use Rattle.tcl_words.proofs.scanner.scan_bytes.Goals as goal
 
-pub loop-index-preserved-in-Blank : goal.loop-index-preserved-in-Blank
-loop-index-preserved-in-Blank c =
-    let bytes = c.args.bytes.now in
-    let index = c.loop-index.index in
-    let run = c.plain_run-run.result in
-    let seam = subst (IsSeam _ _ run) c.in-Blank.is c.seam_behind.ensures in
-    let same = take_rest bytes index in
-    let behind = seam.2 in
-    let depth = c.loop-index.invariant.depth in
-    record {
-      scans = c.loop-index.invariant.scans
-          ∙ ap (later index) (seam_passes bytes _ index run c.loop-index.stage c.begun-here.result _
-          c.loop-index-test.true c.begun-here.ensures refl same c.plain_run-run.ensures.plain seam)
-          ∙ later-later index (run + 1) (scanned (drop (index + (run + 1)) bytes) BeforeWord);
-      depth = omega arith;
-      within = omega (arith, ap length same, length-drop index bytes);
-    }
-
-pub returns-in-End : goal.returns-in-End
-returns-in-End c =
-    let bytes = c.args.bytes.now in
-    let index = c.loop-index.index in
-    let run = c.plain_run-run.result in
-    let seam = subst (IsSeam _ _ run) c.in-End.is c.seam_behind.ensures in
-    sym (c.loop-index.invariant.scans
-    ∙ ap (later index) (seam_ends bytes _ index run c.loop-index.stage c.begun-here.result _ c.loop-index-test.true
-    c.begun-here.ensures refl (take_rest bytes index) c.plain_run-run.ensures.plain seam)
-    ∙ ap EndsAt (let e : index + (run + 1) ≡ index + run + 1 = omega arith in e))
-
 pub loop-index-preserved-then-run-gt0 : goal.loop-index-preserved-then-run-gt0
 loop-index-preserved-then-run-gt0 c =
     let bytes = c.args.bytes.now in
     let index = c.loop-index.index in
     let run = c.plain_run-run.result in
-    let here = c.begun-here.result in
-    let skips = scan_skips bytes _ index run here (take_rest bytes index) c.plain_run-run.ensures.within
+    let skips = scan_skips bytes _ index run c.loop-index.stage (take_rest bytes index) c.plain_run-run.ensures.within
     c.plain_run-run.ensures.plain in
     let long = skips.1 in
-    let less = depth_from c.loop-index.stage here _ c.begun-here.ensures in
     let depth = c.loop-index.invariant.depth in
     let within = c.loop-index.invariant.within in
     record {
-      scans = c.loop-index.invariant.scans
-          ∙ ap (later index) (scan_begun bytes index c.loop-index.stage here _ c.loop-index-test.true
-          c.begun-here.ensures refl ∙ skips.0)
-          ∙ later-later index run (scanned (drop (index + run) bytes) here);
+      scans = c.loop-index.invariant.scans ∙ ap (later index) skips.0
+          ∙ later-later index run (scanned (drop (index + run) bytes) c.loop-index.stage);
       depth = omega arith;
       within = omega (arith, length-drop index bytes);
     }
 
-pub returns-in-End-next : goal.returns-in-End-next
-returns-in-End-next c =
+pub returns-in-End : goal.returns-in-End
+returns-in-End c =
     sym (c.loop-index.invariant.scans ∙ ap (later c.loop-index.index)
-    (scan_by c.args.bytes.now c.loop-index.index c.loop-index.stage _ _ _ c.loop-index-test.true c.in-End-next.is
+    (scan_by c.args.bytes.now c.loop-index.index c.loop-index.stage _ _ _ c.loop-index-test.true c.in-End.is
     c.step_from.ensures c.from.ensures))
 
 pub returns-in-Refuse : goal.returns-in-Refuse
