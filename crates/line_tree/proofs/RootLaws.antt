@@ -78,6 +78,10 @@ module _ (m n : Records) (x : NodePtr) (l : LineContent) (new : NewLine m n x l)
   new-lines = ap (λ z. lines zero (x, line_of (finite.get z x))) new.same
       ∙ ap (λ o. lines zero (x, line_of o)) (get_inserted m x (blank (Some l)))
 
+  pub same-lines : (h : ℕ) (r : NodePtr) → IsTree m h r → lines_in n h r ≡ lines_in m h r
+  same-lines h r tree =
+      ap (lines h) (tree-same m n h r tree (λ q a. new-other q (names-held m h (tree_at m h r) tree q a)))
+
   -- it can become a line of the tree
   pub can-insert : (h : ℕ) (r : NodePtr) (k : ℕ) → Stands m h r → k ≤ length (lines_in m h r) →
       FitsSum (plus (total (lines_in m h r)) (line_count l)) → CanInsert n h r k x

@@ -14,6 +14,11 @@ use Rattle.raw_nodes.specs.declared.names.NodePtr.{NodePtr}
 use Rattle.line_lists.specs.Lists.{count_of}
 use Rattle.line_lists.proofs.CountRows.{count-lines}
 use Rattle.line_tree.specs.Changes.{FitsSum}
+use Rattle.std.specs.Prelude.{slice_get}
+use Rattle.std.specs.Option.{option_map}
+use Rattle.std.specs.declared.option.Option.{Option}
+use Rattle.std.specs.declared.option.Option.TheVariants.{None, Some}
+use Rattle.line_tree.specs.Places.{IsLineAt}
 use Rattle.line_tree.specs.Room.{line_room}
 use Rattle.line_tree.specs.Taking.{changed}
 use Rattle.line_tree.specs.TreeState.{TreeState}
@@ -167,12 +172,26 @@ pub few-lines : (old : List Named) (cs : List LineContent) → FitsSum (plus (to
 few-lines old cs fits = let a = total-lines old in let b = count-lines cs in let d = fits.lines in omega arith
 
 -- ---- after some of them
-pub record PutsIn (old : TreeState) (k gone : ℕ) (all done rest : List LineContent) (at : ℕ) (now : TreeState) : Type 0
+pub record PutsIn (old : TreeState) (k gone : ℕ) (all done rest : List LineContent) (at : ℕ) (now : TreeState)
+    (behind : Option NodePtr) : Type 0
   where
     pub whole : all ≡ done ++ rest
     pub place : at ≡ k + length done
     pub lines : StandsIn old.lines k (min gone (length done)) done now.lines
     pub room : line_room old ≤ line_room now + length done
+    pub named : (p : NodePtr) → behind ≡ Some p → (0 < at) × IsLineAt now.lines (at - 1) p
+
+-- ---- a line that was put in is named
+inserted-at : (ls : List Named) (k : ℕ) (l : Named) → k ≤ length ls → slice_get (insert ls k l) k ≡ Some l
+inserted-at ls zero l h = refl
+inserted-at [] (suc k) l h = absurd (omega arith)
+inserted-at (n ∷ ls) (suc k) l h = inserted-at ls k l (omega arith)
+
+pub put-named : (old now : List Named) (k : ℕ) (p : NodePtr) (c : LineContent) → k ≤ length old →
+    now ≡ insert old k (p, c) → (q : NodePtr) → Some p ≡ Some q → IsLineAt now k q
+put-named old now k p c within is q same =
+    ap (λ ls. option_map (λ (l : Named). l.0) (slice_get ls k)) is
+    ∙ ap (option_map (λ (l : Named). l.0)) (inserted-at old k (p, c) within) ∙ same
 
 -- ---- the first is taken out
 first-out : (ls : List Named) (n : ℕ) → n < length ls → remove (drop n ls) 0 ≡ drop (suc n) ls

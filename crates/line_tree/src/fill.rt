@@ -270,7 +270,7 @@ fn part<C: Ticks>(
 }
 
 /// Puts one more child among those of a node that has room for it: each from there on goes one slot on.
-fn shift<C: Ticks>(
+pub fn shift<C: Ticks>(
     store: &mut NodeStore<C>,
     node: NodePtr,
     at: usize,

@@ -1,11 +1,13 @@
-ghost use Rattle.std.specs.Prelude.{◌≡◌, ◌+◌, ◌≤◌, ◌<◌, length};
+ghost use Rattle.std.specs.Prelude.{◌≡◌, ◌+◌, ◌-◌, ◌≤◌, ◌<◌, length, Some};
 ghost use Rattle.std.specs.FinMap as finite;
 ghost use Rattle.raw_nodes.specs.Names.{records, rooms, spares};
 ghost use Rattle.raw_nodes.specs.Rows.{kids};
 ghost use Rattle.line_tree.specs.Finds.{HasRow, Leads, lines_below};
-ghost use Rattle.line_tree.specs.Shape.{lines_at, sum_at};
+ghost use Rattle.line_tree.specs.Places.{IsLineAt};
+ghost use Rattle.line_tree.specs.Shape.{lines_at, lines_in, sum_at};
 ghost use Rattle.line_tree.specs.Growth.{CanInsert, Inserts, NewLine};
 
+use crate::behind::insert_behind;
 use crate::fill::{add, put};
 use crate::find::Found;
 use crate::near::find_near;
@@ -91,4 +93,34 @@ pub fn insert_in<C: Ticks>(
             None
         }
     }
+}
+
+/// Puts in a line of which so much is counted as number `k`, behind one whose name may be known.
+pub fn insert_next<C: Ticks>(
+    store: &mut NodeStore<C>,
+    root: NodePtr,
+    height: usize,
+    k: usize,
+    behind: Option<NodePtr>,
+    line: NodePtr,
+    more: &Sums<WORDS>,
+    ticks: &mut C,
+) -> Option<NodePtr>
+    requires node { 0 < height }
+    requires insert { CanInsert (records store.old) height root k line }
+    requires more { more.now ≡ sum_at (records store.old) line }
+    requires behind { (p : _) → behind ≡ Some p
+        → (0 < k) × IsLineAt (lines_in (records store.old) height root) (k - 1) p }
+    requires spares { height ≤ spares store.old }
+    requires rooms { height ≤ rooms store.old }
+    ensures inserts { Inserts (records store.old) (records store.new) height root k line result }
+    ensures spares { spares store.old ≤ spares store.new + height }
+    ensures rooms { rooms store.new + spares store.old ≡ rooms store.old + spares store.new }
+    ensures count { spares store.new + finite.len (records store.new)
+        ≡ spares store.old + finite.len (records store.old) }
+{
+    if insert_behind(store, root, height, k, behind, line, more, ticks) {
+        return None;
+    }
+    insert_in(store, root, height, k, line, more, ticks)
 }

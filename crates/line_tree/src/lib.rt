@@ -3,6 +3,7 @@
 //! a line. Over it a list of lines for a text store, with the line of each mark; and the store.
 #![tactic(auto)]
 
+mod behind;
 mod climb;
 mod fill;
 mod find;

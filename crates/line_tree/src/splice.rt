@@ -1,15 +1,16 @@
 use crate::tree::LineTree;
-use raw_nodes::Ticks;
+use raw_nodes::{NodePtr, Ticks};
 use segments::Line;
 
 impl<C: Ticks> LineTree<C> {
-    ghost use Rattle.std.specs.Prelude.{◌≡◌, ◌+◌, ◌≤◌, ◌<◌, ◌++◌, List, length, map, take, drop, min};
+    ghost use Rattle.std.specs.Prelude.{◌≡◌, ◌+◌, ◌-◌, ◌≤◌, ◌<◌, ◌++◌, List, Some, length, map, take, drop, min};
     ghost use Rattle.std.specs.List.{insert};
     ghost use Rattle.toggle_sums.specs.Counts.{plus};
     ghost use Rattle.segments.specs.Columns.{line_count};
     ghost use Rattle.raw_nodes.specs.declared.names.NodePtr.{NodePtr};
     ghost use Rattle.line_lists.specs.Lists.{count_of};
     ghost use Rattle.line_tree.specs.Changes.{FitsSum};
+    ghost use Rattle.line_tree.specs.Places.{IsLineAt};
     ghost use Rattle.line_tree.specs.Room.{line_room};
     ghost use Rattle.line_tree.specs.Taking.{changed};
     ghost use Rattle.line_tree.specs.Trees.{Named, contents, total};
@@ -43,27 +44,39 @@ impl<C: Ticks> LineTree<C> {
     {
         let end = k + gone;
         let mut at = k;
+        let mut behind = None;
         for line in lines {
-            self.put_line(at, end, line, ticks);
+            behind = self.put_line(at, end, behind, line, ticks);
             at += 1;
         }
     }
 
-    /// Puts a line in as number `k`, where that is below `end` in the place of the one that stands there.
-    fn put_line(&mut self, k: usize, end: usize, line: Line, ticks: &mut C)
+    /// Puts a line in as number `k`, where that is below `end` in the place of the one that stands there. Gives its name
+    /// where it is new; that of the line before it may be known.
+    fn put_line(
+        &mut self,
+        k: usize,
+        end: usize,
+        behind: Option<NodePtr>,
+        line: Line,
+        ticks: &mut C,
+    ) -> Option<NodePtr>
         requires within { k ≤ length self.old.lines }
+        requires behind { (p : NodePtr) → behind ≡ Some p → (0 < k) × IsLineAt self.old.lines (k - 1) p }
         requires end { end ≤ length self.old.lines }
         requires fits { FitsSum (plus (total self.old.lines) (line_count line)) }
         requires room { 1 ≤ line_room self.old }
         ensures over { k < end → self.new.lines ≡ changed k (λ _. line) self.old.lines }
         ensures more { end ≤ k → (p : NodePtr) × (self.new.lines ≡ insert self.old.lines k (p, line)) }
+        ensures named { (p : NodePtr) → result ≡ Some p → IsLineAt self.new.lines k p }
         ensures room { line_room self.old ≤ line_room self.new + 1 }
     {
         if k < end {
             self.replace(k, line, ticks);
+            None
         } else {
             prove!(self.height() <= 25);
-            self.insert(k, line, ticks);
+            Some(self.put_behind(behind, k, line, ticks))
         }
     }
 

@@ -1,6 +1,6 @@
 use crate::climb::rank;
 use crate::fill::{join, top};
-use crate::insert::{insert_in, new_line};
+use crate::insert::{insert_next, new_line};
 use crate::levels::levels;
 use crate::locate::{Located, locate};
 use crate::nearest::{Wanted, next, previous};
@@ -53,11 +53,12 @@ impl<C: Ticks> Model for LineTree<C> {
 
 impl<C: Ticks> LineTree<C> {
     ghost use Rattle.std.specs.Prelude.{◌≡◌, ℕ, ◌+◌, ◌-◌, ◌*◌, ◌^◌, ◌≤◌, ◌<◌, OnOk, IfOk, IfSome};
-    ghost use Rattle.std.specs.Prelude.{[], ◌∷◌, length, option_map, slice_get, take};
+    ghost use Rattle.std.specs.Prelude.{[], ◌∷◌, Some, length, option_map, slice_get, take};
     ghost use Rattle.std.specs.List.{insert, remove};
     ghost use Rattle.toggle_sums.specs.Counts.{plus};
     ghost use Rattle.text_model.specs.TagBits.{slot_count};
     ghost use Rattle.raw_nodes.specs.Names.{records};
+    ghost use Rattle.raw_nodes.specs.declared.names.NodePtr.{NodePtr};
     ghost use Rattle.line_lists.specs.Edits.{without_mark};
     ghost use Rattle.line_lists.specs.Lists.{count_of, has_marks, has_toggle, next_line, previous_line};
     ghost use Rattle.line_tree.specs.Growth.{StandsAlone};
@@ -280,18 +281,32 @@ impl<C: Ticks> LineTree<C> {
         ensures nodes { self.new.nodes ≡ self.old.nodes }
         ensures room { line_room self.old ≤ line_room self.new + 1 }
     {
+        self.put_behind(None, k, line, ticks)
+    }
+
+    /// The same where the name of the line before it may be known.
+    pub(crate) fn put_behind(
+        &mut self,
+        behind: Option<NodePtr>,
+        k: usize,
+        line: Line,
+        ticks: &mut C,
+    ) -> NodePtr
+        requires place { k ≤ length self.old.lines }
+        requires behind { (p : NodePtr) → behind ≡ Some p → (0 < k) × IsLineAt self.old.lines (k - 1) p }
+        requires fits { FitsSum (plus (total self.old.lines) (line_count line)) }
+        requires spares { self.old.height + 2 ≤ self.old.spares }
+        requires rooms { self.old.height + 1 ≤ self.old.rooms }
+        ensures lines { self.new.lines ≡ insert self.old.lines k (result, line) }
+        ensures spares { self.old.spares ≤ self.new.spares + self.old.height + 2 }
+        ensures rooms { self.new.rooms + self.old.spares ≡ self.old.rooms + self.new.spares + 1 }
+        ensures nodes { self.new.nodes ≡ self.old.nodes }
+        ensures room { line_room self.old ≤ line_room self.new + 1 }
+    {
         self.count += 1;
         let more = line.sum();
         let name = new_line(&mut self.store, line);
-        let split = insert_in(
-            &mut self.store,
-            self.root,
-            self.height,
-            k,
-            name,
-            &more,
-            ticks,
-        );
+        let split = insert_next(&mut self.store, self.root, self.height, k, behind, name, &more, ticks);
         if let Some(sibling) = split {
             self.root = join(&mut self.store, self.root, sibling, ticks);
             self.height += 1;

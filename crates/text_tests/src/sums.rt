@@ -32,6 +32,7 @@ fn sums_lose_numbers(rt: HostRuntime) {
 #[test]
 fn sums_gain_numbers(rt: HostRuntime) {
     let mut sums = joined();
+    assert!(rt; sums.lines() == 3 && sums.characters() == 12 && sums.marks() == 2);
     sums.add_counts(1, 5, 2);
     assert!(rt; sums.lines() == 4 && sums.characters() == 17 && sums.marks() == 4);
     assert!(rt; sums.has(TagSlot(3)) && sums.parity(TagSlot(64)) && !sums.is_bare());

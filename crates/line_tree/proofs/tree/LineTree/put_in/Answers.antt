@@ -1,6 +1,8 @@
-use Rattle.std.proofs.Common.{◌∷◌, [], ◌+◌, ◌++◌, length, ap, sym, ◌∙◌, subst, arith, append_assoc}
+use Rattle.std.proofs.Common.{◌≡◌, ◌∷◌, [], ◌+◌, ◌-◌, ◌++◌, length, ap, sym, ◌∙◌, subst, arith, append_assoc}
 use Rattle.std.proofs.Common.{length-append, drop, min, take}
 use Rattle.std.proofs.lemmas.List.{append-nil, nil_from_length}
+use Rattle.std.proofs.lemmas.Option.{none-some}
+use Rattle.line_tree.specs.Places.{IsLineAt}
 use Rattle.toggle_sums.specs.Counts.{plus}
 use Rattle.line_lists.specs.Lists.{count_of}
 use Rattle.line_tree.specs.Changes.{FitsSum}
@@ -18,29 +20,33 @@ loop-line-init g c = record {
   place = omega arith;
   lines = none-in c.args.self.now.lines c.args.k c.args.gone;
   room = omega arith;
+  named = λ p is. absurd (none-some p is);
 }
 
-pub put_line-requires-clause-within : goal.put_line-requires-clause-within
-put_line-requires-clause-within g c = let l = c.loop-line in let s = l.invariant.lines in
+pub put_line-behind-requires-clause-within : goal.put_line-behind-requires-clause-within
+put_line-behind-requires-clause-within g c = let l = c.loop-line in let s = l.invariant.lines in
     let now = in-length c.args.self.now.lines l.self.lines c.args.k (min c.args.gone (length l.yielded)) l.yielded
     (went-within (length c.args.self.now.lines) c.args.k c.args.gone l.yielded c.requires.within) s in
     let at = l.invariant.place in let within = c.requires.within in omega (arith, now, at, within)
 
-pub put_line-requires-clause-end : goal.put_line-requires-clause-end
-put_line-requires-clause-end g c = let l = c.loop-line in let s = l.invariant.lines in
+pub put_line-behind-requires-clause-behind : goal.put_line-behind-requires-clause-behind
+put_line-behind-requires-clause-behind g c = c.loop-line.invariant.named
+
+pub put_line-behind-requires-clause-end : goal.put_line-behind-requires-clause-end
+put_line-behind-requires-clause-end g c = let l = c.loop-line in let s = l.invariant.lines in
     let now = in-length c.args.self.now.lines l.self.lines c.args.k (min c.args.gone (length l.yielded)) l.yielded
     (went-within (length c.args.self.now.lines) c.args.k c.args.gone l.yielded c.requires.within) s in
     let within = c.requires.within in omega (arith, now, within)
 
-pub put_line-requires-clause-fits : goal.put_line-requires-clause-fits
-put_line-requires-clause-fits g c = let l = c.loop-line in let old = c.args.self.now.lines in
+pub put_line-behind-requires-clause-fits : goal.put_line-behind-requires-clause-fits
+put_line-behind-requires-clause-fits g c = let l = c.loop-line in let old = c.args.self.now.lines in
     let whole = l.invariant.whole ∙ ap (λ ls. l.yielded ++ ls) c.in-Some.ensures.steps.0 in
     next-fits old l.self.lines c.args.k (min c.args.gone (length l.yielded)) l.yielded c.next.new.self.rest.items
     c.in-Some.line l.invariant.lines
     (subst (λ ls. FitsSum (plus (total old) (count_of ls))) whole c.requires.fits)
 
-pub put_line-requires-clause-room : goal.put_line-requires-clause-room
-put_line-requires-clause-room g c = let l = c.loop-line in
+pub put_line-behind-requires-clause-room : goal.put_line-behind-requires-clause-room
+put_line-behind-requires-clause-room g c = let l = c.loop-line in
     let whole = ap length (l.invariant.whole ∙ ap (λ ls. l.yielded ++ ls) c.in-Some.ensures.steps.0) in
     let long = length-append l.yielded (c.in-Some.line ∷ c.next.new.self.rest.items) in
     let old = c.requires.room in let room = l.invariant.room in
@@ -58,14 +64,16 @@ pub loop-line-preserved : goal.loop-line-preserved
 loop-line-preserved g c = let l = c.loop-line in
     let whole = l.invariant.whole ∙ ap (λ ls. l.yielded ++ ls) c.in-Some.ensures.steps.0 in
     let more = length-append l.yielded (c.in-Some.line ∷ []) in let at = l.invariant.place in
-    let room = l.invariant.room in let falls = c.put_line.ensures.room in
+    let room = l.invariant.room in let falls = c.put_line-behind.ensures.room in
     record {
       whole = whole ∙ sym (append_assoc l.yielded (c.in-Some.line ∷ []) c.next.new.self.rest.items);
       place = omega (arith, more, at);
-      lines = next-in c.args.self.now.lines l.self.lines c.put_line.new.self.lines c.args.k c.args.gone l.at l.yielded
-          c.in-Some.line c.requires.within l.invariant.lines l.invariant.place c.put_line.ensures.over
-          c.put_line.ensures.more;
+      lines = next-in c.args.self.now.lines l.self.lines c.put_line-behind.new.self.lines c.args.k c.args.gone l.at l.yielded
+          c.in-Some.line c.requires.within l.invariant.lines l.invariant.place c.put_line-behind.ensures.over
+          c.put_line-behind.ensures.more;
       room = omega (arith, more, room, falls);
+      named = λ p is. let e : l.at ≡ l.at + 1 - 1 = omega arith in
+          (omega arith, subst (λ n. IsLineAt c.put_line-behind.new.self.lines n p) e (c.put_line-behind.ensures.named p is));
     }
 
 pub returns-clause-lines : goal.returns-clause-lines
