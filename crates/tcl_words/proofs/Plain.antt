@@ -2,29 +2,26 @@
 use Rattle.std.proofs.Common.{◌≡◌, ℕ, zero, suc, ◌+◌, ◌-◌, ◌<◌, ◌≤◌, ⊎_elim, Bool, true, false, cond, ◌||◌, ◌==◌}
 use Rattle.std.proofs.Common.{IsUtf8, IsCharBoundary, List, [], ◌∷◌, ◌++◌, length, take, drop, get_or, chars}
 use Rattle.std.proofs.Common.{encode_utf8, encode_utf8_all, refl, sym, ap, ◌∙◌, arith, subst, true≢false, length-take}
-use Rattle.std.proofs.Common.{length-drop, take-append-drop}
+use Rattle.std.proofs.Common.{take-append-drop}
 use Rattle.std.specs.Bool.{⊤}
 use Rattle.std.specs.Prelude.{slice_range}
 use Rattle.std.specs.Char.{len_utf8}
 use Rattle.std.proofs.lemmas.Bool.Decides.{nat_tests, leb_tells}
-use Rattle.std.proofs.lemmas.List.{drop-drop, drop_more, get_or-drop}
+use Rattle.std.proofs.lemmas.List.{drop-drop, drop_more}
 use Rattle.std.proofs.Math.Seq.{drop-append_seam}
 use Rattle.std.proofs.lemmas.Str.{IsCharBoundary-past_char, encode_ascii, length-encode, len_utf8_bounds, encodes-chars}
 use Rattle.std.proofs.lemmas.Str.{chars-append, IsUtf8-take, IsCharBoundary-end, IsCharBoundary-before_ascii}
 use Rattle.tcl_words.specs.Characters.{is_end, is_blank}
 use Rattle.tcl_words.specs.Runs.{is_ordinary, is_bare, is_quoted, is_braced, is_plain, begins_word, begins_command}
-use Rattle.tcl_words.specs.Runs.{begun, IsSeam}
-use Rattle.tcl_words.specs.declared.runs.Seam.TheVariants as seams
-use Rattle.tcl_words.specs.Steps.{keeps, closes, text_step, step_of, depth_of}
+use Rattle.tcl_words.specs.Runs.{begun}
+use Rattle.tcl_words.specs.Steps.{keeps, closes, text_step, step_of}
 use Rattle.tcl_words.specs.Scanning.{later, scan_next, scanned}
 use Rattle.tcl_words.specs.declared.stage.TextWord.{TextWord}
 use Rattle.tcl_words.specs.declared.stage.TextWord.TheVariants.{Bare, Quoted}
 use Rattle.tcl_words.specs.declared.stage.Stage.{Stage}
 use Rattle.tcl_words.specs.declared.stage.Stage.TheVariants as stages
 use Rattle.tcl_words.specs.declared.stage.Step.{Step}
-use Rattle.tcl_words.specs.declared.stage.Next.{Next}
 use Rattle.tcl_words.specs.declared.stage.Next.TheVariants.{Go, End}
-use Rattle.tcl_words.specs.declared.scanner.Scan.TheVariants.{EndsAt}
 use Rattle.tcl_words.proofs.Verdicts.{scanned-cons}
 use Rattle.tcl_words.proofs.Spelling.{below_or, later-later, later-zero}
 
@@ -279,33 +276,6 @@ begun_step (stages.BracedGap depth) c = refl
 begun_step (stages.Behind closing) c = refl
 begun_step (stages.BehindBackslash closing) c = refl
 
-lower_or : (test : Bool) (stage : Stage) → depth_of (cond test (stages.Text Bare) stage) ≤ depth_of stage
-lower_or true stage = omega arith
-lower_or false stage = omega arith
-
-depth_begun : (stage : Stage) (c : ℕ) → depth_of (begun stage c) ≤ depth_of stage
-depth_begun stages.BeforeCommand c = lower_or (begins_command c) stages.BeforeCommand
-depth_begun stages.BeforeWord c = lower_or (begins_word c) stages.BeforeWord
-depth_begun stages.CommandBackslash c = omega arith
-depth_begun stages.Comment c = omega arith
-depth_begun stages.CommentBackslash c = omega arith
-depth_begun stages.WordBackslash c = omega arith
-depth_begun stages.BareBackslash c = omega arith
-depth_begun (stages.Text word) c = omega arith
-depth_begun (stages.AfterDollar word) c = omega arith
-depth_begun (stages.AfterColon word) c = omega arith
-depth_begun (stages.Escaped word stage) c = omega arith
-depth_begun stages.AfterOpening c = omega arith
-depth_begun stages.AfterStar c = omega arith
-depth_begun (stages.Braced depth) c = omega arith
-depth_begun (stages.BracedBackslash depth) c = omega arith
-depth_begun (stages.BracedGap depth) c = omega arith
-depth_begun (stages.Behind closing) c = omega arith
-depth_begun (stages.BehindBackslash closing) c = omega arith
-
-pub depth_from : (stage here : Stage) (c : ℕ) → here ≡ begun stage c → depth_of here ≤ depth_of stage
-depth_from stage here c is = subst (λ s. depth_of s ≤ depth_of stage) (sym is) (depth_begun stage c)
-
 here_step : (stage here : Stage) (c d : ℕ) → here ≡ begun stage c → c ≡ d → step_of stage d ≡ step_of here d
 here_step stage here c d is same = begun_step stage d ∙ ap (λ s. step_of s d) (ap (begun stage) (sym same) ∙ sym is)
 
@@ -368,43 +338,3 @@ blank_step c blank end = by_false Step (is_end c) _ _ end ∙ by_true Step (is_b
 
 pub end_step : (c : ℕ) → is_end c ≡ true → step_of (stages.Text Bare) c ≡ closes End
 end_step c end = by_true Step (is_end c) _ _ end
-
--- a bare word and what ends it, of a slice of the bytes from i on
-seam_next : (bytes slice : List ℕ) (i n : ℕ) (next : Next) → slice ≡ drop i bytes → n < length slice
-    → ((k : ℕ) → k < n → is_plain (stages.Text Bare) (get_or slice k 0) ≡ true)
-    → step_of (stages.Text Bare) (get_or slice n 0) ≡ closes next
-    → scanned (drop i bytes) (stages.Text Bare) ≡ later n (scan_next next (scanned (drop (i + n + 1) bytes)))
-seam_next bytes slice i n next same long plain ends =
-    let skips = scan_skips bytes slice i n (stages.Text Bare) same (omega arith) plain in
-    let within : i + n < length bytes = omega (arith, ap length same, length-drop i bytes) in
-    let split = drop_more bytes (i + n) 0 within in
-    let there : get_or slice n 0 ≡ get_or bytes (i + n) 0 = ap (λ l. get_or l n 0) same ∙ get_or-drop i bytes n 0 in
-    skips.0 ∙ ap (later n) (ap (λ l. scanned l (stages.Text Bare)) split
-    ∙ scanned-cons (get_or bytes (i + n) 0) (drop (i + n + 1) bytes) (stages.Text Bare)
-    ∙ ap (λ (s : Step). scan_next s.next (scanned (drop (i + n + 1) bytes)))
-    (ap (step_of (stages.Text Bare)) (sym there) ∙ ends))
-
--- the same from a stage that the word begins in
-pub seam_passes : (bytes slice : List ℕ) (i n : ℕ) (stage here : Stage) (c : ℕ) → i < length bytes →
-    here ≡ begun stage c → c ≡ get_or bytes i 0
-    → slice ≡ drop i bytes → ((k : ℕ) → k < n → is_plain here (get_or slice k 0) ≡ true) →
-    IsSeam here slice n seams.Blank
-    → scanned (drop i bytes) stage ≡ later (n + 1) (scanned (drop (i + (n + 1)) bytes) stages.BeforeWord)
-seam_passes bytes slice i n stage here c less is first same plain seam =
-    scan_begun bytes i stage here c less is first ∙ ap (scanned (drop i bytes)) seam.0
-    ∙ seam_next bytes slice i n (Go stages.BeforeWord) same seam.2 (λ k p.
-    ap (λ s. is_plain s (get_or slice k 0)) (sym seam.0) ∙ plain k p)
-    (blank_step (get_or slice n 0) seam.3 seam.4)
-    ∙ later-later n 1 (scanned (drop (i + n + 1) bytes) stages.BeforeWord)
-    ∙ ap (λ m. later (n + 1) (scanned (drop m bytes) stages.BeforeWord)) (let e : i + n + 1
-    ≡ i + (n + 1) = omega arith in e)
-
-pub seam_ends : (bytes slice : List ℕ) (i n : ℕ) (stage here : Stage) (c : ℕ) → i < length bytes →
-    here ≡ begun stage c → c ≡ get_or bytes i 0
-    → slice ≡ drop i bytes → ((k : ℕ) → k < n → is_plain here (get_or slice k 0) ≡ true) → IsSeam here slice n seams.End
-    → scanned (drop i bytes) stage ≡ EndsAt (n + 1)
-seam_ends bytes slice i n stage here c less is first same plain seam =
-    scan_begun bytes i stage here c less is first ∙ ap (scanned (drop i bytes)) seam.0
-    ∙ seam_next bytes slice i n End same seam.2 (λ k p. ap (λ s. is_plain s (get_or slice k 0)) (sym seam.0)
-    ∙ plain k p)
-    (end_step (get_or slice n 0) seam.3)

@@ -1,28 +1,24 @@
 -- Steps of the loop that writes the words of a command.
-use Rattle.std.proofs.Common.{◌≡◌, ◌+◌, ◌<◌, ℕ, get_or, IsUtf8, IsCharBoundary, ◌⊎◌, inl, inr, Bool, true, false}
+use Rattle.std.proofs.Common.{◌≡◌, ◌<◌, ℕ, get_or, ◌⊎◌, inl, inr, Bool, true, false}
 use Rattle.std.proofs.Common.{Option, Some, None, List, [], ◌∷◌, ◌++◌, map, length, take, drop, chars, encode_utf8}
 use Rattle.std.proofs.Common.{encode_utf8_all, refl, sym, ap, ◌∙◌, arith, subst, append_assoc, append-nil}
-use Rattle.std.proofs.lemmas.Str.{chars-nil, chars-append, chars-IsAscii, encodes-chars, IsUtf8-from_ascii}
-use Rattle.std.proofs.lemmas.Str.{IsCharBoundary-after_ascii}
+use Rattle.std.proofs.lemmas.Str.{chars-nil, chars-append, chars-IsAscii, IsUtf8-from_ascii}
 use Rattle.std.proofs.lemmas.Str.Ascii.{IsAscii-cons, IsAscii-nil}
 use Rattle.std.proofs.lemmas.Bool.Decides.{nat_tests}
-use Rattle.std.proofs.lemmas.List.{drop_more}
 use Rattle.tcl_words.specs.Characters.{is_end, is_blank}
-use Rattle.tcl_words.specs.Steps.{step_of, last_step, closes, word_end}
+use Rattle.tcl_words.specs.Steps.{step_of, last_step}
 use Rattle.tcl_words.specs.Scanning.{onto_piece, given_onto, kept_onto, ended_before, written, words_next, pieces_from}
 use Rattle.tcl_words.specs.Scanning.{prefixed, given_bytes, kept_bytes, word_with, words_after, word_after}
 use Rattle.tcl_words.specs.declared.fault.ScriptFault.{ScriptFault}
 use Rattle.tcl_words.specs.declared.stage.Stage.{Stage}
-use Rattle.tcl_words.specs.declared.stage.Stage.TheVariants.{BeforeCommand, BeforeWord, Text}
+use Rattle.tcl_words.specs.declared.stage.Stage.TheVariants.{BeforeCommand}
 use Rattle.tcl_words.specs.declared.stage.Next.{Next}
 use Rattle.tcl_words.specs.declared.stage.Next.TheVariants.{Go, End, Refuse}
 use Rattle.tcl_words.specs.declared.stage.Output.{Output}
 use Rattle.tcl_words.specs.declared.stage.Step.{Step}
 use Rattle.tcl_words.proofs.Verdicts.{pieces-nil, pieces-cons}
-use Rattle.tcl_words.specs.Runs.{begun, IsSeam}
-use Rattle.tcl_words.specs.declared.runs.Seam.TheVariants as seams
-use Rattle.tcl_words.specs.declared.stage.TextWord.TheVariants.{Bare}
-use Rattle.tcl_words.proofs.Plain.{AllPlain, plain_step, char_step, blank_step, end_step, RunOf}
+use Rattle.tcl_words.specs.Runs.{begun}
+use Rattle.tcl_words.proofs.Plain.{AllPlain, plain_step, char_step, RunOf}
 
 -- words in their bytes
 abbrev pub spelled : List (List ℕ) → List (List ℕ)
@@ -178,17 +174,7 @@ pieces_begun (c ∷ cs) bytes stage here b split some is first =
     (char_step stage here b c (encode_utf8_all cs) is (first ∙ ap (λ l. get_or l 0 0) (sym split)))
     ∙ sym (pieces-cons c cs here)
 
-pub writing_begun : (cs bytes slice : List ℕ) (stage here : Stage) (b : ℕ) (words : List (List ℕ)) (word : List ℕ) →
-    IsWritten cs (chars bytes) stage words word → IsUtf8 bytes
-    → slice ≡ bytes → 0 < length bytes → here ≡ begun stage b → b ≡ get_or slice 0 0 →
-    IsWritten cs (chars bytes) here words word
-writing_begun cs bytes slice stage here b words word w u same some is first = record {
-  pieces = w.pieces ∙ ap (λ l. words ++ prefixed word (spelled l))
-      (pieces_begun (chars bytes) bytes stage here b (encodes-chars bytes u) some is (first
-      ∙ ap (λ l. get_or l 0 0) same));
-}
-
--- A bare word that is all of a run, and what ends it.
+-- What ends a bare word.
 
 pub ascii_cons : (c : ℕ) (rest : List ℕ) → c < 128 → chars (c ∷ rest) ≡ c ∷ chars rest
 ascii_cons c rest low =
@@ -201,66 +187,6 @@ low_blank c h = grind (arith, nat_tests)
 
 pub low_end : (c : ℕ) → is_end c ≡ true → c < 128
 low_end c h = grind (arith, nat_tests)
-
-no_letters : (word : List ℕ) → length word ≡ 0 → word ≡ []
-no_letters [] h = refl
-no_letters (c ∷ word) h = absurd (omega arith)
-
--- the run is the word, and the rest begins with what ends it
-record Reached (cs bytes : List ℕ) (n : ℕ) (words : List (List ℕ)) (c : ℕ) : Type 0 where
-  pub written : IsWritten cs (chars (drop n bytes)) (Text Bare) words (take n bytes)
-  pub split : chars (drop n bytes) ≡ c ∷ chars (drop (n + 1) bytes)
-
-reaches : (cs bytes : List ℕ) (n : ℕ) (here : Stage) (words : List (List ℕ)) (word : List ℕ) →
-    IsWritten cs (chars bytes) here words word → length word ≡ 0 → RunOf here bytes n
-    → here ≡ Text Bare → n < length bytes → get_or bytes n 0 < 128 → Reached cs bytes n words (get_or bytes n 0)
-reaches cs bytes n here words word w empty run is within low = record {
-  written = subst (λ s. IsWritten cs (chars (drop n bytes)) s words (take n bytes)) is
-      (writing_runs cs bytes n here words word (take n bytes) w run
-      (sym (ap (λ l. l ++ take n bytes) (no_letters word empty))));
-  split = ap chars (drop_more bytes n 0 within) ∙ ascii_cons (get_or bytes n 0) (drop (n + 1) bytes) low;
-}
-
-whole_word : (word : List ℕ) (words more : List (List ℕ)) (c : ℕ) → more ≡ words ++ word ∷ [] →
-    more ≡ words_after true (word_with word_end c word) words
-whole_word word words more c h = h ∙ ap (λ l. words ++ l ∷ []) (sym (append-nil (word ++ []) ∙ append-nil word))
-
-pub writing_passes : (cs bytes slice : List ℕ) (n : ℕ) (here : Stage) (words more : List (List ℕ)) (word rest : List ℕ)
-    → IsWritten cs (chars bytes) here words word → length word ≡ 0
-    → RunOf here bytes n → slice ≡ bytes → IsSeam here slice n seams.Blank → more ≡ words ++ take n bytes ∷ [] →
-    rest ≡ word
-    → IsWritten cs (chars (drop (n + 1) bytes)) BeforeWord more rest
-writing_passes cs bytes slice n here words more word rest w empty run same seam new left =
-    let there = ap (λ l. get_or l n 0) same in
-    let blank = ap is_blank (sym there) ∙ seam.3 in
-    let end = ap is_end (sym there) ∙ seam.4 in
-    let within : n < length bytes = subst (λ l. n < length l) same seam.2 in
-    let at = reaches cs bytes n here words word w empty run seam.0 within (low_blank (get_or bytes n 0) blank) in
-    writing_goes cs (chars (drop n bytes)) (chars (drop (n + 1) bytes)) (Text Bare) BeforeWord words more (take n bytes)
-    rest (closes (Go BeforeWord)) (get_or bytes n 0)
-    at.written at.split (sym (blank_step (get_or bytes n 0) blank end)) refl
-    (whole_word (take n bytes) words more (get_or bytes n 0) new) (left ∙ no_letters word empty)
-
-pub writing_closes : (cs bytes slice : List ℕ) (n : ℕ) (here : Stage) (words more : List (List ℕ)) (word : List ℕ) →
-    IsWritten cs (chars bytes) here words word → length word ≡ 0
-    → RunOf here bytes n → slice ≡ bytes → IsSeam here slice n seams.End → more ≡ words ++ take n bytes ∷ []
-    → more ≡ spelled (pieces_from cs BeforeCommand)
-writing_closes cs bytes slice n here words more word w empty run same seam new =
-    let there = ap (λ l. get_or l n 0) same in
-    let end = ap is_end (sym there) ∙ seam.3 in
-    let within : n < length bytes = subst (λ l. n < length l) same seam.2 in
-    let at = reaches cs bytes n here words word w empty run seam.0 within (low_end (get_or bytes n 0) end) in
-    writing_stops cs (chars (drop n bytes)) (chars (drop (n + 1) bytes)) (Text Bare) words more (take n bytes) []
-    (closes End) (get_or bytes n 0)
-    at.written at.split (sym (end_step (get_or bytes n 0) end)) tt
-    (whole_word (take n bytes) words more (get_or bytes n 0) new) refl
-
-pub seam_boundary : (bytes slice : List ℕ) (n : ℕ) (here : Stage) → slice ≡ bytes → IsUtf8 bytes →
-    IsSeam here slice n seams.Blank → IsCharBoundary bytes (n + 1)
-seam_boundary bytes slice n here same u seam =
-    let within : n < length bytes = subst (λ l. n < length l) same seam.2 in
-    IsCharBoundary-after_ascii bytes n u within
-    (low_blank (get_or bytes n 0) (ap is_blank (sym (ap (λ l. get_or l n 0) same)) ∙ seam.3))
 
 pub writing_same : (cs rest : List ℕ) (stage : Stage) (words more : List (List ℕ)) (word : List ℕ) →
     IsWritten cs rest stage words word → more ≡ words → IsWritten cs rest stage more word

@@ -1,10 +1,7 @@
 -- Characters that go onto a word as they are.
-use Rattle.std.specs.Prelude.{◌≡◌, ℕ, ◌<◌, Bool, true, false, ◌==◌, if◌then◌else◌}
-use Rattle.std.specs.Prelude.{List, length, slice_index}
+use Rattle.std.specs.Prelude.{ℕ, Bool, true, false, ◌==◌, if◌then◌else◌}
 use Rattle.tcl_words.specs.Characters.{is_end, is_blank}
 use Rattle.tcl_words.specs.declared.stage.TextWord.TheVariants.{Bare, Quoted}
-use Rattle.tcl_words.specs.declared.runs.Seam.{Seam}
-use Rattle.tcl_words.specs.declared.runs.Seam.TheVariants as seams
 use Rattle.tcl_words.specs.declared.stage.Stage.{Stage}
 use Rattle.tcl_words.specs.declared.stage.Stage.TheVariants.{BeforeCommand, BeforeWord, Text, Braced}
 
@@ -38,14 +35,3 @@ abbrev pub begun : Stage → ℕ → Stage
 begun BeforeCommand c = if begins_command c then Text Bare else BeforeCommand
 begun BeforeWord c = if begins_word c then Text Bare else BeforeWord
 begun stage c = stage
-
--- the characters before the place are of a bare word, and there stands what ends it; else nothing there ends one
-abbrev pub IsSeam : Stage → List ℕ → ℕ → Seam → Type 0
-IsSeam stage bytes n seams.Blank =
-    (stage ≡ Text Bare) × (0 < n) × (n < length bytes)
-    × (is_blank (slice_index bytes n) ≡ true) × (is_end (slice_index bytes n) ≡ false)
-IsSeam stage bytes n seams.End =
-    (stage ≡ Text Bare) × (0 < n) × (n < length bytes) × (is_end (slice_index bytes n) ≡ true)
-IsSeam stage bytes n seams.Other =
-    stage ≡ Text Bare → 0 < n → n < length bytes
-    → (is_blank (slice_index bytes n) ≡ false) × (is_end (slice_index bytes n) ≡ false)

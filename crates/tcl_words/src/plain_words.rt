@@ -129,6 +129,7 @@ fn quoted_word(bytes: &[u8]) -> Option<PlainWord>
 }
 
 /// The word at the front of some bytes, if it stands in them as it is.
+#[inline(always)]
 pub fn plain_word(stage: Stage, bytes: &[u8]) -> Option<PlainWord>
     requires { 0 < length bytes.now }
     ensures { IfSome result (λ word. IsPlainWord stage bytes.now word) }

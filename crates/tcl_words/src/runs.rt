@@ -1,11 +1,9 @@
 //! Runs of bytes that go onto a word as they are.
 
 ghost use Rattle.std.specs.Prelude.{◌≡◌, ◌<◌, ◌≤◌, ℕ, length, true, false, slice_index};
-ghost use Rattle.tcl_words.specs.Runs.{IsSeam};
-ghost use Rattle.tcl_words.specs.Runs.{is_plain, is_bare, is_quoted, is_braced, begins_command, begins_word, begun};
+ghost use Rattle.tcl_words.specs.Runs.{is_plain, is_bare, is_quoted, is_braced};
 
 use crate::stage::{Stage, TextWord};
-use crate::steps::{is_blank, is_end};
 
 // Whether the byte is an ordinary one of a bare word.
 fn is_bare(byte: u8) -> bool
@@ -17,20 +15,6 @@ fn is_bare(byte: u8) -> bool
             byte,
             b'\n' | b';' | b' ' | b'\t' | b'\r' | 0x0b | 0x0c | b'[' | b'$' | b'\\'
         )
-}
-
-// Whether the byte begins a bare word that goes on as one, where a word may begin.
-fn begins_word(byte: u8) -> bool
-    ensures { result ≡ begins_word byte }
-{
-    byte != b'{' && byte != b'"' && is_bare(byte)
-}
-
-// The same where a command may begin, and so a comment.
-fn begins_command(byte: u8) -> bool
-    ensures { result ≡ begins_command byte }
-{
-    byte != b'#' && begins_word(byte)
 }
 
 /// Whether the byte is an ordinary one of a quoted word.
@@ -92,25 +76,6 @@ pub fn braced_run(bytes: &[u8]) -> usize
     bytes.len()
 }
 
-/// The stage before a byte, where a bare word that the byte begins counts as begun: so its first byte is one of a run.
-pub fn begun(stage: Stage, byte: u8) -> Stage
-    ensures { result ≡ begun stage byte }
-{
-    match stage {
-        Stage::BeforeCommand => if begins_command(byte) {
-            Stage::Text(TextWord::Bare)
-        } else {
-            stage
-        },
-        Stage::BeforeWord => if begins_word(byte) {
-            Stage::Text(TextWord::Bare)
-        } else {
-            stage
-        },
-        _ => stage,
-    }
-}
-
 /// How many bytes at the front go onto the word as they are, and leave the stage as it is.
 pub fn plain_run(stage: Stage, bytes: &[u8]) -> usize
     ensures within { result ≤ length bytes.now }
@@ -123,33 +88,5 @@ pub fn plain_run(stage: Stage, bytes: &[u8]) -> usize
         Stage::Text(TextWord::Quoted) => quoted_run(bytes),
         Stage::Braced(_) => braced_run(bytes),
         _ => 0,
-    }
-}
-
-/// What stands behind a run that is all of a bare word.
-#[derive(Clone, Copy)]
-pub enum Seam {
-    /// A blank, which ends the word.
-    Blank,
-    /// What ends the command.
-    End,
-    /// Anything else, or the run is none of a bare word.
-    Other,
-}
-
-/// What stands behind a run at the front.
-pub fn seam_behind(stage: Stage, bytes: &[u8], run: usize) -> Seam
-    ensures { IsSeam stage bytes.now run result }
-{
-    if run == 0 || run >= bytes.len() || !matches!(stage, Stage::Text(TextWord::Bare)) {
-        return Seam::Other;
-    }
-    let behind = char::from(bytes[run]);
-    if is_end(behind) {
-        Seam::End
-    } else if is_blank(behind) {
-        Seam::Blank
-    } else {
-        Seam::Other
     }
 }

@@ -264,6 +264,7 @@ fn step_joint(blank: Step, c: char) -> Step
 }
 
 /// What the next character does.
+#[inline(always)]
 pub fn step_from(stage: Stage, c: char) -> Step
     requires { depth_of stage + 1 ≤ usize.MAX }
     ensures { result ≡ step_of stage c }

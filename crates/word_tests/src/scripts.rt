@@ -161,6 +161,22 @@ fn waits_in_braces(rt: HostRuntime) -> Result<(), Fail> {
     check_course(&rt, rt.alloc(), &IN_BRACES)
 }
 
+// Pieces end within escapes of a quoted word: of two bytes, of digits, and before a character of two bytes.
+static IN_ESCAPES: Course = Course {
+    pieces: &[
+        (b"a \"b\\", &[Step::Waits]),
+        (b"nc\\\"d\\10", &[Step::Waits]),
+        (b"1\\\xc3", &[Step::Waits]),
+        (b"\xa9\\$e\" f\n", &[Step::Reads("|a|b\nc\"dAé$e|f\n")]),
+    ],
+    last: &[Step::Waits],
+};
+
+#[test]
+fn waits_in_escapes(rt: HostRuntime) -> Result<(), Fail> {
+    check_course(&rt, rt.alloc(), &IN_ESCAPES)
+}
+
 // Words stand over longer and shorter ones, and over more and fewer; one command has an escape, and one many words.
 static READ_OVER: Course = Course {
     pieces: &[

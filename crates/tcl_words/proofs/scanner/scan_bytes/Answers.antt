@@ -1,12 +1,9 @@
-use Rattle.std.proofs.Common.{◌≡◌, ◌+◌, length, refl, sym, ap, subst, ◌∙◌, arith, drop, length-drop}
+use Rattle.std.proofs.Common.{◌+◌, sym, ap, ◌∙◌, arith, drop, length-drop}
 use Rattle.std.proofs.lemmas.List.{take_rest}
-use Rattle.tcl_words.specs.Runs.{IsSeam}
 use Rattle.tcl_words.specs.Scanning.{scanned, later}
-use Rattle.tcl_words.specs.declared.scanner.Scan.TheVariants.{EndsAt}
-use Rattle.tcl_words.specs.declared.stage.Stage.TheVariants.{BeforeWord}
 use Rattle.tcl_words.proofs.Spelling.{later-later}
 use Rattle.tcl_words.proofs.Scans.{scan_by, scan_over, depth_on}
-use Rattle.tcl_words.proofs.Plain.{scan_skips, scan_begun, seam_passes, seam_ends, depth_from}
+use Rattle.tcl_words.proofs.Plain.{scan_skips}
 use Rattle.tcl_words.proofs.scanner.scan_bytes.Goals as goal
 
 pub loop-index-preserved-then-run-gt0 : goal.loop-index-preserved-then-run-gt0

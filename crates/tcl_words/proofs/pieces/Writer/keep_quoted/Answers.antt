@@ -1,4 +1,4 @@
-use Rattle.std.proofs.Common.{◌+◌, ◌++◌, ◌∙◌, IsUtf8, length, string_bytes, sym, ap, subst, arith}
+use Rattle.std.proofs.Common.{◌++◌, ◌∙◌, IsUtf8, string_bytes, sym, ap, subst, arith}
 use Rattle.std.proofs.lemmas.Str.{IsUtf8-drop}
 use Rattle.tcl_words.specs.EscapeSteps.{pair_gives}
 use Rattle.tcl_words.specs.declared.stage.Stage.TheVariants.{Text}
