@@ -11,6 +11,14 @@ use raw_nodes::{NodePtr, NodeStore, Ticks};
 use text_model::WORDS;
 use toggle_sums::Sums;
 
+/// A line that is put in: its name, what is counted of it, and the name of the line before it, where that is known.
+#[derive(Clone, Copy)]
+pub struct Added {
+    pub line: NodePtr,
+    pub more: Sums<WORDS>,
+    pub behind: Option<NodePtr>,
+}
+
 /// Puts in line `k` behind one whose name may be known, where the node above that has room, and says whether it did. It
 /// goes from there up, so that nothing is looked for.
 pub fn insert_behind<C: Ticks>(
@@ -18,23 +26,21 @@ pub fn insert_behind<C: Ticks>(
     root: NodePtr,
     height: usize,
     k: usize,
-    behind: Option<NodePtr>,
-    line: NodePtr,
-    more: &Sums<WORDS>,
+    added: &Added,
     ticks: &mut C,
 ) -> bool
     requires node { 0 < height }
-    requires insert { CanInsert (records store.old) height root k line }
-    requires more { more.now ≡ sum_at (records store.old) line }
-    requires behind { (p : _) → behind ≡ Some p
+    requires insert { CanInsert (records store.old) height root k added.now.line }
+    requires more { added.now.more ≡ sum_at (records store.old) added.now.line }
+    requires behind { (p : _) → added.now.behind ≡ Some p
         → (0 < k) × IsLineAt (lines_in (records store.old) height root) (k - 1) p }
-    ensures yes { result ≡ true → Inserts (records store.old) (records store.new) height root k line None }
+    ensures yes { result ≡ true → Inserts (records store.old) (records store.new) height root k added.now.line None }
     ensures no { result ≡ false → records store.new ≡ records store.old }
     ensures len { finite.len (records store.new) ≡ finite.len (records store.old) }
     ensures spares { spares store.new ≡ spares store.old }
     ensures rooms { rooms store.new ≡ rooms store.old }
 {
-    let Some(name) = behind else {
+    let Some(name) = added.behind else {
         return false;
     };
     let node = store.parent(name, ticks).unwrap();
@@ -42,12 +48,12 @@ pub fn insert_behind<C: Ticks>(
     if store.child(node, 11, ticks).is_some() {
         return false;
     }
-    shift(store, node, slot, line, ticks);
-    add(store, node, more, ticks);
+    shift(store, node, slot, added.line, ticks);
+    add(store, node, &added.more, ticks);
     let mut at = node;
     for level in 1..height {
         at = store.parent(at, ticks).unwrap();
-        add(store, at, more, ticks);
+        add(store, at, &added.more, ticks);
     }
     true
 }

@@ -7,14 +7,12 @@ ghost use Rattle.line_tree.specs.Places.{IsLineAt};
 ghost use Rattle.line_tree.specs.Shape.{lines_at, lines_in, sum_at};
 ghost use Rattle.line_tree.specs.Growth.{CanInsert, Inserts, NewLine};
 
-use crate::behind::insert_behind;
+use crate::behind::{Added, insert_behind};
 use crate::fill::{add, put};
 use crate::find::Found;
 use crate::near::find_near;
 use raw_nodes::{NodePtr, NodeStore, Ticks};
 use segments::Line;
-use text_model::WORDS;
-use toggle_sums::Sums;
 
 /// The child below which line `k` is put in.
 fn lead<C: Ticks>(store: &NodeStore<C>, node: NodePtr, k: usize, ticks: &mut C) -> Found
@@ -52,75 +50,63 @@ pub fn new_line<C: Ticks>(store: &mut NodeStore<C>, line: Line) -> NodePtr
     store.make(Some(line))
 }
 
-/// Puts in a line of which so much is counted below a node of this height. A node with 13 children gives the last ones to a
-/// new one.
+/// Puts in a line below a node of this height. A node with 13 children gives the last ones to a new one.
 pub fn insert_in<C: Ticks>(
     store: &mut NodeStore<C>,
     node: NodePtr,
     height: usize,
     k: usize,
-    line: NodePtr,
-    more: &Sums<WORDS>,
+    added: &Added,
     ticks: &mut C,
 ) -> Option<NodePtr>
     requires node { 0 < height }
-    requires insert { CanInsert (records store.old) height node k line }
-    requires more { more.now ≡ sum_at (records store.old) line }
+    requires insert { CanInsert (records store.old) height node k added.now.line }
+    requires more { added.now.more ≡ sum_at (records store.old) added.now.line }
     requires spares { height ≤ spares store.old }
     requires rooms { height ≤ rooms store.old }
-    ensures inserts { Inserts (records store.old) (records store.new) height node k line result }
+    ensures inserts { Inserts (records store.old) (records store.new) height node k added.now.line result }
     ensures spares { spares store.old ≤ spares store.new + height }
     ensures rooms { rooms store.new + spares store.old ≡ rooms store.old + spares store.new }
     ensures count { spares store.new + finite.len (records store.new)
         ≡ spares store.old + finite.len (records store.old) }
 {
     if height == 1 {
-        return put(store, node, k, line, more, ticks);
+        return put(store, node, k, added.line, &added.more, ticks);
     }
     let found = lead(store, node, k, ticks);
-    match insert_in(
-        store,
-        found.child,
-        height - 1,
-        found.rest,
-        line,
-        more,
-        ticks,
-    ) {
-        Some(sibling) => put(store, node, found.slot + 1, sibling, more, ticks),
+    match insert_in(store, found.child, height - 1, found.rest, added, ticks) {
+        Some(sibling) => put(store, node, found.slot + 1, sibling, &added.more, ticks),
         None => {
-            add(store, node, more, ticks);
+            add(store, node, &added.more, ticks);
             None
         }
     }
 }
 
-/// Puts in a line of which so much is counted as number `k`, behind one whose name may be known.
+/// Puts in a line as number `k`.
 pub fn insert_next<C: Ticks>(
     store: &mut NodeStore<C>,
     root: NodePtr,
     height: usize,
     k: usize,
-    behind: Option<NodePtr>,
-    line: NodePtr,
-    more: &Sums<WORDS>,
+    added: &Added,
     ticks: &mut C,
 ) -> Option<NodePtr>
     requires node { 0 < height }
-    requires insert { CanInsert (records store.old) height root k line }
-    requires more { more.now ≡ sum_at (records store.old) line }
-    requires behind { (p : _) → behind ≡ Some p
+    requires insert { CanInsert (records store.old) height root k added.now.line }
+    requires more { added.now.more ≡ sum_at (records store.old) added.now.line }
+    requires behind { (p : _) → added.now.behind ≡ Some p
         → (0 < k) × IsLineAt (lines_in (records store.old) height root) (k - 1) p }
     requires spares { height ≤ spares store.old }
     requires rooms { height ≤ rooms store.old }
-    ensures inserts { Inserts (records store.old) (records store.new) height root k line result }
+    ensures inserts { Inserts (records store.old) (records store.new) height root k added.now.line result }
     ensures spares { spares store.old ≤ spares store.new + height }
     ensures rooms { rooms store.new + spares store.old ≡ rooms store.old + spares store.new }
     ensures count { spares store.new + finite.len (records store.new)
         ≡ spares store.old + finite.len (records store.old) }
 {
-    if insert_behind(store, root, height, k, behind, line, more, ticks) {
+    if insert_behind(store, root, height, k, added, ticks) {
         return None;
     }
-    insert_in(store, root, height, k, line, more, ticks)
+    insert_in(store, root, height, k, added, ticks)
 }

@@ -1,3 +1,4 @@
+use crate::behind::Added;
 use crate::climb::rank;
 use crate::fill::{join, top};
 use crate::insert::{insert_next, new_line};
@@ -306,7 +307,12 @@ impl<C: Ticks> LineTree<C> {
         self.count += 1;
         let more = line.sum();
         let name = new_line(&mut self.store, line);
-        let split = insert_next(&mut self.store, self.root, self.height, k, behind, name, &more, ticks);
+        let added = Added {
+            line: name,
+            more,
+            behind,
+        };
+        let split = insert_next(&mut self.store, self.root, self.height, k, &added, ticks);
         if let Some(sibling) = split {
             self.root = join(&mut self.store, self.root, sibling, ticks);
             self.height += 1;

@@ -15,25 +15,25 @@ use Rattle.line_tree.proofs.behind.insert_behind.Goals as goal
 
 pub parent-requires : goal.parent-requires
 parent-requires g c = let m = records c.args.store.now in
-    named-behind m c.args.height c.args.root c.args.k c.args.line c.in-Some.name c.requires.node c.requires.insert
+    named-behind m c.args.height c.args.root c.args.k c.args.added.now.line c.in-Some.name c.requires.node c.requires.insert
     (c.requires.behind c.in-Some.name c.in-Some.is).0
     (c.requires.behind c.in-Some.name c.in-Some.is).1
 
 pub unwrap-node-requires : goal.unwrap-node-requires
 unwrap-node-requires g c = let m = records c.args.store.now in
-    parent-behind m c.args.height c.args.root c.args.k c.args.line c.in-Some.name c.requires.node c.requires.insert
+    parent-behind m c.args.height c.args.root c.args.k c.args.added.now.line c.in-Some.name c.requires.node c.requires.insert
     (c.requires.behind c.in-Some.name c.in-Some.is).0
     (c.requires.behind c.in-Some.name c.in-Some.is).1 c.parent.result c.parent.ensures.value
 
 pub slot-slot-requires : goal.slot-slot-requires
 slot-slot-requires g c = let m = records c.args.store.now in
-    named-behind m c.args.height c.args.root c.args.k c.args.line c.in-Some.name c.requires.node c.requires.insert
+    named-behind m c.args.height c.args.root c.args.k c.args.added.now.line c.in-Some.name c.requires.node c.requires.insert
     (c.requires.behind c.in-Some.name c.in-Some.is).0
     (c.requires.behind c.in-Some.name c.in-Some.is).1
 
 pub overflow_add-slot : goal.overflow_add-slot
 overflow_add-slot g c = let m = records c.args.store.now in
-    let b = base-of m c.args.height c.args.root c.args.k c.args.line c.in-Some.name c.requires.node
+    let b = base-of m c.args.height c.args.root c.args.k c.args.added.now.line c.in-Some.name c.requires.node
     c.requires.insert (c.requires.behind c.in-Some.name c.in-Some.is).0
     (c.requires.behind c.in-Some.name c.in-Some.is).1 c.parent.result c.parent.ensures.value c.unwrap-node.result
     c.unwrap-node.ensures c.slot-slot.result c.slot-slot.ensures in
@@ -41,7 +41,7 @@ overflow_add-slot g c = let m = records c.args.store.now in
 
 pub child-requires-clause-name : goal.child-requires-clause-name
 child-requires-clause-name g c = let m = records c.args.store.now in
-    let b = base-of m c.args.height c.args.root c.args.k c.args.line c.in-Some.name c.requires.node
+    let b = base-of m c.args.height c.args.root c.args.k c.args.added.now.line c.in-Some.name c.requires.node
     c.requires.insert (c.requires.behind c.in-Some.name c.in-Some.is).0
     (c.requires.behind c.in-Some.name c.in-Some.is).1 c.parent.result c.parent.ensures.value c.unwrap-node.result
     c.unwrap-node.ensures c.slot-slot.result c.slot-slot.ensures in
@@ -49,16 +49,16 @@ child-requires-clause-name g c = let m = records c.args.store.now in
 
 pub shift-requires-clause-put : goal.shift-requires-clause-put
 shift-requires-clause-put g c = let m = records c.args.store.now in
-    let b = base-of m c.args.height c.args.root c.args.k c.args.line c.in-Some.name c.requires.node
+    let b = base-of m c.args.height c.args.root c.args.k c.args.added.now.line c.in-Some.name c.requires.node
     c.requires.insert (c.requires.behind c.in-Some.name c.in-Some.is).0
     (c.requires.behind c.in-Some.name c.in-Some.is).1 c.parent.result c.parent.ensures.value c.unwrap-node.result
     c.unwrap-node.ensures c.slot-slot.result c.slot-slot.ensures in
-    subst (λ n. CanPut m c.unwrap-node.result n c.args.line) b.place (low-can_put m
-    c.unwrap-node.result (c.args.k - b.before) c.args.line b.can)
+    subst (λ n. CanPut m c.unwrap-node.result n c.args.added.now.line) b.place (low-can_put m
+    c.unwrap-node.result (c.args.k - b.before) c.args.added.now.line b.can)
 
 pub shift-requires-clause-few : goal.shift-requires-clause-few
 shift-requires-clause-few g c = let m = records c.args.store.now in
-    let b = base-of m c.args.height c.args.root c.args.k c.args.line c.in-Some.name c.requires.node
+    let b = base-of m c.args.height c.args.root c.args.k c.args.added.now.line c.in-Some.name c.requires.node
     c.requires.insert (c.requires.behind c.in-Some.name c.in-Some.is).0
     (c.requires.behind c.in-Some.name c.in-Some.is).1 c.parent.result c.parent.ensures.value c.unwrap-node.result
     c.unwrap-node.ensures c.slot-slot.result c.slot-slot.ensures in
@@ -67,62 +67,62 @@ shift-requires-clause-few g c = let m = records c.args.store.now in
 
 pub add-requires-clause-row : goal.add-requires-clause-row
 add-requires-clause-row g c = let m = records c.args.store.now in
-    let b = base-of m c.args.height c.args.root c.args.k c.args.line c.in-Some.name c.requires.node
+    let b = base-of m c.args.height c.args.root c.args.k c.args.added.now.line c.in-Some.name c.requires.node
     c.requires.insert (c.requires.behind c.in-Some.name c.in-Some.is).0
     (c.requires.behind c.in-Some.name c.in-Some.is).1 c.parent.result c.parent.ensures.value c.unwrap-node.result
     c.unwrap-node.ensures c.slot-slot.result c.slot-slot.ensures in
-    let can = subst (λ n. CanPut m c.unwrap-node.result n c.args.line) b.place (low-can_put m
-    c.unwrap-node.result (c.args.k - b.before) c.args.line b.can) in
+    let can = subst (λ n. CanPut m c.unwrap-node.result n c.args.added.now.line) b.place (low-can_put m
+    c.unwrap-node.result (c.args.k - b.before) c.args.added.now.line b.can) in
     let few = has-room m c.unwrap-node.result (row-tree m 0 c.unwrap-node.result b.tree) c.child.result
     c.child.ensures.value (sym c.is_some.ensures ∙ c.if-is_some.false) in
-    shifted-row m c.unwrap-node.result (c.slot-slot.result + 1) c.args.line can few (records c.shift.new.store)
+    shifted-row m c.unwrap-node.result (c.slot-slot.result + 1) c.args.added.now.line can few (records c.shift.new.store)
     c.shift.ensures.records
 
 pub add-requires-clause-sum : goal.add-requires-clause-sum
 add-requires-clause-sum g c = let m = records c.args.store.now in
-    let b = base-of m c.args.height c.args.root c.args.k c.args.line c.in-Some.name c.requires.node
+    let b = base-of m c.args.height c.args.root c.args.k c.args.added.now.line c.in-Some.name c.requires.node
     c.requires.insert (c.requires.behind c.in-Some.name c.in-Some.is).0
     (c.requires.behind c.in-Some.name c.in-Some.is).1 c.parent.result c.parent.ensures.value c.unwrap-node.result
     c.unwrap-node.ensures c.slot-slot.result c.slot-slot.ensures in
-    let can = subst (λ n. CanPut m c.unwrap-node.result n c.args.line) b.place (low-can_put m
-    c.unwrap-node.result (c.args.k - b.before) c.args.line b.can) in
+    let can = subst (λ n. CanPut m c.unwrap-node.result n c.args.added.now.line) b.place (low-can_put m
+    c.unwrap-node.result (c.args.k - b.before) c.args.added.now.line b.can) in
     let few = has-room m c.unwrap-node.result (row-tree m 0 c.unwrap-node.result b.tree) c.child.result
     c.child.ensures.value (sym c.is_some.ensures ∙ c.if-is_some.false) in
     let p = c.unwrap-node.result in
-    shifted-sum m c.unwrap-node.result (c.slot-slot.result + 1) c.args.line can few (records c.shift.new.store)
+    shifted-sum m c.unwrap-node.result (c.slot-slot.result + 1) c.args.added.now.line can few (records c.shift.new.store)
     c.shift.ensures.records
-    c.args.more.now (ap (plus (sum_at m p)) c.requires.more
-    ∙ low-sum m p (c.args.k - b.before) c.args.line b.can
-    ∙ ap (λ n. sum_all m (insert (kids m p) n c.args.line)) b.place)
+    c.args.added.now.more (ap (plus (sum_at m p)) c.requires.more
+    ∙ low-sum m p (c.args.k - b.before) c.args.added.now.line b.can
+    ∙ ap (λ n. sum_all m (insert (kids m p) n c.args.added.now.line)) b.place)
 
 pub add-requires-clause-fits : goal.add-requires-clause-fits
 add-requires-clause-fits g c = let m = records c.args.store.now in
-    let b = base-of m c.args.height c.args.root c.args.k c.args.line c.in-Some.name c.requires.node
+    let b = base-of m c.args.height c.args.root c.args.k c.args.added.now.line c.in-Some.name c.requires.node
     c.requires.insert (c.requires.behind c.in-Some.name c.in-Some.is).0
     (c.requires.behind c.in-Some.name c.in-Some.is).1 c.parent.result c.parent.ensures.value c.unwrap-node.result
     c.unwrap-node.ensures c.slot-slot.result c.slot-slot.ensures in
-    let can = subst (λ n. CanPut m c.unwrap-node.result n c.args.line) b.place (low-can_put m
-    c.unwrap-node.result (c.args.k - b.before) c.args.line b.can) in
+    let can = subst (λ n. CanPut m c.unwrap-node.result n c.args.added.now.line) b.place (low-can_put m
+    c.unwrap-node.result (c.args.k - b.before) c.args.added.now.line b.can) in
     let few = has-room m c.unwrap-node.result (row-tree m 0 c.unwrap-node.result b.tree) c.child.result
     c.child.ensures.value (sym c.is_some.ensures ∙ c.if-is_some.false) in
-    shifted-fits m c.unwrap-node.result (c.slot-slot.result + 1) c.args.line can few (records c.shift.new.store)
+    shifted-fits m c.unwrap-node.result (c.slot-slot.result + 1) c.args.added.now.line can few (records c.shift.new.store)
     c.shift.ensures.records
 
 pub loop-level-init : goal.loop-level-init
 loop-level-init g c = let m = records c.args.store.now in
-    let b = base-of m c.args.height c.args.root c.args.k c.args.line c.in-Some.name c.requires.node
+    let b = base-of m c.args.height c.args.root c.args.k c.args.added.now.line c.in-Some.name c.requires.node
     c.requires.insert (c.requires.behind c.in-Some.name c.in-Some.is).0
     (c.requires.behind c.in-Some.name c.in-Some.is).1 c.parent.result c.parent.ensures.value c.unwrap-node.result
     c.unwrap-node.ensures c.slot-slot.result c.slot-slot.ensures in
-    let can = subst (λ n. CanPut m c.unwrap-node.result n c.args.line) b.place (low-can_put m
-    c.unwrap-node.result (c.args.k - b.before) c.args.line b.can) in
+    let can = subst (λ n. CanPut m c.unwrap-node.result n c.args.added.now.line) b.place (low-can_put m
+    c.unwrap-node.result (c.args.k - b.before) c.args.added.now.line b.can) in
     let few = has-room m c.unwrap-node.result (row-tree m 0 c.unwrap-node.result b.tree) c.child.result
     c.child.ensures.value (sym c.is_some.ensures ∙ c.if-is_some.false) in
     let p = c.unwrap-node.result in let n = records c.add.new.store in
-    let fills = subst (λ i. Fills m n p (insert (kids m p) i c.args.line)) (sym b.place)
-    (shifted-fills m c.unwrap-node.result (c.slot-slot.result + 1) c.args.line can few (records c.shift.new.store)
+    let fills = subst (λ i. Fills m n p (insert (kids m p) i c.args.added.now.line)) (sym b.place)
+    (shifted-fills m c.unwrap-node.result (c.slot-slot.result + 1) c.args.added.now.line can few (records c.shift.new.store)
     c.shift.ensures.records n c.add.ensures.records) in
-    let ls = len-puts m n p (insert (kids m p) (c.args.k - b.before) c.args.line) None fills in
+    let ls = len-puts m n p (insert (kids m p) (c.args.k - b.before) c.args.added.now.line) None fills in
     let some = c.requires.node in
     record {
       climbs = record {
@@ -130,7 +130,7 @@ loop-level-init g c = let m = records c.args.store.now in
         sits = b.sits;
         low = b.low;
         high = b.high;
-        inserts = low-inserts m p (c.args.k - b.before) c.args.line b.can n None fills;
+        inserts = low-inserts m p (c.args.k - b.before) c.args.added.now.line b.can n None fills;
       };
       within = omega (arith, some);
       len = omega (arith, ls);
@@ -140,51 +140,51 @@ loop-level-init g c = let m = records c.args.store.now in
 
 pub unwrap-at-requires : goal.unwrap-at-requires
 unwrap-at-requires g c = let m = records c.args.store.now in let l = records c.loop-level.store in
-    some-parent m l c.args.height c.args.root c.args.k c.args.line c.loop-level.level c.loop-level.at
+    some-parent m l c.args.height c.args.root c.args.k c.args.added.now.line c.loop-level.level c.loop-level.at
     c.loop-level-test.true c.loop-level.invariant.climbs c.parent-in-loop-level.result
     c.parent-in-loop-level.ensures.value
 
 pub add-requires-in-loop-level-clause-row : goal.add-requires-in-loop-level-clause-row
 add-requires-in-loop-level-clause-row g c = let m = records c.args.store.now in
     let l = records c.loop-level.store in
-    let a = above-of m l c.args.height c.args.root c.args.k c.args.line c.loop-level.level c.loop-level.at
+    let a = above-of m l c.args.height c.args.root c.args.k c.args.added.now.line c.loop-level.level c.loop-level.at
     c.loop-level-test.true c.requires.insert c.loop-level.invariant.climbs c.parent-in-loop-level.result
     c.parent-in-loop-level.ensures.value c.unwrap-at.result c.unwrap-at.ensures in
-    has-now m c.loop-level.level c.unwrap-at.result (c.args.k - a.before) c.args.line a.can a.found a.leads l None a.inserts
+    has-now m c.loop-level.level c.unwrap-at.result (c.args.k - a.before) c.args.added.now.line a.can a.found a.leads l None a.inserts
 
 pub add-requires-in-loop-level-clause-sum : goal.add-requires-in-loop-level-clause-sum
 add-requires-in-loop-level-clause-sum g c = let m = records c.args.store.now in
     let l = records c.loop-level.store in
-    let a = above-of m l c.args.height c.args.root c.args.k c.args.line c.loop-level.level c.loop-level.at
+    let a = above-of m l c.args.height c.args.root c.args.k c.args.added.now.line c.loop-level.level c.loop-level.at
     c.loop-level-test.true c.requires.insert c.loop-level.invariant.climbs c.parent-in-loop-level.result
     c.parent-in-loop-level.ensures.value c.unwrap-at.result c.unwrap-at.ensures in
     ap (plus (sum_at l c.unwrap-at.result)) c.requires.more
-    ∙ one-sum m c.loop-level.level c.unwrap-at.result (c.args.k - a.before) c.args.line a.can a.found a.leads l a.inserts
+    ∙ one-sum m c.loop-level.level c.unwrap-at.result (c.args.k - a.before) c.args.added.now.line a.can a.found a.leads l a.inserts
 
 pub add-requires-in-loop-level-clause-fits : goal.add-requires-in-loop-level-clause-fits
 add-requires-in-loop-level-clause-fits g c = let m = records c.args.store.now in
     let l = records c.loop-level.store in
-    let a = above-of m l c.args.height c.args.root c.args.k c.args.line c.loop-level.level c.loop-level.at
+    let a = above-of m l c.args.height c.args.root c.args.k c.args.added.now.line c.loop-level.level c.loop-level.at
     c.loop-level-test.true c.requires.insert c.loop-level.invariant.climbs c.parent-in-loop-level.result
     c.parent-in-loop-level.ensures.value c.unwrap-at.result c.unwrap-at.ensures in
-    one-fits m c.loop-level.level c.unwrap-at.result (c.args.k - a.before) c.args.line a.can a.found a.leads l a.inserts
+    one-fits m c.loop-level.level c.unwrap-at.result (c.args.k - a.before) c.args.added.now.line a.can a.found a.leads l a.inserts
 
 pub loop-level-preserved : goal.loop-level-preserved
 loop-level-preserved g c = let m = records c.args.store.now in
     let l = records c.loop-level.store in let n = records c.add-in-loop-level.new.store in
     let j = c.loop-level.level in let q = c.unwrap-at.result in
-    let a = above-of m l c.args.height c.args.root c.args.k c.args.line c.loop-level.level c.loop-level.at
+    let a = above-of m l c.args.height c.args.root c.args.k c.args.added.now.line c.loop-level.level c.loop-level.at
     c.loop-level-test.true c.requires.insert c.loop-level.invariant.climbs c.parent-in-loop-level.result
     c.parent-in-loop-level.ensures.value c.unwrap-at.result c.unwrap-at.ensures in
     let e : suc j ≡ j + 1 = omega arith in
     let ls = ap finite.len c.add-in-loop-level.ensures.records ∙ len-resummed l q (row (kids l q)) in
     record {
-      climbs = subst (λ i. Climbs m n c.args.height c.args.root c.args.k c.args.line i q) e (record {
+      climbs = subst (λ i. Climbs m n c.args.height c.args.root c.args.k c.args.added.now.line i q) e (record {
         before = a.before;
         sits = a.sits;
         low = a.low;
         high = a.high;
-        inserts = one-inserts m c.loop-level.level c.unwrap-at.result (c.args.k - a.before) c.args.line a.can a.found a.leads l a.inserts n
+        inserts = one-inserts m c.loop-level.level c.unwrap-at.result (c.args.k - a.before) c.args.added.now.line a.can a.found a.leads l a.inserts n
             c.add-in-loop-level.ensures.records;
       });
       within = omega (arith, c.loop-level-test.true);
@@ -196,5 +196,5 @@ loop-level-preserved g c = let m = records c.args.store.now in
 pub returns-clause-yes : goal.returns-clause-yes
 returns-clause-yes g c is = let m = records c.args.store.now in let l = records c.loop-level.store in
     let within = c.loop-level.invariant.within in
-    climbed m l c.args.height c.args.root c.args.k c.args.line c.loop-level.level c.loop-level.at
+    climbed m l c.args.height c.args.root c.args.k c.args.added.now.line c.loop-level.level c.loop-level.at
     (omega (arith, within, c.loop-level-test.false)) c.loop-level.invariant.climbs

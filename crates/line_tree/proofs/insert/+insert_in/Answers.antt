@@ -43,8 +43,8 @@ few-kids m h p k x can f leads = let w = slice_get_within (kids m p) f.slot f.ch
     let few = (has-node m h p k x can).few in omega arith
 
 pub put-requires-clause-put : goal.put-requires-clause-put
-put-requires-clause-put g t c = low-can_put (records c.args.store.now) c.args.node c.args.k c.args.line
-    (subst (λ h. CanInsert (records c.args.store.now) h c.args.node c.args.k c.args.line) c.if-height-eq1.true
+put-requires-clause-put g t c = low-can_put (records c.args.store.now) c.args.node c.args.k c.args.added.now.line
+    (subst (λ h. CanInsert (records c.args.store.now) h c.args.node c.args.k c.args.added.now.line) c.if-height-eq1.true
     c.requires.insert)
 
 -- what the line adds
@@ -54,50 +54,50 @@ line-sum m l p x s all adds is = ap (plus (sum_at l p)) adds ∙ is
 
 pub put-requires-clause-sum : goal.put-requires-clause-sum
 put-requires-clause-sum g t c = let m = records c.args.store.now in
-    line-sum m m c.args.node c.args.line c.args.more.now
-    (sum_all m (insert (kids m c.args.node) c.args.k c.args.line))
+    line-sum m m c.args.node c.args.added.now.line c.args.added.now.more
+    (sum_all m (insert (kids m c.args.node) c.args.k c.args.added.now.line))
     c.requires.more
-    (low-sum m c.args.node c.args.k c.args.line
-    (subst (λ h. CanInsert m h c.args.node c.args.k c.args.line) c.if-height-eq1.true c.requires.insert))
+    (low-sum m c.args.node c.args.k c.args.added.now.line
+    (subst (λ h. CanInsert m h c.args.node c.args.k c.args.added.now.line) c.if-height-eq1.true c.requires.insert))
 
 pub put-requires-in-Some-clause-sum : goal.put-requires-in-Some-clause-sum
 put-requires-in-Some-clause-sum g t c = let m = records c.args.store.now in let l = records c.insert_in.new.store in
-    line-sum m l c.args.node c.args.line c.args.more.now
+    line-sum m l c.args.node c.args.added.now.line c.args.added.now.more
     (sum_all l (insert (kids l c.args.node) (c.lead-found.result.slot + 1) c.in-Some.sibling))
     c.requires.more
-    (two-sum m (c.args.height - 1) c.args.node c.args.k c.args.line
-    (above m c.args.height c.args.node c.args.k c.args.line c.requires.insert c.requires.node) c.lead-found.result
+    (two-sum m (c.args.height - 1) c.args.node c.args.k c.args.added.now.line
+    (above m c.args.height c.args.node c.args.k c.args.added.now.line c.requires.insert c.requires.node) c.lead-found.result
     c.lead-found.ensures l c.in-Some.sibling
-    (subst (λ o. Inserts m l (c.args.height - 1) c.lead-found.result.child c.lead-found.result.rest c.args.line o)
+    (subst (λ o. Inserts m l (c.args.height - 1) c.lead-found.result.child c.lead-found.result.rest c.args.added.now.line o)
     c.in-Some.is c.insert_in.ensures.inserts))
 
 pub returns-then-height-eq1-clause-inserts : goal.returns-then-height-eq1-clause-inserts
 returns-then-height-eq1-clause-inserts g t c = let m = records c.args.store.now in
-    subst (λ h. Inserts m (records c.put.new.store) h c.args.node c.args.k c.args.line c.put.result)
+    subst (λ h. Inserts m (records c.put.new.store) h c.args.node c.args.k c.args.added.now.line c.put.result)
     (sym c.if-height-eq1.true)
-    (low-inserts m c.args.node c.args.k c.args.line
-    (subst (λ h. CanInsert m h c.args.node c.args.k c.args.line) c.if-height-eq1.true c.requires.insert)
+    (low-inserts m c.args.node c.args.k c.args.added.now.line
+    (subst (λ h. CanInsert m h c.args.node c.args.k c.args.added.now.line) c.if-height-eq1.true c.requires.insert)
     (records c.put.new.store) c.put.result c.put.ensures.puts)
 
 pub lead-found-requires-clause-row : goal.lead-found-requires-clause-row
 lead-found-requires-clause-row g t c = let m = records c.args.store.now in
-    has-node m (c.args.height - 1) c.args.node c.args.k c.args.line
-    (above m c.args.height c.args.node c.args.k c.args.line c.requires.insert c.requires.node)
+    has-node m (c.args.height - 1) c.args.node c.args.k c.args.added.now.line
+    (above m c.args.height c.args.node c.args.k c.args.added.now.line c.requires.insert c.requires.node)
 
 pub lead-found-requires-clause-some : goal.lead-found-requires-clause-some
 lead-found-requires-clause-some g t c = let m = records c.args.store.now in
-    some-kids m (c.args.height - 1) c.args.node c.args.k c.args.line
-    (above m c.args.height c.args.node c.args.k c.args.line c.requires.insert c.requires.node)
+    some-kids m (c.args.height - 1) c.args.node c.args.k c.args.added.now.line
+    (above m c.args.height c.args.node c.args.k c.args.added.now.line c.requires.insert c.requires.node)
 
 pub lead-found-requires-clause-within : goal.lead-found-requires-clause-within
 lead-found-requires-clause-within g t c = let m = records c.args.store.now in
-    within-kids m (c.args.height - 1) c.args.node c.args.k c.args.line
-    (above m c.args.height c.args.node c.args.k c.args.line c.requires.insert c.requires.node)
+    within-kids m (c.args.height - 1) c.args.node c.args.k c.args.added.now.line
+    (above m c.args.height c.args.node c.args.k c.args.added.now.line c.requires.insert c.requires.node)
 
 pub lead-found-requires-clause-whole : goal.lead-found-requires-clause-whole
 lead-found-requires-clause-whole g t c = let m = records c.args.store.now in
     whole-below m (c.args.height - 1) c.args.node
-    (above m c.args.height c.args.node c.args.k c.args.line c.requires.insert c.requires.node).tree
+    (above m c.args.height c.args.node c.args.k c.args.added.now.line c.requires.insert c.requires.node).tree
 
 pub insert_in-requires : goal.insert_in-requires
 insert_in-requires g t c κs inside = let m = records c.args.store.now in
@@ -109,8 +109,8 @@ insert_in-requires g t c κs inside = let m = records c.args.store.now in
         (
           omega arith,
           (
-            can-child m (c.args.height - 1) c.args.node c.args.k c.args.line
-                (above m c.args.height c.args.node c.args.k c.args.line c.requires.insert c.requires.node)
+            can-child m (c.args.height - 1) c.args.node c.args.k c.args.added.now.line
+                (above m c.args.height c.args.node c.args.k c.args.added.now.line c.requires.insert c.requires.node)
                 c.lead-found.result
                 c.lead-found.ensures,
             (c.requires.more, (omega arith, omega arith)),
@@ -121,64 +121,64 @@ insert_in-requires g t c κs inside = let m = records c.args.store.now in
 
 pub overflow_add-found : goal.overflow_add-found
 overflow_add-found g t c = let m = records c.args.store.now in
-    let few = few-kids m (c.args.height - 1) c.args.node c.args.k c.args.line
-    (above m c.args.height c.args.node c.args.k c.args.line c.requires.insert c.requires.node) c.lead-found.result
+    let few = few-kids m (c.args.height - 1) c.args.node c.args.k c.args.added.now.line
+    (above m c.args.height c.args.node c.args.k c.args.added.now.line c.requires.insert c.requires.node) c.lead-found.result
     c.lead-found.ensures in omega arith
 
 pub put-requires-in-Some-clause-put : goal.put-requires-in-Some-clause-put
 put-requires-in-Some-clause-put g t c = let m = records c.args.store.now in let l = records c.insert_in.new.store in
-    two-can_put m (c.args.height - 1) c.args.node c.args.k c.args.line
-    (above m c.args.height c.args.node c.args.k c.args.line c.requires.insert c.requires.node) c.lead-found.result
+    two-can_put m (c.args.height - 1) c.args.node c.args.k c.args.added.now.line
+    (above m c.args.height c.args.node c.args.k c.args.added.now.line c.requires.insert c.requires.node) c.lead-found.result
     c.lead-found.ensures l c.in-Some.sibling
-    (subst (λ o. Inserts m l (c.args.height - 1) c.lead-found.result.child c.lead-found.result.rest c.args.line o)
+    (subst (λ o. Inserts m l (c.args.height - 1) c.lead-found.result.child c.lead-found.result.rest c.args.added.now.line o)
     c.in-Some.is c.insert_in.ensures.inserts)
 
 pub add-requires-clause-row : goal.add-requires-clause-row
 add-requires-clause-row g t c = let m = records c.args.store.now in let l = records c.insert_in.new.store in
-    has-now m (c.args.height - 1) c.args.node c.args.k c.args.line
-    (above m c.args.height c.args.node c.args.k c.args.line c.requires.insert c.requires.node) c.lead-found.result
+    has-now m (c.args.height - 1) c.args.node c.args.k c.args.added.now.line
+    (above m c.args.height c.args.node c.args.k c.args.added.now.line c.requires.insert c.requires.node) c.lead-found.result
     c.lead-found.ensures l c.insert_in.result c.insert_in.ensures.inserts
 
 pub add-requires-clause-fits : goal.add-requires-clause-fits
 add-requires-clause-fits g t c = let m = records c.args.store.now in let l = records c.insert_in.new.store in
-    one-fits m (c.args.height - 1) c.args.node c.args.k c.args.line
-    (above m c.args.height c.args.node c.args.k c.args.line c.requires.insert c.requires.node) c.lead-found.result
+    one-fits m (c.args.height - 1) c.args.node c.args.k c.args.added.now.line
+    (above m c.args.height c.args.node c.args.k c.args.added.now.line c.requires.insert c.requires.node) c.lead-found.result
     c.lead-found.ensures l
-    (subst (λ o. Inserts m l (c.args.height - 1) c.lead-found.result.child c.lead-found.result.rest c.args.line o)
+    (subst (λ o. Inserts m l (c.args.height - 1) c.lead-found.result.child c.lead-found.result.rest c.args.added.now.line o)
     c.in-None.is c.insert_in.ensures.inserts)
 
 pub add-requires-clause-sum : goal.add-requires-clause-sum
 add-requires-clause-sum g t c = let m = records c.args.store.now in let l = records c.insert_in.new.store in
     ap (λ s. plus (sum_at l c.args.node) s) c.requires.more
-    ∙ one-sum m (c.args.height - 1) c.args.node c.args.k c.args.line
-    (above m c.args.height c.args.node c.args.k c.args.line c.requires.insert c.requires.node) c.lead-found.result
+    ∙ one-sum m (c.args.height - 1) c.args.node c.args.k c.args.added.now.line
+    (above m c.args.height c.args.node c.args.k c.args.added.now.line c.requires.insert c.requires.node) c.lead-found.result
     c.lead-found.ensures l
-    (subst (λ o. Inserts m l (c.args.height - 1) c.lead-found.result.child c.lead-found.result.rest c.args.line o)
+    (subst (λ o. Inserts m l (c.args.height - 1) c.lead-found.result.child c.lead-found.result.rest c.args.added.now.line o)
     c.in-None.is c.insert_in.ensures.inserts)
 
 pub returns-in-Some-clause-inserts : goal.returns-in-Some-clause-inserts
 returns-in-Some-clause-inserts g t c = let m = records c.args.store.now in let l = records c.insert_in.new.store in
-    back m (records c.put-in-Some.new.store) c.args.height c.args.node c.args.k c.args.line c.put-in-Some.result
+    back m (records c.put-in-Some.new.store) c.args.height c.args.node c.args.k c.args.added.now.line c.put-in-Some.result
     c.requires.node
-    (two-inserts m (c.args.height - 1) c.args.node c.args.k c.args.line
-    (above m c.args.height c.args.node c.args.k c.args.line c.requires.insert c.requires.node) c.lead-found.result
+    (two-inserts m (c.args.height - 1) c.args.node c.args.k c.args.added.now.line
+    (above m c.args.height c.args.node c.args.k c.args.added.now.line c.requires.insert c.requires.node) c.lead-found.result
     c.lead-found.ensures l c.in-Some.sibling
-    (subst (λ o. Inserts m l (c.args.height - 1) c.lead-found.result.child c.lead-found.result.rest c.args.line o)
+    (subst (λ o. Inserts m l (c.args.height - 1) c.lead-found.result.child c.lead-found.result.rest c.args.added.now.line o)
     c.in-Some.is c.insert_in.ensures.inserts) (records c.put-in-Some.new.store) c.put-in-Some.result
     c.put-in-Some.ensures.puts)
 
 pub returns-in-None-clause-inserts : goal.returns-in-None-clause-inserts
 returns-in-None-clause-inserts g t c = let m = records c.args.store.now in let l = records c.insert_in.new.store in
-    back m (records c.add.new.store) c.args.height c.args.node c.args.k c.args.line None c.requires.node
-    (one-inserts m (c.args.height - 1) c.args.node c.args.k c.args.line
-    (above m c.args.height c.args.node c.args.k c.args.line c.requires.insert c.requires.node) c.lead-found.result
+    back m (records c.add.new.store) c.args.height c.args.node c.args.k c.args.added.now.line None c.requires.node
+    (one-inserts m (c.args.height - 1) c.args.node c.args.k c.args.added.now.line
+    (above m c.args.height c.args.node c.args.k c.args.added.now.line c.requires.insert c.requires.node) c.lead-found.result
     c.lead-found.ensures l
-    (subst (λ o. Inserts m l (c.args.height - 1) c.lead-found.result.child c.lead-found.result.rest c.args.line o)
+    (subst (λ o. Inserts m l (c.args.height - 1) c.lead-found.result.child c.lead-found.result.rest c.args.added.now.line o)
     c.in-None.is c.insert_in.ensures.inserts) (records c.add.new.store) c.add.ensures.records)
 
 pub returns-then-height-eq1-clause-count : goal.returns-then-height-eq1-clause-count
 returns-then-height-eq1-clause-count g t c = let m = records c.args.store.now in
-    let n = len-puts m (records c.put.new.store) c.args.node (insert (kids m c.args.node) c.args.k c.args.line)
+    let n = len-puts m (records c.put.new.store) c.args.node (insert (kids m c.args.node) c.args.k c.args.added.now.line)
     c.put.result c.put.ensures.puts in let s = c.put.ensures.spares in omega arith
 
 pub returns-in-Some-clause-count : goal.returns-in-Some-clause-count

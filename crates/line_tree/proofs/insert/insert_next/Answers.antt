@@ -7,12 +7,12 @@ use Rattle.line_tree.proofs.insert.insert_next.Goals as goal
 
 pub insert_in-requires-clause-insert : goal.insert_in-requires-clause-insert
 insert_in-requires-clause-insert g c =
-    subst (λ n. CanInsert n c.args.height c.args.root c.args.k c.args.line)
+    subst (λ n. CanInsert n c.args.height c.args.root c.args.k c.args.added.now.line)
     (sym (c.insert_behind.ensures.no c.if-insert_behind.false)) c.requires.insert
 
 pub insert_in-requires-clause-more : goal.insert_in-requires-clause-more
 insert_in-requires-clause-more g c =
-    c.requires.more ∙ ap (λ n. sum_at n c.args.line) (sym (c.insert_behind.ensures.no c.if-insert_behind.false))
+    c.requires.more ∙ ap (λ n. sum_at n c.args.added.now.line) (sym (c.insert_behind.ensures.no c.if-insert_behind.false))
 
 pub insert_in-requires-clause-spares : goal.insert_in-requires-clause-spares
 insert_in-requires-clause-spares g c =
@@ -31,7 +31,7 @@ returns-then-insert_behind-clause-count g c =
 
 pub returns-clause-inserts : goal.returns-clause-inserts
 returns-clause-inserts g c =
-    subst (λ n. Inserts n (records c.insert_in.new.store) c.args.height c.args.root c.args.k c.args.line
+    subst (λ n. Inserts n (records c.insert_in.new.store) c.args.height c.args.root c.args.k c.args.added.now.line
     c.insert_in.result) (c.insert_behind.ensures.no c.if-insert_behind.false) c.insert_in.ensures.inserts
 
 pub returns-clause-spares : goal.returns-clause-spares
