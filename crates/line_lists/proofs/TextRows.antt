@@ -85,10 +85,10 @@ slice-front lines k to line is within inside =
 slice-one : {A : Type 0} (xs : List A) (k : ℕ) (x : A) → slice_get xs k ≡ Some x → slice_range xs k (k + 1) ≡ x ∷ []
 slice-one {A = A} xs k x is = ap (λ n. take n (drop k xs)) (let one : (k + 1) - k ≡ 1 = omega arith in one)
     ∙ next xs k is where
-  next : (xs : List A) (k : ℕ) → slice_get xs k ≡ Some x → take 1 (drop k xs) ≡ x ∷ []
-  next [] k is = absurd (none-some x is)
-  next (y ∷ ys) zero is = ap (λ z. z ∷ []) (same_Some y x is)
-  next (y ∷ ys) (suc k) is = next ys k is
+      next : (xs : List A) (k : ℕ) → slice_get xs k ≡ Some x → take 1 (drop k xs) ≡ x ∷ []
+      next [] k is = absurd (none-some x is)
+      next (y ∷ ys) zero is = ap (λ z. z ∷ []) (same_Some y x is)
+      next (y ∷ ys) (suc k) is = next ys k is
 
 characters-append : (xs ys : List LineContent) → characters (whole (xs ++ ys)).columns
     ≡ characters (whole xs).columns ++ characters (whole ys).columns
