@@ -52,8 +52,8 @@ pub fn new_line<C: Ticks>(store: &mut NodeStore<C>, line: Line) -> NodePtr
     store.make(Some(line))
 }
 
-/// Puts in a line of which so much is counted below a node of this height. A node with 13 children gives the last ones to a
-/// new one.
+/// Puts in a line of which so much is counted below a node of this height. A node with 13 children gives the last ones
+/// to a new one.
 pub fn insert_in<C: Ticks>(
     store: &mut NodeStore<C>,
     node: NodePtr,

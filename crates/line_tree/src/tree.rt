@@ -306,7 +306,16 @@ impl<C: Ticks> LineTree<C> {
         self.count += 1;
         let more = line.sum();
         let name = new_line(&mut self.store, line);
-        let split = insert_next(&mut self.store, self.root, self.height, k, behind, name, &more, ticks);
+        let split = insert_next(
+            &mut self.store,
+            self.root,
+            self.height,
+            k,
+            behind,
+            name,
+            &more,
+            ticks,
+        );
         if let Some(sibling) = split {
             self.root = join(&mut self.store, self.root, sibling, ticks);
             self.height += 1;

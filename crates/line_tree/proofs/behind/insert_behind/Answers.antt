@@ -1,4 +1,4 @@
-use Rattle.std.proofs.Common.{◌≡◌, ◌+◌, ◌-◌, suc, refl, sym, ap, ◌∙◌, subst, arith, None}
+use Rattle.std.proofs.Common.{◌≡◌, ◌+◌, ◌-◌, suc, sym, ap, ◌∙◌, subst, arith, None}
 use Rattle.std.specs.FinMap as finite
 use Rattle.std.specs.List.{insert}
 use Rattle.raw_nodes.specs.Names.{records}
@@ -150,7 +150,8 @@ add-requires-in-loop-level-clause-row g c = let m = records c.args.store.now in
     let a = above-of m l c.args.height c.args.root c.args.k c.args.line c.loop-level.level c.loop-level.at
     c.loop-level-test.true c.requires.insert c.loop-level.invariant.climbs c.parent-in-loop-level.result
     c.parent-in-loop-level.ensures.value c.unwrap-at.result c.unwrap-at.ensures in
-    has-now m c.loop-level.level c.unwrap-at.result (c.args.k - a.before) c.args.line a.can a.found a.leads l None a.inserts
+    has-now m c.loop-level.level c.unwrap-at.result (c.args.k - a.before) c.args.line a.can a.found a.leads l
+    None a.inserts
 
 pub add-requires-in-loop-level-clause-sum : goal.add-requires-in-loop-level-clause-sum
 add-requires-in-loop-level-clause-sum g c = let m = records c.args.store.now in
@@ -159,7 +160,8 @@ add-requires-in-loop-level-clause-sum g c = let m = records c.args.store.now in
     c.loop-level-test.true c.requires.insert c.loop-level.invariant.climbs c.parent-in-loop-level.result
     c.parent-in-loop-level.ensures.value c.unwrap-at.result c.unwrap-at.ensures in
     ap (plus (sum_at l c.unwrap-at.result)) c.requires.more
-    ∙ one-sum m c.loop-level.level c.unwrap-at.result (c.args.k - a.before) c.args.line a.can a.found a.leads l a.inserts
+    ∙ one-sum m c.loop-level.level c.unwrap-at.result (c.args.k - a.before) c.args.line a.can a.found a.leads l
+    a.inserts
 
 pub add-requires-in-loop-level-clause-fits : goal.add-requires-in-loop-level-clause-fits
 add-requires-in-loop-level-clause-fits g c = let m = records c.args.store.now in
@@ -184,8 +186,8 @@ loop-level-preserved g c = let m = records c.args.store.now in
         sits = a.sits;
         low = a.low;
         high = a.high;
-        inserts = one-inserts m c.loop-level.level c.unwrap-at.result (c.args.k - a.before) c.args.line a.can a.found a.leads l a.inserts n
-            c.add-in-loop-level.ensures.records;
+        inserts = one-inserts m c.loop-level.level c.unwrap-at.result (c.args.k - a.before) c.args.line a.can a.found
+            a.leads l a.inserts n c.add-in-loop-level.ensures.records;
       });
       within = omega (arith, c.loop-level-test.true);
       len = ls ∙ c.loop-level.invariant.len;
