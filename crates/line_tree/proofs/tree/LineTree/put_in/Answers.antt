@@ -72,9 +72,11 @@ loop-line-preserved g c = let l = c.loop-line in
           l.yielded c.in-Some.line c.requires.within l.invariant.lines l.invariant.place c.put_line-behind.ensures.over
           c.put_line-behind.ensures.more;
       room = omega (arith, more, room, falls);
-      named = λ p is. let e : l.at ≡ l.at + 1 - 1 = omega arith in
-          (omega arith, subst (λ n. IsLineAt c.put_line-behind.new.self.lines n p) e
-          (c.put_line-behind.ensures.named p is));
+      named = λ p is. let e : l.at ≡ l.at + 1 - 1 = omega arith in (
+        omega arith,
+        subst (λ n. IsLineAt c.put_line-behind.new.self.lines n p) e
+            (c.put_line-behind.ensures.named p is),
+      );
     }
 
 pub returns-clause-lines : goal.returns-clause-lines
