@@ -1,19 +1,18 @@
 -- A line put in behind another, from there up to the root.
-use Rattle.std.proofs.Common.{◌≡◌, ℕ, zero, suc, ◌+◌, ◌-◌, ◌<◌, ◌≤◌, length, take, refl, sym, ap, ◌∙◌, subst, arith}
-use Rattle.std.proofs.Common.{List, [], ◌∷◌, drop}
-use Rattle.std.specs.Prelude.{IfSome, IsSome, slice_get}
+use Rattle.std.proofs.Common.{◌≡◌, ℕ, zero, suc, ◌+◌, ◌-◌, ◌<◌, ◌≤◌, take, refl, sym, ap, ◌∙◌, subst, arith}
+use Rattle.std.proofs.Common.{drop}
+use Rattle.std.specs.Prelude.{IfSome, IsSome}
 use Rattle.std.specs.FinMap as finite
-use Rattle.std.specs.List.{insert, sum_by}
+use Rattle.std.specs.List.{sum_by}
 use Rattle.std.specs.declared.option.Option.{Option}
 use Rattle.std.specs.declared.option.Option.TheVariants.{None, Some}
 use Rattle.std.proofs.lemmas.List.{take-append-drop}
 use Rattle.std.proofs.lemmas.List.Sums.{sum_by-append}
 use Rattle.std.proofs.lemmas.Option.{same_Some, slice_get_within}
 use Rattle.raw_nodes.specs.Records.{Record, Records}
-use Rattle.raw_nodes.specs.Rows.{kids, row}
+use Rattle.raw_nodes.specs.Rows.{kids}
 use Rattle.raw_nodes.specs.declared.names.NodePtr.{NodePtr}
 use Rattle.raw_nodes.proofs.MapLaws.{at_some}
-use Rattle.line_tree.specs.Changes.{resummed}
 use Rattle.line_tree.specs.Finds.{Leads}
 use Rattle.line_tree.specs.Growth.{CanInsert, Inserts}
 use Rattle.line_tree.specs.Places.{IsChild, IsLineAt, Sits, lines_before}
@@ -100,7 +99,8 @@ parent-now m l h r k x j p less c up says =
     (subst (λ o. IfSome o (λ (y : Record). y.parent ≡ Some s.0)) (sym was.is) was.parent) link.was
 
 pub one-up : (m l : Records) (h : ℕ) (r : NodePtr) (k : ℕ) (x : NodePtr) (j : ℕ) (p : NodePtr) (less : j < h)
-    → CanInsert m h r k x → (c : Climbs m l h r k x j p) → Above m l h r k x j p (level m h j r p c.before less c.sits).0
+    → CanInsert m h r k x → (c : Climbs m l h r k x j p)
+    → Above m l h r k x j p (level m h j r p c.before less c.sits).0
 one-up m l h r k x j p less can c =
     let s = level m h j r p c.before less c.sits in let is = s.5 in let low = c.low in
     let high = above m j s.0 s.1 p k s.2 c.before s.4 is c.high in

@@ -51,8 +51,8 @@ impl<C: Ticks> LineTree<C> {
         }
     }
 
-    /// Puts a line in as number `k`, where that is below `end` in the place of the one that stands there. Gives its name
-    /// where it is new; that of the line before it may be known.
+    /// Puts a line in as number `k`, where that is below `end` in the place of the one that stands there. Gives its
+    /// name where it is new; that of the line before it may be known.
     fn put_line(
         &mut self,
         k: usize,

@@ -1,5 +1,4 @@
-use Rattle.std.proofs.Common.{◌≡◌, ◌≤◌, refl, sym, ap, ◌∙◌, subst, arith}
-use Rattle.std.specs.FinMap as finite
+use Rattle.std.proofs.Common.{sym, ap, ◌∙◌, subst, arith}
 use Rattle.raw_nodes.specs.Names.{records}
 use Rattle.line_tree.specs.Growth.{CanInsert, Inserts}
 use Rattle.line_tree.specs.Shape.{sum_at}

@@ -51,7 +51,8 @@ insert_next-split-requires-clause-behind g c p is = let m = records c.self.insid
     (named.0, subst (λ ls. IsLineAt ls (c.args.k - 1) p) now named.1)
 
 pub join-self-inside-requires-clause-right : goal.join-self-inside-requires-clause-right
-join-self-inside-requires-clause-right g c = let l = records c.insert_next-split.new.store in let h = c.self.inside.height in
+join-self-inside-requires-clause-right g c = let l = records c.insert_next-split.new.store in
+    let h = c.self.inside.height in
     let ins = subst (λ o. Inserts (records c.new_line-name.new.store) l h c.self.inside.root c.args.k
     c.new_line-name.result o) c.in-Some.is c.insert_next-split.ensures.inserts in
     named-tree l h c.in-Some.sibling ins.grows.holds.1.0
@@ -60,7 +61,8 @@ pub join-self-inside-requires-clause-fits : goal.join-self-inside-requires-claus
 join-self-inside-requires-clause-fits g c = let m = records c.self.inside.store in
     let n = records c.new_line-name.new.store in let l = records c.insert_next-split.new.store in
     let h = c.self.inside.height in let r = c.self.inside.root in
-    let ins = subst (λ o. Inserts n l h r c.args.k c.new_line-name.result o) c.in-Some.is c.insert_next-split.ensures.inserts in
+    let ins = subst (λ o. Inserts n l h r c.args.k c.new_line-name.result o) c.in-Some.is
+    c.insert_next-split.ensures.inserts in
     can-root l h r c.in-Some.sibling ins.grows.holds
     (fits-now m n l c.new_line-name.result c.args.line c.new_line-name.ensures.line h r c.args.k
     c.self.invariant.0.stands (Some c.in-Some.sibling) ins
@@ -103,7 +105,8 @@ invariant_of-self-in_default g c = let m = records c.self.inside.store in let n 
 pub returns-in-Some-clause-lines : goal.returns-in-Some-clause-lines
 returns-in-Some-clause-lines g c = let m = records c.self.inside.store in let n = records c.new_line-name.new.store in
     let l = records c.insert_next-split.new.store in let h = c.self.inside.height in let r = c.self.inside.root in
-    let ins = subst (λ o. Inserts n l h r c.args.k c.new_line-name.result o) c.in-Some.is c.insert_next-split.ensures.inserts in
+    let ins = subst (λ o. Inserts n l h r c.args.k c.new_line-name.result o) c.in-Some.is
+    c.insert_next-split.ensures.inserts in
     let e : suc h ≡ h + 1 = omega arith in
     ap (λ j. lines_in (records c.join-self-inside.new.store) j c.join-self-inside.result) (sym e)
     ∙ (new-root m n l (records c.join-self-inside.new.store) c.new_line-name.result c.args.line

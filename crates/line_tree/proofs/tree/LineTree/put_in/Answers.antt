@@ -68,12 +68,15 @@ loop-line-preserved g c = let l = c.loop-line in
     record {
       whole = whole ∙ sym (append_assoc l.yielded (c.in-Some.line ∷ []) c.next.new.self.rest.items);
       place = omega (arith, more, at);
-      lines = next-in c.args.self.now.lines l.self.lines c.put_line-behind.new.self.lines c.args.k c.args.gone l.at l.yielded
-          c.in-Some.line c.requires.within l.invariant.lines l.invariant.place c.put_line-behind.ensures.over
+      lines = next-in c.args.self.now.lines l.self.lines c.put_line-behind.new.self.lines c.args.k c.args.gone l.at
+          l.yielded c.in-Some.line c.requires.within l.invariant.lines l.invariant.place c.put_line-behind.ensures.over
           c.put_line-behind.ensures.more;
       room = omega (arith, more, room, falls);
-      named = λ p is. let e : l.at ≡ l.at + 1 - 1 = omega arith in
-          (omega arith, subst (λ n. IsLineAt c.put_line-behind.new.self.lines n p) e (c.put_line-behind.ensures.named p is));
+      named = λ p is. let e : l.at ≡ l.at + 1 - 1 = omega arith in (
+        omega arith,
+        subst (λ n. IsLineAt c.put_line-behind.new.self.lines n p) e
+            (c.put_line-behind.ensures.named p is),
+      );
     }
 
 pub returns-clause-lines : goal.returns-clause-lines
