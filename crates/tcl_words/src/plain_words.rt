@@ -1,7 +1,7 @@
 //! Commands of words that stand in the script as they are, which are read in one go.
 
-ghost use Rattle.std.specs.Prelude.{◌≡◌, ◌<◌, ◌≤◌, ◌+◌, ◌++◌, ◌∷◌, [], length, slice_index, map, filter, nat_lt, take, vec_len, vec_capacity};
-ghost use Rattle.std.specs.Prelude.{string_bytes, string_capacity, IfOk, OnOk, IfSome, true};
+ghost use Rattle.std.specs.Prelude.{◌≡◌, ◌<◌, ◌≤◌, ◌+◌, ◌++◌, ◌∷◌, [], length, slice_index, map, filter, nat_lt};
+ghost use Rattle.std.specs.Prelude.{take, vec_len, vec_capacity, string_bytes, string_capacity, IfOk, OnOk, IfSome, true};
 ghost use Rattle.tcl_words.specs.PlainWords.{IsPlainWord, IsClosed, IsPlainCommand, EndsWord};
 ghost use Rattle.tcl_words.specs.Runs.{is_bare, begun};
 ghost use Rattle.tcl_words.specs.declared.stage.Stage.TheVariants.{BeforeWord, Text};
