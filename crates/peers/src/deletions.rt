@@ -82,14 +82,16 @@ fn replace_places<S: TextStore>(
     limits: &Limits,
     widget: usize,
     second: usize,
-    (from, to): (usize, usize),
+    places: (usize, usize),
     pairs: Vec<Pair>,
 ) -> Result<Answer, Fault>
     requires shown { widget < length document.old.widgets }
-    requires within { to ≤ length (shown document.old (widget_at document.old widget)) }
+    requires within { places.1 ≤ length (shown document.old (widget_at document.old widget)) }
     ensures { Does limits.now document.old document.new result
-        (replace_places limits.now document.old (widget_at document.old widget) second from to pairs.items) }
+        (replace_places limits.now document.old (widget_at document.old widget) second places.0 places.1
+        pairs.items) }
 {
+    let (from, to) = places;
     if to < from {
         return Err(Fault::IndexOrder(second));
     }
@@ -140,9 +142,9 @@ fn replace_words<S: TextStore>(
     requires near { at + 2 + length words.2.now ≤ usize.MAX }
     ensures { Does limits.now document.old document.new result
         (replace_words limits.now document.old (widget_at document.old widget) at (
-          chars words.0.now,
-          chars words.1.now,
-          texts_of words.2.now,
+          chars words.entry.0.now,
+          chars words.entry.1.now,
+          texts_of words.entry.2.now,
         )) }
 {
     let from = document.place_at(widget, at, words.0);

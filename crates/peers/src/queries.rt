@@ -184,8 +184,11 @@ fn search_words<S: TextStore>(
 ) -> Result<Answer, Fault>
     requires shown { widget < length document.now.widgets }
     requires near { at + 2 ≤ usize.MAX }
-    ensures { Gives result (search_words document.now (widget_at document.now widget) switches at
-        (chars words.0.now, chars words.1.now, option_map (λ word. chars word.now) words.2.entry)) }
+    ensures { Gives result (search_words document.now (widget_at document.now widget) switches at (
+      chars words.entry.0.now,
+      chars words.entry.1.now,
+      option_map (λ word. chars word.now) words.entry.2,
+    )) }
 {
     let (pattern, first, last) = words;
     let from = document.place_at(widget, at + 1, first);

@@ -15,11 +15,11 @@ returns g c =
     let limits = c.args.limits.now in let document = c.args.document.now in
     let widget = widget_at document c.args.widget in
     let ordered = c.if-to-from.false in
-    let in_order : nat_lt c.args.to c.args.from ≡ false = grind (arith, nat_tests) in
+    let in_order : nat_lt c.args.places.1 c.args.places.0 ≡ false = grind (arith, nat_tests) in
     let change = unless_idle widget document
-    (replace_span limits document widget (insertion_offset document widget c.args.from)
-    (insertion_offset document widget c.args.to) c.args.pairs.items) in
+    (replace_span limits document widget (insertion_offset document widget c.args.places.0)
+    (insertion_offset document widget c.args.places.1) c.args.pairs.items) in
     does-same limits document c.replace_ordered.new.document c.replace_ordered.result change
-    (replace_places limits document widget c.args.second c.args.from c.args.to c.args.pairs.items)
+    (replace_places limits document widget c.args.second c.args.places.0 c.args.places.1 c.args.pairs.items)
     (λ _. ap (λ b. if b then refused document (IndexOrder c.args.second) else change) (sym in_order))
     c.replace_ordered.ensures
