@@ -46,14 +46,14 @@ fn carry_out<S: TextStore>(
     requires near { call.at + 2 ≤ usize.MAX }
     requires all { call.at + length call.arguments.now ≤ usize.MAX }
     requires own { command ≢ PeerCreate }
-    ensures does { (windows : List (List ℕ)) → Does call.limits.now document.old document.new result
+    ensures does { (windows : List (List ℕ)) → Does call.entry.limits.now document.old document.new result
         (done command document.old (record {
-          limits = call.limits.now;
+          limits = call.entry.limits.now;
           windows = windows;
-          widget = widget_at document.old call.widget;
-          switches = texts_of call.switches.now;
-          at = call.at;
-          arguments = texts_of call.arguments.now;
+          widget = widget_at document.old call.entry.widget;
+          switches = texts_of call.entry.switches.now;
+          at = call.entry.at;
+          arguments = texts_of call.entry.arguments.now;
         })) }
     ensures sure { is_frugal command ≡ true → result ≢ Err Memory }
 {
