@@ -2,8 +2,9 @@
 
 ghost use Rattle.std.specs.Prelude.{◌≡◌, ◌<◌, ◌≤◌, ◌+◌, ◌++◌, ◌∷◌, [], length, slice_index, map, filter, take};
 ghost use Rattle.std.specs.Prelude.{nat_lt, vec_len, vec_capacity};
-ghost use Rattle.std.specs.Prelude.{string_bytes, string_capacity, IfOk, OnOk, IfSome, true};
+ghost use Rattle.std.specs.Prelude.{string_bytes, string_capacity, IfOk, OnOk, IfSome, None, true, false};
 ghost use Rattle.tcl_words.specs.PlainWords.{IsPlainWord, IsClosed, IsPlainCommand, EndsWord};
+ghost use Rattle.tcl_words.specs.Characters.{is_blank, is_end};
 ghost use Rattle.tcl_words.specs.Runs.{is_bare, begun};
 ghost use Rattle.tcl_words.specs.declared.stage.Stage.TheVariants.{BeforeWord, Text};
 ghost use Rattle.tcl_words.specs.declared.stage.TextWord.TheVariants.{Bare};
@@ -55,7 +56,8 @@ fn opens_bare(stage: Stage, byte: u8) -> bool
 
 // Whether a byte that ends a word ends the command too.
 fn end_of_word(byte: u8) -> Option<bool>
-    ensures { IfSome result (λ is_last. EndsWord byte is_last) }
+    ensures ends { IfSome result (λ is_last. EndsWord byte is_last) }
+    ensures other { result ≡ None → (is_blank byte ≡ false) × (is_end byte ≡ false) }
 {
     let behind = char::from(byte);
     if is_blank(behind) {

@@ -8,4 +8,4 @@ returns c =
     let some = c.if-run-eq0.false in
     let within = c.if-run-bytes.false in
     bare_found c.args.stage c.args.bytes.now n _ (c.opens_bare.ensures c.if-not-opens_bare.false) (omega arith)
-    (omega arith) c.bare_run-run.ensures.plain c.in_ok-is_last.ensures
+    (omega arith) c.bare_run-run.ensures.plain c.in_ok-is_last.ensures.ends
