@@ -1,7 +1,7 @@
 use Rattle.std.proofs.Common.{◌≡◌, ◌∙◌, ap, sym, replicate}
 use Rattle.std.proofs.lemmas.Slice.Eq.{bytes_eq-Decides}
 use Rattle.std.specs.FinSet as set
-use Rattle.toggle_sums.specs.Counts.{Count, IsBare}
+use Rattle.toggle_sums.specs.Counts.{Count}
 use Rattle.toggle_sums.specs.SlotWords.{slots_of}
 use Rattle.toggle_sums.proofs.WordSteps.{slots_of-zeros, zeros_of-slots_of}
 use Rattle.toggle_sums.proofs.sums.Sums.is_bare.Goals as goal
