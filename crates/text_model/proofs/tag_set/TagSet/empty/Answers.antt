@@ -2,4 +2,4 @@ use Rattle.text_model.proofs.TagSteps.{slots_below-zeros}
 use Rattle.text_model.proofs.tag_set.TagSet.empty.Goals as goal
 
 pub returns : goal.returns
-returns c = slots_below-zeros 256
+returns c = slots_below-zeros 1024
