@@ -63,6 +63,7 @@ test: $(SHIM) $(WEIGH)
 	  'python3 tools/fuzz.py --program $(PROGRAM) --seeds 300' \
 	  'python3 tools/fuzz.py --program $(PROGRAM) --seeds 100 --lines' \
 	  'python3 tools/refusals.py --program $(PROGRAM) --shim $(SHIM) --rows $(ROWS)' \
+	  'python3 tools/stores.py --rows $(ROWS)' \
 	  'python3 tools/idle.py --program $(PROGRAM)' \
 	  'python3 tools/devices.py --program $(PROGRAM)' \
 	  'python3 tools/memory.py --program $(NODE_MEMORY) --shim $(WEIGH)' \

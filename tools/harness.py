@@ -9,6 +9,8 @@ TIMEOUT_SECONDS = 60
 LONG_TIMEOUT_SECONDS = 300
 # By how many kB the resident size may differ among scripts of several lengths.
 SIZE_MARGIN = 256
+# The stores on which `rows` runs a script that is on its standard input.
+STORES = ("PlainStore", "LineVec", "TreeStore")
 
 
 class Result(NamedTuple):

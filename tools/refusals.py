@@ -30,7 +30,7 @@ from collections import Counter
 import model
 import scripts
 import worked
-from harness import Tally, run_program
+from harness import STORES, Tally, run_program
 
 RUN_FAULT_ERRORS = b"out of memory\n"
 
@@ -38,9 +38,6 @@ RUN_FAULT_ERRORS = b"out of memory\n"
 # rest of the scripts.
 ENOUGH_FAILURES = 3
 ENOUGH_FAILURES_IN_ALL = 20
-
-# The stores on which `rows` runs a script that is on its standard input.
-STORES = ("PlainStore", "LineVec", "TreeStore")
 
 # How many growths of a random script are refused.
 RANDOM_GROWTHS = 10

@@ -82,6 +82,7 @@ def commands(*given):
 MISSING_BRACE = "error: missing close-brace"
 TOO_MANY_WIDGETS = "error: too many widgets"
 TOO_MANY_MARKS = "error: too many marks"
+TOO_MANY_TAGS = "error: too many tags"
 
 
 def most_widgets():
@@ -113,6 +114,15 @@ def most_marks():
     given += [f".t mark {way} {origin}" for way, found in asked.items() for origin in found]
     wanted = [".t", *4_099 * ("",), TOO_MANY_MARKS, *(mark for found in asked.values() for mark in found.values())]
     return Row("as many marks as there may be, and one more", commands(*given), lines(*wanted), 1)
+
+
+def most_tags():
+    """As many tags as there may be, and one more; the number of a deleted tag is used again."""
+    most = PROGRAM_LIMITS.tags
+    given = ["text .t", *(f".t tag add t{number} 1.0" for number in range(1, most + 2))]
+    given += [f".t tag nextrange t{most} 1.0", f".t tag lower t{most}", ".t tag delete t1", f".t tag add t{most + 1} 1.0", f".t tag nextrange t{most + 1} 1.0"]
+    wanted = [".t", *most * ("",), TOO_MANY_TAGS, "1.0 2.0", "", "", "", "1.0 2.0"]
+    return Row("as many tags as there may be, and one more", commands(*given), lines(*wanted), 1)
 
 
 def long_answers():
@@ -155,7 +165,7 @@ LIST_ROWS = read_rows(".lists")
 ROWS = [row for row in FILE_ROWS if row.reads is None] + many_braces()
 
 # Rows of so many commands that they aren't run once for each growth.
-LONG_ROWS = [many_lines(), most_widgets()] + long_answers()
+LONG_ROWS = [many_lines(), most_widgets(), most_tags()] + long_answers()
 
 # Rows that take the model half a minute: the program alone runs them.
 PROGRAM_ROWS = [most_marks()]

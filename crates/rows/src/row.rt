@@ -1,5 +1,6 @@
 use crate::spelling::push_spelled;
 use std::alloc::{AllocError, Global};
+use text_model::Limits;
 
 /// The numbers that `Limits` are made of.
 #[derive(Clone, Copy)]
@@ -13,10 +14,10 @@ pub struct Numbers {
 
 /// The limits of the program.
 pub const AMPLE: Numbers = Numbers {
-    chars: 16_777_216,
-    tags: 192,
-    marks: 4_096,
-    widgets: 64,
+    chars: Limits::MOST_CHARS,
+    tags: Limits::MOST_TAGS,
+    marks: Limits::MOST_MARKS,
+    widgets: Limits::MOST_WIDGETS,
     reads: 1_073_741_824,
 };
 

@@ -53,8 +53,8 @@ fn sums_lose_a_part(rt: HostRuntime) {
 #[test]
 fn sets_differ(rt: HostRuntime) {
     let some = TagSet::empty().with(TagSlot(3)).with(TagSlot(64));
-    let other = TagSet::empty().with(TagSlot(3)).with(TagSlot(255));
+    let other = TagSet::empty().with(TagSlot(3)).with(TagSlot(1_023));
     let differing = TagSet::of_words(some.words()).differing(&other);
-    assert!(rt; differing.has(TagSlot(64)) && differing.has(TagSlot(255)));
+    assert!(rt; differing.has(TagSlot(64)) && differing.has(TagSlot(1_023)));
     assert!(rt; !differing.has(TagSlot(3)));
 }
