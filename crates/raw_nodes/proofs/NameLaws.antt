@@ -155,14 +155,13 @@ unfolding room_record
 summed h old new parent slot sum e d =
     ap (room_record parent slot) d ∙ ap (λ k. with_sum (record_in k parent slot) sum) (sym e)
 
-pub added : (h : Held) (old new : Branch) (parent : Option NodePtr) (slot : ℕ) (more : Count) → h ≡ Inner old →
-    new.room.value ≡ with_room_sum old.room.value (plus old.room.value.sum more)
-    → record_in (Inner new) parent slot
-    ≡ with_sum (record_in h parent slot) (plus (record_in h parent slot).sum more)
+-- the sum becomes what is made of it
+pub recounted : (h : Held) (old new : Branch) (parent : Option NodePtr) (slot : ℕ) (f : Count → Count) →
+    h ≡ Inner old → new.room.value ≡ with_room_sum old.room.value (f old.room.value.sum)
+    → record_in (Inner new) parent slot ≡ with_sum (record_in h parent slot) (f (record_in h parent slot).sum)
 unfolding room_record
-added h old new parent slot more e d =
-    ap (room_record parent slot) d
-    ∙ ap (λ k. with_sum (record_in k parent slot) (plus (record_in k parent slot).sum more)) (sym e)
+recounted h old new parent slot f e d =
+    ap (room_record parent slot) d ∙ ap (λ k. with_sum (record_in k parent slot) (f (record_in k parent slot).sum)) (sym e)
 
 pub lodged : (h : Held) (old new : Branch) (parent : Option NodePtr) (slot i : ℕ) (link : Link) (child : Option NodePtr)
     → h ≡ Inner old → new.room.value ≡ with_room_child old.room.value i link → link_name link ≡ child

@@ -3,7 +3,7 @@ ghost use Rattle.std.specs.Prelude.{◌≡◌};
 use crate::names::Link;
 use crate::nodes::Room;
 use text_model::WORDS;
-use toggle_sums::Sums;
+use toggle_sums::{Exchange, Sums};
 
 /// An inner node: its room, and beside that how many lines and characters stand below, so that who looks for one among
 /// a node's children reads no room of theirs.
@@ -19,7 +19,7 @@ pub struct Branch {
 impl Branch {
     ghost use Rattle.raw_nodes.specs.Rooms.{with_room_child, with_room_sum};
     ghost use Rattle.std.specs.Prelude.{◌<◌};
-    ghost use Rattle.toggle_sums.specs.Counts.{CountsFit, counting, no_text, plus};
+    ghost use Rattle.toggle_sums.specs.Counts.{CanExchange, CountsFit, HasCounts, counting, exchanged, less, no_text, plus};
 
     /// Of a room without text below.
     pub fn of(room: Box<Room>) -> Branch
@@ -55,6 +55,28 @@ impl Branch {
         self.lines += lines;
         self.characters += characters;
         self.room.sum.add_counts(lines, characters, marks);
+    }
+
+    /// The room's sum counts so much less. Its toggles aren't touched.
+    pub fn lose_counts(&mut self, lines: usize, characters: usize, marks: usize)
+        requires { HasCounts (counting lines characters marks) self.old.room.value.sum }
+        ensures { self.new.room.value ≡ with_room_sum self.old.room.value
+            (less lines characters marks self.old.room.value.sum) }
+    {
+        self.lines -= lines;
+        self.characters -= characters;
+        self.room.sum.lose_counts(lines, characters, marks);
+    }
+
+    /// The room's sum counts what comes more, and what goes less.
+    pub fn exchange(&mut self, exchange: &Exchange)
+        requires { CanExchange exchange.now.gone exchange.now.more exchange.now.is_level self.old.room.value.sum }
+        ensures { self.new.room.value ≡ with_room_sum self.old.room.value
+            (exchanged exchange.now.gone exchange.now.more self.old.room.value.sum) }
+    {
+        self.room.sum.exchange(exchange);
+        self.lines = self.room.sum.lines();
+        self.characters = self.room.sum.characters();
     }
 
     pub fn set_child(&mut self, i: usize, child: Link)

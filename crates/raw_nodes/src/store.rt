@@ -16,7 +16,7 @@ use segments::Line;
 use std::alloc::{AllocError, Global};
 use std::marker::PhantomData;
 use text_model::{TagSet, TagSlot, WORDS};
-use toggle_sums::Sums;
+use toggle_sums::{Exchange, Sums};
 
 /// Nodes in memory of their own: a finite map from names to records, and a number of spares. A node is a line, or it is
 /// an inner node, which has a sum and up to 12 children. Both become of spares, and an inner node takes a room for its
@@ -47,7 +47,8 @@ impl<C: Ticks> NodeStore<C> {
     ghost use Rattle.raw_nodes.specs.Records.{blank, update, with_child, with_parent, with_sum};
     ghost use Rattle.std.specs.Borrow.{sem};
     ghost use Rattle.text_model.specs.TagBits.{slot_count};
-    ghost use Rattle.toggle_sums.specs.Counts.{CountsFit, counting, plus};
+    ghost use Rattle.text_model.specs.SlotSets.{differing};
+    ghost use Rattle.toggle_sums.specs.Counts.{CanExchange, CountsFit, HasCounts, IsBare, counting, exchanged, less, plus};
 
     /// A store without nodes. It takes no memory.
     pub fn new(alloc: Global) -> NodeStore<C>
@@ -151,23 +152,38 @@ impl<C: Ticks> NodeStore<C> {
     {
         ticks.tick();
         match &self.heap.node(name).held {
-            Held::Line(line) => line.sum().has(slot),
+            Held::Line(line) => line.has_toggle(slot),
             Held::Inner(branch) => branch.room.sum.has(slot),
             Held::Spare => false,
         }
     }
 
-    /// The slots that are toggled an odd number of times in the text below a node.
-    pub fn odd_slots(&self, name: NodePtr, ticks: &mut C) -> TagSet
+    /// Turns in a set the slots that are toggled an odd number of times in the text below a node.
+    pub fn turn_odd_slots(&self, name: NodePtr, slots: &mut TagSet, ticks: &mut C)
         requires { IsName self.now name }
-        ensures value { IfSome (entry self.now name) (λ r. result ≡ r.sum.parity) }
+        ensures value { IfSome (entry self.now name) (λ r. slots.new ≡ differing slots.old r.sum.parity) }
         ensures tick { C.count ticks.new ≡ C.count ticks.old + 1 }
     {
         ticks.tick();
         match &self.heap.node(name).held {
-            Held::Line(line) => line.sum().odd_slots(),
-            Held::Inner(branch) => branch.room.sum.odd_slots(),
-            Held::Spare => TagSet::empty(),
+            Held::Line(line) => line.turn_odd_slots(slots),
+            Held::Inner(branch) => branch.room.sum.turn_odd_slots(slots),
+            Held::Spare => {}
+        }
+    }
+
+    /// Whether no slot is toggled in the text below a node.
+    pub fn is_bare(&self, name: NodePtr, ticks: &mut C) -> bool
+        requires { IsName self.now name }
+        ensures yes { IfSome (entry self.now name) (λ r. result ≡ true → IsBare r.sum) }
+        ensures no { IfSome (entry self.now name) (λ r. IsBare r.sum → result ≡ true) }
+        ensures tick { C.count ticks.new ≡ C.count ticks.old + 1 }
+    {
+        ticks.tick();
+        match &self.heap.node(name).held {
+            Held::Line(line) => line.sum().is_bare(),
+            Held::Inner(branch) => branch.room.sum.is_bare(),
+            Held::Spare => false,
         }
     }
 
@@ -179,7 +195,7 @@ impl<C: Ticks> NodeStore<C> {
     {
         ticks.tick();
         match &self.heap.node(name).held {
-            Held::Line(line) => line.sum().marks(),
+            Held::Line(line) => line.marks(),
             Held::Inner(branch) => branch.room.sum.marks(),
             Held::Spare => 0,
         }
@@ -249,6 +265,33 @@ impl<C: Ticks> NodeStore<C> {
     {
         let branch = self.heap.node_mut(name).held.branch_mut();
         branch.add_counts(lines, characters, marks);
+    }
+
+    /// Counts so many lines, characters and marks less of the text below an inner node.
+    pub fn lose_counts(&mut self, name: NodePtr, lines: usize, characters: usize, marks: usize)
+        requires name { IsInner self.old name }
+        requires counts { IfSome (entry self.old name) (λ r. HasCounts (counting lines characters marks) r.sum) }
+        ensures records { records self.new ≡ update (records self.old) name
+            (λ r. with_sum r (less lines characters marks r.sum)) }
+        ensures spares { spares self.new ≡ spares self.old }
+        ensures rooms { rooms self.new ≡ rooms self.old }
+    {
+        let branch = self.heap.node_mut(name).held.branch_mut();
+        branch.lose_counts(lines, characters, marks);
+    }
+
+    /// Counts what comes more, and what goes less, of the text below an inner node.
+    pub fn exchange(&mut self, name: NodePtr, exchange: &Exchange)
+        requires name { IsInner self.old name }
+        requires sum { IfSome (entry self.old name) (λ r.
+            CanExchange exchange.now.gone exchange.now.more exchange.now.is_level r.sum) }
+        ensures records { records self.new ≡ update (records self.old) name
+            (λ r. with_sum r (exchanged exchange.now.gone exchange.now.more r.sum)) }
+        ensures spares { spares self.new ≡ spares self.old }
+        ensures rooms { rooms self.new ≡ rooms self.old }
+    {
+        let branch = self.heap.node_mut(name).held.branch_mut();
+        branch.exchange(exchange);
     }
 
     /// Links a node to its parent, where it has a slot number, or to none.

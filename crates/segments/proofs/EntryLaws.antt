@@ -1,21 +1,14 @@
 -- The toggles of a line: where they lie, and what they are at a column.
-use Rattle.std.proofs.Common.{◌≡◌, ℕ, zero, suc, ◌+◌, ◌*◌, ◌/◌, ◌%◌, ◌^◌, ◌<◌, ◌≤◌, ◌≢◌, min, Bool, true, false, cond}
-use Rattle.std.proofs.Common.{◌&&◌, nat_lt, ◌==◌, slice_index, List, [], ◌∷◌, ◌++◌, length, take, drop, get_or, refl}
-use Rattle.std.proofs.Common.{sym, ap, ap₂, ◌∙◌, arith, add-one, lt-ltb, mod-eq_of_lt}
+use Rattle.std.proofs.Common.{◌≡◌, ℕ, zero, suc, ◌+◌, ◌<◌, ◌≤◌, ◌≢◌, min, true, false}
+use Rattle.std.proofs.Common.{◌==◌, List, [], ◌∷◌, ◌++◌, length, take, drop, get_or, refl}
+use Rattle.std.proofs.Common.{sym, ap, ◌∙◌, arith, add-one}
 use Rattle.std.specs.Prelude.{if◌then◌else◌}
 use Rattle.std.proofs.lemmas.Bool.Decides.{nat_tests}
 use Rattle.std.proofs.lemmas.List.{drop_more}
-use Rattle.std.proofs.lemmas.Nat.Bits.{bit_at-zero}
 use Rattle.std.specs.FinSet as set
-use Rattle.std.specs.Int.{bit_at}
-use Rattle.std.specs.Ordering.{nat_cmp}
-use Rattle.text_model.specs.declared.tag_set.TheConstants.{WORDS}
-use Rattle.text_model.specs.TagBits.{slot_count, slots_of, word_below}
-use Rattle.text_model.specs.TagBitLaws.{contains-slots_below}
 use Rattle.text_model.specs.Content.{Slots}
 use Rattle.text_model.specs.SlotSets.{differing}
-use Rattle.toggle_sums.specs.CountLaws.{differing-associative, differing-empty, same_slots, union-associative}
-use Rattle.toggle_sums.specs.SlotWordLaws.{word_of_bits}
+use Rattle.toggle_sums.specs.CountLaws.{differing-associative, differing-empty, union-associative}
 use Rattle.segments.specs.declared.toggles.Toggled.{Toggled}
 use Rattle.segments.specs.Entries.{LieIn, any_of, odd_of, toggled_at}
 
@@ -61,54 +54,6 @@ any_more entries i d so_far whole within is =
     union-associative so_far (get_or entries i d).slots (any_of (drop (i + 1) entries))
     ∙ ap (λ es. set.union so_far (any_of es)) (sym (drop_more entries i d within))
     ∙ is
-
-not_one : (x n q : ℕ) → (q < n → x ≡ 0) → (nat_lt q n && (x == 1)) ≡ false
-not_one x n q none = grind (arith, nat_tests)
-
--- words without bits have no slots
-pub no_slots : (words : List ℕ) → ((k : ℕ) → k < WORDS → slice_index words k ≡ 0) → slots_of words ≡ set.empty
-no_slots words none =
-    same_slots _ _ (λ q.
-    contains-slots_below slot_count words q
-    ∙ not_one (bit_at (slice_index words (q / 64)) (q % 64)) slot_count q (λ small.
-    ap (λ w. bit_at w (q % 64)) (none (q / 64) (omega arith)) ∙ bit_at-zero (q % 64))
-    ∙ sym (set.contains-empty nat_cmp q))
-
--- words whose set has no slot have no bits
-no_more : (x y : ℕ) → 0 * y + x ≡ x
-no_more x y = omega arith
-
-word_below-empty : (n from : ℕ) → word_below n set.empty from ≡ 0
-unfolding word_below
-word_below-empty zero from = refl
-word_below-empty (suc n) from =
-    let rest = word_below n set.empty from in
-    ap (λ b. cond b 1 0 * 2 ^ n + rest) (set.contains-empty nat_cmp (from + n)) ∙ no_more rest (2 ^ n)
-    ∙ word_below-empty n from
-
-bit_off : (b : Bool) (within : Bool) → within ≡ true → (within && b) ≡ false → false ≡ b
-bit_off true within is off = absurd (let no : true ≡ false = sym (ap (λ w. w && true) is) ∙ off in cc)
-bit_off false within is off = refl
-
-no_bit : (words : List ℕ) (k i : ℕ) → slots_of words ≡ set.empty → k < WORDS → i < 64 →
-    false ≡ (bit_at (slice_index words k) i == 1)
-no_bit words k i none small below =
-    let q = 64 * k + i in
-    let row : q / 64 ≡ k = omega arith in
-    let column : q % 64 ≡ i = omega arith in
-    let off : (nat_lt q slot_count && (bit_at (slice_index words (q / 64)) (q % 64) == 1)) ≡ false =
-    sym (contains-slots_below slot_count words q) ∙ ap (λ s. set.contains s q) none ∙ set.contains-empty nat_cmp q in
-    bit_off (bit_at (slice_index words (q / 64)) (q % 64) == 1) (nat_lt q slot_count)
-    (lt-ltb q slot_count (omega arith)) off
-    ∙ ap₂ (λ r c. bit_at (slice_index words r) c == 1) row column
-
-pub no_words : (words : List ℕ) (k : ℕ) → slots_of words ≡ set.empty → k < WORDS → slice_index words k < 2 ^ 64 →
-    slice_index words k ≡ 0
-no_words words k none small fits =
-    sym (mod-eq_of_lt fits)
-    ∙ sym (word_of_bits 64 set.empty 0 (slice_index words k) (λ i below. set.contains-empty nat_cmp (0 + i)
-    ∙ no_bit words k i none small below))
-    ∙ word_below-empty 64 0
 
 -- what an entry says of its own column, and of the others
 pub passed : (entry : Toggled) (entries : List Toggled) (at : ℕ) → entry.column ≢ at →

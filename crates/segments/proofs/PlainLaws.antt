@@ -1,5 +1,5 @@
 -- Lines without toggles and marks.
-use Rattle.std.proofs.Common.{◌≡◌, ℕ, zero, suc, ◌+◌, ◌-◌, ◌<◌, ◌≤◌, ◌==◌, ◌&&◌, Bool, true, false, cond, min, max}
+use Rattle.std.proofs.Common.{◌≡◌, ℕ, ◌+◌, ◌-◌, ◌<◌, ◌≤◌, ◌==◌, ◌&&◌, Bool, true, false, cond, min, max}
 use Rattle.std.proofs.Common.{nat_le, nat_lt, List, [], ◌∷◌, ◌++◌, None, length, map, take, drop, refl, sym, ap, ap₂}
 use Rattle.std.proofs.Common.{◌∙◌, arith}
 use Rattle.std.specs.Prelude.{slice_get, slice_range}
@@ -8,7 +8,6 @@ use Rattle.std.specs.List.{filter, reduce}
 use Rattle.std.specs.FinMap as finite
 use Rattle.std.specs.FinSet as set
 use Rattle.std.specs.Ordering.{eq_by_cmp, nat_cmp}
-use Rattle.text_model.specs.declared.places.MarkNo.{MarkNo}
 use Rattle.text_model.specs.declared.places.Place.{Place}
 use Rattle.text_model.specs.Content.{Marks, Slots, map_marks}
 use Rattle.text_model.specs.MarkOrder.{marks_at, next_mark, previous_mark}
@@ -16,18 +15,17 @@ use Rattle.text_model.specs.SlotSets.{differing}
 use Rattle.text_model.specs.Splices.{changed, inserted, moved, removed}
 use Rattle.text_model.specs.Steps.{set_slot}
 use Rattle.text_model.proofs.PlaceLaws.{same_marks}
-use Rattle.toggle_sums.specs.CountLaws.{differing-empty, empty-differing}
-use Rattle.toggle_sums.specs.Counts.{Count, counting}
+use Rattle.toggle_sums.specs.CountLaws.{differing-empty}
+use Rattle.toggle_sums.specs.Counts.{counting}
 use Rattle.toggle_sums.specs.Toggles.{parity, presence}
 use Rattle.segments.specs.declared.marks.Mark.{Mark}
 use Rattle.segments.specs.declared.toggles.Toggled.{Toggled}
-use Rattle.segments.specs.Columns.{Column, LineContent, after_removal, after_text, characters, joined, joined_marks}
+use Rattle.segments.specs.Columns.{Column, after_removal, after_text, characters, joined, joined_marks}
 use Rattle.segments.specs.Columns.{later, line_before, line_behind, line_count, marks_where, next_toggle, plain_columns}
-use Rattle.segments.specs.Columns.{plain_line, previous_toggle, tags_before, toggled_first, toggled_more, toggles}
+use Rattle.segments.specs.Columns.{plain_line, previous_toggle, toggled_first, toggled_more, toggles}
 use Rattle.segments.specs.Columns.{with_toggle, without_columns}
-use Rattle.segments.specs.Entries.{slots_cleared}
 use Rattle.segments.specs.Kept.{columns_from}
-use Rattle.segments.specs.Marks.{marks_of, with_place}
+use Rattle.segments.specs.Marks.{marks_of}
 use Rattle.segments.proofs.ChangeLaws.{columns_changed, columns_cleared, slots_kept}
 use Rattle.segments.proofs.ColumnLaws.{characters-columns, columns-plain, drop-columns, length-columns, parity-columns}
 use Rattle.segments.proofs.ColumnLaws.{presence-columns, take-columns}

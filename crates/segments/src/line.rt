@@ -2,8 +2,10 @@ ghost use Rattle.std.specs.Prelude.{◌≡◌, ℕ, ◌+◌, ◌++◌, ◌<◌, 
 ghost use Rattle.std.specs.Prelude.{slice_range, Some, IfSome, IfOk, IfErr, OnOk, OnErr, chars, string_bytes};
 ghost use Rattle.std.specs.Prelude.{option_map};
 ghost use Rattle.std.specs.FinMap as finite;
+ghost use Rattle.std.specs.FinSet as set;
 ghost use Rattle.text_model.specs.declared.places.MarkNo.{MarkNo};
 ghost use Rattle.text_model.specs.MarkOrder.{marks_at, next_mark, previous_mark};
+ghost use Rattle.text_model.specs.SlotSets.{differing};
 ghost use Rattle.text_model.specs.Splices.{changed};
 ghost use Rattle.text_model.specs.TagBits.{slot_count};
 ghost use Rattle.segments.specs.Columns.{after_removal, after_text, characters, joined, line_before, line_behind};
@@ -13,7 +15,6 @@ ghost use Rattle.toggle_sums.specs.Toggles.{parity};
 
 use crate::characters::Characters;
 use crate::form::Form;
-use crate::toggles::is_empty;
 use std::alloc::{AllocError, AllocFailed, Global};
 use std::marker::Model;
 use text_model::{MarkNo, Place, TagSet, TagSlot, WORDS};
@@ -89,6 +90,45 @@ impl Line {
         match &self.form {
             Form::Plain(_) => TagSet::empty(),
             Form::Rich(line) => line.tags_before(column),
+        }
+    }
+
+    /// Turns these slots in a set.
+    pub fn turn_tags_before(&self, column: usize, slots: &mut TagSet)
+        requires { column ≤ length self.now.columns }
+        ensures { slots.new ≡ differing slots.old (tags_before column self.now.columns) }
+    {
+        match &self.form {
+            Form::Plain(_) => {}
+            Form::Rich(line) => line.turn_tags_before(column, slots),
+        }
+    }
+
+    /// Turns in a set the slots that are toggled an odd number of times in the line.
+    pub fn turn_odd_slots(&self, slots: &mut TagSet)
+        ensures { slots.new ≡ differing slots.old (line_count self.now).parity }
+    {
+        self.turn_tags_before(self.len(), slots);
+    }
+
+    /// How many marks there are.
+    pub fn marks(&self) -> usize
+        ensures { result ≡ (line_count self.now).marks }
+    {
+        match &self.form {
+            Form::Plain(_) => 0,
+            Form::Rich(line) => line.sum().marks(),
+        }
+    }
+
+    /// Whether a slot is toggled before one of the characters.
+    pub fn has_toggle(&self, slot: TagSlot) -> bool
+        requires { slot.0 < slot_count }
+        ensures { result ≡ set.contains (line_count self.now).presence slot.0 }
+    {
+        match &self.form {
+            Form::Plain(_) => false,
+            Form::Rich(line) => line.sum().has(slot),
         }
     }
 
@@ -313,7 +353,7 @@ impl Line {
         ensures marks { self.new.marks ≡ self.old.marks }
         ensures refused { OnErr result (self.new ≡ self.old) }
     {
-        if !is_empty(slots) {
+        if !slots.is_empty() {
             self.form.enrich(self.alloc)?;
         }
         self.form.toggle(column, slots)

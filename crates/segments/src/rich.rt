@@ -4,6 +4,7 @@ ghost use Rattle.std.specs.Prelude.{option_map};
 ghost use Rattle.std.specs.FinMap as finite;
 ghost use Rattle.text_model.specs.declared.places.MarkNo.{MarkNo};
 ghost use Rattle.text_model.specs.MarkOrder.{marks_at, next_mark, previous_mark};
+ghost use Rattle.text_model.specs.SlotSets.{differing};
 ghost use Rattle.text_model.specs.Splices.{changed};
 ghost use Rattle.text_model.specs.TagBits.{slot_count};
 ghost use Rattle.segments.specs.Columns.{after_removal, after_text, characters, joined, line_before, line_behind};
@@ -18,7 +19,7 @@ use crate::marks::{
 };
 use crate::toggles::{
     Toggled, clear, count_before, flip, move_on, move_rest_back, move_rest_on, next_toggle,
-    odd_slots, previous_toggle, remove_columns, slots_at,
+    odd_slots, previous_toggle, remove_columns, slots_at, turn_odd,
 };
 use std::alloc::{AllocError, AllocFailed, Global};
 use std::marker::Model;
@@ -110,11 +111,22 @@ impl RichLine {
         requires { column ≤ length self.now.columns }
         ensures { result ≡ tags_before column self.now.columns }
     {
+        let mut slots = TagSet::empty();
+        self.turn_tags_before(column, &mut slots);
+        slots
+    }
+
+    /// Turns these slots in a set.
+    pub fn turn_tags_before(&self, column: usize, slots: &mut TagSet)
+        requires { column ≤ length self.now.columns }
+        ensures { slots.new ≡ differing slots.old (tags_before column self.now.columns) }
+    {
         if column == self.text.len() {
-            return odd_slots(&self.toggles);
+            turn_odd(&self.toggles, slots);
+            return;
         }
         let count = count_before(&self.toggles, column + 1);
-        odd_slots(&self.toggles[..count])
+        turn_odd(&self.toggles[..count], slots);
     }
 
     /// The slots that are toggled an odd number of times before the characters before a column.
@@ -198,7 +210,7 @@ impl RichLine {
     {
         let mut sums = Sums::counting(1, self.text.len(), self.marks.len());
         for entry in &self.toggles {
-            sums = sums.with_toggles(&entry.slots);
+            sums.add_toggles(&entry.slots);
         }
         sums
     }

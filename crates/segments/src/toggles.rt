@@ -33,28 +33,22 @@ pub fn count_before(toggles: &[Toggled], column: usize) -> usize
     toggles.len()
 }
 
+/// Turns in a set the slots that are toggled an odd number of times.
+pub fn turn_odd(toggles: &[Toggled], slots: &mut TagSet)
+    ensures { slots.new ≡ differing slots.old (odd_of toggles.now) }
+{
+    for entry in toggles {
+        slots.flip(&entry.slots);
+    }
+}
+
 /// The slots that are toggled an odd number of times.
 pub fn odd_slots(toggles: &[Toggled]) -> TagSet
     ensures { result ≡ odd_of toggles.now }
 {
     let mut slots = TagSet::empty();
-    for entry in toggles {
-        slots = slots.differing(&entry.slots);
-    }
+    turn_odd(toggles, &mut slots);
     slots
-}
-
-/// Whether a set has no slot.
-pub fn is_empty(slots: &TagSet) -> bool
-    ensures none { result ≡ true → slots.now ≡ set.empty }
-    ensures some { slots.now ≡ set.empty → result ≡ true }
-{
-    for word in slots.words() {
-        if word != 0 {
-            return false;
-        }
-    }
-    true
 }
 
 /// Moves toggles so many columns on.
@@ -122,14 +116,14 @@ pub fn flip(toggles: &mut Vec<Toggled>, column: usize, slots: &TagSet) -> Result
     let index = count_before(toggles, column);
     if index < toggles.len() && toggles[index].column == column {
         let left = toggles[index].slots.differing(slots);
-        if is_empty(&left) {
+        if left.is_empty() {
             toggles.remove(index);
         } else {
             toggles[index].slots = left;
         }
         return Ok(());
     }
-    if !is_empty(slots) {
+    if !slots.is_empty() {
         toggles.insert(
             index,
             Toggled {
@@ -161,7 +155,7 @@ fn gather(toggles: &mut Vec<Toggled>, from: usize, to: usize, len: usize)
     if start == end {
         return;
     }
-    if is_empty(&slots) {
+    if slots.is_empty() {
         drop_range(toggles, start, end);
         return;
     }
@@ -201,7 +195,7 @@ fn clear_entry(entry: &mut Toggled, slot: TagSlot, from: usize, to: usize) -> bo
     if from <= entry.column && entry.column < to {
         entry.slots = entry.slots.without(slot);
     }
-    !is_empty(&entry.slots)
+    !entry.slots.is_empty()
 }
 
 /// Takes the toggles of a slot at the columns from one to another away.

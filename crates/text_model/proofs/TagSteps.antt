@@ -5,6 +5,7 @@ use Rattle.std.proofs.Common.{bit_or, bit_xor, refl, sym, ap, ap₂, ◌∙◌, 
 use Rattle.std.proofs.Common.{get_or-set_same, get_or-set_other}
 use Rattle.std.proofs.lemmas.Bool.{cases_eq}
 use Rattle.std.proofs.lemmas.Bool.Decides.{nat_tests}
+use Rattle.std.proofs.lemmas.List.{length-replicate}
 use Rattle.std.proofs.lemmas.Nat.{or_lt, xor_lt, and_le_l}
 use Rattle.std.proofs.lemmas.Nat.Bits.{bit_at-lt, bit_at-zero, bit_at_and, bit_at_xor, bit_at_set_same}
 use Rattle.std.proofs.lemmas.Nat.Bits.{bit_at_set_other, bit_at_clear_same, bit_at_clear_other, shr_and_one}
@@ -12,10 +13,10 @@ use Rattle.std.specs.Cmp.{nat_cmp_total, unsigned_tied}
 use Rattle.std.specs.FinSet as set
 use Rattle.std.specs.Int.{bit_at, bit_not}
 use Rattle.std.specs.Ordering.{nat_cmp}
-use Rattle.text_model.specs.TagBitLaws.{contains_inserted, contains-slots_below}
+use Rattle.text_model.specs.TagBitLaws.{contains_inserted, contains-slots_below, words_of-slots_of}
 use Rattle.text_model.specs.SlotSets.{differing}
 use Rattle.text_model.specs.declared.tag_set.TheConstants.{WORDS}
-use Rattle.text_model.specs.TagBits.{AreWords, has_bit, slot_count, slots_below, slots_of}
+use Rattle.text_model.specs.TagBits.{AreWords, has_bit, slot_count, slots_below, slots_of, words_of}
 
 not_one : (x : ℕ) (b : Bool) → x ≡ 0 → (b && (x == 1)) ≡ false
 not_one x true e = grind (arith, nat_tests)
@@ -179,17 +180,15 @@ slots_of-common a b c common =
     ∙ sym (set.contains-intersection nat_cmp_total (slots_of a) (slots_of b) q
     ∙ ap₂ (λ s t. s && t) (contains-slots_below slot_count a q) (contains-slots_below slot_count b q)))
 
--- words stay words where one of them is changed by the bits of another word
-pub differing-each : (words : List ℕ) (at other : ℕ) → length words ≡ WORDS →
-    ((k : ℕ) → k < WORDS → slice_index words k < 2 ^ 64) → at < WORDS → other < 2 ^ 64
-    → (k : ℕ) → k < WORDS → slice_index (slice_set words at (bit_xor (slice_index words at) other)) k < 2 ^ 64
-differing-each words at other long each within small k below =
-    let new = bit_xor (slice_index words at) other in
-    elim (cases_eq k at) [
-      | inl here ↦ rw (here, get_or-set_same words at new 0 (rw long within))
-          (xor_lt 64 (slice_index words at) other (each at within) small)
-      | inr elsewhere ↦ rw (get_or-set_other words at k new 0 elsewhere) (each k below)
-    ]
+-- words that differ in some bits are words
+pub AreWords-differing : (a b c : List ℕ) → AreWords a → ((i : ℕ) → i < WORDS → slice_index b i < 2 ^ 64) →
+    length c ≡ WORDS → ((i : ℕ) → i < WORDS → slice_index c i ≡ bit_xor (slice_index a i) (slice_index b i))
+    → AreWords c
+AreWords-differing a b c first second long words = record {
+  count = long;
+  each = λ i within. rw (words i within)
+      (xor_lt 64 (slice_index a i) (slice_index b i) (first.each i within) (second i within));
+}
 
 has_bit-differing : (a b c : List ℕ) → ((i : ℕ) → i < WORDS →
     slice_index c i ≡ bit_xor (slice_index a i) (slice_index b i))
@@ -220,3 +219,16 @@ pub found_bit : (words : List ℕ) (k : ℕ) → k < slot_count →
     nat_eq (bit_and (slice_index words (k / 64) / 2 ^ (k % 64)) 1) 1 ≡ set.contains (slots_of words) k
 found_bit words k below = ap (λ t. nat_eq t 1) (shr_and_one (slice_index words (k / 64)) (k % 64))
     ∙ sym (contains-slots_below slot_count words k ∙ ap (λ b. b && has_bit words k) (lt-ltb k slot_count below))
+
+-- no bit is set where no slot is
+AreWords-zeros : AreWords (replicate WORDS 0)
+AreWords-zeros = record {
+  count = length-replicate {A = ℕ} WORDS 0;
+  each = λ i within. rw (zeros_at WORDS i) (omega arith);
+}
+
+pub zeros_of-slots_of : (words : List ℕ) → AreWords words → slots_of words ≡ set.empty → words ≡ replicate WORDS 0
+zeros_of-slots_of words are none =
+    sym (words_of-slots_of words are)
+    ∙ ap words_of (none ∙ sym (slots_below-zeros slot_count))
+    ∙ words_of-slots_of (replicate WORDS 0) AreWords-zeros

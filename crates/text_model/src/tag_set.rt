@@ -1,4 +1,4 @@
-ghost use Rattle.std.specs.Prelude.{◌≡◌, ◌<◌};
+ghost use Rattle.std.specs.Prelude.{◌≡◌, ◌<◌, bit_xor, slice_index, true};
 ghost use Rattle.std.specs.FinSet as set;
 ghost use Rattle.text_model.specs.SlotSets.{differing};
 ghost use Rattle.text_model.specs.TagBits.{slot_count, slots_of};
@@ -34,6 +34,16 @@ impl Model for TagSet {
     ghost inverse = { λ s. record { words = words_of s } };
 
     ghost inverse_ok = { λ a are. ap (λ words. record { words = words }) (words_of-slots_of a.words are) };
+}
+
+/// Turns the bits that are set in other words.
+fn turn(words: &mut [u64; WORDS], others: &[u64; WORDS])
+    ensures { (k : _) → k < WORDS → slice_index words.new k
+        ≡ bit_xor (slice_index words.old k) (slice_index others.now k) }
+{
+    for index in 0..WORDS {
+        words[index] ^= others[index];
+    }
 }
 
 impl TagSet {
@@ -106,10 +116,29 @@ impl TagSet {
         ensures { result ≡ differing self.now other.now }
     {
         let mut words = self.words;
-        let others = other.words;
-        for index in 0..WORDS {
-            words[index] ^= others[index];
-        }
+        turn(&mut words, &other.words);
         TagSet { words }
+    }
+
+    /// Turns each slot of another set: one that was in this set goes out, one that wasn't comes in.
+    pub fn flip(&mut self, other: &TagSet)
+        ensures { self.new ≡ differing self.old other.now }
+    {
+        turn(&mut self.words, &other.words);
+    }
+
+    /// The same by words whose bits are the slots.
+    pub fn flip_words(&mut self, words: &[u64; WORDS])
+        ensures { self.new ≡ differing self.old (slots_of words.now) }
+    {
+        turn(&mut self.words, words);
+    }
+
+    /// Whether no slot is in the set.
+    pub fn is_empty(&self) -> bool
+        ensures none { result ≡ true → self.now ≡ set.empty }
+        ensures some { self.now ≡ set.empty → result ≡ true }
+    {
+        self.words == [0; WORDS]
     }
 }

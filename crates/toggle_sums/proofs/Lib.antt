@@ -1,2 +1,3 @@
+pub mod ExchangeLaws
 pub mod ToggleLaws
 pub mod WordSteps

@@ -129,12 +129,22 @@ slots_of-joined count a b c words =
     ∙ sym (set.contains-union nat_cmp_total (slots_of count a) (slots_of count b) q
     ∙ ap₂ (λ s t. s || t) (contains-slots_below n a q) (contains-slots_below n b q)))
 
-pub AreWords-joined : (count : ℕ) (a b c : List ℕ) → AreWords count a → AreWords count b → length c ≡ count →
+pub AreWords-joined : (count : ℕ) (a b c : List ℕ) → AreWords count a →
+    ((i : ℕ) → i < count → slice_index b i < 2 ^ 64) → length c ≡ count →
     ((i : ℕ) → i < count → slice_index c i ≡ bit_or (slice_index a i) (slice_index b i)) → AreWords count c
 AreWords-joined count a b c first second long words = record {
   long = long;
   each = λ i within. rw (words i within) (or_lt 64 (slice_index a i) (slice_index b i) (first.each i within)
-      (second.each i within));
+      (second i within));
+}
+
+pub AreWords-differing : (count : ℕ) (a b c : List ℕ) → AreWords count a →
+    ((i : ℕ) → i < count → slice_index b i < 2 ^ 64) → length c ≡ count →
+    ((i : ℕ) → i < count → slice_index c i ≡ bit_xor (slice_index a i) (slice_index b i)) → AreWords count c
+AreWords-differing count a b c first second long words = record {
+  long = long;
+  each = λ i within. rw (words i within) (xor_lt 64 (slice_index a i) (slice_index b i) (first.each i within)
+      (second i within));
 }
 
 -- ---- one bit
@@ -236,3 +246,9 @@ zeros_of-slots_of count words are none =
     sym (words_of-slots_of count words are)
     ∙ ap (words_of count) (none ∙ sym (slots_of-zeros count))
     ∙ words_of-slots_of count (replicate count 0) (AreWords-zeros count)
+
+-- the same slots are the same words
+pub same_words : (count : ℕ) (a b : List ℕ) → AreWords count a → AreWords count b →
+    slots_of count a ≡ slots_of count b → a ≡ b
+same_words count a b first second same =
+    sym (words_of-slots_of count a first) ∙ ap (words_of count) same ∙ words_of-slots_of count b second

@@ -1,5 +1,5 @@
 -- What is counted of some lines of text, and how it adds up.
-use Rattle.std.specs.Prelude.{◌≡◌, ℕ, ◌+◌, ◌-◌, ◌<◌, ◌^◌, refl}
+use Rattle.std.specs.Prelude.{◌≡◌, ℕ, ◌+◌, ◌-◌, ◌<◌, ◌≤◌, ◌^◌, refl, Bool, true}
 use Rattle.std.specs.Coded.{Coded, code_by, coded×, coded_ℕ}
 use Rattle.std.specs.FinSet as set
 use Rattle.text_model.specs.Content.{Slots}
@@ -52,9 +52,28 @@ pub record IsBare (count : Count) : Type 0 where
   pub parity : count.parity ≡ set.empty
   pub presence : count.presence ≡ set.empty
 
+-- two sets, slot by slot
+abbrev pub AreSame : Slots → Slots → Type 0
+AreSame s t = (q : ℕ) → set.contains s q ≡ set.contains t q
+
+-- each slot of one is in the other too
+abbrev pub ArePart : Slots → Slots → Type 0
+ArePart s t = (q : ℕ) → set.contains s q ≡ true → set.contains t q ≡ true
+
 -- each slot that is toggled in one is toggled in the other too
 abbrev pub IsWithin : Count → Count → Type 0
 IsWithin part whole = set.union whole.presence part.presence ≡ whole.presence
+
+-- the same slots are toggled an odd number of times, and the same at all
+pub record HaveSameToggles (first second : Count) : Type 0 where
+  pub parity : first.parity ≡ second.parity
+  pub presence : first.presence ≡ second.presence
+
+-- there are no more lines, characters and marks than in a whole
+pub record HasCounts (part whole : Count) : Type 0 where
+  pub lines : part.lines ≤ whole.lines
+  pub characters : part.characters ≤ whole.characters
+  pub marks : part.marks ≤ whole.marks
 
 -- so many lines, characters and marks less
 abbrev pub less : ℕ → ℕ → ℕ → Count → Count
@@ -72,6 +91,16 @@ without gone count = record count {
   marks = count.marks - gone.marks;
   parity = differing count.parity gone.parity;
 }
+
+-- of a sum so much can go where so much more comes; where it is level, what comes is toggled in the sum already
+pub record CanExchange (gone more : Count) (is_level : Bool) (old : Count) : Type 0 where
+  pub fits : CountsFit old more
+  pub counts : HasCounts gone (plus old more)
+  pub level : is_level ≡ true → IsWithin more old
+
+-- so much more, and so much less
+abbrev pub exchanged : Count → Count → Count → Count
+exchanged gone more old = without gone (plus old more)
 
 -- one toggle of a slot more
 abbrev pub toggled : ℕ → Count → Count

@@ -1,8 +1,11 @@
-ghost use Rattle.std.specs.Prelude.{◌≡◌, ◌+◌, ◌*◌, ◌^◌, ◌<◌, ◌≤◌, slice_index, bit_or, bit_xor, true};
+ghost use Rattle.std.specs.Prelude.{◌≡◌, ◌+◌, ◌*◌, ◌^◌, ◌<◌, ◌≤◌, slice_index, bit_or, bit_xor, length};
+ghost use Rattle.std.specs.Prelude.{true};
 ghost use Rattle.std.specs.FinSet as set;
-ghost use Rattle.toggle_sums.specs.Counts.{CountsFit, IsBare, IsWithin, counting, less, plus, toggled, with_toggles};
-ghost use Rattle.toggle_sums.specs.Counts.{without};
+ghost use Rattle.text_model.specs.SlotSets.{differing};
+ghost use Rattle.toggle_sums.specs.Counts.{CanExchange, CountsFit, HaveSameToggles, IsBare, IsWithin, counting, less, plus, toggled};
+ghost use Rattle.toggle_sums.specs.Counts.{HasCounts, exchanged, with_toggles, without};
 
+use crate::exchange::Exchange;
 use crate::summary::Summary;
 use std::marker::Model;
 use text_model::{TagSet, TagSlot, WORDS};
@@ -54,26 +57,26 @@ impl<const K: usize> Model for Sums<K> {
     } };
 }
 
-/// The bits that are set in one of two lists of words and not in the other.
-fn differing_words<const K: usize>(first: &[u64; K], second: &[u64; K]) -> [u64; K]
-    ensures { (k : _) → k < K → slice_index result k ≡ bit_xor (slice_index first.now k) (slice_index second.now k) }
+/// Turns the bits that are set in other words.
+fn turn_words<const K: usize>(words: &mut [u64; K], others: &[u64; K])
+    ensures long { length words.new ≡ K }
+    ensures words { (k : _) → k < K → slice_index words.new k
+        ≡ bit_xor (slice_index words.old k) (slice_index others.now k) }
 {
-    let mut words = *first;
     for index in 0..K {
-        words[index] ^= second[index];
+        words[index] ^= others[index];
     }
-    words
 }
 
-/// The bits that are set in one of two lists of words at least.
-fn joined_words<const K: usize>(first: &[u64; K], second: &[u64; K]) -> [u64; K]
-    ensures { (k : _) → k < K → slice_index result k ≡ bit_or (slice_index first.now k) (slice_index second.now k) }
+/// Sets the bits that are set in other words.
+fn join_words<const K: usize>(words: &mut [u64; K], others: &[u64; K])
+    ensures long { length words.new ≡ K }
+    ensures words { (k : _) → k < K → slice_index words.new k
+        ≡ bit_or (slice_index words.old k) (slice_index others.now k) }
 {
-    let mut words = *first;
     for index in 0..K {
-        words[index] |= second[index];
+        words[index] |= others[index];
     }
-    words
 }
 
 impl<const K: usize> Sums<K> {
@@ -140,7 +143,17 @@ impl<const K: usize> Sums<K> {
         ensures yes { result ≡ true → IsWithin self.now other.now }
         ensures no { IsWithin self.now other.now → result ≡ true }
     {
-        joined_words(&other.presence, &self.presence) == other.presence
+        let mut both = other.presence;
+        join_words(&mut both, &self.presence);
+        both == other.presence
+    }
+
+    /// Whether the slots that are toggled an odd number of times, and those that are toggled at all, are the same.
+    pub fn has_toggles_of(&self, other: &Sums<K>) -> bool
+        ensures yes { result ≡ true → HaveSameToggles self.now other.now }
+        ensures no { HaveSameToggles self.now other.now → result ≡ true }
+    {
+        self.parity == other.parity && self.presence == other.presence
     }
 
     /// Counts so many lines, characters and marks more. The toggles aren't touched.
@@ -153,6 +166,41 @@ impl<const K: usize> Sums<K> {
         self.marks += marks;
     }
 
+    /// Counts so many lines, characters and marks less. The toggles aren't touched.
+    pub fn lose_counts(&mut self, lines: usize, characters: usize, marks: usize)
+        requires { HasCounts (counting lines characters marks) self.old }
+        ensures { self.new ≡ less lines characters marks self.old }
+    {
+        self.lines -= lines;
+        self.characters -= characters;
+        self.marks -= marks;
+    }
+
+    /// Counts so much more.
+    pub fn add(&mut self, more: &Sums<K>)
+        requires { CountsFit self.old more.now }
+        ensures { self.new ≡ plus self.old more.now }
+    {
+        self.lines += more.lines;
+        self.characters += more.characters;
+        self.marks += more.marks;
+        turn_words(&mut self.parity, &more.parity);
+        join_words(&mut self.presence, &more.presence);
+    }
+
+    /// Counts so much less, where each slot that is toggled in what goes is toggled in what stays too.
+    pub fn lose(&mut self, gone: &Sums<K>)
+        requires lines { gone.now.lines ≤ self.old.lines }
+        requires characters { gone.now.characters ≤ self.old.characters }
+        requires marks { gone.now.marks ≤ self.old.marks }
+        ensures { self.new ≡ without gone.now self.old }
+    {
+        self.lines -= gone.lines;
+        self.characters -= gone.characters;
+        self.marks -= gone.marks;
+        turn_words(&mut self.parity, &gone.parity);
+    }
+
     /// The sum with so many lines, characters and marks less.
     pub fn less(&self, lines: usize, characters: usize, marks: usize) -> Sums<K>
         requires lines { lines ≤ self.now.lines }
@@ -161,26 +209,8 @@ impl<const K: usize> Sums<K> {
         ensures { result ≡ less lines characters marks self.now }
     {
         let mut sums = *self;
-        sums.lines -= lines;
-        sums.characters -= characters;
-        sums.marks -= marks;
+        sums.lose_counts(lines, characters, marks);
         sums
-    }
-
-    /// The sum with so much less, where each slot that is toggled in what goes is toggled in what stays too.
-    pub fn without(&self, gone: &Sums<K>) -> Sums<K>
-        requires lines { gone.now.lines ≤ self.now.lines }
-        requires characters { gone.now.characters ≤ self.now.characters }
-        requires marks { gone.now.marks ≤ self.now.marks }
-        ensures { result ≡ without gone.now self.now }
-    {
-        Sums {
-            lines: self.lines - gone.lines,
-            characters: self.characters - gone.characters,
-            marks: self.marks - gone.marks,
-            parity: differing_words(&self.parity, &gone.parity),
-            presence: self.presence,
-        }
     }
 
     /// The sum with one toggle of a slot more.
@@ -205,18 +235,36 @@ impl Sums<WORDS> {
         TagSet::of_words(self.parity)
     }
 
-    /// The sum with one toggle more of each slot of a set.
-    pub fn with_toggles(&self, slots: &TagSet) -> Sums<WORDS>
-        ensures { result ≡ with_toggles slots.now self.now }
+    /// Turns in a set the slots that are toggled an odd number of times.
+    pub fn turn_odd_slots(&self, slots: &mut TagSet)
+        ensures { slots.new ≡ differing slots.old self.now.parity }
+    {
+        slots.flip_words(&self.parity);
+    }
+
+    /// Counts what comes more, and what goes less, where each slot that is toggled in what goes is toggled in what stays
+    /// too.
+    pub fn exchange(&mut self, exchange: &Exchange)
+        requires { CanExchange exchange.now.gone exchange.now.more exchange.now.is_level self.old }
+        ensures { self.new ≡ exchanged exchange.now.gone exchange.now.more self.old }
+    {
+        let Exchange { gone, more, .. } = exchange;
+        if exchange.is_level {
+            self.add_counts(more.lines, more.characters, more.marks);
+            self.lose_counts(gone.lines, gone.characters, gone.marks);
+        } else {
+            self.add(more);
+            self.lose(gone);
+        }
+    }
+
+    /// Counts one toggle more of each slot of a set.
+    pub fn add_toggles(&mut self, slots: &TagSet)
+        ensures { self.new ≡ with_toggles slots.now self.old }
     {
         let words = slots.words();
-        Sums {
-            lines: self.lines,
-            characters: self.characters,
-            marks: self.marks,
-            parity: differing_words(&self.parity, &words),
-            presence: joined_words(&self.presence, &words),
-        }
+        turn_words(&mut self.parity, &words);
+        join_words(&mut self.presence, &words);
     }
 }
 
@@ -243,12 +291,8 @@ impl<const K: usize> Summary for Sums<K> {
     }
 
     fn plus(&self, other: &Sums<K>) -> Sums<K> {
-        Sums {
-            lines: self.lines + other.lines,
-            characters: self.characters + other.characters,
-            marks: self.marks + other.marks,
-            parity: differing_words(&self.parity, &other.parity),
-            presence: joined_words(&self.presence, &other.presence),
-        }
+        let mut sums = *self;
+        sums.add(other);
+        sums
     }
 }

@@ -3,7 +3,7 @@ use Rattle.raw_nodes.specs.Chain.{room_in}
 use Rattle.raw_nodes.specs.Names.{records}
 use Rattle.raw_nodes.specs.Records.{record_in, with_sum}
 use Rattle.raw_nodes.proofs.NameLaws.{listed_kept, whole_kept, chain_kept, count_kept, in_use, name_place, numbers_kept}
-use Rattle.raw_nodes.proofs.NameLaws.{rewritten, room_if, rooms_kept, told_entry, added}
+use Rattle.raw_nodes.proofs.NameLaws.{rewritten, recounted, room_if, rooms_kept, told_entry}
 use Rattle.raw_nodes.specs.Links.{link_name}
 use Rattle.toggle_sums.specs.Counts.{CountsFit, counting, plus}
 use Rattle.raw_nodes.proofs.store.NodeStore.add_counts.Goals as goal
@@ -45,8 +45,8 @@ returns-clause-records g c =
     let x = c.node_mut.result.now in let e = c.node_mut.ensures.value in
     let more = counting c.args.lines c.args.characters c.args.marks in
     rewritten h.places h.values p x _ h.paired named e refl (λ r. with_sum r (plus r.sum more))
-    (added x.held c.branch_mut-branch.result.now c.add_counts.new.self _ x.slot more c.branch_mut-branch.ensures.value
-    c.add_counts.ensures)
+    (recounted x.held c.branch_mut-branch.result.now c.add_counts.new.self _ x.slot (λ s. plus s more)
+    c.branch_mut-branch.ensures.value c.add_counts.ensures)
 
 pub add_counts-requires : goal.add_counts-requires
 unfolding records

@@ -16,9 +16,8 @@ unfolding records
 returns-in-Line-clause-value g c =
     let h = c.args.self.now.heap in let p = c.args.name in let x = c.node.result.now in let e = c.node.ensures in
     let used = in_use h.places h.values p x h.paired c.requires.name e in
-    read_entry h.places h.values p x h.paired c.requires.name e (λ r. c.has.result
-    ≡ set.contains r.sum.presence c.args.slot.0) (c.has.ensures
-    ∙ ap (λ s. set.contains s.presence c.args.slot.0) c.sum.ensures
+    read_entry h.places h.values p x h.paired c.requires.name e (λ r. c.has_toggle.result
+    ≡ set.contains r.sum.presence c.args.slot.0) (c.has_toggle.ensures
     ∙ sym (ap (λ k. set.contains (record_in k (link_name x.parent) x.slot).sum.presence c.args.slot.0)
     c.in-Line.is))
 
@@ -27,8 +26,8 @@ unfolding records
 returns-in-Inner-clause-value g c =
     let h = c.args.self.now.heap in let p = c.args.name in let x = c.node.result.now in let e = c.node.ensures in
     let used = in_use h.places h.values p x h.paired c.requires.name e in
-    read_entry h.places h.values p x h.paired c.requires.name e (λ r. c.has-in-Inner.result
-    ≡ set.contains r.sum.presence c.args.slot.0) (c.has-in-Inner.ensures
+    read_entry h.places h.values p x h.paired c.requires.name e (λ r. c.has.result
+    ≡ set.contains r.sum.presence c.args.slot.0) (c.has.ensures
     ∙ ap (λ z. set.contains z.sum.presence c.args.slot.0) c.deref.ensures
     ∙ sym (ap (λ k. set.contains (record_in k (link_name x.parent) x.slot).sum.presence c.args.slot.0)
     c.in-Inner.is))

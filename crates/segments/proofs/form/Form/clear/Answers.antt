@@ -1,8 +1,7 @@
-use Rattle.std.proofs.Common.{◌+◌, ◌<◌, ◌≤◌, Bool, true, false, length, sym, ap, subst, ◌∙◌, arith}
-use Rattle.std.specs.Prelude.{◌≡◌}
+use Rattle.std.proofs.Common.{◌≤◌, false, length, sym, ap, ◌∙◌, arith}
 use Rattle.text_model.specs.Splices.{changed}
-use Rattle.segments.specs.Columns.{LineContent, plain_columns, with_toggle}
-use Rattle.segments.specs.Forms.{content, is_plain}
+use Rattle.segments.specs.Columns.{LineContent, with_toggle}
+use Rattle.segments.specs.Forms.{content}
 use Rattle.segments.proofs.PlainLaws.{length-plain, cleared-plain}
 use Rattle.segments.proofs.form.Form.clear.Goals as goal
 

@@ -1,7 +1,6 @@
-use Rattle.std.proofs.Common.{◌+◌, ◌<◌, ◌≤◌, Bool, true, false, length, sym, ap, subst, ◌∙◌, arith}
-use Rattle.std.specs.Prelude.{◌≡◌}
+use Rattle.std.proofs.Common.{◌+◌, ◌<◌, length, sym, ap, ◌∙◌, arith}
 use Rattle.text_model.specs.Splices.{changed}
-use Rattle.segments.specs.Columns.{LineContent, plain_columns, toggled_more}
+use Rattle.segments.specs.Columns.{LineContent, toggled_more}
 use Rattle.segments.specs.Forms.{content, is_plain}
 use Rattle.segments.proofs.PlainLaws.{length-plain, toggled-plain}
 use Rattle.segments.proofs.form.Form.toggle.Goals as goal

@@ -11,22 +11,22 @@ pub returns-clause-yes : goal.returns-clause-yes
 returns-clause-yes g c = λ yes.
     let now = c.self.inside.presence in
     let other = c.other.inside.presence in
-    let both = c.joined_words.result in
+    let both = c.join_words.new.words in
     let same : both ≡ other = (bytes_eq-Decides both other).0 (sym c.eq.ensures ∙ yes) in
     rw (← c.self.view_is, ← c.other.view_is)
-    (sym (slots_of-joined g.row.K other now both c.joined_words.ensures) ∙ ap (slots_of g.row.K) same)
+    (sym (slots_of-joined g.row.K other now both c.join_words.ensures.words) ∙ ap (slots_of g.row.K) same)
 
 pub returns-clause-no : goal.returns-clause-no
 returns-clause-no g c = λ within.
     let now = c.self.inside.presence in
     let other = c.other.inside.presence in
-    let both = c.joined_words.result in
+    let both = c.join_words.new.words in
     let seen = λ (count : Count). count.presence in
     let kept : set.union (slots_of g.row.K other) (slots_of g.row.K now) ≡ slots_of g.row.K other =
     (λ i. set.union (seen (c.other.view_is i)) (seen (c.self.view_is i))) ∙ within ∙ ap seen (sym c.other.view_is) in
-    let are = AreWords-joined g.row.K other now both c.other.invariant.1 c.self.invariant.1 c.joined_words.type_inv.1.1.0.1
-    c.joined_words.ensures in
+    let are = AreWords-joined g.row.K other now both c.other.invariant.1 c.self.invariant.1.each
+    c.join_words.ensures.long c.join_words.ensures.words in
     c.eq.ensures ∙ (bytes_eq-Decides both other).1
     (sym (words_of-slots_of g.row.K both are)
-    ∙ ap (words_of g.row.K) (slots_of-joined g.row.K other now both c.joined_words.ensures ∙ kept)
+    ∙ ap (words_of g.row.K) (slots_of-joined g.row.K other now both c.join_words.ensures.words ∙ kept)
     ∙ words_of-slots_of g.row.K other c.other.invariant.1)

@@ -1,12 +1,11 @@
-use Rattle.std.proofs.Common.{◌≡◌, ℕ, ◌^◌, ◌<◌, ◌≤◌, length, slice_index, bit_xor}
+use Rattle.std.proofs.Common.{◌≡◌, ℕ, ◌<◌, ◌≤◌, length, slice_index, bit_xor}
 use Rattle.text_model.specs.declared.tag_set.TheConstants.{WORDS}
-use Rattle.text_model.proofs.tag_set.TagSet.differing.Given as goal
+use Rattle.text_model.proofs.tag_set.turn.Given as goal
 
 abbrev pub invariant-loop-index : goal.invariant-loop-index
 invariant-loop-index l = record {
   count : length l.words ≡ WORDS;
   seen : (k : ℕ) → k < l.index → slice_index l.words k
       ≡ bit_xor (slice_index l.initial.words k) (slice_index l.others k);
-  each : (k : ℕ) → k < WORDS → slice_index l.words k < 2 ^ 64;
   rest : (k : ℕ) → l.index ≤ k → slice_index l.words k ≡ slice_index l.initial.words k;
 }

@@ -1,7 +1,7 @@
 use Rattle.std.proofs.Common.{◌≡◌, drop}
 use Rattle.text_model.specs.SlotSets.{differing}
 use Rattle.segments.specs.Entries.{odd_of}
-use Rattle.segments.proofs.toggles.odd_slots.Given as goal
+use Rattle.segments.proofs.toggles.turn_odd.Given as goal
 
 abbrev pub invariant-loop-entry : goal.invariant-loop-entry
-invariant-loop-entry l = differing l.slots (odd_of (drop l.entry-index l.toggles)) ≡ odd_of l.toggles
+invariant-loop-entry l = differing l.slots (odd_of (drop l.entry-index l.toggles)) ≡ differing l.initial.slots (odd_of l.toggles)

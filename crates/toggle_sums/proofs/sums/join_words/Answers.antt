@@ -1,9 +1,12 @@
 use Rattle.std.proofs.Common.{bit_or, arith}
 use Rattle.toggle_sums.proofs.WordSteps.{SoFar-more}
-use Rattle.toggle_sums.proofs.sums.joined_words.Goals as goal
+use Rattle.toggle_sums.proofs.sums.join_words.Goals as goal
 
 pub loop-index-preserved : goal.loop-index-preserved
 loop-index-preserved g c = SoFar-more bit_or _ _ _ _ _ c.loop-index-test.true c.loop-index.invariant
 
 pub returns : goal.returns
-returns g c = λ k below. c.loop-index.invariant.seen k (omega (arith, below, c.loop-index-test.false))
+returns g c = record {
+  long = c.loop-index.invariant.long;
+  words = λ k below. c.loop-index.invariant.seen k (omega (arith, below, c.loop-index-test.false));
+}

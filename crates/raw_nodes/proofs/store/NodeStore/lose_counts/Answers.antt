@@ -1,0 +1,56 @@
+use Rattle.std.proofs.Common.{◌≡◌, ap, sym, refl, subst}
+use Rattle.raw_nodes.specs.Chain.{room_in}
+use Rattle.raw_nodes.specs.Names.{records}
+use Rattle.raw_nodes.specs.Records.{record_in, with_sum}
+use Rattle.raw_nodes.proofs.NameLaws.{listed_kept, whole_kept, chain_kept, count_kept, in_use, name_place, numbers_kept}
+use Rattle.raw_nodes.proofs.NameLaws.{rewritten, recounted, room_if, rooms_kept, told_entry}
+use Rattle.raw_nodes.specs.Links.{link_name}
+use Rattle.toggle_sums.specs.Counts.{HasCounts, counting, less}
+use Rattle.raw_nodes.proofs.store.NodeStore.lose_counts.Goals as goal
+
+pub node_mut-requires : goal.node_mut-requires
+unfolding records
+node_mut-requires g c = let h = c.args.self.now.heap in
+    name_place h.places h.values c.args.name h.paired c.requires.name.0
+
+pub branch_mut-branch-requires : goal.branch_mut-branch-requires
+unfolding records
+branch_mut-branch-requires g c =
+    let h = c.args.self.now.heap in let p = c.args.name in let x = c.node_mut.result.now in
+    let e = c.node_mut.ensures.value in
+    room_if x.held _ x.slot (in_use h.places h.values p x h.paired c.requires.name.0 e)
+    (told_entry h.places h.values p x h.paired c.requires.name.0 e (λ r. r.line ≡ _) c.requires.name.1)
+
+pub invariant_of-self : goal.invariant_of-self
+unfolding records
+invariant_of-self g c =
+    let a = c.args.self.now in let h = a.heap in let p = c.args.name in let named = c.requires.name.0 in
+    let x = c.node_mut.result.now in let e = c.node_mut.ensures.value in
+    record {
+      listed = listed_kept h.places h.values p x _ h.paired named e refl a.last refl a.listed;
+      whole = whole_kept h.places h.values p x _ h.paired named e refl a.count a.whole;
+      small = a.small;
+      chained = chain_kept h.places h.values p x _ h.paired named e refl a.spares a.first_spare a.chained;
+      counted = count_kept h.places h.values p x _ h.paired named e refl a.spares a.counted;
+      numbered = numbers_kept h.places h.values p x _ h.paired named e refl refl a.numbered;
+      roomed = rooms_kept h.places h.values p x _ h.paired named e refl _ a.room_count
+          (sym (ap room_in c.branch_mut-branch.ensures.value)) a.roomed;
+      fitting = a.fitting;
+    }
+
+pub returns-clause-records : goal.returns-clause-records
+unfolding records
+returns-clause-records g c =
+    let a = c.args.self.now in let h = a.heap in let p = c.args.name in let named = c.requires.name.0 in
+    let x = c.node_mut.result.now in let e = c.node_mut.ensures.value in
+    rewritten h.places h.values p x _ h.paired named e refl (λ r. with_sum r (less c.args.lines c.args.characters c.args.marks r.sum))
+    (recounted x.held c.branch_mut-branch.result.now c.lose_counts.new.self _ x.slot (less c.args.lines c.args.characters c.args.marks)
+    c.branch_mut-branch.ensures.value c.lose_counts.ensures)
+
+pub lose_counts-requires : goal.lose_counts-requires
+unfolding records
+lose_counts-requires g c =
+    let h = c.args.self.now.heap in let p = c.args.name in let x = c.node_mut.result.now in
+    let e = c.node_mut.ensures.value in let gone = counting c.args.lines c.args.characters c.args.marks in
+    subst (λ k. HasCounts gone (record_in k (link_name x.parent) x.slot).sum) c.branch_mut-branch.ensures.value
+    (told_entry h.places h.values p x h.paired c.requires.name.0 e (λ r. HasCounts gone r.sum) c.requires.counts)

@@ -1,0 +1,15 @@
+use Rattle.std.proofs.Common.{sym, ap, ◌∙◌}
+use Rattle.std.specs.FinSet as set
+use Rattle.std.specs.Ordering.{nat_cmp}
+use Rattle.toggle_sums.specs.Counts.{Count}
+use Rattle.segments.specs.Columns.{line_count}
+use Rattle.segments.specs.Forms.{content}
+use Rattle.segments.proofs.PlainLaws.{sum-plain}
+use Rattle.segments.proofs.line.Line.has_toggle.Goals as goal
+
+pub returns-in-Plain : goal.returns-in-Plain
+returns-in-Plain c =
+    let slot = c.args.slot.0 in
+    let has = λ (count : Count). set.contains count.presence slot in
+    sym (set.contains-empty nat_cmp slot) ∙ ap has (sym (sum-plain c.in-Plain.field-0))
+    ∙ ap (λ line. has (line_count line)) (ap content (sym c.in-Plain.is) ∙ c.self.view_is)

@@ -1,0 +1,33 @@
+use Rattle.std.proofs.Common.{◌∙◌, ap, sym}
+use Rattle.std.proofs.lemmas.Slice.Eq.{bytes_eq-Decides}
+use Rattle.toggle_sums.specs.Counts.{Count}
+use Rattle.toggle_sums.specs.SlotWords.{slots_of}
+use Rattle.toggle_sums.proofs.WordSteps.{same_words}
+use Rattle.toggle_sums.proofs.sums.Sums.has_toggles_of.Goals as goal
+
+pub returns-then-eq-clause-yes : goal.returns-then-eq-clause-yes
+returns-then-eq-clause-yes g c = λ yes.
+    let now = c.self.inside in
+    let other = c.other.inside in
+    let odd = (bytes_eq-Decides now.parity other.parity).0 (sym c.eq.ensures ∙ c.if-eq.true) in
+    let any = (bytes_eq-Decides now.presence other.presence).0 (sym c.eq-then-eq.ensures ∙ yes) in
+    rw (← c.self.view_is, ← c.other.view_is)
+    (record { parity = ap (slots_of g.row.K) odd; presence = ap (slots_of g.row.K) any })
+
+pub returns-then-eq-clause-no : goal.returns-then-eq-clause-no
+returns-then-eq-clause-no g c = λ same.
+    let now = c.self.inside in
+    let other = c.other.inside in
+    let seen = λ (count : Count). count.presence in
+    c.eq-then-eq.ensures ∙ (bytes_eq-Decides now.presence other.presence).1
+    (same_words g.row.K now.presence other.presence c.self.invariant.1 c.other.invariant.1
+    (ap seen c.self.view_is ∙ same.presence ∙ ap seen (sym c.other.view_is)))
+
+pub returns-else-eq-clause-no : goal.returns-else-eq-clause-no
+returns-else-eq-clause-no g c = λ same.
+    let now = c.self.inside in
+    let other = c.other.inside in
+    let seen = λ (count : Count). count.parity in
+    c.eq.ensures ∙ (bytes_eq-Decides now.parity other.parity).1
+    (same_words g.row.K now.parity other.parity c.self.invariant.0 c.other.invariant.0
+    (ap seen c.self.view_is ∙ same.parity ∙ ap seen (sym c.other.view_is)))

@@ -1,0 +1,39 @@
+ghost use Rattle.std.proofs.Props.{props};
+ghost use Rattle.std.specs.Prelude.{◌≡◌, false, true};
+ghost use Rattle.toggle_sums.specs.Counts.{ArePart, AreSame, HaveSameToggles, IsWithin};
+
+use crate::sums::Sums;
+use text_model::WORDS;
+
+/// What is counted of lines that go and of those that come in their place. Both are compared once, for all the sums that
+/// they change.
+#[derive(Clone, Copy)]
+pub struct Exchange {
+    pub gone: Sums<WORDS>,
+    pub more: Sums<WORDS>,
+    /// Whether the same slots are toggled in both.
+    pub is_level: bool,
+    /// Whether each slot that is toggled in what goes is toggled in what comes too.
+    pub is_within: bool,
+    ghost level_told: { is_level ≡ true → AreSame gone.parity more.parity × AreSame gone.presence more.presence } by { Prim.hlevel props },
+    ghost within_told: { is_within ≡ true → ArePart gone.presence more.presence } by { Prim.hlevel props },
+    ghost level_within: { is_within ≡ false → is_level ≡ false },
+}
+
+impl Exchange {
+    /// These go, and those come.
+    pub fn of(gone: Sums<WORDS>, more: Sums<WORDS>) -> Exchange
+        ensures gone { result.gone ≡ gone }
+        ensures more { result.more ≡ more }
+        ensures level { HaveSameToggles gone more → result.is_level ≡ true }
+        ensures within { IsWithin gone more → result.is_within ≡ true }
+    {
+        let is_level = gone.has_toggles_of(&more);
+        Exchange {
+            gone,
+            more,
+            is_level,
+            is_within: is_level || gone.is_within(&more),
+        }
+    }
+}
