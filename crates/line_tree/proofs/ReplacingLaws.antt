@@ -3,12 +3,14 @@
 --     child-fits               what the next step down asks
 --     change-sum, change-fits  what a node's sum is made anew by
 --     within-both              of slots that are toggled in a part of a part
+--     within-line, went-above  the slots of the line that goes are toggled in what it is part of
+--     went-node                and so in the node above it
 --     within-node              the slots of the line are toggled in the node above it
 --     replaces-node            the node above it
-use Rattle.std.proofs.Common.{◌≡◌, ℕ, zero, suc, ◌<◌, List, [], ◌∷◌, length, sym, ap, ◌∙◌, subst, arith}
+use Rattle.std.proofs.Common.{◌≡◌, ℕ, zero, suc, ◌<◌, List, [], ◌∷◌, length, map, option_to_list, sym, ap, ◌∙◌, subst, arith}
 use Rattle.std.specs.FinSet as set
 use Rattle.toggle_sums.specs.CountLaws.{plus-commutative, union-associative, union-commutative, union-self}
-use Rattle.toggle_sums.specs.Counts.{Count, IsWithin, plus}
+use Rattle.toggle_sums.specs.Counts.{Count, IsWithin, no_text, plus}
 use Rattle.segments.specs.Columns.{LineContent, line_count}
 use Rattle.raw_nodes.specs.Records.{Records}
 use Rattle.raw_nodes.specs.Rows.{kids, row}
@@ -56,6 +58,17 @@ within-changed (l ∷ ls) zero new h = within-first (line_count new) (total ls)
 within-changed (l ∷ ls) (suc k) new h = within-rest (line_count new) (line_count l.1) (total (changed k (λ _. new) ls))
     (within-changed ls k new (omega arith))
 
+-- what is counted of a line is counted of the text that it is
+pub within-line : (m : Records) (p : NodePtr) (n : Records) (new : LineContent) (gone more : Count) → (k : ℕ) →
+    CanChange m 0 p k → PutsOver m n p new gone more → IsWithin gone (total (lines_in m 0 p))
+within-line m p n new gone more k can puts =
+    subst (λ o. IsWithin gone (total (map (λ l. (p, l)) (option_to_list o)))) (sym puts.was)
+    (subst (λ g. IsWithin g (plus (line_count puts.line) no_text)) (sym puts.went)
+    (within-first (line_count puts.line) no_text))
+
+within-part : (a b c d : Count) → IsWithin a c → IsWithin a (plus b (plus c d))
+within-part a b c d within = within-rest a b (plus c d) (within-both a c (plus c d) within (within-first c d))
+
 -- ---- above it
 module _ (m : Records) (h : ℕ) (p : NodePtr) (k : ℕ) (can : CanChange m (suc h) p k) (f : Found) (finds : Finds m p k f)
     (new : LineContent) (fits : FitsSum (plus (total (lines_in m (suc h) p)) (line_count new))) where
@@ -63,6 +76,11 @@ module _ (m : Records) (h : ℕ) (p : NodePtr) (k : ℕ) (can : CanChange m (suc
   child-fits = let parts = was-parts m h p k can f finds in
       fits-part parts.0 (total (lines_in m h f.child)) parts.1 (line_count new)
       (subst (λ s. FitsSum (plus s (line_count new))) parts.2 fits)
+
+  pub went-above : (gone : Count) → IsWithin gone (total (lines_in m h f.child)) →
+      IsWithin gone (total (lines_in m (suc h) p))
+  went-above gone went = let parts = was-parts m h p k can f finds in
+      subst (IsWithin gone) (sym parts.2) (within-part gone parts.0 (total (lines_in m h f.child)) parts.1 went)
 
   module _ (l : Records) (gone more : Count) (done : Changes m l h f.child f.rest (λ _. new) gone more)
       (came : more ≡ line_count new) where
@@ -75,6 +93,10 @@ module _ (m : Records) (h : ℕ) (p : NodePtr) (k : ℕ) (can : CanChange m (suc
     pub change-fits : FitsSum (plus (sum_at l p) more)
     change-fits = subst FitsSum
         (sym (λ i. plus (node-sum m h p k can f finds l (λ _. new) gone more done i) (came i))) fits
+
+    pub went-node : IsWithin gone (total (lines_in m h f.child)) → IsWithin gone (sum_at l p)
+    went-node went = subst (IsWithin gone)
+        (sym (node-sum m h p k can f finds l (λ _. new) gone more done)) (went-above gone went)
 
     pub within-node : IsWithin more (sums l (row (kids l p)))
     within-node = subst (λ s. IsWithin s (sums l (row (kids l p)))) (sym came)

@@ -107,9 +107,7 @@ pub fn lessen<C: Ticks>(store: &mut NodeStore<C>, node: NodePtr, gone: &Sums<WOR
     ensures rooms { rooms store.new ≡ rooms store.old }
 {
     if gone.is_bare() {
-        let sum = store.sum(node, ticks);
-        let rest = sum.less(gone.lines(), gone.characters(), gone.marks());
-        store.set_sum(node, rest);
+        store.lose_counts(node, gone.lines(), gone.characters(), gone.marks());
     } else {
         resum(store, node, ticks);
     }

@@ -14,15 +14,7 @@ use crate::fill::resum;
 use crate::select::find_at;
 use raw_nodes::{NodePtr, NodeStore, Ticks};
 use segments::Line;
-use text_model::WORDS;
-use toggle_sums::{Summary, Sums};
-
-/// What is counted of a line that went, and of the one that has its place.
-#[derive(Clone, Copy)]
-pub struct Exchange {
-    pub gone: Sums<WORDS>,
-    pub more: Sums<WORDS>,
-}
+use toggle_sums::Exchange;
 
 /// Puts a line in the place of another, under its name.
 fn put_over<C: Ticks>(store: &mut NodeStore<C>, name: NodePtr, line: Line) -> Exchange
@@ -35,60 +27,31 @@ fn put_over<C: Ticks>(store: &mut NodeStore<C>, name: NodePtr, line: Line) -> Ex
     let place = store.line_mut(name).unwrap();
     let gone = place.sum();
     *place = line;
-    Exchange { gone, more }
+    Exchange::of(gone, more)
 }
 
-/// Makes a node's sum that of its children, below which stands so much more and so much less than before. Which slots
-/// are toggled is asked of the children, where some are in what went.
-fn mend_sum<C: Ticks>(
-    store: &mut NodeStore<C>,
-    node: NodePtr,
-    gone: &Sums<WORDS>,
-    more: &Sums<WORDS>,
-    ticks: &mut C,
-)
-    requires row { HasRow (records store.old) node }
-    requires sum { plus (sums (records store.old) (row (kids (records store.old) node))) gone.now
-        ≡ plus (sum_at (records store.old) node) more.now }
-    requires fits { FitsSum (plus (sum_at (records store.old) node) more.now) }
-    ensures records { records store.new ≡ resummed (records store.old) node (row (kids (records store.old) node)) }
-    ensures spares { spares store.new ≡ spares store.old }
-    ensures rooms { rooms store.new ≡ rooms store.old }
-{
-    if gone.is_bare() {
-        let sum = store.sum(node, ticks);
-        let both = sum.plus(more);
-        let rest = both.less(gone.lines(), gone.characters(), gone.marks());
-        store.set_sum(node, rest);
-    } else {
-        resum(store, node, ticks);
-    }
-}
-
-/// As `mend_sum`, where what came is known to stand below the node: where each slot that is toggled in what went is
-/// toggled in what came too, it is toggled below the node still, and no child need be asked.
+/// Makes a node's sum that of its children, in which one line's counts came for another's. Which slots are toggled is
+/// asked of the children, where some are in what went and not in what came.
 fn exchange_sum<C: Ticks>(
     store: &mut NodeStore<C>,
     node: NodePtr,
-    gone: &Sums<WORDS>,
-    more: &Sums<WORDS>,
+    exchange: &Exchange,
     ticks: &mut C,
 )
     requires row { HasRow (records store.old) node }
-    requires sum { plus (sums (records store.old) (row (kids (records store.old) node))) gone.now
-        ≡ plus (sum_at (records store.old) node) more.now }
-    requires came { IsWithin more.now (sums (records store.old) (row (kids (records store.old) node))) }
-    requires fits { FitsSum (plus (sum_at (records store.old) node) more.now) }
+    requires sum { plus (sums (records store.old) (row (kids (records store.old) node))) exchange.now.gone
+        ≡ plus (sum_at (records store.old) node) exchange.now.more }
+    requires came { IsWithin exchange.now.more (sums (records store.old) (row (kids (records store.old) node))) }
+    requires went { IsWithin exchange.now.gone (sum_at (records store.old) node) }
+    requires fits { FitsSum (plus (sum_at (records store.old) node) exchange.now.more) }
     ensures records { records store.new ≡ resummed (records store.old) node (row (kids (records store.old) node)) }
     ensures spares { spares store.new ≡ spares store.old }
     ensures rooms { rooms store.new ≡ rooms store.old }
 {
-    if !gone.is_bare() && gone.is_within(more) {
-        let sum = store.sum(node, ticks);
-        let both = sum.plus(more);
-        store.set_sum(node, both.without(gone));
+    if exchange.is_within {
+        store.exchange(node, exchange);
     } else {
-        mend_sum(store, node, gone, more, ticks);
+        resum(store, node, ticks);
     }
 }
 
@@ -106,6 +69,7 @@ pub fn replace_in<C: Ticks>(
     ensures changes { Changes (records store.old) (records store.new) height node k (λ _. line)
         result.gone result.more }
     ensures more { result.more ≡ line_count line }
+    ensures went { IsWithin result.gone (total (lines_in (records store.old) height node)) }
     ensures spares { spares store.new ≡ spares store.old }
     ensures rooms { rooms store.new ≡ rooms store.old }
 {
@@ -114,7 +78,7 @@ pub fn replace_in<C: Ticks>(
     }
     let lines = store.lines(node, ticks);
     let found = find_at(store, node, height - 1, lines, k, ticks);
-    let sums = replace_in(store, found.child, height - 1, found.rest, line, ticks);
-    exchange_sum(store, node, &sums.gone, &sums.more, ticks);
-    sums
+    let exchange = replace_in(store, found.child, height - 1, found.rest, line, ticks);
+    exchange_sum(store, node, &exchange, ticks);
+    exchange
 }

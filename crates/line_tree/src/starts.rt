@@ -190,7 +190,7 @@ fn find_opened<C: Ticks>(
                 };
             }
             rest -= lines;
-            slots = slots.differing(&store.odd_slots(child, ticks));
+            store.turn_odd_slots(child, &mut slots, ticks);
         }
     }
     Opened {
@@ -222,7 +222,7 @@ fn find_opened_back<C: Ticks>(
         let slot = 11 - back;
         if let Some(child) = store.child(node, slot, ticks) {
             let lines = store.lines(child, ticks);
-            slots = slots.differing(&store.odd_slots(child, ticks));
+            store.turn_odd_slots(child, &mut slots, ticks);
             if rest <= lines {
                 return Opened {
                     child,
@@ -255,7 +255,8 @@ fn find_opened_near<C: Ticks>(store: &NodeStore<C>, from: Opened, ticks: &mut C)
         return find_opened(store, from.child, from.rest, from.slots, ticks);
     }
     let behind = from.lines - from.rest;
-    let end = from.slots.differing(&store.odd_slots(from.child, ticks));
+    let mut end = from.slots;
+    store.turn_odd_slots(from.child, &mut end, ticks);
     find_opened_back(store, from.child, behind, end, ticks)
 }
 
@@ -274,9 +275,14 @@ pub fn odd_slots<C: Ticks>(
     if k == 0 {
         return TagSet::empty();
     }
+    if store.is_bare(root, ticks) {
+        return TagSet::empty();
+    }
     let lines = store.lines(root, ticks);
     if k == lines {
-        return store.odd_slots(root, ticks);
+        let mut all = TagSet::empty();
+        store.turn_odd_slots(root, &mut all, ticks);
+        return all;
     }
     let mut at = Opened {
         child: root,

@@ -40,7 +40,6 @@ pub fn take_in<C: Ticks>(
     let lines = store.lines(node, ticks);
     let found = find_at(store, node, height - 1, lines, k, ticks);
     let gone = take_in(store, found.child, height - 1, found.rest, number, ticks);
-    let sum = store.sum(node, ticks);
-    store.set_sum(node, sum.less(0, 0, gone));
+    store.lose_counts(node, 0, 0, gone);
     gone
 }

@@ -1,5 +1,5 @@
 use Rattle.std.proofs.Common.{◌≡◌, ℕ, ◌-◌, suc, sym, ◌∙◌, subst, arith}
-use Rattle.toggle_sums.specs.Counts.{Count, plus}
+use Rattle.toggle_sums.specs.Counts.{Count, IsWithin, plus}
 use Rattle.segments.specs.Columns.{LineContent, line_count}
 use Rattle.raw_nodes.specs.Names.{records}
 use Rattle.raw_nodes.specs.Records.{Records}
@@ -9,7 +9,8 @@ use Rattle.line_tree.specs.Shape.{lines_in}
 use Rattle.line_tree.specs.Taking.{CanChange, Changes}
 use Rattle.line_tree.specs.Trees.{total}
 use Rattle.line_tree.proofs.ChangingLaws.{can-child, node-row}
-use Rattle.line_tree.proofs.ReplacingLaws.{change-fits, change-sum, child-fits, puts-line, replaces-node, within-node}
+use Rattle.line_tree.proofs.ReplacingLaws.{change-fits, change-sum, child-fits, puts-line, replaces-node, went-above, went-node}
+use Rattle.line_tree.proofs.ReplacingLaws.{within-line, within-node}
 use Rattle.line_tree.proofs.RowLaws.{lines_is}
 use Rattle.line_tree.proofs.TreeLaws.{below-tree, named-tree, whole-below}
 use Rattle.line_tree.proofs.replacing.+replace_in.Goals as goal
@@ -46,6 +47,13 @@ returns-then-height-eq0-clause-changes g t c = let m = records c.args.store.now 
 pub returns-then-height-eq0-clause-more : goal.returns-then-height-eq0-clause-more
 returns-then-height-eq0-clause-more g t c = c.put_over.ensures.puts.came
 
+pub returns-then-height-eq0-clause-went : goal.returns-then-height-eq0-clause-went
+returns-then-height-eq0-clause-went g t c = let m = records c.args.store.now in let p = c.args.node in
+    let can = low m c.args.height p c.args.k c.if-height-eq0.true c.requires.change in
+    subst (λ h. IsWithin c.put_over.result.gone (total (lines_in m h p))) (sym c.if-height-eq0.true)
+    (within-line m p (records c.put_over.new.store) c.args.line c.put_over.result.gone c.put_over.result.more
+    c.args.k can c.put_over.ensures.puts)
+
 pub find_at-found-requires-clause-tree : goal.find_at-found-requires-clause-tree
 find_at-found-requires-clause-tree g t c = let m = records c.args.store.now in let p = c.args.node in
     let k = c.args.k in
@@ -68,8 +76,8 @@ find_at-found-requires-clause-within g t c = let m = records c.args.store.now in
     let can = above m c.args.height p k c.requires.change c.if-height-eq0.false in
     let n = below-tree m (c.args.height - 1) p can.tree in let w = can.place in omega arith
 
-pub replace_in-sums-requires : goal.replace_in-sums-requires
-replace_in-sums-requires g t c κs inside = let m = records c.args.store.now in let p = c.args.node in
+pub replace_in-exchange-requires : goal.replace_in-exchange-requires
+replace_in-exchange-requires g t c κs inside = let m = records c.args.store.now in let p = c.args.node in
     let k = c.args.k in let high = c.if-height-eq0.false in
     let can = above m c.args.height p k c.requires.change high in
     let fits = fit m c.args.height p c.args.line high c.requires.fits in (
@@ -86,46 +94,66 @@ replace_in-sums-requires g t c κs inside = let m = records c.args.store.now in 
 
 pub exchange_sum-requires-clause-row : goal.exchange_sum-requires-clause-row
 exchange_sum-requires-clause-row g t c = let m = records c.args.store.now in
-    let l = records c.replace_in-sums.new.store in let p = c.args.node in let k = c.args.k in
-    let sums = c.replace_in-sums.result in
+    let l = records c.replace_in-exchange.new.store in let p = c.args.node in let k = c.args.k in
+    let sums = c.replace_in-exchange.result in
     let can = above m c.args.height p k c.requires.change c.if-height-eq0.false in
     node-row m (c.args.height - 1) p k can c.find_at-found.result c.find_at-found.ensures.found l (λ _. c.args.line)
-    sums.gone sums.more c.replace_in-sums.ensures.changes
+    sums.gone sums.more c.replace_in-exchange.ensures.changes
 
 pub exchange_sum-requires-clause-sum : goal.exchange_sum-requires-clause-sum
 exchange_sum-requires-clause-sum g t c = let m = records c.args.store.now in
-    let l = records c.replace_in-sums.new.store in let p = c.args.node in let k = c.args.k in
-    let sums = c.replace_in-sums.result in let high = c.if-height-eq0.false in
+    let l = records c.replace_in-exchange.new.store in let p = c.args.node in let k = c.args.k in
+    let sums = c.replace_in-exchange.result in let high = c.if-height-eq0.false in
     let can = above m c.args.height p k c.requires.change high in
     let fits = fit m c.args.height p c.args.line high c.requires.fits in
     change-sum m (c.args.height - 1) p k can c.find_at-found.result c.find_at-found.ensures.found c.args.line fits l
-    sums.gone sums.more c.replace_in-sums.ensures.changes c.replace_in-sums.ensures.more
+    sums.gone sums.more c.replace_in-exchange.ensures.changes c.replace_in-exchange.ensures.more
 
 pub exchange_sum-requires-clause-fits : goal.exchange_sum-requires-clause-fits
 exchange_sum-requires-clause-fits g t c = let m = records c.args.store.now in
-    let l = records c.replace_in-sums.new.store in let p = c.args.node in let k = c.args.k in
-    let sums = c.replace_in-sums.result in let high = c.if-height-eq0.false in
+    let l = records c.replace_in-exchange.new.store in let p = c.args.node in let k = c.args.k in
+    let sums = c.replace_in-exchange.result in let high = c.if-height-eq0.false in
     let can = above m c.args.height p k c.requires.change high in
     let fits = fit m c.args.height p c.args.line high c.requires.fits in
     change-fits m (c.args.height - 1) p k can c.find_at-found.result c.find_at-found.ensures.found c.args.line fits l
-    sums.gone sums.more c.replace_in-sums.ensures.changes c.replace_in-sums.ensures.more
+    sums.gone sums.more c.replace_in-exchange.ensures.changes c.replace_in-exchange.ensures.more
 
 pub exchange_sum-requires-clause-came : goal.exchange_sum-requires-clause-came
 exchange_sum-requires-clause-came g t c = let m = records c.args.store.now in
-    let l = records c.replace_in-sums.new.store in let p = c.args.node in let k = c.args.k in
-    let sums = c.replace_in-sums.result in let high = c.if-height-eq0.false in
+    let l = records c.replace_in-exchange.new.store in let p = c.args.node in let k = c.args.k in
+    let sums = c.replace_in-exchange.result in let high = c.if-height-eq0.false in
     let can = above m c.args.height p k c.requires.change high in
     let fits = fit m c.args.height p c.args.line high c.requires.fits in
     within-node m (c.args.height - 1) p k can c.find_at-found.result c.find_at-found.ensures.found c.args.line fits l
-    sums.gone sums.more c.replace_in-sums.ensures.changes c.replace_in-sums.ensures.more
+    sums.gone sums.more c.replace_in-exchange.ensures.changes c.replace_in-exchange.ensures.more
+
+pub exchange_sum-requires-clause-went : goal.exchange_sum-requires-clause-went
+exchange_sum-requires-clause-went g t c = let m = records c.args.store.now in
+    let l = records c.replace_in-exchange.new.store in let p = c.args.node in let k = c.args.k in
+    let sums = c.replace_in-exchange.result in let high = c.if-height-eq0.false in
+    let can = above m c.args.height p k c.requires.change high in
+    let fits = fit m c.args.height p c.args.line high c.requires.fits in
+    went-node m (c.args.height - 1) p k can c.find_at-found.result c.find_at-found.ensures.found c.args.line fits l
+    sums.gone sums.more c.replace_in-exchange.ensures.changes c.replace_in-exchange.ensures.more
+    c.replace_in-exchange.ensures.went
+
+pub returns-clause-went : goal.returns-clause-went
+returns-clause-went g t c = let m = records c.args.store.now in let p = c.args.node in let k = c.args.k in
+    let sums = c.replace_in-exchange.result in let high = c.if-height-eq0.false in
+    let can = above m c.args.height p k c.requires.change high in
+    let fits = fit m c.args.height p c.args.line high c.requires.fits in
+    let e : suc (c.args.height - 1) ≡ c.args.height = omega arith in
+    subst (λ h. IsWithin sums.gone (total (lines_in m h p))) e
+    (went-above m (c.args.height - 1) p k can c.find_at-found.result c.find_at-found.ensures.found c.args.line fits
+    sums.gone c.replace_in-exchange.ensures.went)
 
 pub returns-clause-changes : goal.returns-clause-changes
 returns-clause-changes g t c = let m = records c.args.store.now in
-    let l = records c.replace_in-sums.new.store in let n = records c.exchange_sum.new.store in
+    let l = records c.replace_in-exchange.new.store in let n = records c.exchange_sum.new.store in
     let p = c.args.node in let k = c.args.k in
-    let sums = c.replace_in-sums.result in let high = c.if-height-eq0.false in
+    let sums = c.replace_in-exchange.result in let high = c.if-height-eq0.false in
     let can = above m c.args.height p k c.requires.change high in
     let fits = fit m c.args.height p c.args.line high c.requires.fits in
     back m n c.args.height p k c.args.line sums.gone sums.more high
     (replaces-node m (c.args.height - 1) p k can c.find_at-found.result c.find_at-found.ensures.found c.args.line fits l
-    sums.gone sums.more c.replace_in-sums.ensures.changes c.replace_in-sums.ensures.more n c.exchange_sum.ensures.records)
+    sums.gone sums.more c.replace_in-exchange.ensures.changes c.replace_in-exchange.ensures.more n c.exchange_sum.ensures.records)

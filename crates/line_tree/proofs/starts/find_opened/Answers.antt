@@ -20,8 +20,8 @@ lines-lines-requires g c = let m = records c.args.store.now in
     (sym (child_is m c.args.node c.requires.row c.child.result c.loop-slot.slot c.child.ensures.value)
     ∙ c.in-Some.is)
 
-pub odd_slots-requires : goal.odd_slots-requires
-odd_slots-requires g c = let m = records c.args.store.now in
+pub turn_odd_slots-requires : goal.turn_odd_slots-requires
+turn_odd_slots-requires g c = let m = records c.args.store.now in
     c.requires.row.each c.loop-slot.slot c.in-Some.child
     (sym (child_is m c.args.node c.requires.row c.child.result c.loop-slot.slot c.child.ensures.value)
     ∙ c.in-Some.is)
@@ -54,12 +54,12 @@ loop-slot-preserved g c = let m = records c.args.store.now in let cs = kids m c.
           let more = step_yes (lines_at m) cs i w.in-Some.child here in
           let n = lines_is m w.in-Some.child w.lines-lines.result (c.requires.row.each i w.in-Some.child here)
           w.lines-lines.ensures.value in
-          let s = said (λ (x : Count). x.parity) m w.in-Some.child w.odd_slots.result
-          (c.requires.row.each i w.in-Some.child here) w.odd_slots.ensures.value in
           let rest = w.rest-is in let test = w.if-rest-lines.false in
           record {
             place = omega arith;
-            slots = w.slots-is ∙ w.differing-slots.ensures ∙ (λ j. differing (so_far j) (s j))
+            slots = w.slots-is ∙ said (λ (x : Count). differing c.loop-slot.slots x.parity) m w.in-Some.child _
+                (c.requires.row.each i w.in-Some.child here) w.turn_odd_slots.ensures.value
+                ∙ ap (λ x. differing x (sum_at m w.in-Some.child).parity) so_far
                 ∙ differing-associative c.args.before (sum_all m (take i cs)).parity (sum_at m w.in-Some.child).parity
                 ∙ ap (λ (x : Count). differing c.args.before x.parity) (sym (sum-more m cs i w.in-Some.child here));
           }

@@ -30,8 +30,8 @@ lines-lines-requires g c = let m = records c.args.store.now in let slot = 11 - c
     c.requires.row.each slot c.in-Some.child
     (sym (child_is m c.args.node c.requires.row c.child.result slot c.child.ensures.value) ∙ c.in-Some.is)
 
-pub odd_slots-requires : goal.odd_slots-requires
-odd_slots-requires g c = let m = records c.args.store.now in let slot = 11 - c.loop-back.back in
+pub turn_odd_slots-requires : goal.turn_odd_slots-requires
+turn_odd_slots-requires g c = let m = records c.args.store.now in let slot = 11 - c.loop-back.back in
     c.requires.row.each slot c.in-Some.child
     (sym (child_is m c.args.node c.requires.row c.child.result slot c.child.ensures.value) ∙ c.in-Some.is)
 
@@ -53,15 +53,15 @@ loop-back-preserved g c = let m = records c.args.store.now in let cs = kids m c.
           let more = step_yes (lines_at m) cs slot w.in-Some.child here in
           let n = lines_is m w.in-Some.child w.lines-lines.result (c.requires.row.each slot w.in-Some.child here)
           w.lines-lines.ensures.value in
-          let s = said (λ (x : Count). x.parity) m w.in-Some.child w.odd_slots.result
-          (c.requires.row.each slot w.in-Some.child here) w.odd_slots.ensures.value in
           let rest = w.rest-is in let test = w.if-rest-lines.false in
           let before = slots ∙ sym said_now
           ∙ ap (λ (x : Count). differing base x.parity) (sum-more m cs slot w.in-Some.child here) in
           record {
             place = omega arith;
             some = omega arith;
-            slots = w.slots-is ∙ w.differing-slots.ensures ∙ (λ j. differing (before j) (s j))
+            slots = w.slots-is ∙ said (λ (x : Count). differing c.loop-back.slots x.parity) m w.in-Some.child _
+                (c.requires.row.each slot w.in-Some.child here) w.turn_odd_slots.ensures.value
+                ∙ ap (λ x. differing x (sum_at m w.in-Some.child).parity) before
                 ∙ differing-less base (sum_all m (take slot cs)).parity (sum_at m w.in-Some.child).parity ∙ said_next;
           }
       | in_default w ↦
@@ -91,8 +91,6 @@ returns-then-rest-lines g c = let m = records c.args.store.now in let cs = kids 
     let more = step_yes (lines_at m) cs slot c.in-Some.child here in
     let n = lines_is m c.in-Some.child c.lines-lines.result (c.requires.row.each slot c.in-Some.child here)
     c.lines-lines.ensures.value in
-    let s = said (λ (x : Count). x.parity) m c.in-Some.child c.odd_slots.result
-    (c.requires.row.each slot c.in-Some.child here) c.odd_slots.ensures.value in
     let test = c.if-rest-lines.true in let place = c.loop-back.invariant.place in
     let some = c.loop-back.invariant.some in let few = c.loop-back-test.true in
     let e : slot + 1 ≡ 12 - c.loop-back.back = omega arith in let now = ap (λ n. sum_by (lines_at m) (take n cs)) e in
@@ -105,6 +103,8 @@ returns-then-rest-lines g c = let m = records c.args.store.now in let cs = kids 
       place = omega arith;
       rest = omega arith;
       lines = n;
-      slots = c.differing-slots.ensures ∙ (λ j. differing (before j) (s j))
+      slots = said (λ (x : Count). differing c.loop-back.slots x.parity) m c.in-Some.child _
+          (c.requires.row.each slot c.in-Some.child here) c.turn_odd_slots.ensures.value
+          ∙ ap (λ x. differing x (sum_at m c.in-Some.child).parity) before
           ∙ differing-less base (sum_all m (take slot cs)).parity (sum_at m c.in-Some.child).parity;
     }

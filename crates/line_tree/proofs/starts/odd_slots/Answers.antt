@@ -1,23 +1,42 @@
-use Rattle.std.proofs.Common.{◌≡◌, ◌-◌, ◌<◌, suc, refl, sym, ap, ◌∙◌, subst, arith}
-use Rattle.toggle_sums.specs.Counts.{Count}
+use Rattle.std.proofs.Common.{true, ◌≡◌, ◌-◌, ◌<◌, suc, refl, sym, ap, ◌∙◌, subst, arith}
+use Rattle.text_model.specs.SlotSets.{differing}
+use Rattle.toggle_sums.specs.CountLaws.{empty-differing}
+use Rattle.toggle_sums.specs.Counts.{Count, IsBare}
 use Rattle.raw_nodes.specs.Names.{records}
-use Rattle.line_tree.specs.Shape.{IsTree, lines_in, sum_at}
+use Rattle.std.specs.FinMap as finite
+use Rattle.raw_nodes.proofs.MapLaws.{at_some, some_of}
+use Rattle.line_tree.specs.Shape.{IsTree, lines_in, sum_at, sum_of}
+use Rattle.line_tree.proofs.BareLaws.{bare-front}
 use Rattle.line_tree.proofs.PrefixLaws.{all-lines, some-left}
 use Rattle.line_tree.proofs.RowLaws.{lines_is}
 use Rattle.line_tree.proofs.StartLaws.{Opens, opens-first, opens-line, opens-step, said, sum-below}
-use Rattle.line_tree.proofs.TreeLaws.{below-tree, named-tree, row-tree, whole-below}
+use Rattle.line_tree.proofs.TreeLaws.{below-tree, named-tree, row-tree, sum-tree, whole-below}
 use Rattle.line_tree.proofs.starts.odd_slots.Goals as goal
 
 pub lines-lines-requires : goal.lines-lines-requires
 lines-lines-requires g c = named-tree (records c.args.store.now) c.args.height c.args.root c.requires.tree
 
-pub odd_slots-requires : goal.odd_slots-requires
-odd_slots-requires g c = named-tree (records c.args.store.now) c.args.height c.args.root c.requires.tree
+pub is_bare-requires : goal.is_bare-requires
+is_bare-requires g c = named-tree (records c.args.store.now) c.args.height c.args.root c.requires.tree
+
+pub returns-then-is_bare : goal.returns-then-is_bare
+returns-then-is_bare g c = let m = records c.args.store.now in let r = c.args.root in let h = c.args.height in
+    let tree = c.requires.tree in
+    let found = some_of (finite.get m r) (named-tree m h r tree) in
+    let bare = at_some (finite.get m r) (λ y. c.is_bare.result ≡ true → IsBare y.sum) found.0 c.is_bare.ensures.yes found.1
+    c.if-is_bare.true in
+    let sum = ap sum_of (sym found.1) ∙ sum-tree m h r tree in
+    c.empty-then-is_bare.ensures ∙ sym (bare-front (lines_in m h r) c.args.k
+    (ap (λ (s : Count). s.presence) (sym sum) ∙ bare.presence))
+
+pub turn_odd_slots-requires : goal.turn_odd_slots-requires
+turn_odd_slots-requires g c = named-tree (records c.args.store.now) c.args.height c.args.root c.requires.tree
 
 pub returns-then-k-lines : goal.returns-then-k-lines
 returns-then-k-lines g c = let m = records c.args.store.now in let r = c.args.root in let h = c.args.height in
     let named = named-tree m h r c.requires.tree in
-    said (λ (s : Count). s.parity) m r c.odd_slots.result named c.odd_slots.ensures.value
+    let odd = said (λ (s : Count). differing c.empty-all.result s.parity) m r _ named c.turn_odd_slots.ensures.value in
+    odd ∙ ap (λ s. differing s (sum_at m r).parity) c.empty-all.ensures ∙ empty-differing (sum_at m r).parity
     ∙ ap (λ (s : Count). s.parity) (all-lines m h r c.args.k c.lines-lines.result (sum_at m r) c.requires.tree refl
     (lines_is m r c.lines-lines.result named c.lines-lines.ensures.value) c.if-k-lines.true)
 

@@ -1,10 +1,16 @@
-use Rattle.std.proofs.Common.{◌≡◌, ℕ, ◌-◌, suc, sym, ◌∙◌, subst, arith, lit<}
-use Rattle.toggle_sums.specs.Counts.{counting, no_text}
+use Rattle.std.proofs.Common.{◌≡◌, ℕ, ◌-◌, ◌≤◌, suc, refl, sym, ap, ◌∙◌, subst, arith}
+use Rattle.std.specs.FinMap as finite
+use Rattle.std.specs.Prelude.{IfSome}
+use Rattle.toggle_sums.specs.Counts.{Count, HasCounts, counting, less, no_text}
 use Rattle.line_lists.specs.Edits.{without_mark}
 use Rattle.raw_nodes.specs.Names.{records}
-use Rattle.raw_nodes.specs.Records.{Records}
+use Rattle.raw_nodes.specs.Records.{Records, with_sum}
 use Rattle.raw_nodes.specs.declared.names.NodePtr.{NodePtr}
+use Rattle.line_tree.specs.Finds.{Finds, HasRow}
+use Rattle.line_tree.specs.Shape.{sum_at, sum_of}
 use Rattle.line_tree.specs.Taking.{CanChange, Takes}
+use Rattle.line_tree.specs.declared.find.Found.{Found}
+use Rattle.line_tree.proofs.KeptLaws.{update-as}
 use Rattle.line_tree.proofs.RowLaws.{lines_is}
 use Rattle.line_tree.proofs.TakingLaws.{marks-enough, takes-line, takes-node}
 use Rattle.line_tree.proofs.ChangingLaws.{can-child, node-row}
@@ -64,26 +70,44 @@ take_in-gone-requires g t c κs inside = let m = records c.args.store.now in let
       (inside, can-child m (c.args.height - 1) p k can c.find_at-found.result c.find_at-found.ensures.found),
     )
 
-pub less-requires : goal.less-requires
-less-requires g t c = let m = records c.args.store.now in let l = records c.take_in-gone.new.store in
-    let p = c.args.node in let k = c.args.k in
-    let can = above m c.args.height p k c.requires.take c.if-height-eq0.false in let f = c.find_at-found.result in
-    let enough = marks-enough m (c.args.height - 1) p k can f c.find_at-found.ensures.found l c.args.number.0
-    c.take_in-gone.result c.take_in-gone.ensures.takes c.sum-sum.result c.sum-sum.ensures.value in
-    (lit< tt, (omega arith, (omega arith, omega (arith, enough))))
+-- what is read of a node
+has-row : (m l : Records) (h : ℕ) (p : NodePtr) (k number gone : ℕ) (can : CanChange m (suc h) p k) (f : Found) →
+    Finds m p k f → Takes m l h f.child f.rest number gone → HasRow l p
+has-row m l h p k number gone can f finds taken =
+    node-row m h p k can f finds l (without_mark number) (counting 0 0 gone) no_text taken
 
-pub set_sum-requires : goal.set_sum-requires
-set_sum-requires g t c = let m = records c.args.store.now in let l = records c.take_in-gone.new.store in
-    let p = c.args.node in let k = c.args.k in
+says : (l : Records) (p : NodePtr) (has : HasRow l p) → IfSome (finite.get l p) (λ r. sum_at l p ≡ r.sum)
+says l p has = subst (λ o. IfSome o (λ r. sum_of o ≡ r.sum)) (sym has.is) refl
+
+pub lose_counts-requires-clause-name : goal.lose_counts-requires-clause-name
+lose_counts-requires-clause-name g t c = let m = records c.args.store.now in
+    let l = records c.take_in-gone.new.store in let p = c.args.node in let k = c.args.k in
     let can = above m c.args.height p k c.requires.take c.if-height-eq0.false in let f = c.find_at-found.result in
-    inner-row l p (node-row m (c.args.height - 1) p k can f c.find_at-found.ensures.found l
-    (without_mark c.args.number.0) (counting 0 0 c.take_in-gone.result) no_text c.take_in-gone.ensures.takes)
+    inner-row l p (has-row m l (c.args.height - 1) p k c.args.number.0 c.take_in-gone.result can f
+    c.find_at-found.ensures.found c.take_in-gone.ensures.takes)
+
+pub lose_counts-requires-clause-counts : goal.lose_counts-requires-clause-counts
+lose_counts-requires-clause-counts g t c = let m = records c.args.store.now in
+    let l = records c.take_in-gone.new.store in let p = c.args.node in let k = c.args.k in
+    let can = above m c.args.height p k c.requires.take c.if-height-eq0.false in let f = c.find_at-found.result in
+    let finds = c.find_at-found.ensures.found in let gone = c.take_in-gone.result in
+    let taken = c.take_in-gone.ensures.takes in let number = c.args.number.0 in
+    let has = has-row m l (c.args.height - 1) p k number gone can f finds taken in
+    let enough = marks-enough m (c.args.height - 1) p k can f finds l number gone taken (sum_at l p) (says l p has) in
+    let here : gone ≤ has.found.sum.marks = subst (λ (s : Count). gone ≤ s.marks) (ap sum_of has.is) enough in
+    subst (λ o. IfSome o (λ r. HasCounts (counting 0 0 gone) r.sum)) (sym has.is)
+    (record { lines = omega arith; characters = omega arith; marks = here })
 
 pub returns-clause-takes : goal.returns-clause-takes
 returns-clause-takes g t c = let m = records c.args.store.now in let l = records c.take_in-gone.new.store in
-    let n = records c.set_sum.new.self in let p = c.args.node in let k = c.args.k in
+    let n = records c.lose_counts.new.self in let p = c.args.node in let k = c.args.k in
     let can = above m c.args.height p k c.requires.take c.if-height-eq0.false in let f = c.find_at-found.result in
-    let taken = c.take_in-gone.ensures.takes in
-    back m n c.args.height p k c.args.number.0 c.take_in-gone.result c.if-height-eq0.false
-    (takes-node m (c.args.height - 1) p k can f c.find_at-found.ensures.found l c.args.number.0 c.take_in-gone.result
-    taken c.sum-sum.result c.sum-sum.ensures.value n c.less.result c.less.ensures c.set_sum.ensures.records)
+    let finds = c.find_at-found.ensures.found in let gone = c.take_in-gone.result in
+    let taken = c.take_in-gone.ensures.takes in let number = c.args.number.0 in
+    let has = has-row m l (c.args.height - 1) p k number gone can f finds taken in
+    let rest = less 0 0 gone (sum_at l p) in
+    back m n c.args.height p k number gone c.if-height-eq0.false
+    (takes-node m (c.args.height - 1) p k can f finds l number gone taken (sum_at l p) (says l p has) n rest refl
+    (c.lose_counts.ensures.records
+    ∙ update-as l p (λ r. with_sum r (less 0 0 gone r.sum)) (λ r. with_sum r rest) has.found has.is
+    (ap (λ s. with_sum has.found (less 0 0 gone s)) (sym (ap sum_of has.is)))))
