@@ -69,11 +69,12 @@ impl Reached {
         ensures { (copies : List Copied) → IsReached self.now copies (L.lines list.now) →
             IsReached result (copies ++ copy.now ∷ []) (L.lines list.now) }
     {
-        let tags = self.tags_behind(list, copy.kept);
+        let mut tags = self.tags_behind(list, copy.kept);
+        copy.line.turn_odd_slots(&mut tags);
         Reached {
             used: self.used + copy.kept + copy.gone,
             characters: self.start(list, copy) + copy.line.len(),
-            tags: tags.differing(&copy.line.sum().odd_slots()),
+            tags,
         }
     }
 }

@@ -1,7 +1,7 @@
 ghost use Rattle.std.specs.Prelude.{◌≡◌, ◌+◌, ◌<◌, ◌≤◌, ◌^◌, ◌++◌, ◌∷◌, [], IfOk, OnOk, length};
 ghost use Rattle.std.specs.List.{All};
 ghost use Rattle.toggle_sums.specs.Counts.{plus};
-ghost use Rattle.segments.specs.Columns.{LineContent};
+ghost use Rattle.segments.specs.Columns.{LineContent, line_count};
 ghost use Rattle.line_lists.specs.Drafts.{IsDraft, IsText, copies_of, drafted_at};
 ghost use Rattle.line_lists.specs.Lists.{IsCounted, NumbersBelow, count_of};
 ghost use Rattle.line_lists.specs.Pieces.{CanPlace, copied_lines, freed, named, numbers_in, numbers_of, piece_lines};
@@ -12,7 +12,7 @@ use crate::lists::LineList;
 use segments::Line;
 use std::alloc::{AllocError, Global};
 use text_model::{MarkNo, WORDS};
-use toggle_sums::{Summary, Sums};
+use toggle_sums::Sums;
 
 /// Lines that come in the place of so many from one on.
 #[derive(Drop)]
@@ -48,18 +48,19 @@ pub fn bound_of(numbers: &[MarkNo]) -> usize
     bound
 }
 
-/// The sum of two counts. More than a number can count has no room in memory.
-fn sum_of(first: &Sums<WORDS>, second: &Sums<WORDS>) -> Result<Sums<WORDS>, AllocError>
-    ensures sum { IfOk result (λ sum. sum ≡ plus first.now second.now) }
-    ensures counted { IfOk result (λ sum. IsCounted sum) }
+/// Counts a line more. More than a number can count has no room in memory.
+fn add_line(sum: &mut Sums<WORDS>, line: &Line) -> Result<(), AllocError>
+    ensures sum { OnOk result (sum.new ≡ plus sum.old (line_count line.now)) }
+    ensures counted { OnOk result (IsCounted sum.new) }
 {
-    first.lines().checked_add(second.lines()).ok_or(AllocError)?;
-    first
-        .characters()
-        .checked_add(second.characters())
+    let more = line.sum();
+    sum.lines().checked_add(more.lines()).ok_or(AllocError)?;
+    sum.characters()
+        .checked_add(more.characters())
         .ok_or(AllocError)?;
-    first.marks().checked_add(second.marks()).ok_or(AllocError)?;
-    Ok(first.plus(second))
+    sum.marks().checked_add(more.marks()).ok_or(AllocError)?;
+    sum.add(&more);
+    Ok(())
 }
 
 /// A piece with the line of a copy behind its last.
@@ -150,7 +151,7 @@ impl<'a, L: LineList> Draft<'a, L> {
     {
         let mut sum = self.list.prefix(self.list.len());
         for stop in &self.front {
-            sum = sum_of(&sum, &stop.copy.line.sum())?;
+            add_line(&mut sum, &stop.copy.line)?;
         }
         Ok(())
     }

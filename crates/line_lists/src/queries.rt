@@ -45,8 +45,9 @@ pub fn tags_at<L: LineList>(list: &L, offset: usize) -> TagSet
     ensures { slice_get (slot_sets (content_of (L.lines list.now)).cells) offset ≡ Some result }
 {
     let (index, column, line) = list.line_at(offset);
-    let here = line.tags_before(column);
-    list.odd_slots(index).differing(&here)
+    let mut tags = list.odd_slots(index);
+    line.turn_tags_before(column, &mut tags);
+    tags
 }
 
 /// Whether the character at an offset has a tag.

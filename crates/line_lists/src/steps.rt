@@ -40,7 +40,7 @@ impl<'a, L: LineList> Draft<'a, L> {
             ≡ with_toggled offset slots.now
             (text_at (L.lines self.old.list.now) self.old.front.items self.old.back.items)) }
     {
-        if len <= offset || slots.words() == TagSet::empty().words() {
+        if len <= offset || slots.is_empty() {
             return Ok(());
         }
         self.toggle(offset, slots)

@@ -1,6 +1,7 @@
-use Rattle.std.proofs.Common.{◌<◌, ◌∙◌, sym, ap, ap₂, subst}
+use Rattle.std.proofs.Common.{◌<◌, ◌∙◌, sym, ap, subst}
 use Rattle.std.specs.Prelude.{Some}
 use Rattle.text_model.specs.SlotSets.{differing}
+use Rattle.segments.specs.Columns.{tags_before}
 use Rattle.line_lists.proofs.PlaceRows.{length-content, tags-at}
 use Rattle.line_lists.proofs.queries.tags_at.Goals as goal
 
@@ -16,4 +17,6 @@ returns g c =
     tags-at list c.args.offset c.line_at-index.result.0 c.line_at-index.result.1 c.line_at-index.result.2.now
     c.line_at-index.ensures.place
     c.line_at-index.ensures.line
-    ∙ ap (λ s. Some s) (sym (c.differing.ensures ∙ ap₂ differing c.odd_slots.ensures c.tags_before-here.ensures))
+    ∙ ap (λ s. Some s) (sym (c.turn_tags_before.ensures
+    ∙ ap (λ s. differing s (tags_before c.line_at-index.result.1 c.line_at-index.result.2.now.columns))
+    c.odd_slots-tags.ensures))

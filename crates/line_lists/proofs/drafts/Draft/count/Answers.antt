@@ -1,7 +1,8 @@
-use Rattle.std.proofs.Common.{◌+◌, take, subst, sym, ap, ap₂, ◌∙◌, arith}
+use Rattle.std.proofs.Common.{◌+◌, take, subst, sym, ap, ◌∙◌, arith}
 use Rattle.std.proofs.lemmas.List.{take_all}
 use Rattle.toggle_sums.specs.CountLaws.{plus-no_text}
 use Rattle.toggle_sums.specs.Counts.{plus}
+use Rattle.segments.specs.Columns.{line_count}
 use Rattle.line_lists.specs.Drafts.{copies_of}
 use Rattle.line_lists.specs.Lists.{IsCounted, count_of}
 use Rattle.line_lists.specs.Pieces.{copied_lines}
@@ -20,12 +21,11 @@ pub loop-stop-preserved : goal.loop-stop-preserved
 loop-stop-preserved g c =
     let stops = c.deref-stop-items.ensures.value in
     let all = count_of (g.L.LineList.lines c.args.self.now.list.now) in (
-      c.in_ok-sum.ensures.sum
-          ∙ ap₂ plus (c.loop-stop.invariant.0
+      c.in_ok-add_line.ensures.sum
+          ∙ ap (λ s. plus s (line_count c.stop-item.result.copy.line)) (c.loop-stop.invariant.0
           ∙ ap (λ xs. plus all (count_of (copied_lines (copies_of (take c.loop-stop.stop-index xs))))) (sym stops))
-          c.sum.ensures
           ∙ count-stop c.deref-stop-items.result.now c.loop-stop.stop-index c.stop-item.result all c.loop-stop-test.true
           c.stop-item.is
           ∙ ap (λ xs. plus all (count_of (copied_lines (copies_of (take (c.loop-stop.stop-index + 1) xs))))) stops,
-      c.in_ok-sum.ensures.counted,
+      c.in_ok-add_line.ensures.counted,
     )

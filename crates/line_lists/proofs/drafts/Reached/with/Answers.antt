@@ -1,5 +1,5 @@
-use Rattle.std.proofs.Common.{ap, ap₂, ◌∙◌, arith}
-use Rattle.toggle_sums.specs.Counts.{Count}
+use Rattle.std.proofs.Common.{ap, ◌∙◌, arith}
+use Rattle.segments.specs.Columns.{line_count}
 use Rattle.text_model.specs.SlotSets.{differing}
 use Rattle.line_lists.proofs.CountRows.{count-lines}
 use Rattle.line_lists.proofs.DraftLaws.{reached-more}
@@ -20,8 +20,8 @@ overflow_add-result-2 g c =
 pub returns : goal.returns
 returns g c = λ copies so_far.
     let lines = g.L.LineList.lines c.args.list.now in
-    let line = c.odd_slots.ensures ∙ ap (λ (n : Count). n.parity) c.sum.ensures in
     reached-more c.args.self.now _ copies c.args.copy.now lines so_far
     (omega arith)
     (omega (arith, c.start.ensures, c.len.ensures))
-    (c.differing.ensures ∙ ap₂ differing c.tags_behind-tags.ensures line)
+    (c.turn_odd_slots.ensures
+    ∙ ap (λ s. differing s (line_count c.args.copy.now.line).parity) c.tags_behind-tags.ensures)
