@@ -155,6 +155,11 @@ def check_limits(tally):
     table = text_of("crates", "text_model", "specs", "LimitTable.antt")
     code = text_of("crates", "text_model", "src", "limits.rt")
     written = text_of("docs", "model.md")
+    pages = {
+        "README.md": text_of("README.md"), "docs/tktext.1.md": text_of("docs", "tktext.1.md"),
+        "docs/differences.md": text_of("docs", "differences.md"),
+        "include/tktext.h": re.sub(r"\b(\d+)\b", lambda it: f"{int(it[1]):,}", text_of("include", "tktext.h")),
+    }
     for name, constant, ours in (
         ("chars", "MOST_CHARS", model.PROGRAM_LIMITS.characters), ("tags", "MOST_TAGS", model.PROGRAM_LIMITS.tags),
         ("marks", "MOST_MARKS", model.PROGRAM_LIMITS.marks), ("widgets", "MOST_WIDGETS", model.PROGRAM_LIMITS.widgets),
@@ -164,6 +169,8 @@ def check_limits(tally):
         tally.check(most == in_code, f"most_{name} is {most}, and {constant} {in_code}")
         tally.check(most == ours, f"most_{name} is {most}, and in tools/model.py {ours}")
         tally.check(f"| {most:,} | {most:,} |" in written, f"most_{name} is {most:,}, and docs/model.md doesn't say so")
+        for page, said in pages.items():
+            tally.check(re.search(rf"(?<![\d,]){most:,}(?![\d,])", said), f"most_{name} is {most:,}, and {page} doesn't say so")
 
 
 def crate_names():

@@ -1,5 +1,5 @@
 -- The children of a record as a list.
-use Rattle.std.proofs.Common.{◌≡◌, ℕ, zero, suc, ◌+◌, ◌<◌, ◌≤◌, List, [], ◌∷◌, length, get_or, take, drop, refl, sym}
+use Rattle.std.proofs.Common.{subst, ◌≡◌, ℕ, zero, suc, ◌+◌, ◌<◌, ◌≤◌, List, [], ◌∷◌, length, get_or, take, drop, refl, sym}
 use Rattle.std.proofs.Common.{ap, ◌∙◌, arith}
 use Rattle.std.specs.Prelude.{IfSome, IsSome, slice_get}
 use Rattle.std.specs.FinMap as finite
@@ -30,6 +30,18 @@ pub sum_is : (m : Records) (q : NodePtr) (s : Count) → IsSome (finite.get m q)
     IfSome (finite.get m q) (λ r. s ≡ r.sum) → s ≡ sum_at m q
 sum_is m q s named says = let r = some_of (finite.get m q) named in
     at_some (finite.get m q) (λ x. s ≡ x.sum) r.0 says r.1 ∙ ap sum_of (sym r.1)
+
+-- what is asked of a record's sum is asked of the node's
+pub asks : (ask : Count → Type 0) (m : Records) (q : NodePtr) → IsSome (finite.get m q) → ask (sum_at m q) →
+    IfSome (finite.get m q) (λ r. ask r.sum)
+asks ask m q named holds = let r = some_of (finite.get m q) named in
+    subst (λ o. IfSome o (λ r. ask r.sum)) (sym r.1) (subst (λ o. ask (sum_of o)) r.1 holds)
+
+-- a sum to which that of a node was added
+pub added_is : (m : Records) (q : NodePtr) (old new : Count) → IsSome (finite.get m q) →
+    IfSome (finite.get m q) (λ r. new ≡ plus old r.sum) → new ≡ plus old (sum_at m q)
+added_is m q old new named says = let r = some_of (finite.get m q) named in
+    at_some (finite.get m q) (λ x. new ≡ plus old x.sum) r.0 says r.1 ∙ ap (λ o. plus old (sum_of o)) (sym r.1)
 
 pub lines_is : (m : Records) (q : NodePtr) (n : ℕ) → IsSome (finite.get m q) →
     IfSome (finite.get m q) (λ r. n ≡ r.sum.lines) → n ≡ lines_at m q

@@ -57,8 +57,7 @@ fn sum_below<C: Ticks>(store: &NodeStore<C>, node: NodePtr, ticks: &mut C) -> Su
     let mut sum = Sums::zero();
     for slot in 0..12 {
         if let Some(child) = store.child(node, slot, ticks) {
-            let more = store.sum(child, ticks);
-            sum = sum.plus(&more);
+            store.add_sum_to(child, &mut sum, ticks);
         }
     }
     sum
@@ -126,8 +125,7 @@ pub fn sum_of<C: Ticks>(
     let mut sum = Sums::zero();
     for slot in 0..12 {
         if let Some(node) = nodes[slot] {
-            let more = store.sum(node, ticks);
-            sum = sum.plus(&more);
+            store.add_sum_to(node, &mut sum, ticks);
         }
     }
     sum

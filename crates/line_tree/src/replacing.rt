@@ -16,6 +16,14 @@ use raw_nodes::{NodePtr, NodeStore, Ticks};
 use segments::Line;
 use toggle_sums::Exchange;
 
+/// A line by its number among those below a node of a height.
+#[derive(Clone, Copy)]
+pub struct LineBelow {
+    pub node: NodePtr,
+    pub height: usize,
+    pub k: usize,
+}
+
 /// Puts a line in the place of another, under its name.
 fn put_over<C: Ticks>(store: &mut NodeStore<C>, name: NodePtr, line: Line) -> Exchange
     requires line { IsTree (records store.old) 0 name }
@@ -55,30 +63,35 @@ fn exchange_sum<C: Ticks>(
     }
 }
 
-/// Puts a line in the place of line `k` below a node of this height, under its name.
+/// Puts a line in the place of another, under its name, and says what went and what came.
+// By reference, since what is said takes much room.
 pub fn replace_in<C: Ticks>(
     store: &mut NodeStore<C>,
-    node: NodePtr,
-    height: usize,
-    k: usize,
+    at: LineBelow,
     line: Line,
+    exchange: &mut Exchange,
     ticks: &mut C,
-) -> Exchange
-    requires change { CanChange (records store.old) height node k }
-    requires fits { FitsSum (plus (total (lines_in (records store.old) height node)) (line_count line)) }
-    ensures changes { Changes (records store.old) (records store.new) height node k (λ _. line)
-        result.gone result.more }
-    ensures more { result.more ≡ line_count line }
-    ensures went { IsWithin result.gone (total (lines_in (records store.old) height node)) }
+)
+    requires change { CanChange (records store.old) at.height at.node at.k }
+    requires fits { FitsSum (plus (total (lines_in (records store.old) at.height at.node)) (line_count line)) }
+    ensures changes { Changes (records store.old) (records store.new) at.height at.node at.k (λ _. line)
+        exchange.new.gone exchange.new.more }
+    ensures more { exchange.new.more ≡ line_count line }
+    ensures went { IsWithin exchange.new.gone (total (lines_in (records store.old) at.height at.node)) }
     ensures spares { spares store.new ≡ spares store.old }
     ensures rooms { rooms store.new ≡ rooms store.old }
 {
-    if height == 0 {
-        return put_over(store, node, line);
+    if at.height == 0 {
+        *exchange = put_over(store, at.node, line);
+        return;
     }
-    let lines = store.lines(node, ticks);
-    let found = find_at(store, node, height - 1, lines, k, ticks);
-    let exchange = replace_in(store, found.child, height - 1, found.rest, line, ticks);
-    exchange_sum(store, node, &exchange, ticks);
-    exchange
+    let lines = store.lines(at.node, ticks);
+    let found = find_at(store, at.node, at.height - 1, lines, at.k, ticks);
+    let below = LineBelow {
+        node: found.child,
+        height: at.height - 1,
+        k: found.rest,
+    };
+    replace_in(store, below, line, exchange, ticks);
+    exchange_sum(store, at.node, exchange, ticks);
 }

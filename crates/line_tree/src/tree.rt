@@ -7,7 +7,7 @@ use crate::locate::{Located, locate};
 use crate::nearest::{Wanted, next, previous};
 use crate::prefix::prefix;
 use crate::remove::{lower, remove_in};
-use crate::replacing::replace_in;
+use crate::replacing::{LineBelow, replace_in};
 use crate::select::select;
 use crate::starts::{odd_slots, start};
 use crate::taking::take_in;
@@ -17,7 +17,7 @@ use segments::Line;
 use std::alloc::{AllocError, Global};
 use std::marker::Model;
 use text_model::{MarkNo, TagSet, TagSlot, WORDS};
-use toggle_sums::Sums;
+use toggle_sums::{Exchange, Sums};
 
 /// A list of lines with names, as a balanced tree.
 #[derive(Drop)]
@@ -355,6 +355,12 @@ impl<C: Ticks> LineTree<C> {
         ensures lines { self.new.lines ≡ changed k (λ _. line) self.old.lines }
         ensures room { line_room self.new ≡ line_room self.old }
     {
-        replace_in(&mut self.store, self.root, self.height, k, line, ticks);
+        let at = LineBelow {
+            node: self.root,
+            height: self.height,
+            k,
+        };
+        let mut exchange = Exchange::none();
+        replace_in(&mut self.store, at, line, &mut exchange, ticks);
     }
 }

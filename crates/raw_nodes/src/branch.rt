@@ -19,7 +19,8 @@ pub struct Branch {
 impl Branch {
     ghost use Rattle.raw_nodes.specs.Rooms.{with_room_child, with_room_sum};
     ghost use Rattle.std.specs.Prelude.{◌<◌};
-    ghost use Rattle.toggle_sums.specs.Counts.{CanExchange, CountsFit, HasCounts, counting, exchanged, less, no_text, plus};
+    ghost use Rattle.toggle_sums.specs.Counts.{CanExchange, CountsFit, HasCounts, counting, exchanged, less, no_text};
+    ghost use Rattle.toggle_sums.specs.Counts.{plus};
 
     /// Of a room without text below.
     pub fn of(room: Box<Room>) -> Branch

@@ -48,7 +48,8 @@ impl<C: Ticks> NodeStore<C> {
     ghost use Rattle.std.specs.Borrow.{sem};
     ghost use Rattle.text_model.specs.TagBits.{slot_count};
     ghost use Rattle.text_model.specs.SlotSets.{differing};
-    ghost use Rattle.toggle_sums.specs.Counts.{CanExchange, CountsFit, HasCounts, IsBare, counting, exchanged, less, plus};
+    ghost use Rattle.toggle_sums.specs.Counts.{CanExchange, CountsFit, HasCounts, IsBare, counting, exchanged, less};
+    ghost use Rattle.toggle_sums.specs.Counts.{plus};
 
     /// A store without nodes. It takes no memory.
     pub fn new(alloc: Global) -> NodeStore<C>
@@ -168,6 +169,21 @@ impl<C: Ticks> NodeStore<C> {
         match &self.heap.node(name).held {
             Held::Line(line) => line.turn_odd_slots(slots),
             Held::Inner(branch) => branch.room.sum.turn_odd_slots(slots),
+            Held::Spare => {}
+        }
+    }
+
+    /// Adds what is counted of the text below a node to a sum.
+    pub fn add_sum_to(&self, name: NodePtr, sum: &mut Sums<WORDS>, ticks: &mut C)
+        requires name { IsName self.now name }
+        requires fits { IfSome (entry self.now name) (λ r. CountsFit sum.old r.sum) }
+        ensures value { IfSome (entry self.now name) (λ r. sum.new ≡ plus sum.old r.sum) }
+        ensures tick { C.count ticks.new ≡ C.count ticks.old + 1 }
+    {
+        ticks.tick();
+        match &self.heap.node(name).held {
+            Held::Line(line) => sum.add(&line.sum()),
+            Held::Inner(branch) => sum.add(&branch.room.sum),
             Held::Spare => {}
         }
     }

@@ -105,6 +105,17 @@ fn drop_range(toggles: &mut Vec<Toggled>, from: usize, to: usize)
     toggles.truncate(end - (to - from));
 }
 
+/// Makes room for one entry more. An entry is large and most lines have few, so they get no more room than that at
+/// first, and later half as much again.
+fn make_room(toggles: &mut Vec<Toggled>) -> Result<(), AllocError>
+    ensures { toggles.new.items ≡ toggles.old.items }
+{
+    if toggles.len() == toggles.capacity() {
+        toggles.reserve_exact(toggles.len() / 2 + 2)?;
+    }
+    Ok(())
+}
+
 /// Toggles a set of slots at a column.
 pub fn flip(toggles: &mut Vec<Toggled>, column: usize, slots: &TagSet) -> Result<(), AllocError>
     ensures lie { (from to : ℕ) → LieIn from to toggles.old.items → from ≤ column → column < to →
@@ -124,6 +135,7 @@ pub fn flip(toggles: &mut Vec<Toggled>, column: usize, slots: &TagSet) -> Result
         return Ok(());
     }
     if !slots.is_empty() {
+        make_room(toggles)?;
         toggles.insert(
             index,
             Toggled {

@@ -60,6 +60,10 @@ AreSame s t = (q : ℕ) → set.contains s q ≡ set.contains t q
 abbrev pub ArePart : Slots → Slots → Type 0
 ArePart s t = (q : ℕ) → set.contains s q ≡ true → set.contains t q ≡ true
 
+-- the same slots are toggled an odd number of times, and the same at all
+abbrev pub AreLevel : Count → Count → Type 0
+AreLevel first second = AreSame first.parity second.parity × AreSame first.presence second.presence
+
 -- each slot that is toggled in one is toggled in the other too
 abbrev pub IsWithin : Count → Count → Type 0
 IsWithin part whole = set.union whole.presence part.presence ≡ whole.presence

@@ -1,12 +1,12 @@
 ghost use Rattle.std.proofs.Props.{props};
 ghost use Rattle.std.specs.Prelude.{◌≡◌, false, true};
-ghost use Rattle.toggle_sums.specs.Counts.{ArePart, AreSame, HaveSameToggles, IsWithin};
+ghost use Rattle.toggle_sums.specs.Counts.{AreLevel, ArePart, HaveSameToggles, IsWithin, no_text};
 
 use crate::sums::Sums;
 use text_model::WORDS;
 
-/// What is counted of lines that go and of those that come in their place. Both are compared once, for all the sums that
-/// they change.
+/// What is counted of lines that go and of those that come in their place. Both are compared once, for all the sums
+/// that they change.
 #[derive(Clone, Copy)]
 pub struct Exchange {
     pub gone: Sums<WORDS>,
@@ -15,12 +15,24 @@ pub struct Exchange {
     pub is_level: bool,
     /// Whether each slot that is toggled in what goes is toggled in what comes too.
     pub is_within: bool,
-    ghost level_told: { is_level ≡ true → AreSame gone.parity more.parity × AreSame gone.presence more.presence } by { Prim.hlevel props },
+    ghost level_told: { is_level ≡ true → AreLevel gone more } by { Prim.hlevel props },
     ghost within_told: { is_within ≡ true → ArePart gone.presence more.presence } by { Prim.hlevel props },
     ghost level_within: { is_within ≡ false → is_level ≡ false },
 }
 
 impl Exchange {
+    /// Nothing goes, and nothing comes.
+    pub fn none() -> Exchange
+        ensures { (result.gone ≡ no_text) × (result.more ≡ no_text) }
+    {
+        Exchange {
+            gone: Sums::counting(0, 0, 0),
+            more: Sums::counting(0, 0, 0),
+            is_level: true,
+            is_within: true,
+        }
+    }
+
     /// These go, and those come.
     pub fn of(gone: Sums<WORDS>, more: Sums<WORDS>) -> Exchange
         ensures gone { result.gone ≡ gone }

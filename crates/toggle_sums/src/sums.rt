@@ -2,7 +2,8 @@ ghost use Rattle.std.specs.Prelude.{◌≡◌, ◌+◌, ◌*◌, ◌^◌, ◌<�
 ghost use Rattle.std.specs.Prelude.{true};
 ghost use Rattle.std.specs.FinSet as set;
 ghost use Rattle.text_model.specs.SlotSets.{differing};
-ghost use Rattle.toggle_sums.specs.Counts.{CanExchange, CountsFit, HaveSameToggles, IsBare, IsWithin, counting, less, plus, toggled};
+ghost use Rattle.toggle_sums.specs.Counts.{CanExchange, CountsFit, HaveSameToggles, IsBare, IsWithin, counting, less};
+ghost use Rattle.toggle_sums.specs.Counts.{plus, toggled};
 ghost use Rattle.toggle_sums.specs.Counts.{HasCounts, exchanged, with_toggles, without};
 
 use crate::exchange::Exchange;

@@ -1,27 +1,25 @@
 use Rattle.std.proofs.Common.{◌≡◌, ◌+◌, ◌≤◌, ◌<◌, ℕ, List, drop, length, get_or, sym, ap, ◌∙◌, subst, Some, None, arith}
-use Rattle.std.specs.Prelude.{IfSome, IsSome, slice_get}
-use Rattle.std.specs.FinMap as finite
+use Rattle.std.specs.Prelude.{slice_get}
 use Rattle.std.specs.declared.option.Option.{Option}
 use Rattle.std.proofs.lemmas.List.{at_drop_more, drop_all}
 use Rattle.std.proofs.lemmas.Option.{slice_get-get_or}
 use Rattle.toggle_sums.specs.CountLaws.{no_text-plus, plus-associative, plus-no_text}
-use Rattle.toggle_sums.specs.Counts.{Count, plus}
+use Rattle.toggle_sums.specs.Counts.{CountsFit, plus}
 use Rattle.raw_nodes.specs.Names.{records}
 use Rattle.raw_nodes.specs.Records.{Records}
 use Rattle.raw_nodes.specs.declared.names.NodePtr.{NodePtr}
 use Rattle.line_tree.specs.Changes.{FitsSum, sum_or_none, sums}
-use Rattle.line_tree.proofs.RowLaws.{none_of, sum_is}
+use Rattle.line_tree.specs.Shape.{sum_at}
+use Rattle.line_tree.proofs.RowLaws.{added_is, asks, none_of}
 use Rattle.line_tree.proofs.SumLaws.{fits-both, fits-left}
 use Rattle.line_tree.proofs.fill.sum_of.Goals as goal
 use Rattle.line_tree.proofs.fill.sum_of.Goals.{in-Some, in_default}
 
 -- what the node at a slot adds
-some_step : (m : Records) (os : List (Option NodePtr)) (i : ℕ) (d : Option NodePtr) (c : NodePtr) (s : Count) →
-    i < length os → get_or os i d ≡ Some c → IsSome (finite.get m c) → IfSome (finite.get m c) (λ r. s ≡ r.sum)
-    → sums m (drop i os) ≡ plus s (sums m (drop (i + 1) os))
-some_step m os i d c s within is named says =
+some_step : (m : Records) (os : List (Option NodePtr)) (i : ℕ) (d : Option NodePtr) (c : NodePtr) →
+    i < length os → get_or os i d ≡ Some c → sums m (drop i os) ≡ plus (sum_at m c) (sums m (drop (i + 1) os))
+some_step m os i d c within is =
     at_drop_more (sums m) os i d within ∙ ap (λ x. plus (sum_or_none m x) (sums m (drop (i + 1) os))) is
-    ∙ ap (λ x. plus x (sums m (drop (i + 1) os))) (sym (sum_is m c s named says))
 
 none_step : (m : Records) (os : List (Option NodePtr)) (i : ℕ) (d : Option NodePtr) → i < length os →
     get_or os i d ≡ None → sums m (drop i os) ≡ sums m (drop (i + 1) os)
@@ -33,28 +31,25 @@ at : (os : List (Option NodePtr)) (i : ℕ) (d : Option NodePtr) (c : NodePtr) �
     slice_get os i ≡ Some (Some c)
 at os i d c within is = slice_get-get_or os i d within ∙ ap (λ o. Some o) is
 
-pub sum-more-requires : goal.sum-more-requires
-sum-more-requires g c = let os = c.args.nodes.now in let i = c.loop-slot.slot in
-    let within : i < length os = omega (arith, c.told-nodes, c.loop-slot-test.true) in
-    c.requires.nodes i c.in-Some.node (at os i _ c.in-Some.node within c.in-Some.is)
-
 pub loop-slot-init : goal.loop-slot-init
 loop-slot-init g c = let m = records c.args.store.now in let os = c.args.nodes.now in
     record { sum = ap (λ s. plus s (sums m os)) c.zero-sum.ensures ∙ no_text-plus (sums m os) }
 
-pub plus-sum-requires : goal.plus-sum-requires
-plus-sum-requires g c = let m = records c.args.store.now in let os = c.args.nodes.now in let i = c.loop-slot.slot in
-    let rest = sums m (drop (i + 1) os) in
+pub add_sum_to-requires-clause-name : goal.add_sum_to-requires-clause-name
+add_sum_to-requires-clause-name g c = let os = c.args.nodes.now in let i = c.loop-slot.slot in
     let within : i < length os = omega (arith, c.told-nodes, c.loop-slot-test.true) in
-    let n = c.in-Some.node in
-    let step = some_step m os i _ n c.sum-more.result within c.in-Some.is
-    (c.requires.nodes i n (at os i _ n within c.in-Some.is)) c.sum-more.ensures.value in
-    let sum = c.loop-slot.sum in let more = c.sum-more.result in (
-      omega arith,
-      fits-both sum more (fits-left (plus sum more) rest
-          (subst FitsSum (sym (plus-associative sum more rest ∙ ap (plus sum) (sym step) ∙ c.loop-slot.invariant.sum))
-          c.requires.fits)),
-    )
+    c.requires.nodes i c.in-Some.node (at os i _ c.in-Some.node within c.in-Some.is)
+
+pub add_sum_to-requires-clause-fits : goal.add_sum_to-requires-clause-fits
+add_sum_to-requires-clause-fits g c = let m = records c.args.store.now in let os = c.args.nodes.now in
+    let i = c.loop-slot.slot in let rest = sums m (drop (i + 1) os) in
+    let within : i < length os = omega (arith, c.told-nodes, c.loop-slot-test.true) in
+    let n = c.in-Some.node in let named = c.requires.nodes i n (at os i _ n within c.in-Some.is) in
+    let sum = c.loop-slot.sum in let more = sum_at m n in
+    let step = some_step m os i _ n within c.in-Some.is in
+    asks (CountsFit sum) m n named (fits-both sum more (fits-left (plus sum more) rest
+    (subst FitsSum (sym (plus-associative sum more rest ∙ ap (plus sum) (sym step) ∙ c.loop-slot.invariant.sum))
+    c.requires.fits)))
 
 pub loop-slot-preserved : goal.loop-slot-preserved
 loop-slot-preserved g c = let m = records c.args.store.now in let os = c.args.nodes.now in let i = c.loop-slot.slot in
@@ -63,11 +58,11 @@ loop-slot-preserved g c = let m = records c.args.store.now in let os = c.args.no
     elim c.match-nodes-slot.branch [
       | in-Some w ↦
           let n = w.in-Some.node in
-          let step = some_step m os i _ n w.sum-more.result within w.in-Some.is
-          (c.requires.nodes i n (at os i _ n within w.in-Some.is)) w.sum-more.ensures.value in
+          let named = c.requires.nodes i n (at os i _ n within w.in-Some.is) in
+          let step = some_step m os i _ n within w.in-Some.is in
           record {
-            sum = ap (λ s. plus s rest) (w.sum-is ∙ w.plus-sum.ensures)
-                ∙ plus-associative c.loop-slot.sum w.sum-more.result rest ∙ ap (plus c.loop-slot.sum) (sym step)
+            sum = ap (λ s. plus s rest) (w.sum-is ∙ added_is m n c.loop-slot.sum _ named w.add_sum_to.ensures.value)
+                ∙ plus-associative c.loop-slot.sum (sum_at m n) rest ∙ ap (plus c.loop-slot.sum) (sym step)
                 ∙ c.loop-slot.invariant.sum;
           }
       | in_default w ↦

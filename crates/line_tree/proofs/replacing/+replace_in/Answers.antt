@@ -35,58 +35,58 @@ low m h p k e can = subst (λ j. CanChange m j p k) e can
 
 pub put_over-requires : goal.put_over-requires
 put_over-requires g t c = let m = records c.args.store.now in
-    record { line = (low m c.args.height c.args.node c.args.k c.if-height-eq0.true c.requires.change).tree }
+    record { line = (low m c.args.at.height c.args.at.node c.args.at.k c.if-at-eq0.true c.requires.change).tree }
 
-pub returns-then-height-eq0-clause-changes : goal.returns-then-height-eq0-clause-changes
-returns-then-height-eq0-clause-changes g t c = let m = records c.args.store.now in
-    let n = records c.put_over.new.store in let p = c.args.node in let k = c.args.k in let sums = c.put_over.result in
-    subst (λ h. Changes m n h p k (λ _. c.args.line) sums.gone sums.more) (sym c.if-height-eq0.true)
+pub returns-then-at-eq0-clause-changes : goal.returns-then-at-eq0-clause-changes
+returns-then-at-eq0-clause-changes g t c = let m = records c.args.store.now in
+    let n = records c.put_over.new.store in let p = c.args.at.node in let k = c.args.at.k in let sums = c.put_over.result in
+    subst (λ h. Changes m n h p k (λ _. c.args.line) sums.gone sums.more) (sym c.if-at-eq0.true)
     (puts-line m n p k c.args.line sums.gone sums.more
-    (low m c.args.height p k c.if-height-eq0.true c.requires.change) c.put_over.ensures.puts)
+    (low m c.args.at.height p k c.if-at-eq0.true c.requires.change) c.put_over.ensures.puts)
 
-pub returns-then-height-eq0-clause-more : goal.returns-then-height-eq0-clause-more
-returns-then-height-eq0-clause-more g t c = c.put_over.ensures.puts.came
+pub returns-then-at-eq0-clause-more : goal.returns-then-at-eq0-clause-more
+returns-then-at-eq0-clause-more g t c = c.put_over.ensures.puts.came
 
-pub returns-then-height-eq0-clause-went : goal.returns-then-height-eq0-clause-went
-returns-then-height-eq0-clause-went g t c = let m = records c.args.store.now in let p = c.args.node in
-    let can = low m c.args.height p c.args.k c.if-height-eq0.true c.requires.change in
-    subst (λ h. IsWithin c.put_over.result.gone (total (lines_in m h p))) (sym c.if-height-eq0.true)
+pub returns-then-at-eq0-clause-went : goal.returns-then-at-eq0-clause-went
+returns-then-at-eq0-clause-went g t c = let m = records c.args.store.now in let p = c.args.at.node in
+    let can = low m c.args.at.height p c.args.at.k c.if-at-eq0.true c.requires.change in
+    subst (λ h. IsWithin c.put_over.result.gone (total (lines_in m h p))) (sym c.if-at-eq0.true)
     (within-line m p (records c.put_over.new.store) c.args.line c.put_over.result.gone c.put_over.result.more
-    c.args.k can c.put_over.ensures.puts)
+    c.args.at.k can c.put_over.ensures.puts)
 
 pub find_at-found-requires-clause-tree : goal.find_at-found-requires-clause-tree
-find_at-found-requires-clause-tree g t c = let m = records c.args.store.now in let p = c.args.node in
-    let k = c.args.k in
-    (above m c.args.height p k c.requires.change c.if-height-eq0.false).tree
+find_at-found-requires-clause-tree g t c = let m = records c.args.store.now in let p = c.args.at.node in
+    let k = c.args.at.k in
+    (above m c.args.at.height p k c.requires.change c.if-at-eq0.false).tree
 
 pub lines-lines-requires : goal.lines-lines-requires
-lines-lines-requires g t c = let m = records c.args.store.now in let p = c.args.node in let k = c.args.k in
-    named-tree m (suc (c.args.height - 1)) p (above m c.args.height p k c.requires.change c.if-height-eq0.false).tree
+lines-lines-requires g t c = let m = records c.args.store.now in let p = c.args.at.node in let k = c.args.at.k in
+    named-tree m (suc (c.args.at.height - 1)) p (above m c.args.at.height p k c.requires.change c.if-at-eq0.false).tree
 
 pub find_at-found-requires-clause-lines : goal.find_at-found-requires-clause-lines
-find_at-found-requires-clause-lines g t c = let m = records c.args.store.now in let p = c.args.node in
-    let k = c.args.k in
-    let tree = (above m c.args.height p k c.requires.change c.if-height-eq0.false).tree in
-    lines_is m p c.lines-lines.result (named-tree m (suc (c.args.height - 1)) p tree) c.lines-lines.ensures.value
-    ∙ whole-below m (c.args.height - 1) p tree
+find_at-found-requires-clause-lines g t c = let m = records c.args.store.now in let p = c.args.at.node in
+    let k = c.args.at.k in
+    let tree = (above m c.args.at.height p k c.requires.change c.if-at-eq0.false).tree in
+    lines_is m p c.lines-lines.result (named-tree m (suc (c.args.at.height - 1)) p tree) c.lines-lines.ensures.value
+    ∙ whole-below m (c.args.at.height - 1) p tree
 
 pub find_at-found-requires-clause-within : goal.find_at-found-requires-clause-within
-find_at-found-requires-clause-within g t c = let m = records c.args.store.now in let p = c.args.node in
-    let k = c.args.k in
-    let can = above m c.args.height p k c.requires.change c.if-height-eq0.false in
-    let n = below-tree m (c.args.height - 1) p can.tree in let w = can.place in omega arith
+find_at-found-requires-clause-within g t c = let m = records c.args.store.now in let p = c.args.at.node in
+    let k = c.args.at.k in
+    let can = above m c.args.at.height p k c.requires.change c.if-at-eq0.false in
+    let n = below-tree m (c.args.at.height - 1) p can.tree in let w = can.place in omega arith
 
-pub replace_in-exchange-requires : goal.replace_in-exchange-requires
-replace_in-exchange-requires g t c κs inside = let m = records c.args.store.now in let p = c.args.node in
-    let k = c.args.k in let high = c.if-height-eq0.false in
-    let can = above m c.args.height p k c.requires.change high in
-    let fits = fit m c.args.height p c.args.line high c.requires.fits in (
+pub replace_in-requires : goal.replace_in-requires
+replace_in-requires g t c κs inside = let m = records c.args.store.now in let p = c.args.at.node in
+    let k = c.args.at.k in let high = c.if-at-eq0.false in
+    let can = above m c.args.at.height p k c.requires.change high in
+    let fits = fit m c.args.at.height p c.args.line high c.requires.fits in (
       omega (arith, c.decreases),
       (
         inside,
         (
-          can-child m (c.args.height - 1) p k can c.find_at-found.result c.find_at-found.ensures.found,
-          child-fits m (c.args.height - 1) p k can c.find_at-found.result c.find_at-found.ensures.found c.args.line
+          can-child m (c.args.at.height - 1) p k can c.find_at-found.result c.find_at-found.ensures.found,
+          child-fits m (c.args.at.height - 1) p k can c.find_at-found.result c.find_at-found.ensures.found c.args.line
               fits,
         ),
       ),
@@ -94,66 +94,66 @@ replace_in-exchange-requires g t c κs inside = let m = records c.args.store.now
 
 pub exchange_sum-requires-clause-row : goal.exchange_sum-requires-clause-row
 exchange_sum-requires-clause-row g t c = let m = records c.args.store.now in
-    let l = records c.replace_in-exchange.new.store in let p = c.args.node in let k = c.args.k in
-    let sums = c.replace_in-exchange.result in
-    let can = above m c.args.height p k c.requires.change c.if-height-eq0.false in
-    node-row m (c.args.height - 1) p k can c.find_at-found.result c.find_at-found.ensures.found l (λ _. c.args.line)
-    sums.gone sums.more c.replace_in-exchange.ensures.changes
+    let l = records c.replace_in.new.store in let p = c.args.at.node in let k = c.args.at.k in
+    let sums = c.replace_in.new.exchange in
+    let can = above m c.args.at.height p k c.requires.change c.if-at-eq0.false in
+    node-row m (c.args.at.height - 1) p k can c.find_at-found.result c.find_at-found.ensures.found l (λ _. c.args.line)
+    sums.gone sums.more c.replace_in.ensures.changes
 
 pub exchange_sum-requires-clause-sum : goal.exchange_sum-requires-clause-sum
 exchange_sum-requires-clause-sum g t c = let m = records c.args.store.now in
-    let l = records c.replace_in-exchange.new.store in let p = c.args.node in let k = c.args.k in
-    let sums = c.replace_in-exchange.result in let high = c.if-height-eq0.false in
-    let can = above m c.args.height p k c.requires.change high in
-    let fits = fit m c.args.height p c.args.line high c.requires.fits in
-    change-sum m (c.args.height - 1) p k can c.find_at-found.result c.find_at-found.ensures.found c.args.line fits l
-    sums.gone sums.more c.replace_in-exchange.ensures.changes c.replace_in-exchange.ensures.more
+    let l = records c.replace_in.new.store in let p = c.args.at.node in let k = c.args.at.k in
+    let sums = c.replace_in.new.exchange in let high = c.if-at-eq0.false in
+    let can = above m c.args.at.height p k c.requires.change high in
+    let fits = fit m c.args.at.height p c.args.line high c.requires.fits in
+    change-sum m (c.args.at.height - 1) p k can c.find_at-found.result c.find_at-found.ensures.found c.args.line fits l
+    sums.gone sums.more c.replace_in.ensures.changes c.replace_in.ensures.more
 
 pub exchange_sum-requires-clause-fits : goal.exchange_sum-requires-clause-fits
 exchange_sum-requires-clause-fits g t c = let m = records c.args.store.now in
-    let l = records c.replace_in-exchange.new.store in let p = c.args.node in let k = c.args.k in
-    let sums = c.replace_in-exchange.result in let high = c.if-height-eq0.false in
-    let can = above m c.args.height p k c.requires.change high in
-    let fits = fit m c.args.height p c.args.line high c.requires.fits in
-    change-fits m (c.args.height - 1) p k can c.find_at-found.result c.find_at-found.ensures.found c.args.line fits l
-    sums.gone sums.more c.replace_in-exchange.ensures.changes c.replace_in-exchange.ensures.more
+    let l = records c.replace_in.new.store in let p = c.args.at.node in let k = c.args.at.k in
+    let sums = c.replace_in.new.exchange in let high = c.if-at-eq0.false in
+    let can = above m c.args.at.height p k c.requires.change high in
+    let fits = fit m c.args.at.height p c.args.line high c.requires.fits in
+    change-fits m (c.args.at.height - 1) p k can c.find_at-found.result c.find_at-found.ensures.found c.args.line fits l
+    sums.gone sums.more c.replace_in.ensures.changes c.replace_in.ensures.more
 
 pub exchange_sum-requires-clause-came : goal.exchange_sum-requires-clause-came
 exchange_sum-requires-clause-came g t c = let m = records c.args.store.now in
-    let l = records c.replace_in-exchange.new.store in let p = c.args.node in let k = c.args.k in
-    let sums = c.replace_in-exchange.result in let high = c.if-height-eq0.false in
-    let can = above m c.args.height p k c.requires.change high in
-    let fits = fit m c.args.height p c.args.line high c.requires.fits in
-    within-node m (c.args.height - 1) p k can c.find_at-found.result c.find_at-found.ensures.found c.args.line fits l
-    sums.gone sums.more c.replace_in-exchange.ensures.changes c.replace_in-exchange.ensures.more
+    let l = records c.replace_in.new.store in let p = c.args.at.node in let k = c.args.at.k in
+    let sums = c.replace_in.new.exchange in let high = c.if-at-eq0.false in
+    let can = above m c.args.at.height p k c.requires.change high in
+    let fits = fit m c.args.at.height p c.args.line high c.requires.fits in
+    within-node m (c.args.at.height - 1) p k can c.find_at-found.result c.find_at-found.ensures.found c.args.line fits l
+    sums.gone sums.more c.replace_in.ensures.changes c.replace_in.ensures.more
 
 pub exchange_sum-requires-clause-went : goal.exchange_sum-requires-clause-went
 exchange_sum-requires-clause-went g t c = let m = records c.args.store.now in
-    let l = records c.replace_in-exchange.new.store in let p = c.args.node in let k = c.args.k in
-    let sums = c.replace_in-exchange.result in let high = c.if-height-eq0.false in
-    let can = above m c.args.height p k c.requires.change high in
-    let fits = fit m c.args.height p c.args.line high c.requires.fits in
-    went-node m (c.args.height - 1) p k can c.find_at-found.result c.find_at-found.ensures.found c.args.line fits l
-    sums.gone sums.more c.replace_in-exchange.ensures.changes c.replace_in-exchange.ensures.more
-    c.replace_in-exchange.ensures.went
+    let l = records c.replace_in.new.store in let p = c.args.at.node in let k = c.args.at.k in
+    let sums = c.replace_in.new.exchange in let high = c.if-at-eq0.false in
+    let can = above m c.args.at.height p k c.requires.change high in
+    let fits = fit m c.args.at.height p c.args.line high c.requires.fits in
+    went-node m (c.args.at.height - 1) p k can c.find_at-found.result c.find_at-found.ensures.found c.args.line fits l
+    sums.gone sums.more c.replace_in.ensures.changes c.replace_in.ensures.more
+    c.replace_in.ensures.went
 
 pub returns-clause-went : goal.returns-clause-went
-returns-clause-went g t c = let m = records c.args.store.now in let p = c.args.node in let k = c.args.k in
-    let sums = c.replace_in-exchange.result in let high = c.if-height-eq0.false in
-    let can = above m c.args.height p k c.requires.change high in
-    let fits = fit m c.args.height p c.args.line high c.requires.fits in
-    let e : suc (c.args.height - 1) ≡ c.args.height = omega arith in
+returns-clause-went g t c = let m = records c.args.store.now in let p = c.args.at.node in let k = c.args.at.k in
+    let sums = c.replace_in.new.exchange in let high = c.if-at-eq0.false in
+    let can = above m c.args.at.height p k c.requires.change high in
+    let fits = fit m c.args.at.height p c.args.line high c.requires.fits in
+    let e : suc (c.args.at.height - 1) ≡ c.args.at.height = omega arith in
     subst (λ h. IsWithin sums.gone (total (lines_in m h p))) e
-    (went-above m (c.args.height - 1) p k can c.find_at-found.result c.find_at-found.ensures.found c.args.line fits
-    sums.gone c.replace_in-exchange.ensures.went)
+    (went-above m (c.args.at.height - 1) p k can c.find_at-found.result c.find_at-found.ensures.found c.args.line fits
+    sums.gone c.replace_in.ensures.went)
 
 pub returns-clause-changes : goal.returns-clause-changes
 returns-clause-changes g t c = let m = records c.args.store.now in
-    let l = records c.replace_in-exchange.new.store in let n = records c.exchange_sum.new.store in
-    let p = c.args.node in let k = c.args.k in
-    let sums = c.replace_in-exchange.result in let high = c.if-height-eq0.false in
-    let can = above m c.args.height p k c.requires.change high in
-    let fits = fit m c.args.height p c.args.line high c.requires.fits in
-    back m n c.args.height p k c.args.line sums.gone sums.more high
-    (replaces-node m (c.args.height - 1) p k can c.find_at-found.result c.find_at-found.ensures.found c.args.line fits l
-    sums.gone sums.more c.replace_in-exchange.ensures.changes c.replace_in-exchange.ensures.more n c.exchange_sum.ensures.records)
+    let l = records c.replace_in.new.store in let n = records c.exchange_sum.new.store in
+    let p = c.args.at.node in let k = c.args.at.k in
+    let sums = c.replace_in.new.exchange in let high = c.if-at-eq0.false in
+    let can = above m c.args.at.height p k c.requires.change high in
+    let fits = fit m c.args.at.height p c.args.line high c.requires.fits in
+    back m n c.args.at.height p k c.args.line sums.gone sums.more high
+    (replaces-node m (c.args.at.height - 1) p k can c.find_at-found.result c.find_at-found.ensures.found c.args.line fits l
+    sums.gone sums.more c.replace_in.ensures.changes c.replace_in.ensures.more n c.exchange_sum.ensures.records)

@@ -1,4 +1,5 @@
 use Rattle.std.proofs.Common.{◌≡◌, ℕ, ◌<◌, ◌≢◌, List, length, get_or, sym, ap, subst, ◌∙◌, arith}
+use Rattle.std.specs.List.{insert}
 use Rattle.std.proofs.lemmas.List.{get_or_default}
 use Rattle.text_model.specs.SlotSets.{differing}
 use Rattle.segments.specs.declared.toggles.Toggled.{Toggled}
@@ -78,14 +79,16 @@ returns-in_ok-insert-clause-lie c = λ from to lie above below.
           w.if-index-column.false (sym (column_of entries i w.index.result.now new within w.index.ensures) ∙ is)
       | else-index-len-via-else-index-len w ↦ λ within. absurd (omega (arith, w.if-index-len.false))
     ] in
-    subst (LieIn from to) (sym c.in_ok-insert.ensures.items)
+    subst (LieIn from to) (sym (c.in_ok-insert.ensures.items ∙ ap (λ es. insert es i new) c.make_room.ensures))
     (lies_inserted entries i new new from to (before lie) (behind lie above) above below other)
 
 pub returns-in_ok-insert-clause-slots : goal.returns-in_ok-insert-clause-slots
 returns-in_ok-insert-clause-slots c = λ from to at lie.
-    ap (λ es. toggled_at es at) c.in_ok-insert.ensures.items
-    ∙ flips_inserted c.args.toggles.now.items c.count_before-index.result
-    (record { column = c.args.column; slots = c.args.slots.now }) at
+    let i = c.count_before-index.result in
+    let new : Toggled = record { column = c.args.column; slots = c.args.slots.now } in
+    ap (λ es. toggled_at es at)
+    (c.in_ok-insert.ensures.items ∙ ap (λ es. insert es i new) c.make_room.ensures)
+    ∙ flips_inserted c.args.toggles.now.items i new at
 
 pub returns-else-not-is_empty-clause-slots : goal.returns-else-not-is_empty-clause-slots
 returns-else-not-is_empty-clause-slots c = λ from to at lie.

@@ -25,7 +25,7 @@ replace_in-requires g c = let s = c.self.invariant.0.stands in let was = sym (ap
 pub invariant_of-self : goal.invariant_of-self
 invariant_of-self g c =
     let m = records c.self.inside.store in let n = records c.replace_in.new.store in
-    let h = c.self.inside.height in let r = c.self.inside.root in let sums = c.replace_in.result in
+    let h = c.self.inside.height in let r = c.self.inside.root in let sums = c.replace_in.new.exchange in
     let done = c.replace_in.ensures.changes in let was = sym (ap (λ v. v.lines) c.self.view_is) in
     let place = subst (λ ls. c.args.k < length ls) was c.requires.place in
     let fits = subst (λ s. FitsSum (plus (total (lines_in m h r)) s)) (sym c.replace_in.ensures.more)

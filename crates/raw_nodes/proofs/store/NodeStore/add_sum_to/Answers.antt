@@ -1,0 +1,59 @@
+use Rattle.std.proofs.Common.{◌≡◌, ap, sym, ◌∙◌, subst, arith}
+use Rattle.toggle_sums.specs.Counts.{CountsFit, plus}
+use Rattle.raw_nodes.specs.Links.{link_name}
+use Rattle.raw_nodes.specs.Names.{records}
+use Rattle.raw_nodes.specs.Records.{is_used, record_in}
+use Rattle.raw_nodes.proofs.NameLaws.{in_use, name_place, read_entry, told_entry}
+use mathlib.Core.Bool.{false≢true}
+use Rattle.raw_nodes.proofs.store.NodeStore.add_sum_to.Goals as goal
+
+pub node-requires : goal.node-requires
+unfolding records
+node-requires g c = let h = c.args.self.now.heap in name_place h.places h.values c.args.name h.paired c.requires.name
+
+pub returns-in-Line-clause-value : goal.returns-in-Line-clause-value
+unfolding records
+returns-in-Line-clause-value g c =
+    let h = c.args.self.now.heap in let p = c.args.name in let x = c.node.result.now in let e = c.node.ensures in
+    let old = c.args.sum.now in
+    read_entry h.places h.values p x h.paired c.requires.name e (λ r. c.add.new.self ≡ plus old r.sum)
+    (c.add.ensures ∙ ap (plus old) (c.sum.ensures
+    ∙ sym (ap (λ k. (record_in k (link_name x.parent) x.slot).sum) c.in-Line.is)))
+
+pub returns-in-Inner-clause-value : goal.returns-in-Inner-clause-value
+unfolding records
+returns-in-Inner-clause-value g c =
+    let h = c.args.self.now.heap in let p = c.args.name in let x = c.node.result.now in let e = c.node.ensures in
+    let old = c.args.sum.now in
+    read_entry h.places h.values p x h.paired c.requires.name e (λ r. c.add-in-Inner.new.self ≡ plus old r.sum)
+    (c.add-in-Inner.ensures ∙ ap (plus old) (ap (λ z. z.sum) c.deref.ensures
+    ∙ sym (ap (λ k. (record_in k (link_name x.parent) x.slot).sum) c.in-Inner.is)))
+
+pub returns-in-Spare-clause-value : goal.returns-in-Spare-clause-value
+unfolding records
+returns-in-Spare-clause-value g c =
+    let h = c.args.self.now.heap in let p = c.args.name in let x = c.node.result.now in let e = c.node.ensures in
+    let used = in_use h.places h.values p x h.paired c.requires.name e in
+    read_entry h.places h.values p x h.paired c.requires.name e (λ r. c.args.sum.now ≡ plus c.args.sum.now r.sum)
+    (absurd (false≢true (sym (ap is_used c.in-Spare.is) ∙ used)))
+
+pub add-requires : goal.add-requires
+unfolding records
+add-requires g c =
+    let h = c.args.self.now.heap in let p = c.args.name in let x = c.node.result.now in let e = c.node.ensures in
+    let old = c.args.sum.now in (
+      omega arith,
+      subst (CountsFit old) (ap (λ k. (record_in k (link_name x.parent) x.slot).sum) c.in-Line.is ∙ sym c.sum.ensures)
+          (told_entry h.places h.values p x h.paired c.requires.name e (λ r. CountsFit old r.sum) c.requires.fits),
+    )
+
+pub add-requires-in-Inner : goal.add-requires-in-Inner
+unfolding records
+add-requires-in-Inner g c =
+    let h = c.args.self.now.heap in let p = c.args.name in let x = c.node.result.now in let e = c.node.ensures in
+    let old = c.args.sum.now in (
+      omega arith,
+      subst (CountsFit old) (ap (λ k. (record_in k (link_name x.parent) x.slot).sum) c.in-Inner.is
+          ∙ sym (ap (λ z. z.sum) c.deref.ensures))
+          (told_entry h.places h.values p x h.paired c.requires.name e (λ r. CountsFit old r.sum) c.requires.fits),
+    )
