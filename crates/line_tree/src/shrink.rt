@@ -5,7 +5,7 @@ ghost use Rattle.raw_nodes.specs.Rows.{kids, row};
 ghost use Rattle.line_tree.specs.Finds.{HasRow};
 ghost use Rattle.toggle_sums.specs.Counts.{plus};
 ghost use Rattle.line_tree.specs.Shape.{Links, sum_at};
-ghost use Rattle.line_tree.specs.Changes.{CanEven, CanFill, Evens, Mends, refilled, sum_all};
+ghost use Rattle.line_tree.specs.Changes.{CanEven, CanFill, Evens, Halves, Mends, refilled, shared, sum_all};
 ghost use Rattle.line_tree.specs.Shrinking.{CanMend};
 
 use crate::fill::{lessen, refill, relink, sum_less, sum_of};
@@ -154,6 +154,28 @@ fn sum_halves<C: Ticks>(
     }
 }
 
+/// Gives the first `half` children of two nodes to the left one, and the others to the right one.
+pub fn share<C: Ticks>(
+    store: &mut NodeStore<C>,
+    left: NodePtr,
+    right: NodePtr,
+    half: usize,
+    ticks: &mut C,
+)
+    requires even { CanEven (records store.old) left right }
+    requires half { Halves (length (kids (records store.old) left ++ kids (records store.old) right)) half }
+    ensures records { records store.new ≡ shared (records store.old) left right half }
+    ensures spares { spares store.new ≡ spares store.old }
+    ensures rooms { rooms store.new ≡ rooms store.old }
+{
+    let first = store.children(left);
+    let front = part_pair(store, left, right, 0, half, ticks);
+    let back = part_pair(store, left, right, half, 12, ticks);
+    let (sum_front, sum_back) = sum_halves(store, left, right, first, half, ticks);
+    refill(store, left, first.min(half), &front, sum_front);
+    refill(store, right, 0, &back, sum_back);
+}
+
 /// Gives all children of two nodes to the left one, where it can have them and one more, and else half to each: a node
 /// that one line goes out of and another comes into doesn't merge and split by turns.
 fn even<C: Ticks>(store: &mut NodeStore<C>, left: NodePtr, right: NodePtr, ticks: &mut C) -> bool
@@ -171,12 +193,7 @@ fn even<C: Ticks>(store: &mut NodeStore<C>, left: NodePtr, right: NodePtr, ticks
         refill(store, left, first, &all, sum_left.plus(&sum_right));
         true
     } else {
-        let half = count / 2;
-        let front = part_pair(store, left, right, 0, half, ticks);
-        let back = part_pair(store, left, right, half, count - half, ticks);
-        let (sum_front, sum_back) = sum_halves(store, left, right, first, half, ticks);
-        refill(store, left, first.min(half), &front, sum_front);
-        refill(store, right, 0, &back, sum_back);
+        share(store, left, right, count / 2, ticks);
         false
     }
 }

@@ -1,0 +1,47 @@
+-- What sharing before a line goes in leaves of trees.
+use Rattle.std.specs.Prelude.{◌≡◌, ◌⊎◌, Bool, ℕ, suc, ◌<◌, ◌≤◌, [], ◌∷◌, length, slice_get, IsSome}
+use Rattle.std.specs.Bool.{MatchBool}
+use Rattle.std.specs.FinMap as finite
+use Rattle.std.specs.declared.option.Option.TheVariants.{Some}
+use Rattle.raw_nodes.specs.Records.{Records}
+use Rattle.raw_nodes.specs.Rows.{kids}
+use Rattle.raw_nodes.specs.declared.names.NodePtr.{NodePtr}
+use Rattle.line_tree.specs.Changes.{Among, Shares}
+use Rattle.line_tree.specs.Finds.{HasRow}
+use Rattle.line_tree.specs.Growth.{IsWide}
+use Rattle.line_tree.specs.Shape.{tree_at}
+use Rattle.line_tree.specs.Shrinking.{CanMend, Turns}
+use Rattle.line_tree.specs.Trees.{names}
+
+-- neighbours below p can share their children, and each has six at least
+pub record CanSpread (m : Records) (p : NodePtr) : Type 0 where
+  pub row : HasRow m p
+  pub pairs : CanMend m p
+  pub each : (i : ℕ) (c : NodePtr) → slice_get (kids m p) i ≡ Some c → HasRow m c × (6 ≤ length (kids m c))
+
+-- the children of p in the slot at and in the next one are neighbours, and one of them is that in this slot
+pub record IsPair (m : Records) (p : NodePtr) (slot at : ℕ) : Type 0 where
+  pub near : (at ≡ slot) ⊎ (suc at ≡ slot)
+  pub within : suc at < length (kids m p)
+
+-- two neighbours below p share their children
+pub record Moves (m n : Records) (p : NodePtr) : Type 0 where
+  pub at : ℕ
+  pub left : NodePtr
+  pub right : NodePtr
+  pub is_left : slice_get (kids m p) at ≡ Some left
+  pub is_right : slice_get (kids m p) (suc at) ≡ Some right
+  pub shares : Shares m n left right
+
+-- they do, or nothing is changed
+abbrev pub Spreads : Records → Records → NodePtr → Bool → Type 0
+Spreads m n p moved = MatchBool moved (Moves m n p) (n ≡ m)
+
+-- below p there are the same lines in order and the same names, and p has as many children
+pub record Respreads (m n : Records) (h : ℕ) (p : NodePtr) : Type 0 where
+  pub turns : Turns m n h (tree_at m h p ∷ []) (tree_at n h p ∷ [])
+  pub inside : (q : NodePtr) → Among q (names h (tree_at m h p)) → Among q (names h (tree_at n h p))
+  pub kept : (q : NodePtr) → IsSome (finite.get m q) → IsSome (finite.get n q)
+  pub old : (q : NodePtr) → IsSome (finite.get n q) → IsSome (finite.get m q)
+  pub wide : (least : ℕ) → IsWide least h (tree_at m h p) → IsWide least h (tree_at n h p)
+  pub same : finite.get n p ≡ finite.get m p
