@@ -1,5 +1,5 @@
 -- Two neighbours among the trees below a node, which share their children or become one.
-use Rattle.std.proofs.Common.{◌≡◌, ℕ, suc, ◌+◌, ◌≤◌, inl, inr, List, [], ◌∷◌, ◌++◌, length, take, drop, map, sym, ap}
+use Rattle.std.proofs.Common.{◌≡◌, ℕ, suc, inl, inr, List, [], ◌∷◌, ◌++◌, length, take, drop, map, sym, ap}
 use Rattle.std.proofs.Common.{◌∙◌, subst, arith, length-take, length-drop}
 use Rattle.std.specs.Prelude.{◌≢◌, IsSome, slice_get}
 use Rattle.std.specs.FinMap as finite

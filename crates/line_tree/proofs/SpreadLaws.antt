@@ -1,7 +1,7 @@
 -- Sharing before a line goes in.
-use Rattle.std.proofs.Common.{◌≡◌, ℕ, zero, suc, ◌+◌, ◌<◌, ◌≤◌, inl, inr, List, [], ◌∷◌, ◌++◌, length, take, drop, map, sym}
+use Rattle.std.proofs.Common.{◌≡◌, ℕ, suc, ◌+◌, ◌<◌, ◌≤◌, inl, inr, List, [], ◌∷◌, ◌++◌, length, take, drop, map, sym}
 use Rattle.std.proofs.Common.{ap, ◌∙◌, subst, arith}
-use Rattle.std.specs.Prelude.{Bool, IsSome, false, is_some, slice_get, true}
+use Rattle.std.specs.Prelude.{false, is_some, slice_get}
 use Rattle.std.specs.FinMap as finite
 use Rattle.std.specs.List.{AllByRecursion}
 use Rattle.std.specs.declared.option.Option.{Option}
@@ -17,8 +17,8 @@ use Rattle.line_tree.specs.Changes.{Among, Distinct, FitsSum, refilled}
 use Rattle.line_tree.specs.Growth.{CanInsert, Grows, Inserts, IsWide, lines_of, names_of, trees, with_line}
 use Rattle.line_tree.specs.Shape.{Holds, IsTree, Links, line_of, lines_in, sum_at, sum_of, tree_at}
 use Rattle.line_tree.specs.Shrinking.{Turns}
-use Rattle.line_tree.specs.Spreading.{CanSpread, IsPair, Moves, Respreads, Spreads}
-use Rattle.line_tree.specs.Trees.{IsBalanced, Tree, inner, lines, names, tops, total}
+use Rattle.line_tree.specs.Spreading.{CanSpread, IsPair, Moves, Respreads}
+use Rattle.line_tree.specs.Trees.{IsBalanced, Tree, names, tops, total}
 use Rattle.line_tree.proofs.AmongLaws.{among-or}
 use Rattle.line_tree.proofs.BuildLaws.{trees-is}
 use Rattle.line_tree.proofs.FrameLaws.{holds-same}
@@ -65,7 +65,7 @@ module _ (m : Records) (g : ℕ) (p : NodePtr) (k : ℕ) (x : NodePtr) (can : Ca
     );
   }
 
-  module _ (n : Records) (moves : Moves m n p) where
+  module _ (n : Records) (slot : ℕ) (moves : Moves m n p slot) where
     abbrev left : List (Tree (suc g))
     left = map (tree_at m (suc g)) (take moves.at cs)
 
@@ -188,10 +188,10 @@ module _ (m : Records) (p : NodePtr) (can : CanSpread m p) (slot : ℕ) (child :
   enough = let a = can.each at left at_left in let b = can.each (suc at) right at_right in
       let la = a.1 in let lb = b.1 in
       elim pair.near [
-        | inl e ↦ let same = ap (λ c. length (kids m c))
-            (same_Some left child (sym at_left ∙ ap (slice_get (kids m p)) e ∙ at_child)) in omega arith
-        | inr e ↦ let same = ap (λ c. length (kids m c))
-            (same_Some right child (sym at_right ∙ ap (slice_get (kids m p)) e ∙ at_child)) in omega arith
+        | inl near ↦ let same = ap (λ c. length (kids m c))
+            (same_Some right child (sym at_right ∙ ap (slice_get (kids m p)) near.0 ∙ at_child)) in omega arith
+        | inr near ↦ let same = ap (λ c. length (kids m c))
+            (same_Some left child (sym at_left ∙ ap (slice_get (kids m p)) near.0 ∙ at_child)) in omega arith
       ]
 
   pub not-more : length (kids m left) + length (kids m right) ≤ 24
@@ -277,13 +277,9 @@ module _ (m n : Records) (h : ℕ) (p : NodePtr) (k : ℕ) (x : NodePtr) (can : 
     link = keeps-after m n u p r.same ins.link;
   }
 
-pub len-moves : (m n : Records) (p : NodePtr) → Moves m n p → finite.len n ≡ finite.len m
-len-moves m n p moves = let a = moves.left in let b = moves.right in let all = kids m a ++ kids m b in
+pub len-moves : (m n : Records) (p : NodePtr) (slot : ℕ) → Moves m n p slot → finite.len n ≡ finite.len m
+len-moves m n p slot moves = let a = moves.left in let b = moves.right in let all = kids m a ++ kids m b in
     let half = moves.shares.half in
     ap finite.len moves.shares.same
     ∙ len-refilled (refilled m a (row (take half all))) b (row (drop half all))
     ∙ len-refilled m a (row (take half all))
-
-pub len-spreads : (m n : Records) (p : NodePtr) (moved : Bool) → Spreads m n p moved → finite.len n ≡ finite.len m
-len-spreads m n p true moves = len-moves m n p moves
-len-spreads m n p false same = ap finite.len same

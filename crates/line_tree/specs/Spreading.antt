@@ -19,23 +19,34 @@ pub record CanSpread (m : Records) (p : NodePtr) : Type 0 where
   pub pairs : CanMend m p
   pub each : (i : ℕ) (c : NodePtr) → slice_get (kids m p) i ≡ Some c → HasRow m c × (6 ≤ length (kids m c))
 
--- the children of p in the slot at and in the next one are neighbours, and one of them is that in this slot
+-- a child stands in this slot of p, and has room for one more
+pub record IsRoomy (m : Records) (p : NodePtr) (i : ℕ) : Type 0 where
+  pub child : NodePtr
+  pub is : slice_get (kids m p) i ≡ Some child
+  pub few : length (kids m child) < 12
+
+-- no child beside the one in this slot has
+abbrev pub IsHemmed : Records → NodePtr → ℕ → Type 0
+IsHemmed m p slot = (i : ℕ) → (suc i ≡ slot) ⊎ (i ≡ suc slot) → IsRoomy m p i → ⊥
+
+-- of the children of p in the slot at and in the next one, one is that in this slot, and the other has room
 pub record IsPair (m : Records) (p : NodePtr) (slot at : ℕ) : Type 0 where
-  pub near : (at ≡ slot) ⊎ (suc at ≡ slot)
+  pub near : ((suc at ≡ slot) × IsRoomy m p at) ⊎ ((at ≡ slot) × IsRoomy m p (suc at))
   pub within : suc at < length (kids m p)
 
--- two neighbours below p share their children
-pub record Moves (m n : Records) (p : NodePtr) : Type 0 where
+-- the child in this slot of p and a neighbour that has room share their children
+pub record Moves (m n : Records) (p : NodePtr) (slot : ℕ) : Type 0 where
   pub at : ℕ
+  pub pair : IsPair m p slot at
   pub left : NodePtr
   pub right : NodePtr
   pub is_left : slice_get (kids m p) at ≡ Some left
   pub is_right : slice_get (kids m p) (suc at) ≡ Some right
   pub shares : Shares m n left right
 
--- they do, or nothing is changed
-abbrev pub Spreads : Records → Records → NodePtr → Bool → Type 0
-Spreads m n p moved = MatchBool moved (Moves m n p) (n ≡ m)
+-- they do where that child has no room and one beside it has; else nothing is changed
+abbrev pub Spreads : Records → Records → NodePtr → ℕ → Bool → Type 0
+Spreads m n p slot moved = MatchBool moved (Moves m n p slot) ((n ≡ m) × (IsRoomy m p slot ⊎ IsHemmed m p slot))
 
 -- below p there are the same lines in order and the same names, and p has as many children
 pub record Respreads (m n : Records) (h : ℕ) (p : NodePtr) : Type 0 where

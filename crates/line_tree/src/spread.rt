@@ -1,9 +1,9 @@
-ghost use Rattle.std.specs.Prelude.{◌≡◌, ◌<◌, ◌≤◌, IfSome, length, slice_get, true, false, Some};
+ghost use Rattle.std.specs.Prelude.{◌≡◌, ◌<◌, ◌≤◌, IfSome, length, slice_get, true, false, Some, None};
 ghost use Rattle.raw_nodes.specs.Names.{records, rooms, spares};
 ghost use Rattle.raw_nodes.specs.Rows.{kids};
 ghost use Rattle.line_tree.specs.Changes.{Halves};
 ghost use Rattle.line_tree.specs.Finds.{HasRow};
-ghost use Rattle.line_tree.specs.Spreading.{CanSpread, IsPair, Spreads};
+ghost use Rattle.line_tree.specs.Spreading.{CanSpread, IsHemmed, IsPair, IsRoomy, Spreads};
 
 use crate::find::Found;
 use crate::shrink::{kid, share};
@@ -18,6 +18,19 @@ fn has_room<C: Ticks>(store: &NodeStore<C>, node: NodePtr, ticks: &mut C) -> boo
     kid(store, node, 11, ticks).is_none()
 }
 
+/// Whether a child stands in a slot, and has room for one more.
+fn is_roomy<C: Ticks>(store: &NodeStore<C>, node: NodePtr, slot: usize, ticks: &mut C) -> bool
+    requires spread { CanSpread (records store.now) node }
+    requires slot { slot < 12 }
+    ensures yes { result ≡ true → IsRoomy (records store.now) node slot }
+    ensures no { result ≡ false → IsRoomy (records store.now) node slot → ⊥ }
+{
+    match kid(store, node, slot, ticks) {
+        Some(child) => has_room(store, child, ticks),
+        None => false,
+    }
+}
+
 /// The slot of the left one of two neighbours, of which one stands in a slot and the other has room: the one on its
 /// left, if there is one and it has, else the one on its right.
 fn neighbours<C: Ticks>(
@@ -28,22 +41,22 @@ fn neighbours<C: Ticks>(
 ) -> Option<usize>
     requires spread { CanSpread (records store.now) node }
     requires slot { slot < length (kids (records store.now) node) }
-    ensures { IfSome result (IsPair (records store.now) node slot) }
+    ensures some { IfSome result (IsPair (records store.now) node slot) }
+    ensures none { result ≡ None → IsHemmed (records store.now) node slot }
 {
     if slot > 0 {
-        let left = kid(store, node, slot - 1, ticks).unwrap();
-        if has_room(store, left, ticks) {
+        if is_roomy(store, node, slot - 1, ticks) {
             return Some(slot - 1);
         }
     }
-    if slot < 11 {
-        if let Some(right) = kid(store, node, slot + 1, ticks) {
-            if has_room(store, right, ticks) {
-                return Some(slot);
-            }
-        }
+    if slot >= 11 {
+        return None;
     }
-    None
+    if is_roomy(store, node, slot + 1, ticks) {
+        Some(slot)
+    } else {
+        None
+    }
 }
 
 /// How many of the children of two neighbours the left one gets, so that room is where a new one goes. The full one may
@@ -71,7 +84,7 @@ pub fn spread<C: Ticks>(
 ) -> bool
     requires spread { CanSpread (records store.old) node }
     requires child { slice_get (kids (records store.old) node) found.now.slot ≡ Some found.now.child }
-    ensures spreads { Spreads (records store.old) (records store.new) node result }
+    ensures spreads { Spreads (records store.old) (records store.new) node found.now.slot result }
     ensures spares { spares store.new ≡ spares store.old }
     ensures rooms { rooms store.new ≡ rooms store.old }
 {

@@ -1,4 +1,4 @@
-use Rattle.std.proofs.Common.{◌≡◌, ◌+◌, ℕ, ◌++◌, ◌∙◌, refl, sym, ap, suc, arith, subst, length, length-append, Some}
+use Rattle.std.proofs.Common.{◌≡◌, ◌+◌, ℕ, ◌++◌, ◌∙◌, inl, inr, refl, sym, ap, suc, arith, subst, length, length-append}
 use Rattle.std.specs.Prelude.{IsSome, slice_get}
 use Rattle.std.proofs.lemmas.Option.{slice_get-get_or, slice_get_within}
 use Rattle.raw_nodes.specs.Names.{records}
@@ -16,12 +16,12 @@ neighbours-requires-clause-slot g c = slice_get_within (kids (records c.args.sto
     c.args.found.now.slot c.args.found.now.child c.requires.child
 
 pub unwrap-left-requires : goal.unwrap-left-requires
-unwrap-left-requires g c = let cs = kids (records c.args.store.now) c.args.node in let w = c.in-Some.ensures.within in
+unwrap-left-requires g c = let cs = kids (records c.args.store.now) c.args.node in let w = c.in-Some.ensures.some.within in
     subst (λ o. IsSome o) (sym (c.kid.ensures ∙ slice_get-get_or cs c.in-Some.at c.args.node (omega arith))) refl
 
 pub unwrap-right-requires : goal.unwrap-right-requires
 unwrap-right-requires g c = let cs = kids (records c.args.store.now) c.args.node in
-    let w = c.in-Some.ensures.within in
+    let w = c.in-Some.ensures.some.within in
     subst (λ o. IsSome o) (sym (c.kid-2.ensures
     ∙ slice_get-get_or cs (c.in-Some.at + 1) c.args.node (omega arith))) refl
 
@@ -34,7 +34,7 @@ overflow_add-count g c = let m = records c.args.store.now in let cs = kids m c.a
     let na = count-row m left c.children.result (can.each at left at_left).0 c.children.ensures in
     let nb = count-row m right c.children-2.result (can.each (suc at) right at_right).0 c.children-2.ensures in
     let most = not-more m c.args.node can c.args.found.now.slot c.args.found.now.child c.requires.child
-    (c.has_room.ensures.none c.if-has_room.false) at c.in-Some.ensures left right at_left at_right in
+    (c.has_room.ensures.none c.if-has_room.false) at c.in-Some.ensures.some left right at_left at_right in
     omega arith
 
 pub left_part-half-requires-clause-low : goal.left_part-half-requires-clause-low
@@ -46,7 +46,7 @@ left_part-half-requires-clause-low g c = let m = records c.args.store.now in let
     let na = count-row m left c.children.result (can.each at left at_left).0 c.children.ensures in
     let nb = count-row m right c.children-2.result (can.each (suc at) right at_right).0 c.children-2.ensures in
     let least = enough m c.args.node can c.args.found.now.slot c.args.found.now.child c.requires.child
-    (c.has_room.ensures.none c.if-has_room.false) at c.in-Some.ensures left right at_left at_right in
+    (c.has_room.ensures.none c.if-has_room.false) at c.in-Some.ensures.some left right at_left at_right in
     omega arith
 
 pub left_part-half-requires-clause-high : goal.left_part-half-requires-clause-high
@@ -58,7 +58,7 @@ left_part-half-requires-clause-high g c = let m = records c.args.store.now in le
     let na = count-row m left c.children.result (can.each at left at_left).0 c.children.ensures in
     let nb = count-row m right c.children-2.result (can.each (suc at) right at_right).0 c.children-2.ensures in
     let most = not-more m c.args.node can c.args.found.now.slot c.args.found.now.child c.requires.child
-    (c.has_room.ensures.none c.if-has_room.false) at c.in-Some.ensures left right at_left at_right in
+    (c.has_room.ensures.none c.if-has_room.false) at c.in-Some.ensures.some left right at_left at_right in
     omega arith
 
 pub share-requires-clause-even : goal.share-requires-clause-even
@@ -94,6 +94,7 @@ returns-clause-spreads g c = let m = records c.args.store.now in let cs = kids m
     let n = length-append (kids m left) (kids m right) in
     record {
       at = at;
+      pair = c.in-Some.ensures.some;
       left = left;
       right = right;
       is_left = at_left;
@@ -105,3 +106,17 @@ returns-clause-spreads g c = let m = records c.args.store.now in let cs = kids m
         same = c.share.ensures.records;
       };
     }
+
+pub returns-then-has_room-clause-spreads : goal.returns-then-has_room-clause-spreads
+returns-then-has_room-clause-spreads g c = (
+  (λ _. records c.args.store.now),
+  inl (record {
+    child = c.args.found.now.child;
+    is = c.requires.child;
+    few = c.has_room.ensures.some c.if-has_room.true;
+  }),
+)
+
+pub returns-in_default-clause-spreads : goal.returns-in_default-clause-spreads
+returns-in_default-clause-spreads g c =
+    ((λ _. records c.args.store.now), inr (c.neighbours.ensures.none c.in_default.is))
