@@ -1,13 +1,13 @@
 -- Sharing before a line goes in.
-use Rattle.std.proofs.Common.{◌≡◌, ℕ, suc, ◌+◌, ◌<◌, ◌≤◌, inl, inr, List, [], ◌∷◌, ◌++◌, length, take, drop, map, sym}
+use Rattle.std.proofs.Common.{◌≡◌, ℕ, suc, ◌+◌, ◌-◌, ◌<◌, ◌≤◌, inl, inr, List, [], ◌∷◌, ◌++◌, length, take, drop, map, sym}
 use Rattle.std.proofs.Common.{ap, ◌∙◌, subst, arith}
-use Rattle.std.specs.Prelude.{false, is_some, slice_get}
+use Rattle.std.specs.Prelude.{false, is_some, slice_get, true}
 use Rattle.std.specs.FinMap as finite
 use Rattle.std.specs.List.{AllByRecursion}
 use Rattle.std.specs.declared.option.Option.{Option}
 use Rattle.std.specs.declared.option.Option.TheVariants.{None, Some}
 use Rattle.std.proofs.lemmas.List.{append-nil, length-map}
-use Rattle.std.proofs.lemmas.Option.{same_Some}
+use Rattle.std.proofs.lemmas.Option.{same_Some, slice_get_within}
 use mathlib.Core.Bool.{false≢true}
 use Rattle.toggle_sums.specs.Counts.{plus}
 use Rattle.raw_nodes.specs.Records.{Records}
@@ -176,12 +176,18 @@ module _ (m : Records) (g : ℕ) (p : NodePtr) (k : ℕ) (x : NodePtr) (can : Ca
     }
 
 -- ---- a full child and a neighbour
-pub room-some : (cs : List NodePtr) (o : Option NodePtr) → o ≡ slice_get cs 11 → is_some o ≡ false → length cs < 12
-room-some cs None e n = let few = past cs 11 (sym e) in omega arith
-room-some cs (Some c) e n = absurd (false≢true (sym n))
+pub room-some : (cs : List NodePtr) (o : Option NodePtr) (room : ℕ) → o ≡ slice_get cs (12 - room) → room ≤ 12 →
+    is_some o ≡ false → length cs + room ≤ 12
+room-some cs None room e small n = let few = past cs (12 - room) (sym e) in omega arith
+room-some cs (Some c) room e small n = absurd (false≢true (sym n))
+
+pub room-none : (cs : List NodePtr) (o : Option NodePtr) (room : ℕ) → o ≡ slice_get cs (12 - room) → room ≤ 12 →
+    is_some o ≡ true → 12 < length cs + room
+room-none cs None room e small n = absurd (false≢true n)
+room-none cs (Some c) room e small n = let more = slice_get_within cs (12 - room) c (sym e) in omega arith
 
 module _ (m : Records) (p : NodePtr) (can : CanSpread m p) (slot : ℕ) (child : NodePtr)
-    (at_child : slice_get (kids m p) slot ≡ Some child) (full : length (kids m child) ≡ 12) (at : ℕ)
+    (at_child : slice_get (kids m p) slot ≡ Some child) (full : 12 < length (kids m child) + 1) (at : ℕ)
     (pair : IsPair m p slot at) (left right : NodePtr) (at_left : slice_get (kids m p) at ≡ Some left)
     (at_right : slice_get (kids m p) (suc at) ≡ Some right) where
   pub enough : 18 ≤ length (kids m left) + length (kids m right)

@@ -1,5 +1,5 @@
 -- What sharing before a line goes in leaves of trees.
-use Rattle.std.specs.Prelude.{◌≡◌, ◌⊎◌, Bool, ℕ, suc, ◌<◌, ◌≤◌, [], ◌∷◌, length, slice_get, IsSome}
+use Rattle.std.specs.Prelude.{◌≡◌, ◌⊎◌, Bool, ℕ, suc, ◌+◌, ◌<◌, ◌≤◌, [], ◌∷◌, length, slice_get, IsSome}
 use Rattle.std.specs.Bool.{MatchBool}
 use Rattle.std.specs.FinMap as finite
 use Rattle.std.specs.declared.option.Option.TheVariants.{Some}
@@ -12,6 +12,7 @@ use Rattle.line_tree.specs.Growth.{IsWide}
 use Rattle.line_tree.specs.Shape.{tree_at}
 use Rattle.line_tree.specs.Shrinking.{CanMend, Turns}
 use Rattle.line_tree.specs.Trees.{names}
+use Rattle.line_tree.specs.declared.find.Found.{Found}
 
 -- neighbours below p can share their children, and each has six at least
 pub record CanSpread (m : Records) (p : NodePtr) : Type 0 where
@@ -19,11 +20,11 @@ pub record CanSpread (m : Records) (p : NodePtr) : Type 0 where
   pub pairs : CanMend m p
   pub each : (i : ℕ) (c : NodePtr) → slice_get (kids m p) i ≡ Some c → HasRow m c × (6 ≤ length (kids m c))
 
--- a child stands in this slot of p, and has room for one more
+-- a child stands in this slot of p, and has room for four more
 pub record IsRoomy (m : Records) (p : NodePtr) (i : ℕ) : Type 0 where
   pub child : NodePtr
   pub is : slice_get (kids m p) i ≡ Some child
-  pub few : length (kids m child) < 12
+  pub few : length (kids m child) + 4 ≤ 12
 
 -- no child beside the one in this slot has
 abbrev pub IsHemmed : Records → NodePtr → ℕ → Type 0
@@ -44,9 +45,10 @@ pub record Moves (m n : Records) (p : NodePtr) (slot : ℕ) : Type 0 where
   pub is_right : slice_get (kids m p) (suc at) ≡ Some right
   pub shares : Shares m n left right
 
--- they do where that child has no room and one beside it has; else nothing is changed
-abbrev pub Spreads : Records → Records → NodePtr → ℕ → Bool → Type 0
-Spreads m n p slot moved = MatchBool moved (Moves m n p slot) ((n ≡ m) × (IsRoomy m p slot ⊎ IsHemmed m p slot))
+-- they do where the child that was found is full and one beside it has room; else nothing is changed
+abbrev pub Spreads : Records → Records → NodePtr → Found → Bool → Type 0
+Spreads m n p f moved =
+    MatchBool moved (Moves m n p f.slot) ((n ≡ m) × ((length (kids m f.child) < 12) ⊎ IsHemmed m p f.slot))
 
 -- below p there are the same lines in order and the same names, and p has as many children
 pub record Respreads (m n : Records) (h : ℕ) (p : NodePtr) : Type 0 where

@@ -42,7 +42,7 @@ fn lead<C: Ticks>(store: &NodeStore<C>, node: NodePtr, k: usize, ticks: &mut C) 
     }
 }
 
-/// The same, once a full child has shared with a neighbour that has room.
+/// The same, once a full child has shared with a neighbour that has room, if there is one.
 fn lead_to_room<C: Ticks>(
     store: &mut NodeStore<C>,
     node: NodePtr,
@@ -61,7 +61,7 @@ fn lead_to_room<C: Ticks>(
     ensures len { finite.len (records store.new) ≡ finite.len (records store.old) }
 {
     let found = lead(store, node, k, ticks);
-    if spread(store, node, &found, ticks) {
+    if spread(store, node, &found, added.behind.is_some(), ticks) {
         return lead(store, node, k, ticks);
     }
     found

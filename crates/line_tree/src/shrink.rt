@@ -117,39 +117,39 @@ fn part_pair<C: Ticks>(
     part
 }
 
-/// What is counted of the first `half` children of two nodes, and of the others. The left one has `first` of them now;
-/// only those that change sides are looked at, and which slots are toggled is asked of those that stay, where some are
-/// in what goes.
+/// What is counted of the first `half` children of two nodes, and of the others. Of those only the ones that change
+/// sides are looked at; which slots are toggled is asked of those that stay where some went, if some are in what went.
 fn sum_halves<C: Ticks>(
     store: &NodeStore<C>,
     left: NodePtr,
     right: NodePtr,
-    first: usize,
     half: usize,
+    stay: &[Option<NodePtr>; 12],
     ticks: &mut C,
 ) -> (Sums<WORDS>, Sums<WORDS>)
     requires even { CanEven (records store.now) left right }
-    requires first { first ≡ length (kids (records store.now) left) }
     requires half { half ≤ 12 }
-    requires rest { length (kids (records store.now) left ++ kids (records store.now) right) ≤ half + 12 }
+    requires back { length (kids (records store.now) left) < half
+        → stay.now ≡ row (drop half (kids (records store.now) left ++ kids (records store.now) right)) }
+    requires front { half ≤ length (kids (records store.now) left)
+        → stay.now ≡ row (take half (kids (records store.now) left ++ kids (records store.now) right)) }
     ensures first { result.0 ≡ sum_all (records store.now)
         (take half (kids (records store.now) left ++ kids (records store.now) right)) }
     ensures last { result.1 ≡ sum_all (records store.now)
         (drop half (kids (records store.now) left ++ kids (records store.now) right)) }
 {
+    let first = store.children(left);
     let sum_left = store.sum(left, ticks);
     let sum_right = store.sum(right, ticks);
     if first < half {
         let moved = part_pair(store, left, right, first, half - first, ticks);
-        let behind = part_pair(store, left, right, half, 12, ticks);
         let sum = sum_of(store, &moved, ticks);
-        let rest = sum_less(store, &behind, &sum_right, &sum, ticks);
+        let rest = sum_less(store, stay, &sum_right, &sum, ticks);
         (sum_left.plus(&sum), rest)
     } else {
-        let front = part_pair(store, left, right, 0, half, ticks);
         let moved = part_pair(store, left, right, half, first - half, ticks);
         let sum = sum_of(store, &moved, ticks);
-        let rest = sum_less(store, &front, &sum_left, &sum, ticks);
+        let rest = sum_less(store, stay, &sum_left, &sum, ticks);
         (rest, sum.plus(&sum_right))
     }
 }
@@ -171,7 +171,8 @@ pub fn share<C: Ticks>(
     let first = store.children(left);
     let front = part_pair(store, left, right, 0, half, ticks);
     let back = part_pair(store, left, right, half, 12, ticks);
-    let (sum_front, sum_back) = sum_halves(store, left, right, first, half, ticks);
+    let stay = if first < half { &back } else { &front };
+    let (sum_front, sum_back) = sum_halves(store, left, right, half, stay, ticks);
     refill(store, left, first.min(half), &front, sum_front);
     refill(store, right, 0, &back, sum_back);
 }

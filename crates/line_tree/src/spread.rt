@@ -1,4 +1,4 @@
-ghost use Rattle.std.specs.Prelude.{◌≡◌, ◌<◌, ◌≤◌, IfSome, length, slice_get, true, false, Some, None};
+ghost use Rattle.std.specs.Prelude.{◌≡◌, ◌+◌, ◌<◌, ◌≤◌, IfSome, length, slice_get, true, false, Some, None};
 ghost use Rattle.raw_nodes.specs.Names.{records, rooms, spares};
 ghost use Rattle.raw_nodes.specs.Rows.{kids};
 ghost use Rattle.line_tree.specs.Changes.{Halves};
@@ -9,16 +9,21 @@ use crate::find::Found;
 use crate::shrink::{kid, share};
 use raw_nodes::{NodePtr, NodeStore, Ticks};
 
-/// Whether a node has room for one more child.
-fn has_room<C: Ticks>(store: &NodeStore<C>, node: NodePtr, ticks: &mut C) -> bool
-    requires { HasRow (records store.now) node }
-    ensures some { result ≡ true → length (kids (records store.now) node) < 12 }
-    ensures none { result ≡ false → length (kids (records store.now) node) ≡ 12 }
+/// How much room a neighbour has at least that shares: so that both have some then, and each share moves a few at once.
+const ROOM: usize = 4;
+
+/// Whether a node has room for so many more children.
+fn has_room<C: Ticks>(store: &NodeStore<C>, node: NodePtr, room: usize, ticks: &mut C) -> bool
+    requires row { HasRow (records store.now) node }
+    requires some { 0 < room }
+    requires few { room ≤ 12 }
+    ensures yes { result ≡ true → length (kids (records store.now) node) + room ≤ 12 }
+    ensures no { result ≡ false → 12 < length (kids (records store.now) node) + room }
 {
-    kid(store, node, 11, ticks).is_none()
+    kid(store, node, 12 - room, ticks).is_none()
 }
 
-/// Whether a child stands in a slot, and has room for one more.
+/// Whether a child stands in a slot, and has room for four more.
 fn is_roomy<C: Ticks>(store: &NodeStore<C>, node: NodePtr, slot: usize, ticks: &mut C) -> bool
     requires spread { CanSpread (records store.now) node }
     requires slot { slot < 12 }
@@ -26,7 +31,7 @@ fn is_roomy<C: Ticks>(store: &NodeStore<C>, node: NodePtr, slot: usize, ticks: &
     ensures no { result ≡ false → IsRoomy (records store.now) node slot → ⊥ }
 {
     match kid(store, node, slot, ticks) {
-        Some(child) => has_room(store, child, ticks),
+        Some(child) => has_room(store, child, ROOM, ticks),
         None => false,
     }
 }
@@ -59,36 +64,32 @@ fn neighbours<C: Ticks>(
     }
 }
 
-/// How many of the children of two neighbours the left one gets, so that room is where a new one goes. The full one may
-/// be the right one, and the new one may go into its later half: so lines that are put in one behind the other leave
-/// full nodes behind.
-fn left_part(count: usize, is_right: bool, is_late: bool) -> usize
+/// How many of the children of two neighbours the left one gets: half, or all that it can have.
+fn left_part(count: usize, fills: bool) -> usize
     requires low { 18 ≤ count }
     requires high { count ≤ 24 }
     ensures { Halves count result }
 {
-    match (is_right, is_late) {
-        (true, true) => 12,
-        (true, false) => count - count / 2,
-        (false, true) => count / 2,
-        (false, false) => count - 12,
-    }
+    if fills { 12 } else { count / 2 }
 }
 
-/// Where a child of a node is full and one beside it isn't, the two share their children.
+/// Where the found child of a node is full and one beside it has room, the two share their children. Where lines come in
+/// order, and the next one goes into the later half of that child, the one on its left is filled: so they leave full
+/// nodes behind.
 pub fn spread<C: Ticks>(
     store: &mut NodeStore<C>,
     node: NodePtr,
     found: &Found,
+    in_order: bool,
     ticks: &mut C,
 ) -> bool
     requires spread { CanSpread (records store.old) node }
     requires child { slice_get (kids (records store.old) node) found.now.slot ≡ Some found.now.child }
-    ensures spreads { Spreads (records store.old) (records store.new) node found.now.slot result }
+    ensures spreads { Spreads (records store.old) (records store.new) node found.now result }
     ensures spares { spares store.new ≡ spares store.old }
     ensures rooms { rooms store.new ≡ rooms store.old }
 {
-    if has_room(store, found.child, ticks) {
+    if has_room(store, found.child, 1, ticks) {
         return false;
     }
     let Some(at) = neighbours(store, node, found.slot, ticks) else {
@@ -97,7 +98,8 @@ pub fn spread<C: Ticks>(
     let left = kid(store, node, at, ticks).unwrap();
     let right = kid(store, node, at + 1, ticks).unwrap();
     let count = store.children(left) + store.children(right);
-    let half = left_part(count, at < found.slot, found.rest > found.lines / 2);
+    let fills = in_order && at < found.slot && found.rest > found.lines / 2;
+    let half = left_part(count, fills);
     share(store, left, right, half, ticks);
     true
 }

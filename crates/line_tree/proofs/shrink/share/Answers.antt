@@ -9,16 +9,13 @@ use Rattle.line_tree.proofs.EvenLaws.{back-sums, fill-back, fill-front, kept-par
 use Rattle.line_tree.proofs.FillLaws.{sums-row}
 use Rattle.line_tree.proofs.KeptLaws.{take-short}
 use Rattle.line_tree.proofs.PutLaws.{count-row}
+use Rattle.line_tree.proofs.shrink.share.Goals.{then-first-half, else-first-half}
 use Rattle.line_tree.proofs.shrink.share.Goals as goal
 
 -- the others are twelve at most
 rest : (all : List NodePtr) (half : ℕ) → length all ≤ half + 12 → row (take 12 (drop half all)) ≡ row (drop half all)
 rest all half few = let n = length-drop half all in let h : length (drop half all) ≤ 12 = omega arith in
     ap row (take_all 12 (drop half all) h)
-
-pub sum_halves-sum_front-requires-clause-first : goal.sum_halves-sum_front-requires-clause-first
-sum_halves-sum_front-requires-clause-first g c =
-    count-row (records c.args.store.now) c.args.left c.children-first.result c.requires.even.left c.children-first.ensures
 
 pub refill-requires : goal.refill-requires
 refill-requires g c = let m = records c.args.store.now in let a = c.args.left in let b = c.args.right in
@@ -57,3 +54,11 @@ returns-clause-records g c = let m = records c.args.store.now in let a = c.args.
     ∙ ap (refilled m a) c.part_pair-front.ensures)
     ∙ ap (refilled (refilled m a (row (take half all))) b)
     (c.part_pair-back.ensures ∙ rest all half c.requires.half.rest_high)
+
+pub sum_halves-sum_front-requires-clause-front : goal.sum_halves-sum_front-requires-clause-front
+sum_halves-sum_front-requires-clause-front g c = λ more. let m = records c.args.store.now in
+    let na = count-row m c.args.left c.children-first.result c.requires.even.left c.children-first.ensures in
+    elim c.if-first-half.branch [
+      | then-first-half w ↦ let less = w.if-first-half.true in absurd (omega arith)
+      | else-first-half w ↦ ap (λ s. s.now) w.stay-is ∙ c.part_pair-front.ensures
+    ]

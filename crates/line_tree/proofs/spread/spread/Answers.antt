@@ -8,8 +8,8 @@ use Rattle.line_tree.proofs.PutLaws.{count-row}
 use Rattle.line_tree.proofs.SpreadLaws.{enough, not-more}
 use Rattle.line_tree.proofs.spread.spread.Goals as goal
 
-pub has_room-requires : goal.has_room-requires
-has_room-requires g c = (c.requires.spread.each c.args.found.now.slot c.args.found.now.child c.requires.child).0
+pub has_room-requires-clause-row : goal.has_room-requires-clause-row
+has_room-requires-clause-row g c = (c.requires.spread.each c.args.found.now.slot c.args.found.now.child c.requires.child).0
 
 pub neighbours-requires-clause-slot : goal.neighbours-requires-clause-slot
 neighbours-requires-clause-slot g c = slice_get_within (kids (records c.args.store.now) c.args.node)
@@ -34,7 +34,7 @@ overflow_add-count g c = let m = records c.args.store.now in let cs = kids m c.a
     let na = count-row m left c.children.result (can.each at left at_left).0 c.children.ensures in
     let nb = count-row m right c.children-2.result (can.each (suc at) right at_right).0 c.children-2.ensures in
     let most = not-more m c.args.node can c.args.found.now.slot c.args.found.now.child c.requires.child
-    (c.has_room.ensures.none c.if-has_room.false) at c.in-Some.ensures.some left right at_left at_right in
+    (c.has_room.ensures.no c.if-has_room.false) at c.in-Some.ensures.some left right at_left at_right in
     omega arith
 
 pub left_part-half-requires-clause-low : goal.left_part-half-requires-clause-low
@@ -46,7 +46,7 @@ left_part-half-requires-clause-low g c = let m = records c.args.store.now in let
     let na = count-row m left c.children.result (can.each at left at_left).0 c.children.ensures in
     let nb = count-row m right c.children-2.result (can.each (suc at) right at_right).0 c.children-2.ensures in
     let least = enough m c.args.node can c.args.found.now.slot c.args.found.now.child c.requires.child
-    (c.has_room.ensures.none c.if-has_room.false) at c.in-Some.ensures.some left right at_left at_right in
+    (c.has_room.ensures.no c.if-has_room.false) at c.in-Some.ensures.some left right at_left at_right in
     omega arith
 
 pub left_part-half-requires-clause-high : goal.left_part-half-requires-clause-high
@@ -58,7 +58,7 @@ left_part-half-requires-clause-high g c = let m = records c.args.store.now in le
     let na = count-row m left c.children.result (can.each at left at_left).0 c.children.ensures in
     let nb = count-row m right c.children-2.result (can.each (suc at) right at_right).0 c.children-2.ensures in
     let most = not-more m c.args.node can c.args.found.now.slot c.args.found.now.child c.requires.child
-    (c.has_room.ensures.none c.if-has_room.false) at c.in-Some.ensures.some left right at_left at_right in
+    (c.has_room.ensures.no c.if-has_room.false) at c.in-Some.ensures.some left right at_left at_right in
     omega arith
 
 pub share-requires-clause-even : goal.share-requires-clause-even
@@ -108,14 +108,8 @@ returns-clause-spreads g c = let m = records c.args.store.now in let cs = kids m
     }
 
 pub returns-then-has_room-clause-spreads : goal.returns-then-has_room-clause-spreads
-returns-then-has_room-clause-spreads g c = (
-  (λ _. records c.args.store.now),
-  inl (record {
-    child = c.args.found.now.child;
-    is = c.requires.child;
-    few = c.has_room.ensures.some c.if-has_room.true;
-  }),
-)
+returns-then-has_room-clause-spreads g c = let few = c.has_room.ensures.yes c.if-has_room.true in
+    ((λ _. records c.args.store.now), inl (omega arith))
 
 pub returns-in_default-clause-spreads : goal.returns-in_default-clause-spreads
 returns-in_default-clause-spreads g c =
