@@ -1,14 +1,14 @@
-ghost use Rattle.std.specs.Prelude.{◌≡◌, ◌+◌, ◌≤◌, ◌<◌, ◌++◌, length, slice_get, take, drop, Some};
+ghost use Rattle.std.specs.Prelude.{◌≡◌, ◌+◌, ◌≤◌, ◌<◌, ◌++◌, length, slice_get, slice_index_or, take, drop, IfSome, None, Some};
 ghost use Rattle.std.specs.List.{remove};
-ghost use Rattle.raw_nodes.specs.Names.{records, rooms, spares};
+ghost use Rattle.raw_nodes.specs.Names.{IsName, entry, records, rooms, spares};
 ghost use Rattle.raw_nodes.specs.Rows.{kids, row};
 ghost use Rattle.line_tree.specs.Finds.{HasRow};
 ghost use Rattle.toggle_sums.specs.Counts.{plus};
 ghost use Rattle.line_tree.specs.Shape.{Links, sum_at};
-ghost use Rattle.line_tree.specs.Changes.{CanEven, CanFill, Evens, Halves, Mends, refilled, shared, sum_all};
+ghost use Rattle.line_tree.specs.Changes.{CanEven, CanFill, Evens, Halves, Mends, refilled, relinked, shared, sum_all};
 ghost use Rattle.line_tree.specs.Shrinking.{CanMend};
 
-use crate::fill::{lessen, refill, relink, sum_less, sum_of};
+use crate::fill::{lessen, link, refill, sum_less, sum_of};
 use raw_nodes::{NodePtr, NodeStore, Ticks};
 use text_model::WORDS;
 use toggle_sums::{Summary, Sums};
@@ -25,46 +25,6 @@ pub fn kid<C: Ticks>(
     ensures { result ≡ slice_get (kids (records store.now) node) i }
 {
     store.child(node, i, ticks)
-}
-
-/// Number `i` of a node's children without one of them.
-fn pick_without<C: Ticks>(
-    store: &NodeStore<C>,
-    node: NodePtr,
-    slot: usize,
-    i: usize,
-    ticks: &mut C,
-) -> Option<NodePtr>
-    requires row { HasRow (records store.now) node }
-    requires slot { slot < length (kids (records store.now) node) }
-    requires index { i < 12 }
-    ensures { result ≡ slice_get (remove (kids (records store.now) node) slot) i }
-{
-    if i < slot {
-        store.child(node, i, ticks)
-    } else if i < 11 {
-        store.child(node, i + 1, ticks)
-    } else {
-        None
-    }
-}
-
-/// A node's children without one of them.
-pub fn part_without<C: Ticks>(
-    store: &NodeStore<C>,
-    node: NodePtr,
-    slot: usize,
-    ticks: &mut C,
-) -> [Option<NodePtr>; 12]
-    requires row { HasRow (records store.now) node }
-    requires slot { slot < length (kids (records store.now) node) }
-    ensures { result ≡ row (remove (kids (records store.now) node) slot) }
-{
-    let mut part = [None; 12];
-    for i in 0..12 {
-        part[i] = pick_without(store, node, slot, i, ticks);
-    }
-    part
 }
 
 /// Number `i` of the children of two nodes, of which the left one has so many.
@@ -238,6 +198,46 @@ pub fn sum_in<C: Ticks>(
     store.sum(child, ticks)
 }
 
+/// The child in the slot behind one, if there is one.
+fn kid_behind<C: Ticks>(
+    store: &NodeStore<C>,
+    node: NodePtr,
+    slot: usize,
+    ticks: &mut C,
+) -> Option<NodePtr>
+    requires name { IsName store.now node }
+    requires long { IfSome (entry store.now node) (λ r. length r.children ≡ 12) }
+    requires slot { slot < 12 }
+    ensures { IfSome (entry store.now node) (λ r. result ≡ slice_index_or r.children (slot + 1) None) }
+{
+    if slot < 11 {
+        store.child(node, slot + 1, ticks)
+    } else {
+        None
+    }
+}
+
+/// Puts each child behind a slot of a node one slot back, so that the one in the slot stands there no more.
+fn close<C: Ticks>(store: &mut NodeStore<C>, node: NodePtr, slot: usize, ticks: &mut C)
+    requires row { HasRow (records store.old) node }
+    requires links { Links (records store.old) node 0 (kids (records store.old) node) }
+    requires slot { slot < length (kids (records store.old) node) }
+    requires fill { CanFill (records store.old) node (remove (kids (records store.old) node) slot) }
+    ensures records { records store.new
+        ≡ relinked (records store.old) node 0 (row (remove (kids (records store.old) node) slot)) }
+    ensures spares { spares store.new ≡ spares store.old }
+    ensures rooms { rooms store.new ≡ rooms store.old }
+{
+    let mut at = slot;
+    let mut next = kid_behind(store, node, at, ticks);
+    while let Some(child) = next {
+        link(store, node, at, Some(child));
+        at += 1;
+        next = kid_behind(store, node, at, ticks);
+    }
+    link(store, node, at, None);
+}
+
 /// Takes a child out of a node, below which stands so much less then. Those before it stay where they are.
 pub fn drop_child<C: Ticks>(
     store: &mut NodeStore<C>,
@@ -259,8 +259,7 @@ pub fn drop_child<C: Ticks>(
     ensures rooms { rooms store.new ≡ rooms store.old }
 {
     let gone = kid(store, node, slot, ticks).unwrap();
-    let others = part_without(store, node, slot, ticks);
-    relink(store, node, slot, &others);
+    close(store, node, slot, ticks);
     lessen(store, node, less, ticks);
     gone
 }
