@@ -1,4 +1,5 @@
-ghost use Rattle.std.specs.Prelude.{◌≡◌, ◌+◌, ◌≤◌, ◌<◌, ◌++◌, length, slice_get, slice_index_or, take, drop, IfSome, None, Some};
+ghost use Rattle.std.specs.Prelude.{◌≡◌, ◌+◌, ◌≤◌, ◌<◌, ◌++◌, length, slice_get, slice_index_or, take, drop};
+ghost use Rattle.std.specs.Prelude.{IfSome, None, Some};
 ghost use Rattle.std.specs.List.{remove};
 ghost use Rattle.raw_nodes.specs.Names.{IsName, entry, records, rooms, spares};
 ghost use Rattle.raw_nodes.specs.Rows.{kids, row};

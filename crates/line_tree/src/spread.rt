@@ -73,8 +73,8 @@ fn left_part(count: usize, fills: bool) -> usize
     if fills { 12 } else { count / 2 }
 }
 
-/// Where the found child of a node is full and one beside it has room, the two share their children. Where lines come in
-/// order, and the next one goes into the later half of that child, the one on its left is filled: so they leave full
+/// Where the found child of a node is full and one beside it has room, the two share their children. Where lines come
+/// in order, and the next one goes into the later half of that child, the one on its left is filled: so they leave full
 /// nodes behind.
 pub fn spread<C: Ticks>(
     store: &mut NodeStore<C>,

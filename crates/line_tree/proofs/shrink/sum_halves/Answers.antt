@@ -78,32 +78,36 @@ sum_of-sum-requires-clause-fits g c = let m = records c.args.store.now in
 
 pub sum_less-rest-requires-clause-nodes : goal.sum_less-rest-requires-clause-nodes
 sum_less-rest-requires-clause-nodes g c = let m = records c.args.store.now in
+    let na = count-row m c.args.left c.children-first.result c.requires.even.left c.children-first.ensures in
+    let back = c.requires.back (shorter (length (kids m c.args.left)) c.children-first.result c.args.half na
+    c.if-first-half.true) in
     let all = kids m c.args.left ++ kids m c.args.right in
     named-part m c.args.left c.args.right c.requires.even (drop c.args.half all) (λ d a. among-drop d c.args.half all a)
-    c.args.stay.now (c.requires.back (shorter (length (kids (records c.args.store.now) c.args.left)) c.children-first.result c.args.half
-    (count-row (records c.args.store.now) c.args.left c.children-first.result c.requires.even.left
-    c.children-first.ensures) c.if-first-half.true))
+    c.args.stay.now back
 
 pub sum_less-rest-requires-clause-sum : goal.sum_less-rest-requires-clause-sum
-sum_less-rest-requires-clause-sum g c = let m = records c.args.store.now in let a = c.args.left in
+sum_less-rest-requires-clause-sum g c = let m = records c.args.store.now in
+    let na = count-row m c.args.left c.children-first.result c.requires.even.left c.children-first.ensures in
+    let back = c.requires.back (shorter (length (kids m c.args.left)) c.children-first.result c.args.half na
+    c.if-first-half.true) in
+    let a = c.args.left in
     let b = c.args.right in let all = kids m a ++ kids m b in let first = c.children-first.result in let half = c.args.half in
-    let rest = ap (sums m) (c.requires.back (shorter (length (kids (records c.args.store.now) c.args.left)) c.children-first.result c.args.half
-    (count-row (records c.args.store.now) c.args.left c.children-first.result c.requires.even.left
-    c.children-first.ensures) c.if-first-half.true))
+    let rest = ap (sums m) back
     ∙ sums-row m (drop half all) in
     let moved = moved_is m (take (half - first) (drop first all)) c.part_pair-moved.result c.sum_of-sum.result
     c.part_pair-moved.ensures c.sum_of-sum.ensures in
-    (λ i. plus (rest i) (moved i)) ∙ right-rest m (kids m a) (kids m b) first half (count-row (records c.args.store.now) c.args.left c.children-first.result c.requires.even.left
-    c.children-first.ensures)
+    (λ i. plus (rest i) (moved i)) ∙ right-rest m (kids m a) (kids m b) first half na
     (omega (arith, c.if-first-half.true))
     ∙ sym (right_is m a b c.sum-sum_right.result c.requires.even c.sum-sum_right.ensures.value)
 
 pub sum_less-rest-requires-clause-fits : goal.sum_less-rest-requires-clause-fits
-sum_less-rest-requires-clause-fits g c = let m = records c.args.store.now in let a = c.args.left in
+sum_less-rest-requires-clause-fits g c = let m = records c.args.store.now in
+    let na = count-row m c.args.left c.children-first.result c.requires.even.left c.children-first.ensures in
+    let back = c.requires.back (shorter (length (kids m c.args.left)) c.children-first.result c.args.half na
+    c.if-first-half.true) in
+    let a = c.args.left in
     let b = c.args.right in let all = kids m a ++ kids m b in let half = c.args.half in
-    row-fits m (drop half all) c.args.stay.now (c.requires.back (shorter (length (kids (records c.args.store.now) c.args.left)) c.children-first.result c.args.half
-    (count-row (records c.args.store.now) c.args.left c.children-first.result c.requires.even.left
-    c.children-first.ensures) c.if-first-half.true))
+    row-fits m (drop half all) c.args.stay.now back
     (fits-right (sum_all m (take half all)) (sum_all m (drop half all)) (halves m a b c.requires.even half))
 
 -- the sum of the first
@@ -114,12 +118,13 @@ grown m a b first half s moved is less left more =
     (λ i. plus (left i) (more i)) ∙ left-more m (kids m a) (kids m b) first half is less
 
 pub plus-requires : goal.plus-requires
-plus-requires g c = let m = records c.args.store.now in let a = c.args.left in let b = c.args.right in
+plus-requires g c = let m = records c.args.store.now in
+    let na = count-row m c.args.left c.children-first.result c.requires.even.left c.children-first.ensures in
+    let a = c.args.left in let b = c.args.right in
     let all = kids m a ++ kids m b in let first = c.children-first.result in let half = c.args.half in
     let moved = moved_is m (take (half - first) (drop first all)) c.part_pair-moved.result c.sum_of-sum.result
     c.part_pair-moved.ensures c.sum_of-sum.ensures in
-    let now = grown m a b first half c.sum-sum_left.result c.sum_of-sum.result (count-row (records c.args.store.now) c.args.left c.children-first.result c.requires.even.left
-    c.children-first.ensures)
+    let now = grown m a b first half c.sum-sum_left.result c.sum_of-sum.result na
     (omega (arith, c.if-first-half.true))
     (left_is m a b c.sum-sum_left.result c.requires.even c.sum-sum_left.ensures.value) moved in (
       omega arith,
@@ -129,21 +134,23 @@ plus-requires g c = let m = records c.args.store.now in let a = c.args.left in l
     )
 
 pub returns-then-first-half-clause-first : goal.returns-then-first-half-clause-first
-returns-then-first-half-clause-first g c = let m = records c.args.store.now in let a = c.args.left in
+returns-then-first-half-clause-first g c = let m = records c.args.store.now in
+    let na = count-row m c.args.left c.children-first.result c.requires.even.left c.children-first.ensures in
+    let a = c.args.left in
     let b = c.args.right in let all = kids m a ++ kids m b in let first = c.children-first.result in let half = c.args.half in
     let moved = moved_is m (take (half - first) (drop first all)) c.part_pair-moved.result c.sum_of-sum.result
     c.part_pair-moved.ensures c.sum_of-sum.ensures in
-    c.plus.ensures ∙ grown m a b first half c.sum-sum_left.result c.sum_of-sum.result (count-row (records c.args.store.now) c.args.left c.children-first.result c.requires.even.left
-    c.children-first.ensures)
+    c.plus.ensures ∙ grown m a b first half c.sum-sum_left.result c.sum_of-sum.result na
     (omega (arith, c.if-first-half.true))
     (left_is m a b c.sum-sum_left.result c.requires.even c.sum-sum_left.ensures.value) moved
 
 pub returns-then-first-half-clause-last : goal.returns-then-first-half-clause-last
 returns-then-first-half-clause-last g c = let m = records c.args.store.now in
+    let na = count-row m c.args.left c.children-first.result c.requires.even.left c.children-first.ensures in
+    let back = c.requires.back (shorter (length (kids m c.args.left)) c.children-first.result c.args.half na
+    c.if-first-half.true) in
     let all = kids m c.args.left ++ kids m c.args.right in
-    c.sum_less-rest.ensures ∙ ap (sums m) (c.requires.back (shorter (length (kids (records c.args.store.now) c.args.left)) c.children-first.result c.args.half
-    (count-row (records c.args.store.now) c.args.left c.children-first.result c.requires.even.left
-    c.children-first.ensures) c.if-first-half.true))
+    c.sum_less-rest.ensures ∙ ap (sums m) back
     ∙ sums-row m (drop c.args.half all)
 
 -- ---- to the right
@@ -163,32 +170,36 @@ sum_of-sum-requires-else-first-half-clause-fits g c = let m = records c.args.sto
 
 pub sum_less-rest-requires-else-first-half-clause-nodes : goal.sum_less-rest-requires-else-first-half-clause-nodes
 sum_less-rest-requires-else-first-half-clause-nodes g c = let m = records c.args.store.now in
+    let na = count-row m c.args.left c.children-first.result c.requires.even.left c.children-first.ensures in
+    let front = c.requires.front (longer (length (kids m c.args.left)) c.children-first.result c.args.half na
+    c.if-first-half.false) in
     let all = kids m c.args.left ++ kids m c.args.right in
     named-part m c.args.left c.args.right c.requires.even (take c.args.half all) (λ d a. among-take d c.args.half all a)
-    c.args.stay.now (c.requires.front (longer (length (kids (records c.args.store.now) c.args.left)) c.children-first.result c.args.half
-    (count-row (records c.args.store.now) c.args.left c.children-first.result c.requires.even.left
-    c.children-first.ensures) c.if-first-half.false))
+    c.args.stay.now front
 
 pub sum_less-rest-requires-else-first-half-clause-sum : goal.sum_less-rest-requires-else-first-half-clause-sum
-sum_less-rest-requires-else-first-half-clause-sum g c = let m = records c.args.store.now in let a = c.args.left in
+sum_less-rest-requires-else-first-half-clause-sum g c = let m = records c.args.store.now in
+    let na = count-row m c.args.left c.children-first.result c.requires.even.left c.children-first.ensures in
+    let front = c.requires.front (longer (length (kids m c.args.left)) c.children-first.result c.args.half na
+    c.if-first-half.false) in
+    let a = c.args.left in
     let b = c.args.right in let all = kids m a ++ kids m b in let first = c.children-first.result in let half = c.args.half in
-    let rest = ap (sums m) (c.requires.front (longer (length (kids (records c.args.store.now) c.args.left)) c.children-first.result c.args.half
-    (count-row (records c.args.store.now) c.args.left c.children-first.result c.requires.even.left
-    c.children-first.ensures) c.if-first-half.false)) ∙ sums-row m (take half all) in
+    let rest = ap (sums m) front ∙ sums-row m (take half all) in
     let moved = moved_is m (take (first - half) (drop half all)) c.part_pair-moved-else-first-half.result
     c.sum_of-sum-else-first-half.result c.part_pair-moved-else-first-half.ensures
     c.sum_of-sum-else-first-half.ensures in
-    (λ i. plus (rest i) (moved i)) ∙ left-rest m (kids m a) (kids m b) first half (count-row (records c.args.store.now) c.args.left c.children-first.result c.requires.even.left
-    c.children-first.ensures)
+    (λ i. plus (rest i) (moved i)) ∙ left-rest m (kids m a) (kids m b) first half na
     (omega (arith, c.if-first-half.false))
     ∙ sym (left_is m a b c.sum-sum_left.result c.requires.even c.sum-sum_left.ensures.value)
 
 pub sum_less-rest-requires-else-first-half-clause-fits : goal.sum_less-rest-requires-else-first-half-clause-fits
-sum_less-rest-requires-else-first-half-clause-fits g c = let m = records c.args.store.now in let a = c.args.left in
+sum_less-rest-requires-else-first-half-clause-fits g c = let m = records c.args.store.now in
+    let na = count-row m c.args.left c.children-first.result c.requires.even.left c.children-first.ensures in
+    let front = c.requires.front (longer (length (kids m c.args.left)) c.children-first.result c.args.half na
+    c.if-first-half.false) in
+    let a = c.args.left in
     let b = c.args.right in let all = kids m a ++ kids m b in let half = c.args.half in
-    row-fits m (take half all) c.args.stay.now (c.requires.front (longer (length (kids (records c.args.store.now) c.args.left)) c.children-first.result c.args.half
-    (count-row (records c.args.store.now) c.args.left c.children-first.result c.requires.even.left
-    c.children-first.ensures) c.if-first-half.false))
+    row-fits m (take half all) c.args.stay.now front
     (fits-left (sum_all m (take half all)) (sum_all m (drop half all)) (halves m a b c.requires.even half))
 
 -- the sum of the last
@@ -199,13 +210,14 @@ lengthened m a b first half s moved is less right more =
     (λ i. plus (more i) (right i)) ∙ right-more m (kids m a) (kids m b) first half is less
 
 pub plus-requires-else-first-half : goal.plus-requires-else-first-half
-plus-requires-else-first-half g c = let m = records c.args.store.now in let a = c.args.left in let b = c.args.right in
+plus-requires-else-first-half g c = let m = records c.args.store.now in
+    let na = count-row m c.args.left c.children-first.result c.requires.even.left c.children-first.ensures in
+    let a = c.args.left in let b = c.args.right in
     let all = kids m a ++ kids m b in let first = c.children-first.result in let half = c.args.half in
     let moved = moved_is m (take (first - half) (drop half all)) c.part_pair-moved-else-first-half.result
     c.sum_of-sum-else-first-half.result c.part_pair-moved-else-first-half.ensures
     c.sum_of-sum-else-first-half.ensures in
-    let now = lengthened m a b first half c.sum-sum_right.result c.sum_of-sum-else-first-half.result (count-row (records c.args.store.now) c.args.left c.children-first.result c.requires.even.left
-    c.children-first.ensures)
+    let now = lengthened m a b first half c.sum-sum_right.result c.sum_of-sum-else-first-half.result na
     (omega (arith, c.if-first-half.false))
     (right_is m a b c.sum-sum_right.result c.requires.even c.sum-sum_right.ensures.value) moved in (
       omega arith,
@@ -216,18 +228,20 @@ plus-requires-else-first-half g c = let m = records c.args.store.now in let a = 
 
 pub returns-else-first-half-clause-first : goal.returns-else-first-half-clause-first
 returns-else-first-half-clause-first g c = let m = records c.args.store.now in
+    let na = count-row m c.args.left c.children-first.result c.requires.even.left c.children-first.ensures in
+    let front = c.requires.front (longer (length (kids m c.args.left)) c.children-first.result c.args.half na
+    c.if-first-half.false) in
     let all = kids m c.args.left ++ kids m c.args.right in
-    c.sum_less-rest-else-first-half.ensures ∙ ap (sums m) (c.requires.front (longer (length (kids (records c.args.store.now) c.args.left)) c.children-first.result c.args.half
-    (count-row (records c.args.store.now) c.args.left c.children-first.result c.requires.even.left
-    c.children-first.ensures) c.if-first-half.false)) ∙ sums-row m (take c.args.half all)
+    c.sum_less-rest-else-first-half.ensures ∙ ap (sums m) front ∙ sums-row m (take c.args.half all)
 
 pub returns-else-first-half-clause-last : goal.returns-else-first-half-clause-last
-returns-else-first-half-clause-last g c = let m = records c.args.store.now in let a = c.args.left in
+returns-else-first-half-clause-last g c = let m = records c.args.store.now in
+    let na = count-row m c.args.left c.children-first.result c.requires.even.left c.children-first.ensures in
+    let a = c.args.left in
     let b = c.args.right in let all = kids m a ++ kids m b in let first = c.children-first.result in let half = c.args.half in
     let moved = moved_is m (take (first - half) (drop half all)) c.part_pair-moved-else-first-half.result
     c.sum_of-sum-else-first-half.result c.part_pair-moved-else-first-half.ensures
     c.sum_of-sum-else-first-half.ensures in
     c.plus-else-first-half.ensures ∙ lengthened m a b first half c.sum-sum_right.result
-    c.sum_of-sum-else-first-half.result (count-row (records c.args.store.now) c.args.left c.children-first.result c.requires.even.left
-    c.children-first.ensures) (omega (arith, c.if-first-half.false))
+    c.sum_of-sum-else-first-half.result na (omega (arith, c.if-first-half.false))
     (right_is m a b c.sum-sum_right.result c.requires.even c.sum-sum_right.ensures.value) moved
