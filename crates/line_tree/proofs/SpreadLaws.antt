@@ -1,7 +1,7 @@
 -- Sharing before a line goes in.
 use Rattle.std.proofs.Common.{◌≡◌, ℕ, suc, ◌+◌, ◌-◌, ◌<◌, ◌≤◌, inl, inr, List, [], ◌∷◌, ◌++◌, length, take, drop, map, sym}
 use Rattle.std.proofs.Common.{ap, ◌∙◌, subst, arith}
-use Rattle.std.specs.Prelude.{false, is_some, slice_get, true}
+use Rattle.std.specs.Prelude.{false, is_some, slice_get, true, Bool}
 use Rattle.std.specs.FinMap as finite
 use Rattle.std.specs.List.{AllByRecursion}
 use Rattle.std.specs.declared.option.Option.{Option}
@@ -13,11 +13,12 @@ use Rattle.toggle_sums.specs.Counts.{plus}
 use Rattle.raw_nodes.specs.Records.{Records}
 use Rattle.raw_nodes.specs.Rows.{kids, kids_of, row}
 use Rattle.raw_nodes.specs.declared.names.NodePtr.{NodePtr}
-use Rattle.line_tree.specs.Changes.{Among, Distinct, FitsSum, refilled}
+use Rattle.line_tree.specs.Changes.{Among, Distinct, FitsSum, Halves, refilled}
 use Rattle.line_tree.specs.Growth.{CanInsert, Grows, Inserts, IsWide, lines_of, names_of, trees, with_line}
 use Rattle.line_tree.specs.Shape.{Holds, IsTree, Links, line_of, lines_in, sum_at, sum_of, tree_at}
 use Rattle.line_tree.specs.Shrinking.{Turns}
-use Rattle.line_tree.specs.Spreading.{CanSpread, IsPair, Moves, Respreads}
+use Rattle.line_tree.specs.Spreading.{CanSpread, IsPair, Moves, Respreads, first_part}
+use Rattle.line_tree.specs.declared.find.Found.{Found}
 use Rattle.line_tree.specs.Trees.{IsBalanced, Tree, names, tops, total}
 use Rattle.line_tree.proofs.AmongLaws.{among-or}
 use Rattle.line_tree.proofs.BuildLaws.{trees-is}
@@ -65,7 +66,7 @@ module _ (m : Records) (g : ℕ) (p : NodePtr) (k : ℕ) (x : NodePtr) (can : Ca
     );
   }
 
-  module _ (n : Records) (slot : ℕ) (moves : Moves m n p slot) where
+  module _ (n : Records) (f : Found) (in_order : Bool) (moves : Moves m n p f in_order) where
     abbrev left : List (Tree (suc g))
     left = map (tree_at m (suc g)) (take moves.at cs)
 
@@ -203,6 +204,13 @@ module _ (m : Records) (p : NodePtr) (can : CanSpread m p) (slot : ℕ) (child :
   pub not-more : length (kids m left) + length (kids m right) ≤ 24
   not-more = let a = (can.each at left at_left).0.few in let b = (can.each (suc at) right at_right).0.few in omega arith
 
+-- neither gets too few or too many
+pub halves-first : (count : ℕ) (filled : Bool) → 18 ≤ count → count ≤ 24 → Halves count (first_part count filled)
+halves-first count true low high =
+    record { low = omega arith; high = omega arith; rest_low = omega arith; rest_high = omega arith }
+halves-first count false low high =
+    record { low = omega arith; high = omega arith; rest_low = omega arith; rest_high = omega arith }
+
 -- nothing is changed
 pub unmoved : (m : Records) (h : ℕ) (p : NodePtr) (k : ℕ) (x : NodePtr) → CanInsert m h p k x → Respreads m m h p
 unmoved m h p k x can = record {
@@ -283,8 +291,8 @@ module _ (m n : Records) (h : ℕ) (p : NodePtr) (k : ℕ) (x : NodePtr) (can : 
     link = keeps-after m n u p r.same ins.link;
   }
 
-pub len-moves : (m n : Records) (p : NodePtr) (slot : ℕ) → Moves m n p slot → finite.len n ≡ finite.len m
-len-moves m n p slot moves = let a = moves.left in let b = moves.right in let all = kids m a ++ kids m b in
+pub len-moves : (m n : Records) (p : NodePtr) (f : Found) (in_order : Bool) → Moves m n p f in_order → finite.len n ≡ finite.len m
+len-moves m n p f in_order moves = let a = moves.left in let b = moves.right in let all = kids m a ++ kids m b in
     let half = moves.shares.half in
     ap finite.len moves.shares.same
     ∙ len-refilled (refilled m a (row (take half all))) b (row (drop half all))

@@ -1,6 +1,7 @@
 -- What sharing before a line goes in leaves of trees.
-use Rattle.std.specs.Prelude.{◌≡◌, ◌⊎◌, Bool, ℕ, suc, ◌+◌, ◌<◌, ◌≤◌, [], ◌∷◌, length, slice_get, IsSome}
+use Rattle.std.specs.Prelude.{◌≡◌, ◌⊎◌, Bool, ℕ, suc, ◌+◌, ◌/◌, ◌++◌, ◌<◌, ◌≤◌, [], ◌∷◌, length, slice_get, IsSome}
 use Rattle.std.specs.Bool.{MatchBool}
+use Rattle.std.specs.Prelude.{false, if◌then◌else◌, nat_lt}
 use Rattle.std.specs.FinMap as finite
 use Rattle.std.specs.declared.option.Option.TheVariants.{Some}
 use Rattle.raw_nodes.specs.Records.{Records}
@@ -35,20 +36,31 @@ pub record IsPair (m : Records) (p : NodePtr) (slot at : ℕ) : Type 0 where
   pub near : ((suc at ≡ slot) × IsRoomy m p at) ⊎ ((at ≡ slot) × IsRoomy m p (suc at))
   pub within : suc at < length (kids m p)
 
--- the child in this slot of p and a neighbour that has room share their children
-pub record Moves (m n : Records) (p : NodePtr) (slot : ℕ) : Type 0 where
+-- whether the left one of the two gets all that it can have: where lines come in order, and line number f.rest of the
+-- right one is in its later half
+abbrev pub is_filled : Found → ℕ → Bool → Bool
+is_filled f at in_order =
+    if in_order then (if nat_lt at f.slot then nat_lt (f.lines / 2) f.rest else false) else false
+
+-- how many of so many children it gets
+abbrev pub first_part : ℕ → Bool → ℕ
+first_part count filled = if filled then 12 else count / 2
+
+-- the child that was found below p and a neighbour that has room share their children
+pub record Moves (m n : Records) (p : NodePtr) (f : Found) (in_order : Bool) : Type 0 where
   pub at : ℕ
-  pub pair : IsPair m p slot at
+  pub pair : IsPair m p f.slot at
   pub left : NodePtr
   pub right : NodePtr
   pub is_left : slice_get (kids m p) at ≡ Some left
   pub is_right : slice_get (kids m p) (suc at) ≡ Some right
   pub shares : Shares m n left right
+  pub half : shares.half ≡ first_part (length (kids m left ++ kids m right)) (is_filled f at in_order)
 
 -- they do where the child that was found is full and one beside it has room; else nothing is changed
-abbrev pub Spreads : Records → Records → NodePtr → Found → Bool → Type 0
-Spreads m n p f moved =
-    MatchBool moved (Moves m n p f.slot) ((n ≡ m) × ((length (kids m f.child) < 12) ⊎ IsHemmed m p f.slot))
+abbrev pub Spreads : Records → Records → NodePtr → Found → Bool → Bool → Type 0
+Spreads m n p f in_order moved =
+    MatchBool moved (Moves m n p f in_order) ((n ≡ m) × ((length (kids m f.child) < 12) ⊎ IsHemmed m p f.slot))
 
 -- below p there are the same lines in order and the same names, and p has as many children
 pub record Respreads (m n : Records) (h : ℕ) (p : NodePtr) : Type 0 where

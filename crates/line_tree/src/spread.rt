@@ -1,9 +1,8 @@
 ghost use Rattle.std.specs.Prelude.{◌≡◌, ◌+◌, ◌<◌, ◌≤◌, IfSome, length, slice_get, true, false, Some, None};
 ghost use Rattle.raw_nodes.specs.Names.{records, rooms, spares};
 ghost use Rattle.raw_nodes.specs.Rows.{kids};
-ghost use Rattle.line_tree.specs.Changes.{Halves};
 ghost use Rattle.line_tree.specs.Finds.{HasRow};
-ghost use Rattle.line_tree.specs.Spreading.{CanSpread, IsHemmed, IsPair, IsRoomy, Spreads};
+ghost use Rattle.line_tree.specs.Spreading.{CanSpread, IsHemmed, IsPair, IsRoomy, Spreads, first_part, is_filled};
 
 use crate::find::Found;
 use crate::shrink::{kid, share};
@@ -64,11 +63,17 @@ fn neighbours<C: Ticks>(
     }
 }
 
-/// How many of the children of two neighbours the left one gets: half, or all that it can have.
+/// Whether the left one of two neighbours gets all that it can have: where lines come in order, and the next one goes
+/// into the later half of the right one.
+fn fills(found: &Found, at: usize, in_order: bool) -> bool
+    ensures { result ≡ is_filled found.now at in_order }
+{
+    in_order && at < found.slot && found.lines / 2 < found.rest
+}
+
+/// How many of the children of two neighbours the left one gets.
 fn left_part(count: usize, fills: bool) -> usize
-    requires low { 18 ≤ count }
-    requires high { count ≤ 24 }
-    ensures { Halves count result }
+    ensures { result ≡ first_part count fills }
 {
     if fills { 12 } else { count / 2 }
 }
@@ -85,7 +90,7 @@ pub fn spread<C: Ticks>(
 ) -> bool
     requires spread { CanSpread (records store.old) node }
     requires child { slice_get (kids (records store.old) node) found.now.slot ≡ Some found.now.child }
-    ensures spreads { Spreads (records store.old) (records store.new) node found.now result }
+    ensures spreads { Spreads (records store.old) (records store.new) node found.now in_order result }
     ensures spares { spares store.new ≡ spares store.old }
     ensures rooms { rooms store.new ≡ rooms store.old }
 {
@@ -98,8 +103,7 @@ pub fn spread<C: Ticks>(
     let left = kid(store, node, at, ticks).unwrap();
     let right = kid(store, node, at + 1, ticks).unwrap();
     let count = store.children(left) + store.children(right);
-    let fills = in_order && at < found.slot && found.rest > found.lines / 2;
-    let half = left_part(count, fills);
+    let half = left_part(count, fills(found, at, in_order));
     share(store, left, right, half, ticks);
     true
 }
