@@ -19,7 +19,7 @@ use Rattle.line_tree.specs.Finds.{HasRow}
 use Rattle.line_tree.specs.Shape.{Links, sum_at}
 use Rattle.line_tree.proofs.AmongLaws.{among-cases, among-drop, among-get, among-take, get-among}
 use Rattle.line_tree.proofs.FillLaws.{refilled-other, refilled-sum, row-some, sum_all-append, sum_all-same, sums-row}
-use Rattle.line_tree.proofs.KeptLaws.{kept-row}
+use Rattle.line_tree.proofs.KeptLaws.{kept-front, kept-row}
 use Rattle.line_tree.proofs.SumLaws.{fits-left, fits-right}
 use Rattle.line_tree.proofs.UpdateLaws.{named-refilled}
 
@@ -51,6 +51,12 @@ pub kept-all : (m : Records) (p : NodePtr) (n : ℕ) → HasRow m p → Links m 
 kept-all m p n has links e = let ks = kids m p in
     kept-row m p has links ks [] [] ks (sym (append-nil ks)) (sym (append-nil ks))
     ∙ ap (λ i. relinked m p i (drop i (row ks))) (sym e)
+
+-- where the first ones are those of the left one
+pub kept-part : (m : Records) (a b : NodePtr) → CanEven m a b → (n : ℕ) (cs : List NodePtr) → n ≤ length (kids m a) →
+    take n cs ≡ take n (kids m a) → (os : List (Option NodePtr)) → os ≡ row cs → Stay m a n os
+kept-part m a b can n cs within front os is =
+    subst (Stay m a n) (sym is) (kept-front m a can.left can.links n cs within front)
 
 module _ (m : Records) (a b : NodePtr) (can : CanEven m a b) where
   abbrev both : List NodePtr

@@ -1,5 +1,5 @@
 -- An insertion at a node, from the insertion at its child.
-use Rattle.std.proofs.Common.{◌≡◌, ℕ, zero, suc, ◌+◌, ◌≤◌, inl, inr, List, [], ◌∷◌, ◌++◌, length, take, drop, map, refl}
+use Rattle.std.proofs.Common.{◌≡◌, ℕ, zero, suc, ◌+◌, ◌<◌, ◌≤◌, inl, inr, List, [], ◌∷◌, ◌++◌, length, take, drop, map, refl}
 use Rattle.std.proofs.Common.{sym, ap, ◌∙◌, subst, arith}
 use Rattle.std.specs.Prelude.{◌≢◌, IsSome, option_to_list, slice_get}
 use Rattle.std.specs.FinMap as finite
@@ -18,7 +18,7 @@ use Rattle.raw_nodes.specs.Rows.{kids, kids_of, row}
 use Rattle.raw_nodes.specs.declared.names.NodePtr.{NodePtr}
 use Rattle.raw_nodes.proofs.PlaceLaws.{same_or_other}
 use Rattle.line_tree.specs.Changes.{Among, CanPut, Distinct, FitsSum, Puts, resummed, sum_all, sums}
-use Rattle.line_tree.specs.Finds.{HasRow, Leads}
+use Rattle.line_tree.specs.Finds.{HasRow, Leads, lines_below}
 use Rattle.line_tree.specs.Growth.{CanInsert, Grows, Inserts, KeepsLink, KeepsWide, lines_of, names_of, trees}
 use Rattle.line_tree.specs.Shape.{Holds, IsTree, Links, lines_in, sum_at, tree_at, sum_of}
 use Rattle.line_tree.specs.Trees.{IsBalanced, Tree, inner, lines, names, tops, total}
@@ -35,8 +35,8 @@ use Rattle.line_tree.proofs.StepLaws.{all-balanced, at-place, can-put, keeps-aft
 use Rattle.line_tree.proofs.StepLaws.{links-kept, split-insert, split-same, total-with_line, wide-balanced, wide-put}
 use Rattle.line_tree.proofs.StepLaws.{wide-same, wide-some}
 use Rattle.line_tree.proofs.SumLaws.{total-append}
-use Rattle.line_tree.proofs.TreeLaws.{child-tree, count-tree, counted, named-tree, row-tree, sum-held, top-tree_at}
-use Rattle.line_tree.proofs.TreeLaws.{tops-tree_at}
+use Rattle.line_tree.proofs.TreeLaws.{below-tree, child-tree, count-tree, counted, named-tree, row-tree, sum-held}
+use Rattle.line_tree.proofs.TreeLaws.{top-tree_at, tops-tree_at}
 
 pub length-lines : (m : Records) (ts : List (Tree 0)) → AllByRecursion (Holds m 0) ts →
     length (lines_of 0 ts) ≡ length ts
@@ -87,6 +87,14 @@ module _ (m : Records) (h : ℕ) (p : NodePtr) (k : ℕ) (x : NodePtr) (can : Ca
 
   line-fits : FitsSum (plus (total (lines_of h ts)) (total (lines zero (tree_at m 0 x))))
   line-fits = subst (λ s. FitsSum (plus (total (lines_of h ts)) s)) (sum-held m 0 (tree_at m 0 x) can.line) can.fits
+
+pub some-kids : (m : Records) (h : ℕ) (p : NodePtr) (k : ℕ) (x : NodePtr) → CanInsert m (suc h) p k x →
+    0 < length (kids m p)
+some-kids m h p k x can = let n = length-map (kids m p) (tree_at m h) in let w = can.wide.0 in omega arith
+
+pub within-kids : (m : Records) (h : ℕ) (p : NodePtr) (k : ℕ) (x : NodePtr) → CanInsert m (suc h) p k x →
+    k ≤ lines_below m p
+within-kids m h p k x can = let n = below-tree m h p can.tree in let w = can.place in omega arith
 
 -- ---- at the lowest level
 module _ (m : Records) (p : NodePtr) (k : ℕ) (x : NodePtr) (can : CanInsert m 1 p k x) where

@@ -135,10 +135,10 @@ module _ (m : Records) (h : ℕ) (a b : NodePtr) (xs ys : List (Tree h)) (left :
       ∙ take-map (λ (t : Tree h). t.0) half cs in
       let e2 : drop half (kids m a ++ kids m b) ≡ tops h back = ap (drop half) kids-both
       ∙ drop-map (λ (t : Tree h). t.0) half cs in
-      let can1 : CanFill m a (tops h front) = subst (CanFill m a) e1 (fill-front m a b can half shares.high) in
+      let can1 : CanFill m a (tops h front) = subst (CanFill m a) e1 (fill-front m a b can half shares.parts.high) in
       let can2 : CanFill mid b (tops h back) = subst (λ zs. CanFill (refilled m a (row zs)) b (tops h back)) e1
       (subst (CanFill (refilled m a (row (take half (kids m a ++ kids m b)))) b) e2
-      (fill-back m a b can half shares.rest_high)) in
+      (fill-back m a b can half shares.parts.rest_high)) in
       let held = subst (AllByRecursion (Holds m h)) (sym parts) held-both in
       let split = subst Distinct (names-append h front back) q2.apart in
       let cross = distinct-apart (names_of h front) (names_of h back) split in

@@ -1,14 +1,13 @@
 -- A removal at a node whose child shares with a neighbour.
 use Rattle.std.proofs.Common.{◌≡◌, ℕ, suc, ◌+◌, ◌<◌, ◌≤◌, ◌⊎◌, inl, inr, List, [], ◌∷◌, ◌++◌, length, take, drop, map}
-use Rattle.std.proofs.Common.{refl, sym, ap, ◌∙◌, subst, arith, length-append, length-take, length-drop}
+use Rattle.std.proofs.Common.{refl, sym, ap, ◌∙◌, subst, arith, length-append}
 use Rattle.std.specs.Prelude.{◌≢◌, IsSome, slice_get}
 use Rattle.std.specs.FinMap as finite
 use Rattle.std.specs.List.{AllByRecursion, remove}
 use Rattle.std.specs.declared.option.Option.{Option}
 use Rattle.std.specs.declared.option.Option.TheVariants.{None, Some}
 use Rattle.std.proofs.lemmas.Bool.{cases_eq}
-use Rattle.std.proofs.lemmas.List.{length-map, map-append}
-use Rattle.std.proofs.lemmas.List.Concat.{flat_map-append}
+use Rattle.std.proofs.lemmas.List.{length-map}
 use Rattle.std.proofs.lemmas.List.Edits.{length-remove}
 use Rattle.std.proofs.lemmas.Option.{none-some, same_Some, slice_get_within}
 use Rattle.raw_nodes.specs.Records.{Records}
@@ -16,34 +15,35 @@ use Rattle.raw_nodes.specs.Rows.{kids, kids_of, row}
 use Rattle.raw_nodes.specs.declared.names.NodePtr.{NodePtr}
 use Rattle.raw_nodes.proofs.MapLaws.{get_removed, get_unmoved}
 use Rattle.raw_nodes.proofs.PlaceLaws.{same_or_other}
-use Rattle.line_tree.specs.Changes.{Among, CanEven, CanFill, Distinct, FitsSum, Mends, Merges, Shares, refilled}
+use Rattle.line_tree.specs.Changes.{Among, CanFill, Distinct, Mends, Merges, Shares, refilled}
 use Rattle.line_tree.specs.Changes.{sum_all}
 use Rattle.line_tree.specs.Finds.{Finds, HasRow}
-use Rattle.line_tree.specs.Growth.{IsWide, KeepsLink, lines_of, names_of}
+use Rattle.line_tree.specs.Growth.{IsWide, names_of}
 use Rattle.toggle_sums.specs.Counts.{plus}
 use Rattle.line_tree.specs.Shape.{Holds, Links, sum_at, sum_of, tree_at}
 use Rattle.line_tree.specs.Shrinking.{CanMend, CanRemove, Cleans, Removes, Settles, Shrinks, Turns}
-use Rattle.line_tree.specs.Trees.{IsBalanced, Named, Tree, inner, lines, names, tops, total}
+use Rattle.line_tree.specs.Trees.{IsBalanced, Tree, names, tops, total}
 use Rattle.line_tree.specs.declared.find.Found.{Found}
-use Rattle.line_tree.proofs.AmongLaws.{among-drop, among-get, among-or, among-take, get-among}
-use Rattle.line_tree.proofs.BuildLaws.{built, sum-kids, sum-trees, tree-is}
-use Rattle.line_tree.proofs.DistinctLaws.{distinct-apart, distinct-left, distinct-right}
+use Rattle.line_tree.proofs.AmongLaws.{among-or, get-among}
+use Rattle.line_tree.proofs.BuildLaws.{built, sum-trees, tree-is}
+use Rattle.line_tree.proofs.DistinctLaws.{distinct-apart}
 use Rattle.line_tree.proofs.FillLaws.{refilled-other}
-use Rattle.line_tree.proofs.EvenLaws.{fill-back, fill-front, fill-whole}
-use Rattle.line_tree.proofs.FrameLaws.{inner-no-top, tops-among}
+use Rattle.line_tree.proofs.FrameLaws.{tops-among}
 use Rattle.line_tree.proofs.GrowLaws.{all-append, in-cases, in-left, in-right, names-append, of-one}
-use Rattle.line_tree.proofs.InsertLaws.{all-get, has-kept}
-use Rattle.line_tree.proofs.PairLaws.{Pair, kids-both, merge-inside, pair-of, share-inside, turns-merge, turns-share}
-use Rattle.line_tree.proofs.PairLaws.{two-lines, two-right}
-use Rattle.line_tree.proofs.RemoveLaws.{can-fill, drop-tree, finish, fits-part, removes-drop}
+use Rattle.line_tree.proofs.InsertLaws.{has-kept}
+use Rattle.line_tree.proofs.PairLaws.{merge-inside, share-inside}
+use Rattle.line_tree.proofs.PairLaws.{two-right}
+use Rattle.line_tree.proofs.NeighbourLaws.{Siblings, can-even, hold-left, hold-right, merge-links, merge-turns, pair-apart}
+use Rattle.line_tree.proofs.NeighbourLaws.{pair-facts, pair-long, pair-placed, pair-right-apart, pair-two-apart}
+use Rattle.line_tree.proofs.NeighbourLaws.{share-balanced, share-links, share-named, share-turns, tops-among-two}
+use Rattle.line_tree.proofs.NeighbourLaws.{turns-among}
+use Rattle.line_tree.proofs.RemoveLaws.{can-fill, drop-tree, finish, removes-drop}
 use Rattle.line_tree.proofs.RemoveSteps.{all-from, balanced-but, balanced-child, fits-now, has-now, in-drop, in-take}
-use Rattle.line_tree.proofs.RemoveSteps.{kids-same, links-now, node-same, now-lost, pair-place, pair-remove, pair-same}
+use Rattle.line_tree.proofs.RemoveSteps.{kids-same, links-now, node-same, now-lost, pair-remove, pair-same}
 use Rattle.line_tree.proofs.RemoveSteps.{shrinks-now}
-use Rattle.line_tree.proofs.ShrinkLaws.{shrinks-turns, turns-wide}
-use Rattle.line_tree.proofs.StepLaws.{all-drop, all-take, keeps-after, keeps-refilled, keeps-same, keeps-then}
-use Rattle.line_tree.proofs.StepLaws.{links-kept}
+use Rattle.line_tree.proofs.ShrinkLaws.{shrinks-turns}
 use Rattle.line_tree.proofs.LessLaws.{line-gone}
-use Rattle.line_tree.proofs.TreeLaws.{child-tree, named-tree, row-tree, sum-tree, tops-tree_at}
+use Rattle.line_tree.proofs.TreeLaws.{child-tree, row-tree, sum-tree, tops-tree_at}
 use Rattle.line_tree.proofs.UpdateLaws.{InnerIn, inner-refilled, inner-row, named-refilled}
 
 -- the children that are left
@@ -64,6 +64,14 @@ module _ (m : Records) (g : ℕ) (p : NodePtr) (k : ℕ) (can : CanRemove m (suc
 
   shrinks : Shrinks m l (suc g) ts k x now
   shrinks = shrinks-now m (suc g) p k can f finds l x rem
+
+  siblings : Siblings l g p cs
+  siblings = record {
+    holds = shrinks.holds;
+    distinct = shrinks.distinct;
+    fits = fits-now m (suc g) p k can f finds l x rem;
+    links = links-now m (suc g) p k can f finds l x rem;
+  }
 
   -- q is the child that o tells
   pub record IsGone (o : Option ℕ) (q : NodePtr) : Type 0 where
@@ -108,67 +116,17 @@ module _ (m : Records) (g : ℕ) (p : NodePtr) (k : ℕ) (can : CanRemove m (suc
     below = xs ++ ys
 
     placed : now ≡ left ++ (two ++ right)
-    placed = pair-place (tree_at l (suc g)) cs j a b at_a at_b
-
-    apart : Distinct (names_of (suc g) (left ++ (two ++ right)))
-    apart = subst (λ zs. Distinct (names_of (suc g) zs)) placed shrinks.distinct
-
-    held : AllByRecursion (Holds l (suc g)) (left ++ (two ++ right))
-    held = subst (AllByRecursion (Holds l (suc g))) placed shrinks.holds
-
-    two-right-apart : Distinct (names_of (suc g) two ++ names_of (suc g) right)
-    two-right-apart = subst Distinct (names-append (suc g) two right)
-        (distinct-right (names_of (suc g) left) (names_of (suc g) (two ++ right))
-        (subst Distinct (names-append (suc g) left (two ++ right)) apart))
-
-    two-apart : Distinct (names_of (suc g) two)
-    two-apart = distinct-left (names_of (suc g) two) (names_of (suc g) right) two-right-apart
-
-    hold_a : Holds l (suc g) (a, xs)
-    hold_a = child-tree l (suc g) cs j a shrinks.holds at_a
-
-    hold_b : Holds l (suc g) (b, ys)
-    hold_b = child-tree l (suc g) cs (suc j) b shrinks.holds at_b
-
-    facts : Pair g a b xs ys
-    facts = pair-of g a b xs ys two-apart
-
-    both : kids l a ++ kids l b ≡ tops g below
-    both = kids-both l g a b xs ys hold_a hold_b two-apart
-
-    two-fits : FitsSum (total (lines_of g below))
-    two-fits = subst (λ ls. FitsSum (total ls)) (two-lines g a b xs ys)
-        (fits-part (lines_of (suc g) left) (lines_of (suc g) two) (lines_of (suc g) right)
-        (subst (λ ls. FitsSum (total ls)) (ap (lines_of (suc g)) placed
-        ∙ flat_map-append (lines (suc g)) left (two ++ right)
-        ∙ ap (λ zs. lines_of (suc g) left ++ zs) (flat_map-append (lines (suc g)) two right))
-        (fits-now m (suc g) p k can f finds l x rem)))
-
-    pub can-even : CanEven l a b
-    can-even = record {
-      left = row-tree l g a hold_a;
-      links = subst (Links l a 0) (tops-tree_at l g (kids l a)) hold_a.1;
-      right = row-tree l g b hold_b;
-      two = facts.two;
-      off_left = λ s. facts.off_left (tops-among g below a (subst (Among a) both s));
-      off_right = λ s. facts.off_right (tops-among g below b (subst (Among b) both s));
-      sum_left = sum-kids l g a hold_a;
-      sum_right = sum-kids l g b hold_b;
-      fits = subst FitsSum (sym (ap (sum_all l) both
-          ∙ sum-trees l g below (all-append (Holds l g) xs ys hold_a.2 hold_b.2))) two-fits;
-    }
+    placed = pair-placed l g p cs siblings j a b at_a at_b
 
     -- what stands in their place
     turned : (n : Records) (new : List (Tree (suc g))) → Turns l n (suc g) two new →
         Shrinks m n (suc g) ts k x (left ++ (new ++ right))
     turned n new turn = shrinks-turns m l n (suc g) ts k x now (left ++ (new ++ right)) shrinks
-        (subst (λ zs. Turns l n (suc g) zs (left ++ (new ++ right))) (sym placed)
-        (turns-wide l n (suc g) left two right new turn held apart))
+        (turns-among l g p cs siblings j a b at_a at_b n new turn)
 
     turn-same : (n : Records) (new : List (Tree (suc g))) → Turns l n (suc g) two new → finite.get n p ≡ finite.get l p
-    turn-same n new turn = turn.other p (λ s.
-        can.distinct.0 (shrinks.within p (subst (λ zs. Among p (names_of (suc g) zs)) (sym placed)
-        (in-right (suc g) left (two ++ right) p (in-left (suc g) two right p s)))))
+    turn-same n new turn =
+        (turns-among l g p cs siblings j a b at_a at_b n new turn).other p (λ s. can.distinct.0 (shrinks.within p s))
 
     off-two : (n : Records) (new : List (Tree (suc g))) → Turns l n (suc g) two new → Cleans m l (suc g) f.child x →
         (q : NodePtr) → Among q (names_of (suc g) ts) → (Among q (names_of (suc g) (left ++ (new ++ right))) → ⊥)
@@ -182,13 +140,6 @@ module _ (m : Records) (g : ℕ) (p : NodePtr) (k : ℕ) (can : CanRemove m (suc
               [ inl e ↦ off e | inr e ↦ out (in-right (suc g) left (new ++ right) q (in-right (suc g) new right q e)) ]
         ] in
         turn.other q off ∙ now-lost m (suc g) p k can f finds l x rem clean q s not_now n2
-
-    tops-turned : (new : List (Tree (suc g))) → tops (suc g) (left ++ (new ++ right))
-        ≡ take j cs ++ (tops (suc g) new ++ drop (suc (suc j)) cs)
-    tops-turned new = map-append (λ (t : Tree (suc g)). t.0) left (new ++ right)
-        ∙ ap (λ zs. tops (suc g) left ++ zs) (map-append (λ (t : Tree (suc g)). t.0) new right)
-        ∙ (λ i. tops-tree_at l (suc g) (take j cs) i
-        ++ (tops (suc g) new ++ tops-tree_at l (suc g) (drop (suc (suc j)) cs) i))
 
     module _ (near : (j ≡ f.slot) ⊎ (suc j ≡ f.slot)) where
       before-slot : (i : ℕ) → i < j → i ≢ f.slot
@@ -234,107 +185,41 @@ module _ (m : Records) (g : ℕ) (p : NodePtr) (k : ℕ) (can : CanRemove m (suc
         next-not : (j : ℕ) → j ≡ suc j → ⊥
         next-not j e = omega arith
 
-      -- the other children stand in neither
-      off-pair : (q : NodePtr) → Among q cs → q ≢ a → q ≢ b → Among q (names_of (suc g) two) → ⊥
-      off-pair q among q_a q_b s =
-          let top = subst (Among q) (sym (tops-tree_at l (suc g) cs)) among in
-          let none = inner-no-top (suc g) now shrinks.distinct in
-          elim (in-cases (suc g) (tree_at l (suc g) a ∷ []) (tree_at l (suc g) b ∷ []) q s) [
-            | inl c ↦ elim (of-one q (names (suc g) (tree_at l (suc g) a)) c) [
-              | inl e ↦ q_a e
-              | inr d ↦ all-get (λ t. (z : NodePtr) → Among z (inner (suc g) t) → Among z (tops (suc g) now) →
-                  ⊥) (tree_at l (suc g)) cs j a none at_a q d top
-            ]
-            | inr c ↦ elim (of-one q (names (suc g) (tree_at l (suc g) b)) c) [
-              | inl e ↦ q_b e
-              | inr d ↦ all-get (λ t. (z : NodePtr) → Among z (inner (suc g) t) → Among z (tops (suc g) now) →
-                  ⊥) (tree_at l (suc g)) cs (suc j) b none at_b q d top
-            ]
-          ]
-
-      -- where both keep their places, all children do
-      links-pair : (n : Records) → KeepsLink l n a → KeepsLink l n b →
-          ((q : NodePtr) → (Among q (names_of (suc g) two) → ⊥) → finite.get n q ≡ finite.get l q) → Links n p 0 cs
-      links-pair n keep_a keep_b other =
-          links-kept l n p 0 cs (links-now m (suc g) p k can f finds l x rem) (λ q among. elim (same_or_other q a) [
-            | inl e ↦ subst (λ z. KeepsLink l n z) (sym e) keep_a
-            | inr q_a ↦ elim (same_or_other q b) [
-              | inl e ↦ subst (λ z. KeepsLink l n z) (sym e) keep_b
-              | inr q_b ↦ let i = among-get q cs among in
-                  keeps-same l n q (named-tree l (suc g) q (child-tree l (suc g) cs i.0 q shrinks.holds i.1))
-                  (other q (off-pair q among q_a q_b))
-            ]
-          ])
-
-      share-links : (n : Records) → Shares l n a b → Links n p 0 cs
-      share-links n shares =
-          let all = kids l a ++ kids l b in let half = shares.half in let front = take half all in
-          let back = drop half all in let first = refilled l a (row front) in
-          let fill_b = fill-back l a b can-even half shares.rest_high in
-          let keep_a = keeps-then l first (refilled first b (row back)) a
-          (keeps-refilled l a front (fill-front l a b can-even half shares.high))
-          (refilled-other first b back a can-even.two (λ s. can-even.off_left (among-drop a half all s))) in
-          let keep_b = keeps-after l first (refilled first b (row back)) b
-          (refilled-other l a front b (λ e. can-even.two (sym e)) (λ s.
-          can-even.off_right (among-take b half all s))) (keeps-refilled first b back fill_b) in
-          links-pair n (subst (λ z. KeepsLink l z a) (sym shares.same) keep_a)
-          (subst (λ z. KeepsLink l z b) (sym shares.same) keep_b)
-          (turns-share l g a b xs ys hold_a hold_b two-apart can-even n shares).other
-
-      merge-links : (n : Records) → Merges l n a b → Links n p 0 cs
-      merge-links n merges =
-          let all = kids l a ++ kids l b in
-          let keep_a = keeps-refilled l a all (fill-whole l a b can-even merges.few) in
-          let keep_b = keeps-same l (refilled l a (row all)) b (named-tree l (suc g) b hold_b)
-          (refilled-other l a all b (λ e. can-even.two (sym e)) can-even.off_right) in
-          links-pair n (subst (λ z. KeepsLink l z a) (sym merges.same) keep_a)
-          (subst (λ z. KeepsLink l z b) (sym merges.same) keep_b)
-          (turns-merge l g a b xs ys hold_a hold_b two-apart can-even n merges).other
-
       -- ---- after the sharing
       pub share : (n : Records) → Shares l n a b → Ready n None
       share n shares =
-          let zs = below in let half = shares.half in let front = take half zs in let back = drop half zs in
-          let turn = turns-share l g a b xs ys hold_a hold_b two-apart can-even n shares in
-          let new = (a, front) ∷ (b, back) ∷ [] in
-          let all = ap length both ∙ length-map zs (λ (t : Tree g). t.0) in
-          let nf = length-take half zs in let nb = length-drop half zs in let low = shares.low in
-          let high = shares.high in let rest_low = shares.rest_low in let rest_high = shares.rest_high in
-          let balanced : AllByRecursion (IsBalanced (suc g)) new
-          = (
-            (omega arith, omega arith, all-take (IsBalanced g) half zs many.1),
-            ((omega arith, omega arith, all-drop (IsBalanced g) half zs many.1), tt),
-          ) in
-          let same_tops = tops-turned new ∙ sym (pair-same cs j a b at_a at_b) in
+          let new = (a, take shares.half below) ∷ (b, drop shares.half below) ∷ [] in
+          let turn = share-turns l g p cs siblings j a b at_a at_b n shares in
           record {
             trees = left ++ (new ++ right);
             shrinks = turned n new turn;
-            tops = same_tops;
-            balanced = sides new balanced;
+            tops = tops-among-two l g p cs siblings j a b at_a at_b new ∙ sym (pair-same cs j a b at_a at_b);
+            balanced = sides new (share-balanced l g p cs siblings j a b at_a at_b n shares many.1);
             same = turn-same n new turn ∙ node-same m (suc g) p k can f finds l x rem;
-            named = λ q s. subst (λ z. IsSome (finite.get z q)) (sym shares.same)
-                (named-refilled (refilled l a (row (take half (kids l a ++ kids l b)))) b
-                (row (drop half (kids l a ++ kids l b))) q
-                (named-refilled l a (row (take half (kids l a ++ kids l b))) q s));
+            named = share-named l g p cs siblings j a b at_a at_b n shares;
             still_inner = λ q s. subst (λ z. InnerIn z q) (sym shares.same)
-                (inner-refilled (refilled l a (row (take half (kids l a ++ kids l b)))) b
-                (row (drop half (kids l a ++ kids l b))) q
-                (inner-refilled l a (row (take half (kids l a ++ kids l b))) q s));
-            links = share-links n shares;
+                (inner-refilled (refilled l a (row (take shares.half (kids l a ++ kids l b)))) b
+                (row (drop shares.half (kids l a ++ kids l b))) q
+                (inner-refilled l a (row (take shares.half (kids l a ++ kids l b))) q s));
+            links = share-links l g p cs siblings j a b at_a at_b n shares;
             slot = λ s e. absurd (none-some s e);
             gone = λ s q e at. absurd (none-some s e);
             lost = λ clean q s out n2.
                 inl (off-two n new turn clean q s out (λ i.
                 out (in-right (suc g) left (new ++ right) q
-                (in-left (suc g) new right q (share-inside l g a b xs ys hold_a hold_b two-apart half q i)))) n2);
+                (in-left (suc g) new right q (share-inside l g a b xs ys (hold-left l g p cs siblings j a b at_a at_b)
+                (hold-right l g p cs siblings j a b at_a at_b) (pair-two-apart l g p cs siblings j a b at_a at_b) shares.half
+                q i)))) n2);
           }
 
       -- the node without children is in the tree no more
       pub merged-out : Among b (names_of (suc g) (left ++ (((a, below) ∷ []) ++ right))) → ⊥
       merged-out s =
+          let facts = pair-facts l g p cs siblings j a b at_a at_b in
           let left-apart = distinct-apart (names_of (suc g) left) (names_of (suc g) (two ++ right))
-          (subst Distinct (names-append (suc g) left (two ++ right)) apart) in
-          let right-apart = distinct-apart (names_of (suc g) two) (names_of (suc g) right) two-right-apart in
+          (subst Distinct (names-append (suc g) left (two ++ right)) (pair-apart l g p cs siblings j a b at_a at_b)) in
+          let right-apart = distinct-apart (names_of (suc g) two) (names_of (suc g) right)
+          (pair-right-apart l g p cs siblings j a b at_a at_b) in
           let b_two = two-right g a b xs ys in
           elim (in-cases (suc g) left (((a, below) ∷ []) ++ right) b s) [
             | inl c ↦ left-apart b c (in-left (suc g) two right b b_two)
@@ -347,31 +232,30 @@ module _ (m : Records) (g : ℕ) (p : NodePtr) (k : ℕ) (can : CanRemove m (suc
 
       pub merge : (n : Records) → Merges l n a b → Ready n (Some (suc j))
       merge n merges =
-          let zs = below in
-          let turn = turns-merge l g a b xs ys hold_a hold_b two-apart can-even n merges in
-          let new = (a, zs) ∷ [] in
-          let all = ap length both ∙ length-map zs (λ (t : Tree g). t.0) in let few = merges.few in let low = many.0 in
+          let new = (a, below) ∷ [] in let turn = merge-turns l g p cs siblings j a b at_a at_b n merges in
+          let all = pair-long l g p cs siblings j a b at_a at_b in let few = merges.few in let low = many.0 in
           let balanced : AllByRecursion (IsBalanced (suc g)) new = ((omega arith, omega arith, many.1), tt) in
           record {
             trees = left ++ (new ++ right);
             shrinks = turned n new turn;
-            tops = tops-turned new ∙ sym (pair-remove cs j a b at_a at_b);
+            tops = tops-among-two l g p cs siblings j a b at_a at_b new ∙ sym (pair-remove cs j a b at_a at_b);
             balanced = sides new balanced;
             same = turn-same n new turn ∙ node-same m (suc g) p k can f finds l x rem;
             named = λ q s. subst (λ z. IsSome (finite.get z q)) (sym merges.same)
                 (named-refilled l a (row (kids l a ++ kids l b)) q s);
             still_inner =
                 λ q s. subst (λ z. InnerIn z q) (sym merges.same) (inner-refilled l a (row (kids l a ++ kids l b)) q s);
-            links = merge-links n merges;
+            links = merge-links l g p cs siblings j a b at_a at_b n merges;
             slot = λ s e. let w = slice_get_within cs (suc j) b at_b in let i = same_Some (suc j) s e in omega arith;
             gone = λ s q e at r.
                 merged-out (subst (λ z. Among z (names_of (suc g) (left ++ (new ++ right))))
                 (same_Some q b (sym at ∙ ap (slice_get cs) (sym (same_Some (suc j) s e)) ∙ at_b)) r);
             lost = λ clean q s out n2. elim (among-or q (names_of (suc g) two)) [
-              | inl i ↦ elim (merge-inside l g a b xs ys hold_a hold_b two-apart q i) [
-                | inl c ↦ absurd (out (in-right (suc g) left (new ++ right) q (in-left (suc g) new right q c)))
-                | inr e ↦ inr (record { slot = suc j; is = refl; at = at_b ∙ ap (λ z. Some z) (sym e) })
-              ]
+              | inl i ↦ elim (merge-inside l g a b xs ys (hold-left l g p cs siblings j a b at_a at_b)
+                  (hold-right l g p cs siblings j a b at_a at_b) (pair-two-apart l g p cs siblings j a b at_a at_b) q i) [
+                    | inl c ↦ absurd (out (in-right (suc g) left (new ++ right) q (in-left (suc g) new right q c)))
+                    | inr e ↦ inr (record { slot = suc j; is = refl; at = at_b ∙ ap (λ z. Some z) (sym e) })
+                  ]
               | inr off ↦ inl (off-two n new turn clean q s out off n2)
             ];
           }
@@ -417,7 +301,8 @@ module _ (m : Records) (g : ℕ) (p : NodePtr) (k : ℕ) (can : CanRemove m (suc
 
   pub can-mend : CanMend l p
   can-mend i a b at_a at_b = let ks = kids-same m (suc g) p k can f finds l x rem in
-      can-even i a b (ap (λ zs. slice_get zs i) (sym ks) ∙ at_a) (ap (λ zs. slice_get zs (suc i)) (sym ks) ∙ at_b)
+      can-even l g p cs siblings i a b (ap (λ zs. slice_get zs i) (sym ks) ∙ at_a)
+      (ap (λ zs. slice_get zs (suc i)) (sym ks) ∙ at_b)
 
   pub below-now : HasRow l f.child
   below-now = row-tree l g f.child (child-tree l (suc g) cs f.slot f.child shrinks.holds finds.child)

@@ -118,16 +118,23 @@ pub record Merges (m n : Records) (a b : NodePtr) : Type 0 where
   pub few : length (kids m a ++ kids m b) ≤ 12
   pub same : n ≡ refilled m a (row (kids m a ++ kids m b))
 
--- each has half of them
-pub record Shares (m n : Records) (a b : NodePtr) : Type 0 where
-  pub half : ℕ
-  pub many : 12 ≤ length (kids m a ++ kids m b)
+-- so many of these many are the first part, where each part is a node's children below a root
+pub record Halves (all half : ℕ) : Type 0 where
   pub low : 6 ≤ half
   pub high : half ≤ 12
-  pub rest_low : half + 6 ≤ length (kids m a ++ kids m b)
-  pub rest_high : length (kids m a ++ kids m b) ≤ half + 12
-  pub same :
-      n ≡ refilled (refilled m a (row (take half (kids m a ++ kids m b)))) b (row (drop half (kids m a ++ kids m b)))
+  pub rest_low : half + 6 ≤ all
+  pub rest_high : all ≤ half + 12
+
+-- a has the first of them, and b the others
+abbrev pub shared : Records → NodePtr → NodePtr → ℕ → Records
+shared m a b half =
+    refilled (refilled m a (row (take half (kids m a ++ kids m b)))) b (row (drop half (kids m a ++ kids m b)))
+
+-- each has a part of them
+pub record Shares (m n : Records) (a b : NodePtr) : Type 0 where
+  pub half : ℕ
+  pub parts : Halves (length (kids m a ++ kids m b)) half
+  pub same : n ≡ shared m a b half
 
 abbrev pub Evens : Records → Records → NodePtr → NodePtr → Bool → Type 0
 Evens m n a b merged = MatchBool merged (Merges m n a b) (Shares m n a b)

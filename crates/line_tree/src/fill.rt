@@ -15,7 +15,7 @@ use text_model::WORDS;
 use toggle_sums::{Summary, Sums};
 
 /// Puts a child into a slot, or takes out the one that is there.
-fn link<C: Ticks>(store: &mut NodeStore<C>, node: NodePtr, slot: usize, child: Option<NodePtr>)
+pub fn link<C: Ticks>(store: &mut NodeStore<C>, node: NodePtr, slot: usize, child: Option<NodePtr>)
     requires node { IsInner store.old node }
     requires slot { slot < 12 }
     requires child { (c : _) → child ≡ Some c → IsName store.old c }

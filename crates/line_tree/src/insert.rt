@@ -6,11 +6,13 @@ ghost use Rattle.line_tree.specs.Finds.{HasRow, Leads, lines_below};
 ghost use Rattle.line_tree.specs.Places.{IsLineAt};
 ghost use Rattle.line_tree.specs.Shape.{lines_at, lines_in, sum_at};
 ghost use Rattle.line_tree.specs.Growth.{CanInsert, Inserts, NewLine};
+ghost use Rattle.line_tree.specs.Spreading.{Respreads};
 
 use crate::behind::{Added, insert_behind};
 use crate::fill::{add, put};
 use crate::find::Found;
 use crate::near::find_near;
+use crate::spread::spread;
 use raw_nodes::{NodePtr, NodeStore, Ticks};
 use segments::Line;
 
@@ -38,6 +40,31 @@ fn lead<C: Ticks>(store: &NodeStore<C>, node: NodePtr, k: usize, ticks: &mut C) 
         lines: found.lines,
         rest: found.rest + 1,
     }
+}
+
+/// The same, once a full child has shared with a neighbour that has room, if there is one.
+fn lead_to_room<C: Ticks>(
+    store: &mut NodeStore<C>,
+    node: NodePtr,
+    height: usize,
+    k: usize,
+    added: &Added,
+    ticks: &mut C,
+) -> Found
+    requires high { 1 < height }
+    requires insert { CanInsert (records store.old) height node k added.now.line }
+    ensures keeps { Respreads (records store.old) (records store.new) height node }
+    ensures insert { CanInsert (records store.new) height node k added.now.line }
+    ensures leads { Leads (records store.new) node k result }
+    ensures spares { spares store.new ≡ spares store.old }
+    ensures rooms { rooms store.new ≡ rooms store.old }
+    ensures len { finite.len (records store.new) ≡ finite.len (records store.old) }
+{
+    let found = lead(store, node, k, ticks);
+    if spread(store, node, &found, added.behind.is_some(), ticks) {
+        return lead(store, node, k, ticks);
+    }
+    found
 }
 
 /// A new line, in no tree yet.
@@ -73,7 +100,7 @@ pub fn insert_in<C: Ticks>(
     if height == 1 {
         return put(store, node, k, added.line, &added.more, ticks);
     }
-    let found = lead(store, node, k, ticks);
+    let found = lead_to_room(store, node, height, k, added, ticks);
     match insert_in(store, found.child, height - 1, found.rest, added, ticks) {
         Some(sibling) => put(store, node, found.slot + 1, sibling, &added.more, ticks),
         None => {

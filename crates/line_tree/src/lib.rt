@@ -20,6 +20,7 @@ mod replacing;
 mod select;
 mod shrink;
 mod splice;
+mod spread;
 mod starts;
 mod taking;
 mod tree;

@@ -1,14 +1,15 @@
-ghost use Rattle.std.specs.Prelude.{◌≡◌, ◌+◌, ◌≤◌, ◌<◌, ◌++◌, length, slice_get, take, drop, Some};
+ghost use Rattle.std.specs.Prelude.{◌≡◌, ◌+◌, ◌≤◌, ◌<◌, ◌++◌, length, slice_get, slice_index_or, take, drop};
+ghost use Rattle.std.specs.Prelude.{IfSome, None, Some};
 ghost use Rattle.std.specs.List.{remove};
-ghost use Rattle.raw_nodes.specs.Names.{records, rooms, spares};
+ghost use Rattle.raw_nodes.specs.Names.{IsName, entry, records, rooms, spares};
 ghost use Rattle.raw_nodes.specs.Rows.{kids, row};
 ghost use Rattle.line_tree.specs.Finds.{HasRow};
 ghost use Rattle.toggle_sums.specs.Counts.{plus};
 ghost use Rattle.line_tree.specs.Shape.{Links, sum_at};
-ghost use Rattle.line_tree.specs.Changes.{CanEven, CanFill, Evens, Mends, refilled, sum_all};
+ghost use Rattle.line_tree.specs.Changes.{CanEven, CanFill, Evens, Halves, Mends, refilled, relinked, shared, sum_all};
 ghost use Rattle.line_tree.specs.Shrinking.{CanMend};
 
-use crate::fill::{lessen, refill, relink, sum_less, sum_of};
+use crate::fill::{lessen, link, refill, sum_less, sum_of};
 use raw_nodes::{NodePtr, NodeStore, Ticks};
 use text_model::WORDS;
 use toggle_sums::{Summary, Sums};
@@ -25,46 +26,6 @@ pub fn kid<C: Ticks>(
     ensures { result ≡ slice_get (kids (records store.now) node) i }
 {
     store.child(node, i, ticks)
-}
-
-/// Number `i` of a node's children without one of them.
-fn pick_without<C: Ticks>(
-    store: &NodeStore<C>,
-    node: NodePtr,
-    slot: usize,
-    i: usize,
-    ticks: &mut C,
-) -> Option<NodePtr>
-    requires row { HasRow (records store.now) node }
-    requires slot { slot < length (kids (records store.now) node) }
-    requires index { i < 12 }
-    ensures { result ≡ slice_get (remove (kids (records store.now) node) slot) i }
-{
-    if i < slot {
-        store.child(node, i, ticks)
-    } else if i < 11 {
-        store.child(node, i + 1, ticks)
-    } else {
-        None
-    }
-}
-
-/// A node's children without one of them.
-pub fn part_without<C: Ticks>(
-    store: &NodeStore<C>,
-    node: NodePtr,
-    slot: usize,
-    ticks: &mut C,
-) -> [Option<NodePtr>; 12]
-    requires row { HasRow (records store.now) node }
-    requires slot { slot < length (kids (records store.now) node) }
-    ensures { result ≡ row (remove (kids (records store.now) node) slot) }
-{
-    let mut part = [None; 12];
-    for i in 0..12 {
-        part[i] = pick_without(store, node, slot, i, ticks);
-    }
-    part
 }
 
 /// Number `i` of the children of two nodes, of which the left one has so many.
@@ -117,41 +78,64 @@ fn part_pair<C: Ticks>(
     part
 }
 
-/// What is counted of the first `half` children of two nodes, and of the others. The left one has `first` of them now;
-/// only those that change sides are looked at, and which slots are toggled is asked of those that stay, where some are
-/// in what goes.
+/// What is counted of the first `half` children of two nodes, and of the others. Of those only the ones that change
+/// sides are looked at; which slots are toggled is asked of those that stay where some went, if some are in what went.
 fn sum_halves<C: Ticks>(
     store: &NodeStore<C>,
     left: NodePtr,
     right: NodePtr,
-    first: usize,
     half: usize,
+    stay: &[Option<NodePtr>; 12],
     ticks: &mut C,
 ) -> (Sums<WORDS>, Sums<WORDS>)
     requires even { CanEven (records store.now) left right }
-    requires first { first ≡ length (kids (records store.now) left) }
     requires half { half ≤ 12 }
-    requires rest { length (kids (records store.now) left ++ kids (records store.now) right) ≤ half + 12 }
+    requires back { length (kids (records store.now) left) < half
+        → stay.now ≡ row (drop half (kids (records store.now) left ++ kids (records store.now) right)) }
+    requires front { half ≤ length (kids (records store.now) left)
+        → stay.now ≡ row (take half (kids (records store.now) left ++ kids (records store.now) right)) }
     ensures first { result.0 ≡ sum_all (records store.now)
         (take half (kids (records store.now) left ++ kids (records store.now) right)) }
     ensures last { result.1 ≡ sum_all (records store.now)
         (drop half (kids (records store.now) left ++ kids (records store.now) right)) }
 {
+    let first = store.children(left);
     let sum_left = store.sum(left, ticks);
     let sum_right = store.sum(right, ticks);
     if first < half {
         let moved = part_pair(store, left, right, first, half - first, ticks);
-        let behind = part_pair(store, left, right, half, 12, ticks);
         let sum = sum_of(store, &moved, ticks);
-        let rest = sum_less(store, &behind, &sum_right, &sum, ticks);
+        let rest = sum_less(store, stay, &sum_right, &sum, ticks);
         (sum_left.plus(&sum), rest)
     } else {
-        let front = part_pair(store, left, right, 0, half, ticks);
         let moved = part_pair(store, left, right, half, first - half, ticks);
         let sum = sum_of(store, &moved, ticks);
-        let rest = sum_less(store, &front, &sum_left, &sum, ticks);
+        let rest = sum_less(store, stay, &sum_left, &sum, ticks);
         (rest, sum.plus(&sum_right))
     }
+}
+
+/// Gives the first `half` children of two nodes to the left one, and the others to the right one.
+pub fn share<C: Ticks>(
+    store: &mut NodeStore<C>,
+    left: NodePtr,
+    right: NodePtr,
+    half: usize,
+    ticks: &mut C,
+)
+    requires even { CanEven (records store.old) left right }
+    requires half { Halves (length (kids (records store.old) left ++ kids (records store.old) right)) half }
+    ensures records { records store.new ≡ shared (records store.old) left right half }
+    ensures spares { spares store.new ≡ spares store.old }
+    ensures rooms { rooms store.new ≡ rooms store.old }
+{
+    let first = store.children(left);
+    let front = part_pair(store, left, right, 0, half, ticks);
+    let back = part_pair(store, left, right, half, 12, ticks);
+    let stay = if first < half { &back } else { &front };
+    let (sum_front, sum_back) = sum_halves(store, left, right, half, stay, ticks);
+    refill(store, left, first.min(half), &front, sum_front);
+    refill(store, right, 0, &back, sum_back);
 }
 
 /// Gives all children of two nodes to the left one, where it can have them and one more, and else half to each: a node
@@ -171,12 +155,7 @@ fn even<C: Ticks>(store: &mut NodeStore<C>, left: NodePtr, right: NodePtr, ticks
         refill(store, left, first, &all, sum_left.plus(&sum_right));
         true
     } else {
-        let half = count / 2;
-        let front = part_pair(store, left, right, 0, half, ticks);
-        let back = part_pair(store, left, right, half, count - half, ticks);
-        let (sum_front, sum_back) = sum_halves(store, left, right, first, half, ticks);
-        refill(store, left, first.min(half), &front, sum_front);
-        refill(store, right, 0, &back, sum_back);
+        share(store, left, right, count / 2, ticks);
         false
     }
 }
@@ -220,6 +199,46 @@ pub fn sum_in<C: Ticks>(
     store.sum(child, ticks)
 }
 
+/// The child in the slot behind one, if there is one.
+fn kid_behind<C: Ticks>(
+    store: &NodeStore<C>,
+    node: NodePtr,
+    slot: usize,
+    ticks: &mut C,
+) -> Option<NodePtr>
+    requires name { IsName store.now node }
+    requires long { IfSome (entry store.now node) (λ r. length r.children ≡ 12) }
+    requires slot { slot < 12 }
+    ensures { IfSome (entry store.now node) (λ r. result ≡ slice_index_or r.children (slot + 1) None) }
+{
+    if slot < 11 {
+        store.child(node, slot + 1, ticks)
+    } else {
+        None
+    }
+}
+
+/// Puts each child behind a slot of a node one slot back, so that the one in the slot stands there no more.
+fn close<C: Ticks>(store: &mut NodeStore<C>, node: NodePtr, slot: usize, ticks: &mut C)
+    requires row { HasRow (records store.old) node }
+    requires links { Links (records store.old) node 0 (kids (records store.old) node) }
+    requires slot { slot < length (kids (records store.old) node) }
+    requires fill { CanFill (records store.old) node (remove (kids (records store.old) node) slot) }
+    ensures records { records store.new
+        ≡ relinked (records store.old) node 0 (row (remove (kids (records store.old) node) slot)) }
+    ensures spares { spares store.new ≡ spares store.old }
+    ensures rooms { rooms store.new ≡ rooms store.old }
+{
+    let mut at = slot;
+    let mut next = kid_behind(store, node, at, ticks);
+    while let Some(child) = next {
+        link(store, node, at, Some(child));
+        at += 1;
+        next = kid_behind(store, node, at, ticks);
+    }
+    link(store, node, at, None);
+}
+
 /// Takes a child out of a node, below which stands so much less then. Those before it stay where they are.
 pub fn drop_child<C: Ticks>(
     store: &mut NodeStore<C>,
@@ -241,8 +260,7 @@ pub fn drop_child<C: Ticks>(
     ensures rooms { rooms store.new ≡ rooms store.old }
 {
     let gone = kid(store, node, slot, ticks).unwrap();
-    let others = part_without(store, node, slot, ticks);
-    relink(store, node, slot, &others);
+    close(store, node, slot, ticks);
     lessen(store, node, less, ticks);
     gone
 }

@@ -81,6 +81,18 @@ static FORTY_MORE: Case = Case {
     ],
 };
 
+// In order 1,700 lines come, before the one line. With less than 11 children for a node, on average at one of the
+// levels, no tree of three levels has so many.
+static IN_ORDER: Case = Case {
+    edits: &[Edit::Splice(0, 0, 1700)],
+    height: 3,
+    rows: &[
+        (Query::Rank, 0, (0, 1)),
+        (Query::Rank, 1700, (1700, 1)),
+        (Query::Next, 850, (851, 1701)),
+    ],
+};
+
 static PHASES: [Phase; 2] = [
     Phase {
         removals: 1,
@@ -155,6 +167,12 @@ fn twelve_less(rt: HostRuntime) -> Result<(), Fail> {
 #[test]
 fn forty_more(rt: HostRuntime) -> Result<(), Fail> {
     check(&rt, rt.alloc(), &FORTY_MORE)?;
+    Ok(())
+}
+
+#[test]
+fn in_order(rt: HostRuntime) -> Result<(), Fail> {
+    check(&rt, rt.alloc(), &IN_ORDER)?;
     Ok(())
 }
 

@@ -1,23 +1,23 @@
-use Rattle.std.proofs.Common.{◌≡◌, ℕ, ◌-◌, ◌<◌, ◌≤◌, suc, length, sym, subst, arith, None, ◌+◌, ap, ◌∙◌}
+use Rattle.std.proofs.Common.{◌≡◌, ℕ, ◌-◌, ◌<◌, suc, sym, subst, arith, None, ◌+◌, ap, ◌∙◌}
 use Rattle.std.specs.FinMap as finite
 use Rattle.std.specs.List.{insert}
 use Rattle.std.specs.declared.option.Option.{Option}
-use Rattle.std.proofs.lemmas.List.{length-map}
 use Rattle.std.proofs.lemmas.Option.{slice_get_within}
 use Rattle.raw_nodes.specs.Names.{records}
 use Rattle.raw_nodes.specs.Records.{Records}
 use Rattle.raw_nodes.specs.Rows.{kids, row}
 use Rattle.raw_nodes.specs.declared.names.NodePtr.{NodePtr}
-use Rattle.line_tree.specs.Finds.{Leads, lines_below}
+use Rattle.line_tree.specs.Finds.{Leads}
 use Rattle.line_tree.specs.Growth.{CanInsert, Inserts}
-use Rattle.line_tree.specs.Shape.{sum_at, tree_at}
+use Rattle.line_tree.specs.Shape.{sum_at}
+use Rattle.line_tree.specs.Spreading.{Respreads}
 use Rattle.line_tree.specs.declared.find.Found.{Found}
 use Rattle.line_tree.proofs.InsertLaws.{can-child, has-node, has-now, low-can_put, low-inserts, low-sum, one-fits}
 use Rattle.line_tree.proofs.InsertLaws.{one-inserts, one-sum, two-can_put, two-inserts, two-sum}
 use Rattle.line_tree.proofs.RoomLaws.{len-puts, len-resummed}
+use Rattle.line_tree.proofs.SpreadLaws.{inserts-yet, sum-yet}
 use Rattle.toggle_sums.specs.Counts.{Count, plus}
 use Rattle.line_tree.specs.Changes.{sum_all}
-use Rattle.line_tree.proofs.TreeLaws.{below-tree, whole-below}
 use Rattle.line_tree.proofs.insert.+insert_in.Goals as goal
 
 -- the height as one more than another
@@ -29,14 +29,6 @@ back : (m n : Records) (h : ℕ) (p : NodePtr) (k : ℕ) (x : NodePtr) (o : Opti
     Inserts m n (suc (h - 1)) p k x o → Inserts m n h p k x o
 back m n h p k x o some ins = let e : suc (h - 1) ≡ h = omega arith in subst (λ j. Inserts m n j p k x o) e ins
 
-some-kids : (m : Records) (h : ℕ) (p : NodePtr) (k : ℕ) (x : NodePtr) → CanInsert m (suc h) p k x →
-    0 < length (kids m p)
-some-kids m h p k x can = let n = length-map (kids m p) (tree_at m h) in let w = can.wide.0 in omega arith
-
-within-kids : (m : Records) (h : ℕ) (p : NodePtr) (k : ℕ) (x : NodePtr) → CanInsert m (suc h) p k x →
-    k ≤ lines_below m p
-within-kids m h p k x can = let n = below-tree m h p can.tree in let w = can.place in omega arith
-
 few-kids : (m : Records) (h : ℕ) (p : NodePtr) (k : ℕ) (x : NodePtr) → CanInsert m (suc h) p k x → (f : Found) →
     Leads m p k f → f.slot < 12
 few-kids m h p k x can f leads = let w = slice_get_within (kids m p) f.slot f.child leads.child in
@@ -46,6 +38,11 @@ pub put-requires-clause-put : goal.put-requires-clause-put
 put-requires-clause-put g t c = low-can_put (records c.args.store.now) c.args.node c.args.k c.args.added.now.line
     (subst (λ h. CanInsert (records c.args.store.now) h c.args.node c.args.k c.args.added.now.line) c.if-height-eq1.true
     c.requires.insert)
+
+-- what is counted of the line
+more-yet : (m n : Records) (h : ℕ) (p : NodePtr) (k : ℕ) (x : NodePtr) (s : Count) → CanInsert m h p k x →
+    Respreads m n h p → s ≡ sum_at m x → s ≡ sum_at n x
+more-yet m n h p k x s can keeps is = is ∙ sum-yet m n h p k x can keeps
 
 -- what the line adds
 line-sum : (m l : Records) (p x : NodePtr) (s : Count) (all : Count) → s ≡ sum_at m x →
@@ -61,14 +58,15 @@ put-requires-clause-sum g t c = let m = records c.args.store.now in
     (subst (λ h. CanInsert m h c.args.node c.args.k c.args.added.now.line) c.if-height-eq1.true c.requires.insert))
 
 pub put-requires-in-Some-clause-sum : goal.put-requires-in-Some-clause-sum
-put-requires-in-Some-clause-sum g t c = let m = records c.args.store.now in let l = records c.insert_in.new.store in
+put-requires-in-Some-clause-sum g t c = let m = records c.lead_to_room-found.new.store in let l = records c.insert_in.new.store in
     line-sum m l c.args.node c.args.added.now.line c.args.added.now.more
-    (sum_all l (insert (kids l c.args.node) (c.lead-found.result.slot + 1) c.in-Some.sibling))
-    c.requires.more
+    (sum_all l (insert (kids l c.args.node) (c.lead_to_room-found.result.slot + 1) c.in-Some.sibling))
+    (more-yet (records c.args.store.now) m c.args.height c.args.node c.args.k c.args.added.now.line
+    c.args.added.now.more c.requires.insert c.lead_to_room-found.ensures.keeps c.requires.more)
     (two-sum m (c.args.height - 1) c.args.node c.args.k c.args.added.now.line
-    (above m c.args.height c.args.node c.args.k c.args.added.now.line c.requires.insert c.requires.node) c.lead-found.result
-    c.lead-found.ensures l c.in-Some.sibling
-    (subst (λ o. Inserts m l (c.args.height - 1) c.lead-found.result.child c.lead-found.result.rest c.args.added.now.line o)
+    (above m c.args.height c.args.node c.args.k c.args.added.now.line c.lead_to_room-found.ensures.insert c.requires.node) c.lead_to_room-found.result
+    c.lead_to_room-found.ensures.leads l c.in-Some.sibling
+    (subst (λ o. Inserts m l (c.args.height - 1) c.lead_to_room-found.result.child c.lead_to_room-found.result.rest c.args.added.now.line o)
     c.in-Some.is c.insert_in.ensures.inserts))
 
 pub returns-then-height-eq1-clause-inserts : goal.returns-then-height-eq1-clause-inserts
@@ -79,28 +77,8 @@ returns-then-height-eq1-clause-inserts g t c = let m = records c.args.store.now 
     (subst (λ h. CanInsert m h c.args.node c.args.k c.args.added.now.line) c.if-height-eq1.true c.requires.insert)
     (records c.put.new.store) c.put.result c.put.ensures.puts)
 
-pub lead-found-requires-clause-row : goal.lead-found-requires-clause-row
-lead-found-requires-clause-row g t c = let m = records c.args.store.now in
-    has-node m (c.args.height - 1) c.args.node c.args.k c.args.added.now.line
-    (above m c.args.height c.args.node c.args.k c.args.added.now.line c.requires.insert c.requires.node)
-
-pub lead-found-requires-clause-some : goal.lead-found-requires-clause-some
-lead-found-requires-clause-some g t c = let m = records c.args.store.now in
-    some-kids m (c.args.height - 1) c.args.node c.args.k c.args.added.now.line
-    (above m c.args.height c.args.node c.args.k c.args.added.now.line c.requires.insert c.requires.node)
-
-pub lead-found-requires-clause-within : goal.lead-found-requires-clause-within
-lead-found-requires-clause-within g t c = let m = records c.args.store.now in
-    within-kids m (c.args.height - 1) c.args.node c.args.k c.args.added.now.line
-    (above m c.args.height c.args.node c.args.k c.args.added.now.line c.requires.insert c.requires.node)
-
-pub lead-found-requires-clause-whole : goal.lead-found-requires-clause-whole
-lead-found-requires-clause-whole g t c = let m = records c.args.store.now in
-    whole-below m (c.args.height - 1) c.args.node
-    (above m c.args.height c.args.node c.args.k c.args.added.now.line c.requires.insert c.requires.node).tree
-
 pub insert_in-requires : goal.insert_in-requires
-insert_in-requires g t c κs inside = let m = records c.args.store.now in
+insert_in-requires g t c κs inside = let m = records c.lead_to_room-found.new.store in
     let node = c.requires.node in let spares = c.requires.spares in let rooms = c.requires.rooms in
     let not = c.if-height-eq1.false in (
       omega (arith, c.decreases),
@@ -110,71 +88,80 @@ insert_in-requires g t c κs inside = let m = records c.args.store.now in
           omega arith,
           (
             can-child m (c.args.height - 1) c.args.node c.args.k c.args.added.now.line
-                (above m c.args.height c.args.node c.args.k c.args.added.now.line c.requires.insert c.requires.node)
-                c.lead-found.result
-                c.lead-found.ensures,
-            (c.requires.more, (omega arith, omega arith)),
+                (above m c.args.height c.args.node c.args.k c.args.added.now.line c.lead_to_room-found.ensures.insert c.requires.node)
+                c.lead_to_room-found.result
+                c.lead_to_room-found.ensures.leads,
+            (
+              (more-yet (records c.args.store.now) m c.args.height c.args.node c.args.k c.args.added.now.line
+                  c.args.added.now.more c.requires.insert c.lead_to_room-found.ensures.keeps c.requires.more),
+              (omega arith, omega arith),
+            ),
           ),
         ),
       ),
     )
 
 pub overflow_add-found : goal.overflow_add-found
-overflow_add-found g t c = let m = records c.args.store.now in
+overflow_add-found g t c = let m = records c.lead_to_room-found.new.store in
     let few = few-kids m (c.args.height - 1) c.args.node c.args.k c.args.added.now.line
-    (above m c.args.height c.args.node c.args.k c.args.added.now.line c.requires.insert c.requires.node) c.lead-found.result
-    c.lead-found.ensures in omega arith
+    (above m c.args.height c.args.node c.args.k c.args.added.now.line c.lead_to_room-found.ensures.insert c.requires.node) c.lead_to_room-found.result
+    c.lead_to_room-found.ensures.leads in omega arith
 
 pub put-requires-in-Some-clause-put : goal.put-requires-in-Some-clause-put
-put-requires-in-Some-clause-put g t c = let m = records c.args.store.now in let l = records c.insert_in.new.store in
+put-requires-in-Some-clause-put g t c = let m = records c.lead_to_room-found.new.store in let l = records c.insert_in.new.store in
     two-can_put m (c.args.height - 1) c.args.node c.args.k c.args.added.now.line
-    (above m c.args.height c.args.node c.args.k c.args.added.now.line c.requires.insert c.requires.node) c.lead-found.result
-    c.lead-found.ensures l c.in-Some.sibling
-    (subst (λ o. Inserts m l (c.args.height - 1) c.lead-found.result.child c.lead-found.result.rest c.args.added.now.line o)
+    (above m c.args.height c.args.node c.args.k c.args.added.now.line c.lead_to_room-found.ensures.insert c.requires.node) c.lead_to_room-found.result
+    c.lead_to_room-found.ensures.leads l c.in-Some.sibling
+    (subst (λ o. Inserts m l (c.args.height - 1) c.lead_to_room-found.result.child c.lead_to_room-found.result.rest c.args.added.now.line o)
     c.in-Some.is c.insert_in.ensures.inserts)
 
 pub add-requires-clause-row : goal.add-requires-clause-row
-add-requires-clause-row g t c = let m = records c.args.store.now in let l = records c.insert_in.new.store in
+add-requires-clause-row g t c = let m = records c.lead_to_room-found.new.store in let l = records c.insert_in.new.store in
     has-now m (c.args.height - 1) c.args.node c.args.k c.args.added.now.line
-    (above m c.args.height c.args.node c.args.k c.args.added.now.line c.requires.insert c.requires.node) c.lead-found.result
-    c.lead-found.ensures l c.insert_in.result c.insert_in.ensures.inserts
+    (above m c.args.height c.args.node c.args.k c.args.added.now.line c.lead_to_room-found.ensures.insert c.requires.node) c.lead_to_room-found.result
+    c.lead_to_room-found.ensures.leads l c.insert_in.result c.insert_in.ensures.inserts
 
 pub add-requires-clause-fits : goal.add-requires-clause-fits
-add-requires-clause-fits g t c = let m = records c.args.store.now in let l = records c.insert_in.new.store in
+add-requires-clause-fits g t c = let m = records c.lead_to_room-found.new.store in let l = records c.insert_in.new.store in
     one-fits m (c.args.height - 1) c.args.node c.args.k c.args.added.now.line
-    (above m c.args.height c.args.node c.args.k c.args.added.now.line c.requires.insert c.requires.node) c.lead-found.result
-    c.lead-found.ensures l
-    (subst (λ o. Inserts m l (c.args.height - 1) c.lead-found.result.child c.lead-found.result.rest c.args.added.now.line o)
+    (above m c.args.height c.args.node c.args.k c.args.added.now.line c.lead_to_room-found.ensures.insert c.requires.node) c.lead_to_room-found.result
+    c.lead_to_room-found.ensures.leads l
+    (subst (λ o. Inserts m l (c.args.height - 1) c.lead_to_room-found.result.child c.lead_to_room-found.result.rest c.args.added.now.line o)
     c.in-None.is c.insert_in.ensures.inserts)
 
 pub add-requires-clause-sum : goal.add-requires-clause-sum
-add-requires-clause-sum g t c = let m = records c.args.store.now in let l = records c.insert_in.new.store in
-    ap (λ s. plus (sum_at l c.args.node) s) c.requires.more
+add-requires-clause-sum g t c = let m = records c.lead_to_room-found.new.store in let l = records c.insert_in.new.store in
+    ap (λ s. plus (sum_at l c.args.node) s) (more-yet (records c.args.store.now) m c.args.height c.args.node c.args.k c.args.added.now.line
+    c.args.added.now.more c.requires.insert c.lead_to_room-found.ensures.keeps c.requires.more)
     ∙ one-sum m (c.args.height - 1) c.args.node c.args.k c.args.added.now.line
-    (above m c.args.height c.args.node c.args.k c.args.added.now.line c.requires.insert c.requires.node) c.lead-found.result
-    c.lead-found.ensures l
-    (subst (λ o. Inserts m l (c.args.height - 1) c.lead-found.result.child c.lead-found.result.rest c.args.added.now.line o)
+    (above m c.args.height c.args.node c.args.k c.args.added.now.line c.lead_to_room-found.ensures.insert c.requires.node) c.lead_to_room-found.result
+    c.lead_to_room-found.ensures.leads l
+    (subst (λ o. Inserts m l (c.args.height - 1) c.lead_to_room-found.result.child c.lead_to_room-found.result.rest c.args.added.now.line o)
     c.in-None.is c.insert_in.ensures.inserts)
 
 pub returns-in-Some-clause-inserts : goal.returns-in-Some-clause-inserts
-returns-in-Some-clause-inserts g t c = let m = records c.args.store.now in let l = records c.insert_in.new.store in
-    back m (records c.put-in-Some.new.store) c.args.height c.args.node c.args.k c.args.added.now.line c.put-in-Some.result
-    c.requires.node
+returns-in-Some-clause-inserts g t c = let m = records c.lead_to_room-found.new.store in let l = records c.insert_in.new.store in
+    inserts-yet (records c.args.store.now) m c.args.height c.args.node c.args.k c.args.added.now.line c.requires.insert
+    c.lead_to_room-found.ensures.keeps (records c.put-in-Some.new.store) c.put-in-Some.result
+    (back m (records c.put-in-Some.new.store) c.args.height c.args.node c.args.k c.args.added.now.line
+    c.put-in-Some.result c.requires.node
     (two-inserts m (c.args.height - 1) c.args.node c.args.k c.args.added.now.line
-    (above m c.args.height c.args.node c.args.k c.args.added.now.line c.requires.insert c.requires.node) c.lead-found.result
-    c.lead-found.ensures l c.in-Some.sibling
-    (subst (λ o. Inserts m l (c.args.height - 1) c.lead-found.result.child c.lead-found.result.rest c.args.added.now.line o)
+    (above m c.args.height c.args.node c.args.k c.args.added.now.line c.lead_to_room-found.ensures.insert c.requires.node) c.lead_to_room-found.result
+    c.lead_to_room-found.ensures.leads l c.in-Some.sibling
+    (subst (λ o. Inserts m l (c.args.height - 1) c.lead_to_room-found.result.child c.lead_to_room-found.result.rest c.args.added.now.line o)
     c.in-Some.is c.insert_in.ensures.inserts) (records c.put-in-Some.new.store) c.put-in-Some.result
-    c.put-in-Some.ensures.puts)
+    c.put-in-Some.ensures.puts))
 
 pub returns-in-None-clause-inserts : goal.returns-in-None-clause-inserts
-returns-in-None-clause-inserts g t c = let m = records c.args.store.now in let l = records c.insert_in.new.store in
-    back m (records c.add.new.store) c.args.height c.args.node c.args.k c.args.added.now.line None c.requires.node
+returns-in-None-clause-inserts g t c = let m = records c.lead_to_room-found.new.store in let l = records c.insert_in.new.store in
+    inserts-yet (records c.args.store.now) m c.args.height c.args.node c.args.k c.args.added.now.line c.requires.insert
+    c.lead_to_room-found.ensures.keeps (records c.add.new.store) None
+    (back m (records c.add.new.store) c.args.height c.args.node c.args.k c.args.added.now.line None c.requires.node
     (one-inserts m (c.args.height - 1) c.args.node c.args.k c.args.added.now.line
-    (above m c.args.height c.args.node c.args.k c.args.added.now.line c.requires.insert c.requires.node) c.lead-found.result
-    c.lead-found.ensures l
-    (subst (λ o. Inserts m l (c.args.height - 1) c.lead-found.result.child c.lead-found.result.rest c.args.added.now.line o)
-    c.in-None.is c.insert_in.ensures.inserts) (records c.add.new.store) c.add.ensures.records)
+    (above m c.args.height c.args.node c.args.k c.args.added.now.line c.lead_to_room-found.ensures.insert c.requires.node) c.lead_to_room-found.result
+    c.lead_to_room-found.ensures.leads l
+    (subst (λ o. Inserts m l (c.args.height - 1) c.lead_to_room-found.result.child c.lead_to_room-found.result.rest c.args.added.now.line o)
+    c.in-None.is c.insert_in.ensures.inserts) (records c.add.new.store) c.add.ensures.records))
 
 pub returns-then-height-eq1-clause-count : goal.returns-then-height-eq1-clause-count
 returns-then-height-eq1-clause-count g t c = let m = records c.args.store.now in
@@ -184,7 +171,7 @@ returns-then-height-eq1-clause-count g t c = let m = records c.args.store.now in
 pub returns-in-Some-clause-count : goal.returns-in-Some-clause-count
 returns-in-Some-clause-count g t c = let l = records c.insert_in.new.store in
     let n = len-puts l (records c.put-in-Some.new.store) c.args.node
-    (insert (kids l c.args.node) (c.lead-found.result.slot + 1) c.in-Some.sibling) c.put-in-Some.result
+    (insert (kids l c.args.node) (c.lead_to_room-found.result.slot + 1) c.in-Some.sibling) c.put-in-Some.result
     c.put-in-Some.ensures.puts in
     let s = c.put-in-Some.ensures.spares in let before = c.insert_in.ensures.count in omega arith
 

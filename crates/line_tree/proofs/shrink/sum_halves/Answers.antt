@@ -1,9 +1,8 @@
-use Rattle.std.proofs.Common.{◌≡◌, ◌+◌, ◌-◌, ◌≤◌, ◌++◌, ℕ, List, length, take, drop, sym, ap, subst, ◌∙◌, arith}
-use Rattle.std.proofs.Common.{length-drop}
+use Rattle.std.proofs.Common.{◌≡◌, ◌-◌, ◌<◌, ◌≤◌, ◌++◌, ℕ, List, length, take, drop, sym, ap, subst, ◌∙◌, arith}
 use Rattle.std.specs.Prelude.{IfSome}
 use Rattle.std.specs.declared.option.Option.{Option}
 use Rattle.std.specs.FinMap as finite
-use Rattle.std.proofs.lemmas.List.{take-append-drop, take_all}
+use Rattle.std.proofs.lemmas.List.{take-append-drop}
 use Rattle.toggle_sums.specs.Counts.{Count, plus}
 use Rattle.raw_nodes.specs.Names.{records}
 use Rattle.raw_nodes.specs.Records.{Records}
@@ -14,6 +13,7 @@ use Rattle.line_tree.proofs.AmongLaws.{among-drop, among-take}
 use Rattle.line_tree.proofs.EvenLaws.{halves, named-part}
 use Rattle.line_tree.proofs.FillLaws.{sum_all-append, sums-row}
 use Rattle.line_tree.proofs.HalfLaws.{left-more, left-rest, right-more, right-rest}
+use Rattle.line_tree.proofs.PutLaws.{count-row}
 use Rattle.line_tree.proofs.RowLaws.{sum_is}
 use Rattle.line_tree.proofs.SumLaws.{fits-both, fits-left, fits-right}
 use Rattle.line_tree.proofs.TreeLaws.{named-row}
@@ -44,11 +44,12 @@ row-fits : (m : Records) (cs : List NodePtr) (os : List (Option NodePtr)) → os
     FitsSum (sums m os)
 row-fits m cs os is fits = subst FitsSum (sym (ap (sums m) is ∙ sums-row m cs)) fits
 
--- the others are twelve at most
-behind_is : (all : List NodePtr) (half : ℕ) → length all ≤ half + 12 →
-    row (take 12 (drop half all)) ≡ row (drop half all)
-behind_is all half few = let n = length-drop half all in let h : length (drop half all) ≤ 12 = omega arith in
-    ap row (take_all 12 (drop half all) h)
+-- as many as the left one has
+shorter : (n first half : ℕ) → first ≡ n → first < half → n < half
+shorter n first half e less = omega arith
+
+longer : (n first half : ℕ) → first ≡ n → half ≤ first → half ≤ n
+longer n first half e more = omega arith
 
 moved_is : (m : Records) (cs : List NodePtr) (os : List (Option NodePtr)) (s : Count) → os ≡ row cs → s ≡ sums m os →
     s ≡ sum_all m cs
@@ -64,39 +65,49 @@ sum-sum_right-requires g c = named-row (records c.args.store.now) c.args.right c
 pub sum_of-sum-requires-clause-nodes : goal.sum_of-sum-requires-clause-nodes
 sum_of-sum-requires-clause-nodes g c = let m = records c.args.store.now in
     let all = kids m c.args.left ++ kids m c.args.right in
-    named-part m c.args.left c.args.right c.requires.even (take (c.args.half - c.args.first) (drop c.args.first all))
-    (λ d a. among-drop d c.args.first all (among-take d (c.args.half - c.args.first) (drop c.args.first all) a))
+    named-part m c.args.left c.args.right c.requires.even (take (c.args.half - c.children-first.result) (drop c.children-first.result all))
+    (λ d a. among-drop d c.children-first.result all (among-take d (c.args.half - c.children-first.result) (drop c.children-first.result all) a))
     c.part_pair-moved.result c.part_pair-moved.ensures
 
 pub sum_of-sum-requires-clause-fits : goal.sum_of-sum-requires-clause-fits
 sum_of-sum-requires-clause-fits g c = let m = records c.args.store.now in
     let all = kids m c.args.left ++ kids m c.args.right in
-    row-fits m (take (c.args.half - c.args.first) (drop c.args.first all)) c.part_pair-moved.result
-    c.part_pair-moved.ensures (moved-fits m c.args.left c.args.right c.args.first (c.args.half - c.args.first)
+    row-fits m (take (c.args.half - c.children-first.result) (drop c.children-first.result all)) c.part_pair-moved.result
+    c.part_pair-moved.ensures (moved-fits m c.args.left c.args.right c.children-first.result (c.args.half - c.children-first.result)
     c.requires.even)
 
 pub sum_less-rest-requires-clause-nodes : goal.sum_less-rest-requires-clause-nodes
 sum_less-rest-requires-clause-nodes g c = let m = records c.args.store.now in
+    let na = count-row m c.args.left c.children-first.result c.requires.even.left c.children-first.ensures in
+    let back = c.requires.back (shorter (length (kids m c.args.left)) c.children-first.result c.args.half na
+    c.if-first-half.true) in
     let all = kids m c.args.left ++ kids m c.args.right in
     named-part m c.args.left c.args.right c.requires.even (drop c.args.half all) (λ d a. among-drop d c.args.half all a)
-    c.part_pair-behind.result (c.part_pair-behind.ensures ∙ behind_is all c.args.half c.requires.rest)
+    c.args.stay.now back
 
 pub sum_less-rest-requires-clause-sum : goal.sum_less-rest-requires-clause-sum
-sum_less-rest-requires-clause-sum g c = let m = records c.args.store.now in let a = c.args.left in
-    let b = c.args.right in let all = kids m a ++ kids m b in let first = c.args.first in let half = c.args.half in
-    let rest = ap (sums m) (c.part_pair-behind.ensures ∙ behind_is all half c.requires.rest)
+sum_less-rest-requires-clause-sum g c = let m = records c.args.store.now in
+    let na = count-row m c.args.left c.children-first.result c.requires.even.left c.children-first.ensures in
+    let back = c.requires.back (shorter (length (kids m c.args.left)) c.children-first.result c.args.half na
+    c.if-first-half.true) in
+    let a = c.args.left in
+    let b = c.args.right in let all = kids m a ++ kids m b in let first = c.children-first.result in let half = c.args.half in
+    let rest = ap (sums m) back
     ∙ sums-row m (drop half all) in
     let moved = moved_is m (take (half - first) (drop first all)) c.part_pair-moved.result c.sum_of-sum.result
     c.part_pair-moved.ensures c.sum_of-sum.ensures in
-    (λ i. plus (rest i) (moved i)) ∙ right-rest m (kids m a) (kids m b) first half c.requires.first
+    (λ i. plus (rest i) (moved i)) ∙ right-rest m (kids m a) (kids m b) first half na
     (omega (arith, c.if-first-half.true))
     ∙ sym (right_is m a b c.sum-sum_right.result c.requires.even c.sum-sum_right.ensures.value)
 
 pub sum_less-rest-requires-clause-fits : goal.sum_less-rest-requires-clause-fits
-sum_less-rest-requires-clause-fits g c = let m = records c.args.store.now in let a = c.args.left in
+sum_less-rest-requires-clause-fits g c = let m = records c.args.store.now in
+    let na = count-row m c.args.left c.children-first.result c.requires.even.left c.children-first.ensures in
+    let back = c.requires.back (shorter (length (kids m c.args.left)) c.children-first.result c.args.half na
+    c.if-first-half.true) in
+    let a = c.args.left in
     let b = c.args.right in let all = kids m a ++ kids m b in let half = c.args.half in
-    row-fits m (drop half all) c.part_pair-behind.result (c.part_pair-behind.ensures
-    ∙ behind_is all half c.requires.rest)
+    row-fits m (drop half all) c.args.stay.now back
     (fits-right (sum_all m (take half all)) (sum_all m (drop half all)) (halves m a b c.requires.even half))
 
 -- the sum of the first
@@ -107,11 +118,13 @@ grown m a b first half s moved is less left more =
     (λ i. plus (left i) (more i)) ∙ left-more m (kids m a) (kids m b) first half is less
 
 pub plus-requires : goal.plus-requires
-plus-requires g c = let m = records c.args.store.now in let a = c.args.left in let b = c.args.right in
-    let all = kids m a ++ kids m b in let first = c.args.first in let half = c.args.half in
+plus-requires g c = let m = records c.args.store.now in
+    let na = count-row m c.args.left c.children-first.result c.requires.even.left c.children-first.ensures in
+    let a = c.args.left in let b = c.args.right in
+    let all = kids m a ++ kids m b in let first = c.children-first.result in let half = c.args.half in
     let moved = moved_is m (take (half - first) (drop first all)) c.part_pair-moved.result c.sum_of-sum.result
     c.part_pair-moved.ensures c.sum_of-sum.ensures in
-    let now = grown m a b first half c.sum-sum_left.result c.sum_of-sum.result c.requires.first
+    let now = grown m a b first half c.sum-sum_left.result c.sum_of-sum.result na
     (omega (arith, c.if-first-half.true))
     (left_is m a b c.sum-sum_left.result c.requires.even c.sum-sum_left.ensures.value) moved in (
       omega arith,
@@ -121,56 +134,72 @@ plus-requires g c = let m = records c.args.store.now in let a = c.args.left in l
     )
 
 pub returns-then-first-half-clause-first : goal.returns-then-first-half-clause-first
-returns-then-first-half-clause-first g c = let m = records c.args.store.now in let a = c.args.left in
-    let b = c.args.right in let all = kids m a ++ kids m b in let first = c.args.first in let half = c.args.half in
+returns-then-first-half-clause-first g c = let m = records c.args.store.now in
+    let na = count-row m c.args.left c.children-first.result c.requires.even.left c.children-first.ensures in
+    let a = c.args.left in
+    let b = c.args.right in let all = kids m a ++ kids m b in let first = c.children-first.result in let half = c.args.half in
     let moved = moved_is m (take (half - first) (drop first all)) c.part_pair-moved.result c.sum_of-sum.result
     c.part_pair-moved.ensures c.sum_of-sum.ensures in
-    c.plus.ensures ∙ grown m a b first half c.sum-sum_left.result c.sum_of-sum.result c.requires.first
+    c.plus.ensures ∙ grown m a b first half c.sum-sum_left.result c.sum_of-sum.result na
     (omega (arith, c.if-first-half.true))
     (left_is m a b c.sum-sum_left.result c.requires.even c.sum-sum_left.ensures.value) moved
 
 pub returns-then-first-half-clause-last : goal.returns-then-first-half-clause-last
 returns-then-first-half-clause-last g c = let m = records c.args.store.now in
+    let na = count-row m c.args.left c.children-first.result c.requires.even.left c.children-first.ensures in
+    let back = c.requires.back (shorter (length (kids m c.args.left)) c.children-first.result c.args.half na
+    c.if-first-half.true) in
     let all = kids m c.args.left ++ kids m c.args.right in
-    c.sum_less-rest.ensures ∙ ap (sums m) (c.part_pair-behind.ensures ∙ behind_is all c.args.half c.requires.rest)
+    c.sum_less-rest.ensures ∙ ap (sums m) back
     ∙ sums-row m (drop c.args.half all)
 
 -- ---- to the right
 pub sum_of-sum-requires-else-first-half-clause-nodes : goal.sum_of-sum-requires-else-first-half-clause-nodes
 sum_of-sum-requires-else-first-half-clause-nodes g c = let m = records c.args.store.now in
     let all = kids m c.args.left ++ kids m c.args.right in
-    named-part m c.args.left c.args.right c.requires.even (take (c.args.first - c.args.half) (drop c.args.half all))
-    (λ d a. among-drop d c.args.half all (among-take d (c.args.first - c.args.half) (drop c.args.half all) a))
+    named-part m c.args.left c.args.right c.requires.even (take (c.children-first.result - c.args.half) (drop c.args.half all))
+    (λ d a. among-drop d c.args.half all (among-take d (c.children-first.result - c.args.half) (drop c.args.half all) a))
     c.part_pair-moved-else-first-half.result c.part_pair-moved-else-first-half.ensures
 
 pub sum_of-sum-requires-else-first-half-clause-fits : goal.sum_of-sum-requires-else-first-half-clause-fits
 sum_of-sum-requires-else-first-half-clause-fits g c = let m = records c.args.store.now in
     let all = kids m c.args.left ++ kids m c.args.right in
-    row-fits m (take (c.args.first - c.args.half) (drop c.args.half all)) c.part_pair-moved-else-first-half.result
+    row-fits m (take (c.children-first.result - c.args.half) (drop c.args.half all)) c.part_pair-moved-else-first-half.result
     c.part_pair-moved-else-first-half.ensures
-    (moved-fits m c.args.left c.args.right c.args.half (c.args.first - c.args.half) c.requires.even)
+    (moved-fits m c.args.left c.args.right c.args.half (c.children-first.result - c.args.half) c.requires.even)
 
 pub sum_less-rest-requires-else-first-half-clause-nodes : goal.sum_less-rest-requires-else-first-half-clause-nodes
 sum_less-rest-requires-else-first-half-clause-nodes g c = let m = records c.args.store.now in
+    let na = count-row m c.args.left c.children-first.result c.requires.even.left c.children-first.ensures in
+    let front = c.requires.front (longer (length (kids m c.args.left)) c.children-first.result c.args.half na
+    c.if-first-half.false) in
     let all = kids m c.args.left ++ kids m c.args.right in
     named-part m c.args.left c.args.right c.requires.even (take c.args.half all) (λ d a. among-take d c.args.half all a)
-    c.part_pair-front.result c.part_pair-front.ensures
+    c.args.stay.now front
 
 pub sum_less-rest-requires-else-first-half-clause-sum : goal.sum_less-rest-requires-else-first-half-clause-sum
-sum_less-rest-requires-else-first-half-clause-sum g c = let m = records c.args.store.now in let a = c.args.left in
-    let b = c.args.right in let all = kids m a ++ kids m b in let first = c.args.first in let half = c.args.half in
-    let rest = ap (sums m) c.part_pair-front.ensures ∙ sums-row m (take half all) in
+sum_less-rest-requires-else-first-half-clause-sum g c = let m = records c.args.store.now in
+    let na = count-row m c.args.left c.children-first.result c.requires.even.left c.children-first.ensures in
+    let front = c.requires.front (longer (length (kids m c.args.left)) c.children-first.result c.args.half na
+    c.if-first-half.false) in
+    let a = c.args.left in
+    let b = c.args.right in let all = kids m a ++ kids m b in let first = c.children-first.result in let half = c.args.half in
+    let rest = ap (sums m) front ∙ sums-row m (take half all) in
     let moved = moved_is m (take (first - half) (drop half all)) c.part_pair-moved-else-first-half.result
     c.sum_of-sum-else-first-half.result c.part_pair-moved-else-first-half.ensures
     c.sum_of-sum-else-first-half.ensures in
-    (λ i. plus (rest i) (moved i)) ∙ left-rest m (kids m a) (kids m b) first half c.requires.first
+    (λ i. plus (rest i) (moved i)) ∙ left-rest m (kids m a) (kids m b) first half na
     (omega (arith, c.if-first-half.false))
     ∙ sym (left_is m a b c.sum-sum_left.result c.requires.even c.sum-sum_left.ensures.value)
 
 pub sum_less-rest-requires-else-first-half-clause-fits : goal.sum_less-rest-requires-else-first-half-clause-fits
-sum_less-rest-requires-else-first-half-clause-fits g c = let m = records c.args.store.now in let a = c.args.left in
+sum_less-rest-requires-else-first-half-clause-fits g c = let m = records c.args.store.now in
+    let na = count-row m c.args.left c.children-first.result c.requires.even.left c.children-first.ensures in
+    let front = c.requires.front (longer (length (kids m c.args.left)) c.children-first.result c.args.half na
+    c.if-first-half.false) in
+    let a = c.args.left in
     let b = c.args.right in let all = kids m a ++ kids m b in let half = c.args.half in
-    row-fits m (take half all) c.part_pair-front.result c.part_pair-front.ensures
+    row-fits m (take half all) c.args.stay.now front
     (fits-left (sum_all m (take half all)) (sum_all m (drop half all)) (halves m a b c.requires.even half))
 
 -- the sum of the last
@@ -181,12 +210,14 @@ lengthened m a b first half s moved is less right more =
     (λ i. plus (more i) (right i)) ∙ right-more m (kids m a) (kids m b) first half is less
 
 pub plus-requires-else-first-half : goal.plus-requires-else-first-half
-plus-requires-else-first-half g c = let m = records c.args.store.now in let a = c.args.left in let b = c.args.right in
-    let all = kids m a ++ kids m b in let first = c.args.first in let half = c.args.half in
+plus-requires-else-first-half g c = let m = records c.args.store.now in
+    let na = count-row m c.args.left c.children-first.result c.requires.even.left c.children-first.ensures in
+    let a = c.args.left in let b = c.args.right in
+    let all = kids m a ++ kids m b in let first = c.children-first.result in let half = c.args.half in
     let moved = moved_is m (take (first - half) (drop half all)) c.part_pair-moved-else-first-half.result
     c.sum_of-sum-else-first-half.result c.part_pair-moved-else-first-half.ensures
     c.sum_of-sum-else-first-half.ensures in
-    let now = lengthened m a b first half c.sum-sum_right.result c.sum_of-sum-else-first-half.result c.requires.first
+    let now = lengthened m a b first half c.sum-sum_right.result c.sum_of-sum-else-first-half.result na
     (omega (arith, c.if-first-half.false))
     (right_is m a b c.sum-sum_right.result c.requires.even c.sum-sum_right.ensures.value) moved in (
       omega arith,
@@ -197,15 +228,20 @@ plus-requires-else-first-half g c = let m = records c.args.store.now in let a = 
 
 pub returns-else-first-half-clause-first : goal.returns-else-first-half-clause-first
 returns-else-first-half-clause-first g c = let m = records c.args.store.now in
+    let na = count-row m c.args.left c.children-first.result c.requires.even.left c.children-first.ensures in
+    let front = c.requires.front (longer (length (kids m c.args.left)) c.children-first.result c.args.half na
+    c.if-first-half.false) in
     let all = kids m c.args.left ++ kids m c.args.right in
-    c.sum_less-rest-else-first-half.ensures ∙ ap (sums m) c.part_pair-front.ensures ∙ sums-row m (take c.args.half all)
+    c.sum_less-rest-else-first-half.ensures ∙ ap (sums m) front ∙ sums-row m (take c.args.half all)
 
 pub returns-else-first-half-clause-last : goal.returns-else-first-half-clause-last
-returns-else-first-half-clause-last g c = let m = records c.args.store.now in let a = c.args.left in
-    let b = c.args.right in let all = kids m a ++ kids m b in let first = c.args.first in let half = c.args.half in
+returns-else-first-half-clause-last g c = let m = records c.args.store.now in
+    let na = count-row m c.args.left c.children-first.result c.requires.even.left c.children-first.ensures in
+    let a = c.args.left in
+    let b = c.args.right in let all = kids m a ++ kids m b in let first = c.children-first.result in let half = c.args.half in
     let moved = moved_is m (take (first - half) (drop half all)) c.part_pair-moved-else-first-half.result
     c.sum_of-sum-else-first-half.result c.part_pair-moved-else-first-half.ensures
     c.sum_of-sum-else-first-half.ensures in
     c.plus-else-first-half.ensures ∙ lengthened m a b first half c.sum-sum_right.result
-    c.sum_of-sum-else-first-half.result c.requires.first (omega (arith, c.if-first-half.false))
+    c.sum_of-sum-else-first-half.result na (omega (arith, c.if-first-half.false))
     (right_is m a b c.sum-sum_right.result c.requires.even c.sum-sum_right.ensures.value) moved

@@ -1,0 +1,53 @@
+use Rattle.std.proofs.Common.{◌≡◌, ◌+◌, ◌∙◌, length, refl, sym, subst}
+use Rattle.std.specs.Prelude.{IfSome, IsSome}
+use Rattle.raw_nodes.specs.Names.{records}
+use Rattle.line_tree.proofs.ClosingLaws.{Closing, close-first, close-last, close-next, close-read}
+use Rattle.line_tree.proofs.RowLaws.{none_of}
+use Rattle.line_tree.proofs.shrink.close.Goals as goal
+
+pub loop-next-init : goal.loop-next-init
+loop-next-init g c = let m = records c.args.store.now in let p = c.args.node in let r = c.requires in
+    let first = close-first m p c.args.slot r.row r.links r.slot r.fill in
+    record {
+      closing = first;
+      hand = close-read m p c.args.slot r.row r.links r.slot r.fill m c.args.slot first c.kid_behind-next.result
+          c.kid_behind-next.ensures;
+      spares = refl;
+      rooms = refl;
+    }
+
+pub kid_behind-next-requires-in-Some-clause-name : goal.kid_behind-next-requires-in-Some-clause-name
+kid_behind-next-requires-in-Some-clause-name g c = let m = records c.args.store.now in let p = c.args.node in
+    let r = c.requires in let n = records c.loop-next.store in let s = c.loop-next.invariant.closing in
+    let hand = sym c.in-Some.is ∙ c.loop-next.invariant.hand in
+    let next = subst (λ z. Closing m z p c.args.slot (c.loop-next.at + 1)) (sym c.link.ensures.records)
+    (close-next m p c.args.slot r.row r.links r.slot r.fill n c.loop-next.at s c.in-Some.child hand) in
+    subst (λ o. IsSome o) (sym next.is) refl
+
+pub kid_behind-next-requires-in-Some-clause-long : goal.kid_behind-next-requires-in-Some-clause-long
+kid_behind-next-requires-in-Some-clause-long g c = let m = records c.args.store.now in let p = c.args.node in
+    let r = c.requires in let n = records c.loop-next.store in let s = c.loop-next.invariant.closing in
+    let hand = sym c.in-Some.is ∙ c.loop-next.invariant.hand in
+    let next = subst (λ z. Closing m z p c.args.slot (c.loop-next.at + 1)) (sym c.link.ensures.records)
+    (close-next m p c.args.slot r.row r.links r.slot r.fill n c.loop-next.at s c.in-Some.child hand) in
+    subst (λ o. IfSome o (λ x. length x.children ≡ 12)) (sym next.is) next.long
+
+pub loop-next-preserved : goal.loop-next-preserved
+loop-next-preserved g c = let m = records c.args.store.now in let p = c.args.node in let r = c.requires in
+    let n = records c.loop-next.store in let s = c.loop-next.invariant.closing in
+    let hand = sym c.in-Some.is ∙ c.loop-next.invariant.hand in
+    let next = subst (λ z. Closing m z p c.args.slot (c.loop-next.at + 1)) (sym c.link.ensures.records)
+    (close-next m p c.args.slot r.row r.links r.slot r.fill n c.loop-next.at s c.in-Some.child hand) in
+    record {
+      closing = next;
+      hand = close-read m p c.args.slot r.row r.links r.slot r.fill (records c.link.new.store) (c.loop-next.at + 1) next
+          c.kid_behind-next-in-Some.result c.kid_behind-next-in-Some.ensures;
+      spares = c.link.ensures.spares ∙ c.loop-next.invariant.spares;
+      rooms = c.link.ensures.rooms ∙ c.loop-next.invariant.rooms;
+    }
+
+pub returns-clause-records : goal.returns-clause-records
+returns-clause-records g c = let m = records c.args.store.now in let p = c.args.node in let r = c.requires in
+    c.link-2.ensures.records
+    ∙ close-last m p c.args.slot r.row r.links r.slot r.fill (records c.loop-next.store) c.loop-next.at
+    c.loop-next.invariant.closing (sym (none_of c.loop-next.next c.in_default.not-Some) ∙ c.loop-next.invariant.hand)
