@@ -214,6 +214,17 @@ fn has_cell<S: TextStore>(store: &S, offset: usize, character: char, line: usize
     offset < store.len() && store.char_at(offset) == character && store.line_of(offset) == line
 }
 
+/// Whether a store answers this of the line at an offset.
+fn has_line<S: TextStore>(store: &S, offset: usize, number: usize, start: usize) -> bool {
+    if store.len() < offset {
+        return false;
+    }
+    let line = store.line_at(offset);
+    line.number == number
+        && line.start == start
+        && (line.number >= store.lines() || store.line_start(number + 1) == line.end)
+}
+
 fn check_cell<S: TextStore>(
     rt: &impl Abort,
     store: &S,
