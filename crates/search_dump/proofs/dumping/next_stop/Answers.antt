@@ -8,7 +8,7 @@ use Rattle.search_dump.proofs.dumping.next_stop.Goals as goal
 pub returns-clause-ahead : goal.returns-clause-ahead
 returns-clause-ahead g c =
     let view = c.args.sight.now.view.now in
-    ahead-on (g.S.TextStore.content view.store.now) view.s view.e c.args.place c.stop_at_line-next.result
+    ahead-on (g.S.TextStore.content view.store.now) view.s view.e c.args.spot.place c.stop_at_line-next.result
     c.stop_at_tag-tag.new.changes.next c.stop_at_tag-tag.ensures.ahead (omega arith)
 
 pub returns-clause-mark : goal.returns-clause-mark
@@ -16,7 +16,7 @@ returns-clause-mark g c =
     let view = c.args.sight.now.view.now in
     let names = c.args.sight.now.names.now in
     mark-stays (g.S.TextStore.content view.store.now) view.s view.e names.tags.now.tags names.marks.now.marks
-    names.widget.0 c.args.listed c.args.mark c.args.place c.args.to
+    names.widget.0 c.args.listed c.args.mark c.args.spot.place c.args.to
     c.stop_at_tag-tag.result c.stop_at_mark.result c.stop_at_line-next.result c.requires.view.ordered
     c.stop_at_tag-tag.ensures.stop c.requires.mark c.stop_at_mark.ensures
     c.stop_at_line-next.ensures.stop c.stop_at_line-next.ensures.above c.stop_at_line-next.ensures.below
@@ -27,7 +27,7 @@ returns-clause-stop g c =
     let view = c.args.sight.now.view.now in
     let names = c.args.sight.now.names.now in
     stop-is (g.S.TextStore.content view.store.now) view.s view.e names.tags.now.tags names.marks.now.marks
-    names.widget.0 c.args.listed c.args.mark c.args.place c.args.to
+    names.widget.0 c.args.listed c.args.mark c.args.spot.place c.args.to
     c.stop_at_tag-tag.result c.stop_at_mark.result c.stop_at_line-next.result c.requires.view.ordered
     c.stop_at_tag-tag.ensures.stop c.requires.mark c.stop_at_mark.ensures
     c.stop_at_line-next.ensures.stop c.stop_at_line-next.ensures.above c.stop_at_line-next.ensures.below
@@ -40,7 +40,7 @@ returns-clause-still g c other is =
       c.stop_at_line-next.ensures.below,
       stop-within c.stop_at_tag-tag.result c.stop_at_mark.result c.args.mark c.stop_at_mark.ensures,
     ) in
-    no-tag-there (seen_in g.S.TextStore.content c.args.sight.now.view.now c.args.sight.now.names.now) c.args.place c.args.to
+    no-tag-there (seen_in g.S.TextStore.content c.args.sight.now.view.now c.args.sight.now.names.now) c.args.spot.place c.args.to
     c.stop_at_tag-tag.result c.stop_at_line-next.result
     (c.stop_at_tag-tag.ensures.stop (or_left c.args.listed.tags c.args.listed.text is))
     c.stop_at_line-next.ensures.above stop other

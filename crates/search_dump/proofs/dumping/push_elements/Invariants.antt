@@ -2,10 +2,12 @@ use Rattle.std.proofs.Common.{◌≡◌, ◌+◌, ◌-◌, ◌≤◌, ◌⊎◌,
 use Rattle.std.specs.List.{flat_map}
 use Rattle.std.specs.Option.{option_map}
 use Rattle.tcl_words.specs.ListGrowth.{Goes}
+use Rattle.text_index.specs.Views.{shown}
 use Rattle.search_dump.specs.Ahead.{AreAhead, AreBefore}
 use Rattle.search_dump.specs.Dump.{elements_at, is_cut, seen_by}
 use Rattle.search_dump.specs.MarksAhead.{IsMarkFrom, shown_of, usable_by}
 use Rattle.search_dump.specs.Matches.{places}
+use Rattle.search_dump.specs.Spots.{IsSpot}
 use Rattle.search_dump.specs.Stops.{has_tag_at, stops_at_marks}
 use Rattle.search_dump.proofs.dumping.push_elements.Given as goal
 
@@ -15,8 +17,9 @@ invariant-loop-place g l =
     let marks = l.sight.names.now.marks.now.marks in
     let seen = seen_by content l.sight.view.now.s l.sight.view.now.e l.sight.names.now.tags.now.tags marks l.sight.names.now.widget.0 in
     record {
-      goes : Goes (string_bytes l.fn.list) (string_bytes l.list)
+      goes : Goes (string_bytes l.fn.out.list) (string_bytes l.out.list)
           (flat_map (elements_at l.listed seen l.from l.to) (places l.from l.place));
+      spot : IsSpot (shown content l.sight.view.now.s l.sight.view.now.e) (record { place = l.place; line = l.line });
       begun : l.from ≤ l.place;
       within : l.place ≤ l.to;
       ahead : AreAhead content l.sight.view.now.s l.sight.view.now.e l.place l.changes.next;

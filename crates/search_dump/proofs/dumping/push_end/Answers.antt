@@ -8,6 +8,6 @@ returns g c =
     let names = c.args.sight.now.names.now in
     end-goes c.args.listed (g.S.TextStore.content view.store.now) view.s view.e names.tags.now.tags
     names.marks.now.marks names.widget.0 c.args.end
-    (string_bytes c.args.list.now) (string_bytes c.push_listed_tags.new.list)
-    (string_bytes c.push_listed_marks.new.list) c.requires.view c.requires.end
+    (string_bytes c.args.out.now.list) (string_bytes c.push_listed_tags.new.out.list)
+    (string_bytes c.push_listed_marks.new.out.list) c.requires.view c.requires.end
     c.in_ok-push_listed_tags.ensures.goes c.in_ok-push_listed_marks.ensures.goes

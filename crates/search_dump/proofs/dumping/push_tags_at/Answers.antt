@@ -17,19 +17,19 @@ returns-clause-goes g c =
     let tags = c.args.sight.now.names.now.tags.now.tags in
     let marks = c.args.sight.now.names.now.marks.now.marks in
     let widget = c.args.sight.now.names.now.widget.0 in
-    let place = c.args.place in
-    let before = c.args.before in
+    let place = c.args.spot.place in
+    let before = c.args.before.now in
     let behind = c.tags_behind-behind.result in
     let seen = seen_by content view.s view.e tags marks widget in
     let are_behind : AreAt content view.s view.e tags widget place behind =
     λ at within. c.tags_behind-behind.ensures (slot_of_row widget (slots_of tags) at) in
-    goes_on (string_bytes c.args.list.now) (string_bytes c.push_tags.new.list) (string_bytes c.push_tags-2.new.list)
+    goes_on (string_bytes c.args.out.now.list) (string_bytes c.push_tags.new.out.list) (string_bytes c.push_tags-2.new.out.list)
     (tagoff_elements seen place) (tagon_elements seen place)
-    (subst (Goes (string_bytes c.args.list.now) (string_bytes c.push_tags.new.list))
+    (subst (Goes (string_bytes c.args.out.now.list) (string_bytes c.push_tags.new.out.list))
     (ap (λ key. flat_map (only_in before behind widget key text place) tags) tagoff-characters
     ∙ tagoffs-are content view.s view.e tags marks widget place before behind c.requires.before are_behind)
     c.in_ok-push_tags.ensures)
-    (subst (Goes (string_bytes c.push_tags.new.list) (string_bytes c.push_tags-2.new.list))
+    (subst (Goes (string_bytes c.push_tags.new.out.list) (string_bytes c.push_tags-2.new.out.list))
     (ap (λ key. flat_map (only_in behind before widget key text place) tags) tagon-characters
     ∙ tagons-are content view.s view.e tags marks widget place before behind c.requires.before are_behind)
     c.in_ok-push_tags-2.ensures)
