@@ -22,4 +22,5 @@ pub mod StretchLaws
 pub mod TagLaws
 pub mod TagStops
 pub mod TextLaws
+pub mod TurnLaws
 pub mod WindowLaws

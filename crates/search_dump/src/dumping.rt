@@ -1,6 +1,6 @@
 ghost use Rattle.std.specs.Prelude.{◌≡◌, ◌≤◌, ◌<◌, ◌+◌, ◌++◌, ◌&&◌, ◌==◌, [], chars, length, not, slice_index_or};
 ghost use Rattle.std.specs.Prelude.{string_bytes, encode_utf8_all, codes, slice_range, IfOk, IfSome, IsTrue, OnOk};
-ghost use Rattle.std.specs.Prelude.{false, true};
+ghost use Rattle.std.specs.Prelude.{true};
 ghost use Rattle.std.specs.FinSet as set;
 ghost use Rattle.std.specs.List.{flat_map};
 ghost use Rattle.mark_table.specs.SharedMarks as marks;
@@ -16,10 +16,10 @@ ghost use Rattle.search_dump.specs.Stops.{IsStop};
 ghost use Rattle.search_dump.specs.Matches.{places};
 ghost use Rattle.search_dump.specs.MarksAhead.{mark_element, shown_of, Has};
 ghost use Rattle.search_dump.specs.Dump.{dump_elements, elements_at, element, if_listed, mark_elements, only_in};
-ghost use Rattle.search_dump.specs.Dump.{seen_by, tagoff_elements, tagon_elements};
+ghost use Rattle.search_dump.specs.Dump.{seen_by, tagoff_elements};
 ghost use Rattle.tcl_words.specs.ListGrowth.{Goes};
 ghost use Rattle.search_dump.specs.Sight.{seen_in, marks_in, text_in, IsFirstMark, ShowsLines};
-ghost use Rattle.search_dump.specs.Sight.{AreTagsAt, AreTagsBefore};
+ghost use Rattle.search_dump.specs.Sight.{AreChangesKnown, AreTagsAt, AreTagsBefore};
 ghost use Rattle.search_dump.specs.Spots.{IsSpot};
 
 use crate::dumped_marks::{Marked, mark_from};
@@ -121,31 +121,6 @@ fn push_tags<S: TextStore>(
     Ok(())
 }
 
-/// Appends the tags that end at a place, and those that begin there, by those of the character before it, and answers
-/// those of the character at it.
-fn push_tags_at<S: TextStore>(
-    out: &mut Listing,
-    sight: &Sight<'_, S>,
-    spot: Spot,
-    before: &TagSet,
-) -> Result<TagSet, AllocError>
-    requires view { ShowsLines S.content sight.now.view.now }
-    requires spot { IsSpot (text_in S.content sight.now.view.now) spot }
-    requires widget { sight.now.names.now.widget.0 < MOST_WIDGETS }
-    requires within { sight.now.view.now.s + spot.place ≤ sight.now.view.now.e }
-    requires before { AreTagsBefore S.content sight.now.view.now sight.now.names.now spot.place before.now }
-    ensures goes { OnOk result (Goes (string_bytes out.old.list) (string_bytes out.new.list)
-        (tagoff_elements (seen_in S.content sight.now.view.now sight.now.names.now) spot.place
-        ++ tagon_elements (seen_in S.content sight.now.view.now sight.now.names.now) spot.place)) }
-    ensures behind { IfOk result (λ behind.
-        AreTagsAt S.content sight.now.view.now sight.now.names.now spot.place behind) }
-{
-    let behind = tags_behind(sight.view, spot.place);
-    push_tags(out, sight, "tagoff", spot, before, &behind)?;
-    push_tags(out, sight, "tagon", spot, &behind, before)?;
-    Ok(behind)
-}
-
 /// Appends a mark that stands at a place, if it is listed.
 fn push_mark<S: TextStore>(
     out: &mut Listing,
@@ -197,36 +172,31 @@ fn push_marks_at<S: TextStore>(
     Ok(None)
 }
 
-/// Appends the tags that end at a place, and those that begin there, if tags are listed and one of them may do so, and
-/// answers those of the character at the place by those of the one before.
+/// Appends the tags that end at a place, and those that begin there, if tags are listed, by those of the character
+/// before it and of the one at it.
 fn push_listed_tags<S: TextStore>(
     out: &mut Listing,
     sight: &Sight<'_, S>,
     listed: Listed,
     spot: Spot,
     before: &TagSet,
-    may_change: bool,
-) -> Result<TagSet, AllocError>
-    requires view { ShowsLines S.content sight.now.view.now }
+    behind: &TagSet,
+) -> Result<(), AllocError>
     requires spot { IsSpot (text_in S.content sight.now.view.now) spot }
     requires widget { sight.now.names.now.widget.0 < MOST_WIDGETS }
-    requires within { sight.now.view.now.s + spot.place ≤ sight.now.view.now.e }
     requires before { IsTrue listed.tags → AreTagsBefore S.content sight.now.view.now sight.now.names.now spot.place
         before.now }
-    requires still { may_change ≡ false → IsTrue listed.tags
-        → has_tag_at (seen_in S.content sight.now.view.now sight.now.names.now) spot.place ≡ false }
-    ensures goes { OnOk result (Goes (string_bytes out.old.list) (string_bytes out.new.list)
+    requires behind { IsTrue listed.tags → AreTagsAt S.content sight.now.view.now sight.now.names.now spot.place
+        behind.now }
+    ensures { OnOk result (Goes (string_bytes out.old.list) (string_bytes out.new.list)
         (tags_at listed (seen_in S.content sight.now.view.now sight.now.names.now) spot.place)) }
-    ensures behind { IfOk result (λ behind. IsTrue listed.tags →
-        AreTagsAt S.content sight.now.view.now sight.now.names.now spot.place behind) }
 {
     if !listed.tags {
-        return Ok(*before);
+        return Ok(());
     }
-    if !may_change {
-        return Ok(*before);
-    }
-    push_tags_at(out, sight, spot, before)
+    push_tags(out, sight, "tagoff", spot, before, behind)?;
+    push_tags(out, sight, "tagon", spot, behind, before)?;
+    Ok(())
 }
 
 /// Appends the marks at a place, if marks are listed, and answers the first mark behind the place, if a dump stops at
@@ -297,6 +267,8 @@ fn stop_at_tag<S: TextStore>(
         place changes.old.next }
     ensures ahead { AreAhead (S.content sight.now.view.now.store.now) sight.now.view.now.s sight.now.view.now.e
         place changes.new.next }
+    ensures known { IsTrue (stops_at_tags listed) → AreChangesKnown S.content sight.now.view.now sight.now.names.now
+        place result changes.new.next }
     ensures above { place < result }
     ensures below { result ≤ to }
     ensures stop { IsTrue (stops_at_tags listed) →
@@ -337,13 +309,6 @@ fn stop_at_line<S: TextStore>(view: &View<'_, S>, listed: Listed, spot: Spot, to
     to.min(spot.line.end)
 }
 
-/// Where a dump stops, and whether a tag may begin or end there.
-#[derive(Clone, Copy)]
-struct Stop {
-    place: usize,
-    may_change: bool,
-}
-
 /// The next stop of a dump behind a place, or another place, if that stands before it.
 fn next_stop<S: TextStore>(
     changes: &mut TagChanges,
@@ -352,7 +317,7 @@ fn next_stop<S: TextStore>(
     mark: Option<Marked>,
     spot: Spot,
     to: usize,
-) -> Stop
+) -> usize
     requires view { ShowsLines S.content sight.now.view.now }
     requires spot { IsSpot (text_in S.content sight.now.view.now) spot }
     requires widget { sight.now.names.now.widget.0 < MOST_WIDGETS }
@@ -364,19 +329,15 @@ fn next_stop<S: TextStore>(
         IsFirstMark S.content sight.now.view.now sight.now.names.now (sight.now.view.now.s + spot.place + 1) mark }
     requires behind { IfSome mark (λ next. spot.place < next.place) }
     ensures ahead { AreAhead (S.content sight.now.view.now.store.now) sight.now.view.now.s sight.now.view.now.e
-        result.place changes.new.next }
+        result changes.new.next }
     ensures mark { IsTrue (stops_at_marks listed) →
-        IsFirstMark S.content sight.now.view.now sight.now.names.now (sight.now.view.now.s + result.place) mark }
-    ensures stop { IsStop listed (seen_in S.content sight.now.view.now sight.now.names.now) spot.place to result.place }
-    ensures still { result.may_change ≡ false → IsTrue listed.tags
-        → has_tag_at (seen_in S.content sight.now.view.now sight.now.names.now) result.place ≡ false }
+        IsFirstMark S.content sight.now.view.now sight.now.names.now (sight.now.view.now.s + result) mark }
+    ensures stop { IsStop listed (seen_in S.content sight.now.view.now sight.now.names.now) spot.place to result }
+    ensures known { IsTrue listed.tags → AreChangesKnown S.content sight.now.view.now sight.now.names.now
+        spot.place result changes.new.next }
 {
     let tag = stop_at_tag(changes, sight, listed, spot.place, to);
-    let next = stop_at_line(sight.view, listed, spot, stop_at_mark(mark, tag));
-    Stop {
-        place: next,
-        may_change: next == tag,
-    }
+    stop_at_line(sight.view, listed, spot, stop_at_mark(mark, tag))
 }
 
 /// The first mark at a place or behind it, if a dump stops at marks.
@@ -404,6 +365,44 @@ fn listed_before<S: TextStore>(sight: &Sight<'_, S>, listed: Listed, place: usiz
         return TagSet::empty();
     }
     tags_before(sight.view, place)
+}
+
+/// The tags of the character at a place, if tags are listed.
+fn listed_behind<S: TextStore>(sight: &Sight<'_, S>, listed: Listed, place: usize) -> TagSet
+    requires view { ShowsLines S.content sight.now.view.now }
+    requires within { sight.now.view.now.s + place ≤ sight.now.view.now.e }
+    ensures { IsTrue listed.tags → AreTagsAt S.content sight.now.view.now sight.now.names.now place result }
+{
+    let _widget = sight.names.widget;
+    if !listed.tags {
+        return TagSet::empty();
+    }
+    tags_behind(sight.view, place)
+}
+
+/// The tags of the character at a stop, if tags are listed, by those of the character before it.
+fn turned_tags<S: TextStore>(
+    changes: &TagChanges,
+    sight: &Sight<'_, S>,
+    listed: Listed,
+    place: usize,
+    stop: usize,
+    before: &TagSet,
+) -> TagSet
+    requires view { ShowsLines S.content sight.now.view.now }
+    requires widget { sight.now.names.now.widget.0 < MOST_WIDGETS }
+    requires above { place < stop }
+    requires known { IsTrue listed.tags → AreChangesKnown S.content sight.now.view.now sight.now.names.now
+        place stop changes.now.next }
+    requires before { IsTrue listed.tags → AreTagsBefore S.content sight.now.view.now sight.now.names.now stop
+        before.now }
+    ensures { IsTrue listed.tags → sight.now.view.now.s + stop < sight.now.view.now.e →
+        AreTagsAt S.content sight.now.view.now sight.now.names.now stop result }
+{
+    if !listed.tags {
+        return TagSet::empty();
+    }
+    changes.turned(sight.names, stop, before)
 }
 
 /// What a dump knows at a place: the first mark that isn't passed, the tags of the character before, and its line.
@@ -438,25 +437,22 @@ fn push_elements<S: TextStore>(
 {
     let mut changes = TagChanges::new(from);
     let mut mark = listed_mark(sight, listed, from);
-    let mut tags = listed_before(sight, listed, from);
-    let mut may_change = true;
+    let mut before = listed_before(sight, listed, from);
+    let mut behind = listed_behind(sight, listed, from);
     let mut line = sight.view.line_at(from);
     let mut place = from;
     while place < to {
         let spot = Spot { place, line };
-        tags = push_listed_tags(out, sight, listed, spot, &tags, may_change)?;
+        push_listed_tags(out, sight, listed, spot, &before, &behind)?;
         mark = push_listed_marks(out, sight, listed, spot, mark)?;
         let next = next_stop(&mut changes, sight, listed, mark, spot, to);
-        push_listed_text(out, sight.view, listed, spot, next.place)?;
-        may_change = next.may_change;
-        line = spot.line_on(sight.view, next.place);
-        place = next.place;
+        push_listed_text(out, sight.view, listed, spot, next)?;
+        before = behind;
+        behind = turned_tags(&changes, sight, listed, place, next, &before);
+        line = spot.line_on(sight.view, next);
+        place = next;
     }
-    Ok(Reached {
-        mark,
-        before: tags,
-        line,
-    })
+    Ok(Reached { mark, before, line })
 }
 
 /// Appends what is listed at the end of the view, by what is known there.
@@ -483,7 +479,7 @@ fn push_end<S: TextStore>(
         place: end,
         line: reached.line,
     };
-    push_listed_tags(out, sight, listed, spot, &reached.before, true)?;
+    push_listed_tags(out, sight, listed, spot, &reached.before, &TagSet::empty())?;
     push_listed_marks(out, sight, listed, spot, reached.mark)?;
     Ok(())
 }

@@ -1,4 +1,4 @@
-use Rattle.std.proofs.Common.{◌≡◌, ◌+◌, sym, ap, ◌∙◌, take}
+use Rattle.std.proofs.Common.{◌+◌, sym, ap, ◌∙◌, take}
 use Rattle.std.proofs.lemmas.List.{take-map}
 use Rattle.text_model.specs.declared.cells.Cell.{Cell}
 use Rattle.text_model.specs.Content.{characters}
