@@ -14,6 +14,7 @@ pub mod MatchRows
 pub mod OrderLaws
 pub mod PeriodLaws
 pub mod PlaceLaws
+pub mod PlainWords
 pub mod RepeatLaws
 pub mod RoundLaws
 pub mod SeenLaws

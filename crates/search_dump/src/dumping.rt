@@ -1,12 +1,12 @@
 ghost use Rattle.std.specs.Prelude.{◌≡◌, ◌≤◌, ◌<◌, ◌+◌, ◌++◌, ◌&&◌, ◌==◌, [], chars, length, not, slice_index_or};
 ghost use Rattle.std.specs.Prelude.{string_bytes, encode_utf8_all, codes, slice_range, IfOk, IfSome, IsTrue, OnOk};
-ghost use Rattle.std.specs.Prelude.{true};
+ghost use Rattle.std.specs.Prelude.{false, true};
 ghost use Rattle.std.specs.FinSet as set;
 ghost use Rattle.std.specs.List.{flat_map};
 ghost use Rattle.mark_table.specs.SharedMarks as marks;
 ghost use Rattle.tag_table.specs.Tags.{names_of};
 ghost use Rattle.text_model.specs.TagBits.{slot_count};
-ghost use Rattle.tcl_words.specs.ListText.{list_text};
+ghost use Rattle.tcl_words.specs.ListText.{list_text, needs_quotes};
 ghost use Rattle.text_model.specs.declared.limits.TheConstants.Limits.{MOST_WIDGETS};
 ghost use Rattle.text_index.specs.Values.{column_of};
 ghost use Rattle.text_index.specs.Views.{IsView};
@@ -70,6 +70,7 @@ fn push_tag<S: TextStore>(
     is_listed: bool,
 ) -> Result<(), AllocError>
     requires spot { IsSpot (text_in S.content sight.now.view.now) spot }
+    requires plain { needs_quotes (chars key.now) ≡ false }
     requires tag { at < length sight.now.names.now.tags.now.tags }
     ensures { OnOk result (Goes (string_bytes out.old.list) (string_bytes out.new.list) (if_listed is_listed
         (element (chars key.now) (text_in S.content sight.now.view.now) spot.place
@@ -106,6 +107,7 @@ fn push_tags<S: TextStore>(
     off: &TagSet,
 ) -> Result<(), AllocError>
     requires spot { IsSpot (text_in S.content sight.now.view.now) spot }
+    requires plain { needs_quotes (chars key.now) ≡ false }
     requires widget { sight.now.names.now.widget.0 < MOST_WIDGETS }
     ensures { OnOk result (Goes (string_bytes out.old.list) (string_bytes out.new.list) (flat_map
         (only_in on.now off.now sight.now.names.now.widget.0 (chars key.now) (text_in S.content sight.now.view.now)

@@ -1,4 +1,4 @@
-ghost use Rattle.std.specs.Prelude.{◌≡◌, ℕ, ◌≤◌, ◌+◌, ◌++◌, ◌∷◌, List, chars, string_bytes, decimal, OnOk, OnErr};
+ghost use Rattle.std.specs.Prelude.{◌≡◌, ℕ, ◌≤◌, ◌+◌, ◌-◌, ◌++◌, ◌∷◌, List, chars, string_bytes, decimal, OnOk, OnErr};
 ghost use Rattle.std.specs.Prelude.{IsAscii};
 ghost use Rattle.text_model.specs.Lines.{IsLineOf};
 ghost use Rattle.text_index.specs.Views.{shown, IsView};
@@ -34,6 +34,8 @@ pub fn push_index_on(text: &mut String, line: LineSpan, place: usize) -> Result<
     requires { line.start ≤ place }
     ensures ok { OnOk result ((shown : List ℕ) → IsLineOf shown place line →
         chars (string_bytes text.new) ≡ chars (string_bytes text.old) ++ position_text shown place) }
+    ensures digits { OnOk result (string_bytes text.new ≡ string_bytes text.old
+        ++ (decimal (1 + line.number) ++ 46 ∷ decimal (place - line.start))) }
     ensures err { OnErr result (string_bytes text.new ≡ string_bytes text.old) }
 {
     // A text of all the newlines that a machine can count has one line more than that.

@@ -5,6 +5,7 @@ use Rattle.tcl_words.specs.ListGrowth.{Goes}
 use Rattle.tcl_words.proofs.ListGrowth.{goes_on}
 use Rattle.text_index.specs.Views.{shown}
 use Rattle.search_dump.specs.Dump.{if_listed, only_in, seen_by, tagoff_elements, tagon_elements}
+use Rattle.search_dump.proofs.PlainWords.{tagoff-plain, tagon-plain}
 use Rattle.search_dump.proofs.SeenLaws.{tagoff-characters, tagoffs-are, tagon-characters, tagons-are}
 use Rattle.search_dump.proofs.dumping.push_listed_tags.Goals as goal
 
@@ -36,3 +37,9 @@ returns g c =
     ∙ tagons-are content view.s view.e tags marks widget place before behind (c.requires.before is)
     (c.requires.behind is))
     c.in_ok-push_tags-2.ensures))
+
+pub push_tags-requires-clause-plain : goal.push_tags-requires-clause-plain
+push_tags-requires-clause-plain g c = tagoff-plain
+
+pub push_tags-requires-2-clause-plain : goal.push_tags-requires-2-clause-plain
+push_tags-requires-2-clause-plain g c = tagon-plain

@@ -7,6 +7,7 @@ use Rattle.text_model.specs.Content.{characters}
 use Rattle.text_index.specs.Views.{shown}
 use Rattle.search_dump.specs.Dump.{element, if_listed}
 use Rattle.search_dump.specs.Sight.{text_in}
+use Rattle.search_dump.proofs.PlainWords.{text-plain}
 use Rattle.search_dump.proofs.SeenLaws.{text-characters}
 use Rattle.search_dump.proofs.WindowLaws.{slice-part}
 use Rattle.search_dump.proofs.dumping.push_listed_text.Goals as goal
@@ -25,3 +26,6 @@ returns g c =
     c.requires.within))
     ∙ sym (ap (λ b. if_listed b written) (not-false c.args.listed.text c.if-not-listed.false)))
     (on_ok_weaker c.push.result (λ all. all (text_in g.S.TextStore.content c.args.view.now) c.requires.spot) c.push.ensures)
+
+pub push-requires-clause-plain : goal.push-requires-clause-plain
+push-requires-clause-plain g c = text-plain

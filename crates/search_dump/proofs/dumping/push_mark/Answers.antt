@@ -9,6 +9,7 @@ use Rattle.search_dump.specs.Dump.{element, if_listed}
 use Rattle.search_dump.specs.MarksAhead.{mark_element, shown_of}
 use Rattle.search_dump.specs.Sight.{text_in}
 use Rattle.search_dump.proofs.MarkOrderLaws.{usable-placed}
+use Rattle.search_dump.proofs.PlainWords.{mark-plain}
 use Rattle.search_dump.proofs.SeenLaws.{mark-characters}
 use Rattle.search_dump.proofs.dumping.push_mark.Goals as goal
 
@@ -31,3 +32,6 @@ returns g c =
     ∙ sym (ap (λ b. if_listed b (mark_element text names c.args.spot.place (shown_of view.s c.args.mark)))
     c.if-not-is_listed.false))
     (on_ok_weaker c.push.result (λ all. all (text_in g.S.TextStore.content c.args.sight.now.view.now) c.requires.spot) c.push.ensures)
+
+pub push-requires-clause-plain : goal.push-requires-clause-plain
+push-requires-clause-plain g c = mark-plain
