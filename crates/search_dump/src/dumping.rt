@@ -157,7 +157,8 @@ fn push_marks_at<S: TextStore>(
     requires spot { IsSpot (text_in S.content sight.now.view.now) spot }
     requires widget { sight.now.names.now.widget.0 < MOST_WIDGETS }
     requires within { sight.now.view.now.s + spot.place ≤ sight.now.view.now.e }
-    requires first { IsFirstMark S.content sight.now.view.now sight.now.names.now (sight.now.view.now.s + spot.place) first }
+    requires first { IsFirstMark S.content sight.now.view.now sight.now.names.now
+        (sight.now.view.now.s + spot.place) first }
     ensures goes { OnOk result (Goes (string_bytes out.old.list) (string_bytes out.new.list)
         (if_listed is_listed (mark_elements (seen_in S.content sight.now.view.now sight.now.names.now) spot.place))) }
     ensures next { IfOk result (λ next. IsFirstMark S.content sight.now.view.now sight.now.names.now
@@ -217,7 +218,8 @@ fn push_listed_marks<S: TextStore>(
     requires first { IsTrue (stops_at_marks listed) →
         IsFirstMark S.content sight.now.view.now sight.now.names.now (sight.now.view.now.s + spot.place) first }
     ensures goes { OnOk result (Goes (string_bytes out.old.list) (string_bytes out.new.list)
-        (if_listed listed.marks (mark_elements (seen_in S.content sight.now.view.now sight.now.names.now) spot.place))) }
+        (if_listed listed.marks (mark_elements (seen_in S.content sight.now.view.now sight.now.names.now)
+        spot.place))) }
     ensures next { IfOk result (λ next. IsTrue (stops_at_marks listed) →
         IsFirstMark S.content sight.now.view.now sight.now.names.now (sight.now.view.now.s + spot.place + 1) next) }
     ensures behind { IfOk result (λ next. IfSome next (λ mark. spot.place < mark.place)) }

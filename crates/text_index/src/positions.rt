@@ -28,8 +28,8 @@ fn push_numbers(text: &mut String, line: u128, character: usize) -> Result<(), A
     Ok(())
 }
 
-/// Appends a place of a line as `line.char`: the line from 1, and the character from 0. After want of memory the text is
-/// as before.
+/// Appends a place of a line as `line.char`: the line from 1, and the character from 0. After want of memory the text
+/// is as before.
 pub fn push_index_on(text: &mut String, line: LineSpan, place: usize) -> Result<(), AllocError>
     requires { line.start ≤ place }
     ensures ok { OnOk result ((shown : List ℕ) → IsLineOf shown place line →

@@ -116,8 +116,8 @@ impl<'a, S: TextStore> View<'a, S> {
         self.store.line_of(self.s + place) - self.first_line()
     }
 
-    /// The line of a place, with where it begins and where the line behind it does. The store is asked once, and for the
-    /// first line where that isn't known.
+    /// The line of a place, with where it begins and where the line behind it does. The store is asked once, and for
+    /// the first line where that isn't known.
     pub fn line_at(&self, place: usize) -> LineSpan
         requires view { IsView (S.content self.now.store.now) self.now.s self.now.e }
         requires within { self.now.s + place ≤ self.now.e }
