@@ -5,7 +5,7 @@ ghost use Rattle.std.specs.Prelude.{chars, string_bytes};
 ghost use Rattle.std.specs.FinMap as finite;
 ghost use Rattle.text_model.specs.Changes.{next_change, previous_change};
 ghost use Rattle.text_model.specs.Content.{characters, flags, slot_sets};
-ghost use Rattle.text_model.specs.Lines.{lines, line_of, line_start};
+ghost use Rattle.text_model.specs.Lines.{IsLineOf, lines, line_of, line_start};
 ghost use Rattle.text_model.specs.MarkOrder.{marks_at, next_mark, previous_mark};
 ghost use Rattle.text_model.specs.TagBits.{slot_count};
 ghost use Rattle.line_lists.specs.Places.{IsAt};
@@ -14,7 +14,7 @@ ghost use Rattle.line_lists.specs.Texts.{content_of, whole};
 use crate::lists::LineList;
 use segments::Line;
 use std::alloc::AllocError;
-use text_model::{MarkNo, Place, TagSet, TagSlot};
+use text_model::{LineSpan, MarkNo, Place, TagSet, TagSlot};
 
 /// How many characters the text has.
 pub fn len<L: LineList>(list: &L) -> usize
@@ -77,6 +77,28 @@ pub fn line_of<L: LineList>(list: &L, offset: usize) -> usize
         return list.len();
     }
     list.locate(offset).0
+}
+
+/// The line that an offset stands in, with where it begins and where the line behind it does. From the end of the text
+/// on both are the length.
+pub fn line_at<L: LineList>(list: &L, offset: usize) -> LineSpan
+    requires { offset ≤ length (content_of (L.lines list.now)).cells }
+    ensures { IsLineOf (characters (content_of (L.lines list.now)).cells) offset result }
+{
+    if offset == len(list) {
+        return LineSpan {
+            number: list.len(),
+            start: offset,
+            end: offset,
+        };
+    }
+    let (number, column, line) = list.line_at(offset);
+    let start = offset - column;
+    LineSpan {
+        number,
+        start,
+        end: start + line.len(),
+    }
 }
 
 /// The line that holds an offset, lent, behind its number and the column there; from the end of the text on it is the

@@ -9,7 +9,7 @@ use crate::lists::LineList;
 use crate::pieces::{Piece, bound_of, place, take_marks};
 use crate::queries;
 use std::alloc::{AllocError, Global};
-use text_model::{Edit, MarkNo, Place, TagSet, TagSlot, TextStore};
+use text_model::{Edit, LineSpan, MarkNo, Place, TagSet, TagSlot, TextStore};
 
 /// A text that is kept as a list of lines.
 #[derive(Drop)]
@@ -113,6 +113,10 @@ impl<L: LineList> TextStore for LineStore<L> {
 
     fn line_of(&self, offset: usize) -> usize {
         queries::line_of(&self.list, offset)
+    }
+
+    fn line_at(&self, offset: usize) -> LineSpan {
+        queries::line_at(&self.list, offset)
     }
 
     fn char_at(&self, offset: usize) -> char {

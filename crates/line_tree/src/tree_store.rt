@@ -8,7 +8,7 @@ use crate::tree_lines::TreeLines;
 use line_lists::LineStore;
 use raw_nodes::Steps;
 use std::alloc::{AllocError, Global};
-use text_model::{Edit, MarkNo, Place, TagSet, TagSlot, TextStore};
+use text_model::{Edit, LineSpan, MarkNo, Place, TagSet, TagSlot, TextStore};
 
 /// A text that is kept as a balanced tree of its lines, and as nothing else.
 #[derive(Drop)]
@@ -55,6 +55,10 @@ impl TextStore for TreeStore {
 
     fn line_of(&self, offset: usize) -> usize {
         self.lines.line_of(offset)
+    }
+
+    fn line_at(&self, offset: usize) -> LineSpan {
+        self.lines.line_at(offset)
     }
 
     fn char_at(&self, offset: usize) -> char {

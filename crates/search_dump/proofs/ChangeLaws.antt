@@ -115,6 +115,22 @@ turns-there flags at above within =
     (before-at flags there (omega arith) ∙ flag-same flags at (there - 1) (omega arith) (omega arith))
     ∙ a-turn (flag_at flags at)
 
+-- a flag is as it was up to the next change, and other there
+pub flag-still : (flags : List Bool) (at k : ℕ) → at ≤ k → k < next_change flags at →
+    flag_at flags k ≡ flag_at flags at
+flag-still flags at k from below = flag-same flags at k from below
+
+pub flag-upto : (flags : List Bool) (at k : ℕ) → at < k → k ≤ next_change flags at →
+    flag_before flags k ≡ flag_at flags at
+flag-upto flags at k from upto =
+    before-at flags k (omega arith) ∙ flag-same flags at (k - 1) (omega arith) (omega arith)
+
+pub flag-other : (flags : List Bool) (at k : ℕ) → next_change flags at ≡ k → k < length flags →
+    flag_at flags k ≡ not (flag_at flags at)
+flag-other flags at k is within =
+    ap (flag_at flags) (sym is)
+    ∙ other-flag (flag_at flags at) (flag_at flags (next_change flags at)) (next-other flags at (omega (arith, is)))
+
 -- what is known at a place is known behind it
 pub ahead-on : (content : Content) (start end place later : ℕ) (next : List ℕ) → AreAhead content start end place next →
     place ≤ later → AreAhead content start end later next

@@ -3,7 +3,7 @@ use Rattle.std.proofs.Common.{◌≡◌, ℕ, zero, suc, ◌+◌, ◌-◌, ◌<�
 use Rattle.std.proofs.Common.{[], ◌∷◌, ◌++◌, length, map, take, get_or, refl, sym, ap, subst, ◌∙◌, arith}
 use Rattle.std.specs.Prelude.{not, slice_index_or}
 use Rattle.std.specs.List.{filter, flat_map, list_any, prefix_len}
-use Rattle.std.proofs.lemmas.Bool.{eq-eqb, lt-ltb, ne_eqb}
+use Rattle.std.proofs.lemmas.Bool.{eq-eqb, lt-ltb, ne_eqb, true≢false}
 use Rattle.std.proofs.lemmas.List.{flat_map_more, get_or-map, take_more}
 use Rattle.tag_table.specs.Tags.{Tag, names_of, slots_of}
 use Rattle.tcl_words.specs.ListGrowth.{Goes}
@@ -12,6 +12,7 @@ use Rattle.text_model.specs.Changes.{flag_at}
 use Rattle.text_model.specs.Content.{Slots}
 use Rattle.text_index.specs.Ranges.{is_set, ranges_behind, tag_ranges}
 use Rattle.text_index.specs.declared.ranges.TagRange.{TagRange}
+use Rattle.std.specs.Cmp.{nat_cmp_total}
 use Rattle.std.specs.FinSet as set
 use Rattle.search_dump.specs.Ahead.{slot_of_row}
 use Rattle.search_dump.specs.Dump.{element, flag_before, if_listed, only_in, own_slot}
@@ -50,23 +51,26 @@ tag-row on off widget key text place tags at d is slot within is_only is_slot =
     && not (set.contains off (own_slot widget (get_or tags at d).slot))) (element key text place name))
     (get_or-map (λ (tag : Tag). tag.name) tags at d [] within)
 
--- no tag stands in a set and not in it
-not-both : (b : Bool) → (b && not b) ≡ false
-not-both true = refl
-not-both false = refl
+-- no tag stands in a set and not in one that has all of it
+not-both : (b d : Bool) → (b && d) ≡ b → (b && not d) ≡ false
+not-both true true is = refl
+not-both true false is = absurd (true≢false (sym is))
+not-both false d is = refl
 
-none-only : (on : Slots) (widget : ℕ) (key text : List ℕ) (place : ℕ) (tags : List Tag) →
-    flat_map (only_in on on widget key text place) tags ≡ []
-none-only on widget key text place [] = refl
-none-only on widget key text place (tag ∷ tags) =
-    ap (λ b. if_listed b (element key text place tag.name) ++ flat_map (only_in on on widget key text place) tags)
-    (not-both (set.contains on (own_slot widget tag.slot))) ∙ none-only on widget key text place tags
+none-only : (on off : Slots) (widget : ℕ) (key text : List ℕ) (place : ℕ) (tags : List Tag) →
+    set.intersection on off ≡ on → flat_map (only_in on off widget key text place) tags ≡ []
+none-only on off widget key text place [] within = refl
+none-only on off widget key text place (tag ∷ tags) within =
+    let slot = own_slot widget tag.slot in
+    ap (λ b. if_listed b (element key text place tag.name) ++ flat_map (only_in on off widget key text place) tags)
+    (not-both (set.contains on slot) (set.contains off slot)
+    (sym (set.contains-intersection nat_cmp_total on off slot) ∙ ap (λ s. set.contains s slot) within))
+    ∙ none-only on off widget key text place tags within
 
-pub goes-same : (on off : Slots) (widget : ℕ) (key text : List ℕ) (place : ℕ) (tags : List Tag) (old : List ℕ) →
-    on ≡ off → Goes old old (flat_map (only_in on off widget key text place) tags)
-goes-same on off widget key text place tags old same =
-    subst (λ other. Goes old old (flat_map (only_in on other widget key text place) tags)) same
-    (subst (Goes old old) (sym (none-only on widget key text place tags)) (goes_nowhere old))
+pub goes-within : (on off : Slots) (widget : ℕ) (key text : List ℕ) (place : ℕ) (tags : List Tag) (old : List ℕ) →
+    set.intersection on off ≡ on → Goes old old (flat_map (only_in on off widget key text place) tags)
+goes-within on off widget key text place tags old within =
+    subst (Goes old old) (sym (none-only on off widget key text place tags within)) (goes_nowhere old)
 
 flat-cond : {B : Type 0} (b : Bool) (x : B) (xs : List B) (g : B → List (List ℕ)) →
     flat_map g (cond b (x ∷ xs) xs) ≡ if_listed b (g x) ++ flat_map g xs

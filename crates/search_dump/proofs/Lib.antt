@@ -14,6 +14,7 @@ pub mod MatchRows
 pub mod OrderLaws
 pub mod PeriodLaws
 pub mod PlaceLaws
+pub mod PlainWords
 pub mod RepeatLaws
 pub mod RoundLaws
 pub mod SeenLaws
@@ -22,4 +23,5 @@ pub mod StretchLaws
 pub mod TagLaws
 pub mod TagStops
 pub mod TextLaws
+pub mod TurnLaws
 pub mod WindowLaws

@@ -8,7 +8,9 @@ use Rattle.text_index.specs.Values.{column_of}
 use Rattle.text_index.specs.Views.{IsView, shown}
 use Rattle.text_model.specs.Content.{Content, characters}
 use Rattle.text_index.proofs.ViewLaws.{before-end, line_start-before, lines-of-part, lines-part}
+use Rattle.search_dump.specs.Spots.{IsSpot}
 use Rattle.search_dump.specs.Stops.{IsNextStop}
+use Rattle.search_dump.specs.declared.listing.Spot.{Spot}
 
 start-on : (c : ℕ) (text : List ℕ) (line : ℕ) → is_newline c ≡ true →
     line_start (suc line) (c ∷ text) ≡ suc (line_start line text)
@@ -95,6 +97,23 @@ line-stop text place to next stop within line is =
         ];
       },
     )
+
+-- a place behind another one of the same line
+pub spot-on : (text : List ℕ) (spot : Spot) (place : ℕ) → IsSpot text spot → spot.place ≤ place →
+    place < spot.line.end → IsSpot text (record { place = place; line = spot.line })
+spot-on text spot place is behind before =
+    let here = line_of text spot.place in
+    let end : spot.line.end ≡ line_start (here + 1) text =
+    is.line.end ∙ ap (λ k. line_start (k + 1) text) is.line.number in
+    let same : here ≡ line_of text place = omega (
+      arith,
+      lines-of-part text spot.place place behind,
+      line-before-start text (here + 1) place (omega (arith, before, end)),
+    ) in
+    record {
+      line = record { number = is.line.number ∙ same; start = is.line.start; end = is.line.end };
+      before = omega (arith, is.before, behind);
+    }
 
 pub earlier-one : (to next stop : ℕ) → stop ≡ min to next → (stop ≡ to) ⊎ (stop ≡ next)
 earlier-one to next stop is = elim (cases_lt to next) [ inl less ↦ inl (omega arith) | inr more ↦ inr (omega arith) ]

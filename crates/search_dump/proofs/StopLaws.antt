@@ -6,7 +6,7 @@ use Rattle.std.specs.Prelude.{MatchOption, codes, not, slice_range}
 use Rattle.std.specs.List.{filter, flat_map, list_any, prefix_len, range_with_len}
 use Rattle.std.specs.Option.{option_map}
 use Rattle.std.proofs.lemmas.Bool.{and_left, cases_eq, cases_lt, cond-false, cond-true, eq-eqb, false≢true, ne_eqb}
-use Rattle.std.proofs.lemmas.Bool.{or_left, or_parts, or_right, true≢false}
+use Rattle.std.proofs.lemmas.Bool.{or_left, or_parts, or_right}
 use Rattle.mark_table.specs.SharedMarks.{Mark}
 use Rattle.mark_table.specs.declared.order.Shown.{Shown}
 use Rattle.tag_table.specs.Tags.{Tag}
@@ -223,21 +223,6 @@ tagons-none : (seen : Seen) (k : ℕ) → has_tag_at seen k ≡ false → tagon_
 tagons-none seen k none =
     ap (flat_map (λ tag. element (codes "tagon") seen.text k tag.name))
     (filter-nothing (begins_at k) seen.tags (any-left (begins_at k) (ends_at k) seen.tags none).0)
-
-pub tags-none : (listed : Listed) (seen : Seen) (k : ℕ) → (listed.tags ≡ true → has_tag_at seen k ≡ false) →
-    tags_at listed seen k ≡ []
-tags-none listed seen k none =
-    ap₂ (λ a b. a ++ b) (if-none listed.tags (tagoff_elements seen k) (λ is. tagoffs-none seen k (none is)))
-    (if-none listed.tags (tagon_elements seen k) (λ is. tagons-none seen k (none is)))
-
--- a stop before the next one at a tag is at none
-pub no-tag-there : (seen : Seen) (place to tag next : ℕ) → IsNextStop (has_tag_at seen) place to tag → place < next →
-    next ≤ tag → (next == tag) ≡ false → has_tag_at seen next ≡ false
-no-tag-there seen place to tag next stop above below other =
-    stop.fails next above (elim (cases_eq next tag) [
-      | inl same ↦ absurd (true≢false (sym (eq-eqb next tag same) ∙ other))
-      | inr not-same ↦ omega arith
-    ])
 
 -- the stop of the tags and marks isn't behind that of the tags
 pub stop-within : (tag at_mark : ℕ) (mark : Option Marked) → at_mark ≡ stop_at_mark tag mark → at_mark ≤ tag

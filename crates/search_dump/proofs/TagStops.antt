@@ -12,7 +12,7 @@ use Rattle.text_index.specs.Views.{shown_flags}
 use Rattle.search_dump.specs.Ahead.{AreAt, AreBefore, IsKnown, IsNearest, slot_of_row}
 use Rattle.search_dump.specs.Dump.{begins_at, ends_at, own_slot, seen_by, tag_seen}
 use Rattle.search_dump.specs.Stops.{FailsBetween, IsNextStop, has_tag_at}
-use Rattle.search_dump.proofs.ChangeLaws.{quiet-between, quiet-same, quiet-upto, turns, turns-there}
+use Rattle.search_dump.proofs.ChangeLaws.{quiet-between, quiet-upto, turns, turns-there}
 use Rattle.search_dump.proofs.DumpLaws.{no_tag, slot-there}
 
 -- whether one of some tags turns at a place
@@ -113,11 +113,3 @@ module _ (content : Content) (start end : ℕ) (tags : List Tag) (marks : List M
       are at within
       ∙ sym (quiet-upto (shown_flags (slot_of_row widget (slots_of tags) at) content start end) place next above
       (λ k low high. none-turns k (quiet k low high) at within))
-
-  -- where none turns those before a place are those at it
-  pub at-still : (place : ℕ) (slots : Slots) → has_tag_at (seen_by content start end tags marks widget) place ≡ false →
-      AreBefore content start end tags widget place slots → AreAt content start end tags widget place slots
-  at-still place slots none are at within =
-      are at within
-      ∙ quiet-same (shown_flags (slot_of_row widget (slots_of tags) at) content start end) place
-      (none-turns place none at within)

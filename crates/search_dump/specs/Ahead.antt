@@ -1,5 +1,5 @@
 -- Where the tags of a view change behind a place.
-use Rattle.std.specs.Prelude.{◌≡◌, ℕ, ◌<◌, ◌≤◌, ◌⊎◌, List, length, slice_index_or}
+use Rattle.std.specs.Prelude.{◌≡◌, ℕ, ◌<◌, ◌≤◌, ◌⊎◌, ◌==◌, Bool, not, List, length, slice_index_or, if◌then◌else◌}
 use Rattle.std.specs.FinSet as set
 use Rattle.tag_table.specs.Tags.{Tag, slots_of}
 use Rattle.text_model.specs.Changes.{flag_at, next_change}
@@ -40,3 +40,20 @@ abbrev pub AreAt : Content → ℕ → ℕ → List Tag → ℕ → ℕ → Slot
 AreAt content start end tags widget place slots =
     (at : ℕ) → at < length tags → set.contains slots (slot_of_row widget (slots_of tags) at)
     ≡ flag_at (shown_flags (slot_of_row widget (slots_of tags) at) content start end) place
+
+-- the next changes of some rows behind a place are known, and none of them stands before a stop
+abbrev pub AreKnownTo : Content → ℕ → ℕ → ℕ → List ℕ → ℕ → ℕ → ℕ → List ℕ → Type 0
+AreKnownTo content start end widget slots rows place stop next =
+    (at : ℕ) → at < rows → IsKnown content start end place next (slot_of_row widget slots at)
+    × (stop ≤ slice_index_or next (slot_of_row widget slots at) 0)
+
+-- whether a slot is in a set once the slots that change at a place are turned
+abbrev pub turned_at : List ℕ → ℕ → Slots → ℕ → Bool
+turned_at next place slots slot =
+    if slice_index_or next slot 0 == place then not (set.contains slots slot) else set.contains slots slot
+
+-- a set is another one in which the slots of some rows that change at a place are turned
+abbrev pub AreTurned : List ℕ → ℕ → List ℕ → ℕ → ℕ → Slots → Slots → Type 0
+AreTurned next widget slots rows place old new =
+    (at : ℕ) → at < rows → set.contains new (slot_of_row widget slots at)
+    ≡ turned_at next place old (slot_of_row widget slots at)

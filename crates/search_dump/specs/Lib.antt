@@ -5,5 +5,6 @@ pub mod MarksAhead
 pub mod Matches
 pub mod Searched
 pub mod Sight
+pub mod Spots
 pub mod Stops
 pub mod Stretches

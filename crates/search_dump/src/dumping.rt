@@ -6,9 +6,8 @@ ghost use Rattle.std.specs.List.{flat_map};
 ghost use Rattle.mark_table.specs.SharedMarks as marks;
 ghost use Rattle.tag_table.specs.Tags.{names_of};
 ghost use Rattle.text_model.specs.TagBits.{slot_count};
-ghost use Rattle.tcl_words.specs.ListText.{list_text};
+ghost use Rattle.tcl_words.specs.ListText.{list_text, needs_quotes};
 ghost use Rattle.text_model.specs.declared.limits.TheConstants.Limits.{MOST_WIDGETS};
-ghost use Rattle.text_model.specs.Lines.{line_of, line_start, lines};
 ghost use Rattle.text_index.specs.Values.{column_of};
 ghost use Rattle.text_index.specs.Views.{IsView};
 ghost use Rattle.search_dump.specs.Ahead.{AreAhead};
@@ -17,18 +16,18 @@ ghost use Rattle.search_dump.specs.Stops.{IsStop};
 ghost use Rattle.search_dump.specs.Matches.{places};
 ghost use Rattle.search_dump.specs.MarksAhead.{mark_element, shown_of, Has};
 ghost use Rattle.search_dump.specs.Dump.{dump_elements, elements_at, element, if_listed, mark_elements, only_in};
-ghost use Rattle.search_dump.specs.Dump.{seen_by, tagoff_elements, tagon_elements};
+ghost use Rattle.search_dump.specs.Dump.{seen_by, tagoff_elements};
 ghost use Rattle.tcl_words.specs.ListGrowth.{Goes};
 ghost use Rattle.search_dump.specs.Sight.{seen_in, marks_in, text_in, IsFirstMark, ShowsLines};
-ghost use Rattle.search_dump.specs.Sight.{AreTagsAt, AreTagsBefore};
+ghost use Rattle.search_dump.specs.Sight.{AreChangesKnown, AreTagsAt, AreTagsBefore};
+ghost use Rattle.search_dump.specs.Spots.{IsSpot};
 
 use crate::dumped_marks::{Marked, mark_from};
-use crate::listing::push_place;
+use crate::listing::{Listing, Spot};
 use crate::tag_changes::{TagChanges, own_slot, tags_before, tags_behind};
 use std::alloc::{AllocError, Global};
-use tcl_words::push_element;
 use text_index::{Names, View};
-use text_model::{TagSet, TagSlot, TextStore};
+use text_model::{LineSpan, TagSet, TagSlot, TextStore};
 
 /// What a dump lists.
 #[derive(Clone, Copy, Debug, PartialEq, Eq)]
@@ -61,249 +60,198 @@ struct Sight<'a, S: TextStore> {
     names: &'a Names<'a>,
 }
 
-/// Appends what it is, its name or characters, and where, as elements of a list.
-fn push_dumped<S: TextStore>(
-    list: &mut String,
-    view: &View<'_, S>,
-    key: &str,
-    value: &str,
-    place: usize,
-) -> Result<(), AllocError>
-    requires view { ShowsLines S.content view.now }
-    requires within { view.now.s + place ≤ view.now.e }
-    ensures { OnOk result (Goes (string_bytes list.old) (string_bytes list.new)
-        (element (chars key.now) (text_in S.content view.now) place (chars value.now))) }
-{
-    let mut word = String::new(*list.allocator());
-    push_element(list, key)?;
-    push_element(list, value)?;
-    push_place(list, &mut word, view, place)
-}
-
 /// Appends the tag at a place of the table as one that begins or ends, if it is one.
 fn push_tag<S: TextStore>(
-    list: &mut String,
+    out: &mut Listing,
     sight: &Sight<'_, S>,
     key: &str,
-    place: usize,
+    spot: Spot,
     at: usize,
     is_listed: bool,
 ) -> Result<(), AllocError>
-    requires view { ShowsLines S.content sight.now.view.now }
-    requires within { sight.now.view.now.s + place ≤ sight.now.view.now.e }
+    requires spot { IsSpot (text_in S.content sight.now.view.now) spot }
+    requires plain { needs_quotes (chars key.now) ≡ false }
     requires tag { at < length sight.now.names.now.tags.now.tags }
-    ensures { OnOk result (Goes (string_bytes list.old) (string_bytes list.new) (if_listed is_listed
-        (element (chars key.now) (text_in S.content sight.now.view.now) place
+    ensures { OnOk result (Goes (string_bytes out.old.list) (string_bytes out.new.list) (if_listed is_listed
+        (element (chars key.now) (text_in S.content sight.now.view.now) spot.place
         (slice_index_or (names_of sight.now.names.now.tags.now.tags) at [])))) }
 {
     if !is_listed {
         return Ok(());
     }
-    push_dumped(list, sight.view, key, sight.names.tags.name(at), place)
+    out.push(key, sight.names.tags.name(at), spot)
 }
 
 /// Whether a slot is on in one set and not in another.
-fn is_only_in(on: TagSet, off: TagSet, slot: TagSlot) -> bool
+fn is_only_in(on: &TagSet, off: &TagSet, slot: TagSlot) -> bool
     requires { slot.0 < slot_count }
-    ensures { result ≡ (set.contains on slot.0 && not (set.contains off slot.0)) }
+    ensures { result ≡ (set.contains on.now slot.0 && not (set.contains off.now slot.0)) }
 {
     on.has(slot) && !off.has(slot)
 }
 
-/// Whether two sets have the same slots.
-fn are_same(on: TagSet, off: TagSet) -> bool
-    ensures { result ≡ true → on ≡ off }
+/// Whether each slot of a set stands in another.
+fn is_within(on: &TagSet, off: &TagSet) -> bool
+    ensures { result ≡ true → set.intersection on.now off.now ≡ on.now }
 {
-    on.words() == off.words()
+    on.common(off).words() == on.words()
 }
 
 /// Appends the tags at a place that stand in one set and not in another, from the lowest.
 fn push_tags<S: TextStore>(
-    list: &mut String,
+    out: &mut Listing,
     sight: &Sight<'_, S>,
     key: &str,
-    place: usize,
-    on: TagSet,
-    off: TagSet,
+    spot: Spot,
+    on: &TagSet,
+    off: &TagSet,
 ) -> Result<(), AllocError>
-    requires view { ShowsLines S.content sight.now.view.now }
+    requires spot { IsSpot (text_in S.content sight.now.view.now) spot }
+    requires plain { needs_quotes (chars key.now) ≡ false }
     requires widget { sight.now.names.now.widget.0 < MOST_WIDGETS }
-    requires within { sight.now.view.now.s + place ≤ sight.now.view.now.e }
-    ensures { OnOk result (Goes (string_bytes list.old) (string_bytes list.new) (flat_map
-        (only_in on off sight.now.names.now.widget.0 (chars key.now) (text_in S.content sight.now.view.now) place)
-        sight.now.names.now.tags.now.tags)) }
+    ensures { OnOk result (Goes (string_bytes out.old.list) (string_bytes out.new.list) (flat_map
+        (only_in on.now off.now sight.now.names.now.widget.0 (chars key.now) (text_in S.content sight.now.view.now)
+        spot.place) sight.now.names.now.tags.now.tags)) }
 {
-    if are_same(on, off) {
+    if is_within(on, off) {
         return Ok(());
     }
     for at in 0..sight.names.tags.len() {
         let slot = own_slot(sight.names, at);
-        push_tag(list, sight, key, place, at, is_only_in(on, off, slot))?;
+        push_tag(out, sight, key, spot, at, is_only_in(on, off, slot))?;
     }
     Ok(())
 }
 
-/// Appends the tags that end at a place, and those that begin there, by those of the character before it, and answers
-/// those of the character at it.
-fn push_tags_at<S: TextStore>(
-    list: &mut String,
-    sight: &Sight<'_, S>,
-    place: usize,
-    before: TagSet,
-) -> Result<TagSet, AllocError>
-    requires view { ShowsLines S.content sight.now.view.now }
-    requires widget { sight.now.names.now.widget.0 < MOST_WIDGETS }
-    requires within { sight.now.view.now.s + place ≤ sight.now.view.now.e }
-    requires before { AreTagsBefore S.content sight.now.view.now sight.now.names.now place before }
-    ensures goes { OnOk result (Goes (string_bytes list.old) (string_bytes list.new)
-        (tagoff_elements (seen_in S.content sight.now.view.now sight.now.names.now) place
-        ++ tagon_elements (seen_in S.content sight.now.view.now sight.now.names.now) place)) }
-    ensures behind { IfOk result (λ behind. AreTagsAt S.content sight.now.view.now sight.now.names.now place behind) }
-{
-    let behind = tags_behind(sight.view, place);
-    push_tags(list, sight, "tagoff", place, before, behind)?;
-    push_tags(list, sight, "tagon", place, behind, before)?;
-    Ok(behind)
-}
-
 /// Appends a mark that stands at a place, if it is listed.
 fn push_mark<S: TextStore>(
-    list: &mut String,
+    out: &mut Listing,
     sight: &Sight<'_, S>,
     is_listed: bool,
-    place: usize,
+    spot: Spot,
     mark: Marked,
 ) -> Result<(), AllocError>
     requires view { ShowsLines S.content sight.now.view.now }
-    requires within { sight.now.view.now.s + place ≤ sight.now.view.now.e }
+    requires spot { IsSpot (text_in S.content sight.now.view.now) spot }
     requires usable { Has (marks_in S.content sight.now.view.now sight.now.names.now)
         (shown_of sight.now.view.now.s mark) }
-    ensures { OnOk result (Goes (string_bytes list.old) (string_bytes list.new) (if_listed is_listed
-        (mark_element (text_in S.content sight.now.view.now) (marks.names_of sight.now.names.now.marks.now.marks) place
-        (shown_of sight.now.view.now.s mark)))) }
+    ensures { OnOk result (Goes (string_bytes out.old.list) (string_bytes out.new.list) (if_listed is_listed
+        (mark_element (text_in S.content sight.now.view.now) (marks.names_of sight.now.names.now.marks.now.marks)
+        spot.place (shown_of sight.now.view.now.s mark)))) }
 {
     if !is_listed {
         return Ok(());
     }
-    push_dumped(list, sight.view, "mark", mark.name(sight.names), place)
+    out.push("mark", mark.name(sight.names), spot)
 }
 
 /// Appends the marks at a place from the first one on, if they are listed, and answers the first mark behind the place.
 fn push_marks_at<S: TextStore>(
-    list: &mut String,
+    out: &mut Listing,
     sight: &Sight<'_, S>,
     is_listed: bool,
-    place: usize,
+    spot: Spot,
     first: Option<Marked>,
 ) -> Result<Option<Marked>, AllocError>
     requires view { ShowsLines S.content sight.now.view.now }
+    requires spot { IsSpot (text_in S.content sight.now.view.now) spot }
     requires widget { sight.now.names.now.widget.0 < MOST_WIDGETS }
-    requires within { sight.now.view.now.s + place ≤ sight.now.view.now.e }
-    requires first { IsFirstMark S.content sight.now.view.now sight.now.names.now (sight.now.view.now.s + place) first }
-    ensures goes { OnOk result (Goes (string_bytes list.old) (string_bytes list.new)
-        (if_listed is_listed (mark_elements (seen_in S.content sight.now.view.now sight.now.names.now) place))) }
+    requires within { sight.now.view.now.s + spot.place ≤ sight.now.view.now.e }
+    requires first { IsFirstMark S.content sight.now.view.now sight.now.names.now
+        (sight.now.view.now.s + spot.place) first }
+    ensures goes { OnOk result (Goes (string_bytes out.old.list) (string_bytes out.new.list)
+        (if_listed is_listed (mark_elements (seen_in S.content sight.now.view.now sight.now.names.now) spot.place))) }
     ensures next { IfOk result (λ next. IsFirstMark S.content sight.now.view.now sight.now.names.now
-        (sight.now.view.now.s + place + 1) next) }
+        (sight.now.view.now.s + spot.place + 1) next) }
 {
     let mut next = first;
     while let Some(mark) = next {
-        if mark.place != place {
+        if mark.place != spot.place {
             return Ok(next);
         }
-        push_mark(list, sight, is_listed, place, mark)?;
+        push_mark(out, sight, is_listed, spot, mark)?;
         next = mark.next(sight.view, sight.names);
     }
     Ok(None)
 }
 
-/// Appends the tags that end at a place, and those that begin there, if tags are listed and one of them may do so, and
-/// answers those of the character at the place by those of the one before.
+/// Appends the tags that end at a place, and those that begin there, if tags are listed, by those of the character
+/// before it and of the one at it.
 fn push_listed_tags<S: TextStore>(
-    list: &mut String,
+    out: &mut Listing,
     sight: &Sight<'_, S>,
     listed: Listed,
-    place: usize,
-    before: TagSet,
-    may_change: bool,
-) -> Result<TagSet, AllocError>
-    requires view { ShowsLines S.content sight.now.view.now }
+    spot: Spot,
+    before: &TagSet,
+    behind: &TagSet,
+) -> Result<(), AllocError>
+    requires spot { IsSpot (text_in S.content sight.now.view.now) spot }
     requires widget { sight.now.names.now.widget.0 < MOST_WIDGETS }
-    requires within { sight.now.view.now.s + place ≤ sight.now.view.now.e }
-    requires before { IsTrue listed.tags → AreTagsBefore S.content sight.now.view.now sight.now.names.now place before }
-    requires still { may_change ≡ false → IsTrue listed.tags
-        → has_tag_at (seen_in S.content sight.now.view.now sight.now.names.now) place ≡ false }
-    ensures goes { OnOk result (Goes (string_bytes list.old) (string_bytes list.new)
-        (tags_at listed (seen_in S.content sight.now.view.now sight.now.names.now) place)) }
-    ensures behind { IfOk result (λ behind. IsTrue listed.tags →
-        AreTagsAt S.content sight.now.view.now sight.now.names.now place behind) }
+    requires before { IsTrue listed.tags → AreTagsBefore S.content sight.now.view.now sight.now.names.now spot.place
+        before.now }
+    requires behind { IsTrue listed.tags → AreTagsAt S.content sight.now.view.now sight.now.names.now spot.place
+        behind.now }
+    ensures { OnOk result (Goes (string_bytes out.old.list) (string_bytes out.new.list)
+        (tags_at listed (seen_in S.content sight.now.view.now sight.now.names.now) spot.place)) }
 {
     if !listed.tags {
-        return Ok(before);
+        return Ok(());
     }
-    if !may_change {
-        return Ok(before);
-    }
-    push_tags_at(list, sight, place, before)
+    push_tags(out, sight, "tagoff", spot, before, behind)?;
+    push_tags(out, sight, "tagon", spot, behind, before)?;
+    Ok(())
 }
 
 /// Appends the marks at a place, if marks are listed, and answers the first mark behind the place, if a dump stops at
 /// marks.
 fn push_listed_marks<S: TextStore>(
-    list: &mut String,
+    out: &mut Listing,
     sight: &Sight<'_, S>,
     listed: Listed,
-    place: usize,
+    spot: Spot,
     first: Option<Marked>,
 ) -> Result<Option<Marked>, AllocError>
     requires view { ShowsLines S.content sight.now.view.now }
+    requires spot { IsSpot (text_in S.content sight.now.view.now) spot }
     requires widget { sight.now.names.now.widget.0 < MOST_WIDGETS }
-    requires within { sight.now.view.now.s + place ≤ sight.now.view.now.e }
+    requires within { sight.now.view.now.s + spot.place ≤ sight.now.view.now.e }
     requires first { IsTrue (stops_at_marks listed) →
-        IsFirstMark S.content sight.now.view.now sight.now.names.now (sight.now.view.now.s + place) first }
-    ensures goes { OnOk result (Goes (string_bytes list.old) (string_bytes list.new)
-        (if_listed listed.marks (mark_elements (seen_in S.content sight.now.view.now sight.now.names.now) place))) }
+        IsFirstMark S.content sight.now.view.now sight.now.names.now (sight.now.view.now.s + spot.place) first }
+    ensures goes { OnOk result (Goes (string_bytes out.old.list) (string_bytes out.new.list)
+        (if_listed listed.marks (mark_elements (seen_in S.content sight.now.view.now sight.now.names.now)
+        spot.place))) }
     ensures next { IfOk result (λ next. IsTrue (stops_at_marks listed) →
-        IsFirstMark S.content sight.now.view.now sight.now.names.now (sight.now.view.now.s + place + 1) next) }
-    ensures behind { IfOk result (λ next. IfSome next (λ mark. place < mark.place)) }
+        IsFirstMark S.content sight.now.view.now sight.now.names.now (sight.now.view.now.s + spot.place + 1) next) }
+    ensures behind { IfOk result (λ next. IfSome next (λ mark. spot.place < mark.place)) }
 {
     if !listed.stops_at_marks() {
         return Ok(None);
     }
-    push_marks_at(list, sight, listed.marks, place, first)
+    push_marks_at(out, sight, listed.marks, spot, first)
 }
 
 /// Appends the text from one place to another, if text is listed.
 fn push_listed_text<S: TextStore>(
-    list: &mut String,
+    out: &mut Listing,
     view: &View<'_, S>,
     listed: Listed,
-    from: usize,
+    spot: Spot,
     to: usize,
 ) -> Result<(), AllocError>
     requires view { ShowsLines S.content view.now }
-    requires ordered { from ≤ to }
+    requires spot { IsSpot (text_in S.content view.now) spot }
+    requires ordered { spot.place ≤ to }
     requires within { view.now.s + to ≤ view.now.e }
-    ensures { OnOk result (Goes (string_bytes list.old) (string_bytes list.new)
+    ensures { OnOk result (Goes (string_bytes out.old.list) (string_bytes out.new.list)
         (if_listed listed.text (element (codes "text")
-        (text_in S.content view.now) from (slice_range (text_in S.content view.now) from to)))) }
+        (text_in S.content view.now) spot.place (slice_range (text_in S.content view.now) spot.place to)))) }
 {
     let _end = view.e;
     if !listed.text {
         return Ok(());
     }
-    let text = view.store.copy_text(view.s + from, view.s + to)?;
-    push_dumped(list, view, "text", text.as_str(), from)
-}
-
-/// Where the line behind that of a place begins.
-fn next_line<S: TextStore>(view: &View<'_, S>, place: usize) -> usize
-    requires view { ShowsLines S.content view.now }
-    requires within { view.now.s + place < view.now.e }
-    ensures value { result ≡ line_start (line_of (text_in S.content view.now) place + 1) (text_in S.content view.now) }
-    ensures bound { line_of (text_in S.content view.now) place + 1 ≤ lines (text_in S.content view.now) }
-{
-    let _end = view.e;
-    view.behind_at(place)
+    let text = view.store.copy_text(view.s + spot.place, view.s + to)?;
+    out.push("text", text.as_str(), spot)
 }
 
 /// The next place behind one at which a tag begins or ends, or another place, if that stands before it or a dump
@@ -323,6 +271,8 @@ fn stop_at_tag<S: TextStore>(
         place changes.old.next }
     ensures ahead { AreAhead (S.content sight.now.view.now.store.now) sight.now.view.now.s sight.now.view.now.e
         place changes.new.next }
+    ensures known { IsTrue (stops_at_tags listed) → AreChangesKnown S.content sight.now.view.now sight.now.names.now
+        place result changes.new.next }
     ensures above { place < result }
     ensures below { result ≤ to }
     ensures stop { IsTrue (stops_at_tags listed) →
@@ -346,26 +296,21 @@ fn stop_at_mark(mark: Option<Marked>, to: usize) -> usize
 }
 
 /// Where the line behind that of a place begins, or another place, if that stands before it or text isn't listed.
-fn stop_at_line<S: TextStore>(view: &View<'_, S>, listed: Listed, place: usize, to: usize) -> usize
+fn stop_at_line<S: TextStore>(view: &View<'_, S>, listed: Listed, spot: Spot, to: usize) -> usize
     requires view { ShowsLines S.content view.now }
-    requires some { place < to }
+    requires spot { IsSpot (text_in S.content view.now) spot }
+    requires some { spot.place < to }
     requires within { view.now.s + to ≤ view.now.e }
-    ensures above { place < result }
+    ensures above { spot.place < result }
     ensures below { result ≤ to }
     ensures stop { IsTrue listed.text →
-        IsNextStop (λ k. column_of (text_in S.content view.now) k == 0) place to result }
+        IsNextStop (λ k. column_of (text_in S.content view.now) k == 0) spot.place to result }
 {
+    let _end = view.e;
     if !listed.text {
         return to;
     }
-    to.min(next_line(view, place))
-}
-
-/// Where a dump stops, and whether a tag may begin or end there.
-#[derive(Clone, Copy)]
-struct Stop {
-    place: usize,
-    may_change: bool,
+    to.min(spot.line.end)
 }
 
 /// The next stop of a dump behind a place, or another place, if that stands before it.
@@ -374,32 +319,29 @@ fn next_stop<S: TextStore>(
     sight: &Sight<'_, S>,
     listed: Listed,
     mark: Option<Marked>,
-    place: usize,
+    spot: Spot,
     to: usize,
-) -> Stop
+) -> usize
     requires view { ShowsLines S.content sight.now.view.now }
+    requires spot { IsSpot (text_in S.content sight.now.view.now) spot }
     requires widget { sight.now.names.now.widget.0 < MOST_WIDGETS }
-    requires some { place < to }
+    requires some { spot.place < to }
     requires within { sight.now.view.now.s + to ≤ sight.now.view.now.e }
     requires ahead { AreAhead (S.content sight.now.view.now.store.now) sight.now.view.now.s sight.now.view.now.e
-        place changes.old.next }
+        spot.place changes.old.next }
     requires mark { IsTrue (stops_at_marks listed) →
-        IsFirstMark S.content sight.now.view.now sight.now.names.now (sight.now.view.now.s + place + 1) mark }
-    requires behind { IfSome mark (λ next. place < next.place) }
+        IsFirstMark S.content sight.now.view.now sight.now.names.now (sight.now.view.now.s + spot.place + 1) mark }
+    requires behind { IfSome mark (λ next. spot.place < next.place) }
     ensures ahead { AreAhead (S.content sight.now.view.now.store.now) sight.now.view.now.s sight.now.view.now.e
-        result.place changes.new.next }
+        result changes.new.next }
     ensures mark { IsTrue (stops_at_marks listed) →
-        IsFirstMark S.content sight.now.view.now sight.now.names.now (sight.now.view.now.s + result.place) mark }
-    ensures stop { IsStop listed (seen_in S.content sight.now.view.now sight.now.names.now) place to result.place }
-    ensures still { result.may_change ≡ false → IsTrue listed.tags
-        → has_tag_at (seen_in S.content sight.now.view.now sight.now.names.now) result.place ≡ false }
+        IsFirstMark S.content sight.now.view.now sight.now.names.now (sight.now.view.now.s + result) mark }
+    ensures stop { IsStop listed (seen_in S.content sight.now.view.now sight.now.names.now) spot.place to result }
+    ensures known { IsTrue listed.tags → AreChangesKnown S.content sight.now.view.now sight.now.names.now
+        spot.place result changes.new.next }
 {
-    let tag = stop_at_tag(changes, sight, listed, place, to);
-    let next = stop_at_line(sight.view, listed, place, stop_at_mark(mark, tag));
-    Stop {
-        place: next,
-        may_change: next == tag,
-    }
+    let tag = stop_at_tag(changes, sight, listed, spot.place, to);
+    stop_at_line(sight.view, listed, spot, stop_at_mark(mark, tag))
 }
 
 /// The first mark at a place or behind it, if a dump stops at marks.
@@ -429,16 +371,55 @@ fn listed_before<S: TextStore>(sight: &Sight<'_, S>, listed: Listed, place: usiz
     tags_before(sight.view, place)
 }
 
-/// What a dump knows at a place: the first mark that isn't passed, and the tags of the character before.
+/// The tags of the character at a place, if tags are listed.
+fn listed_behind<S: TextStore>(sight: &Sight<'_, S>, listed: Listed, place: usize) -> TagSet
+    requires view { ShowsLines S.content sight.now.view.now }
+    requires within { sight.now.view.now.s + place ≤ sight.now.view.now.e }
+    ensures { IsTrue listed.tags → AreTagsAt S.content sight.now.view.now sight.now.names.now place result }
+{
+    let _widget = sight.names.widget;
+    if !listed.tags {
+        return TagSet::empty();
+    }
+    tags_behind(sight.view, place)
+}
+
+/// The tags of the character at a stop, if tags are listed, by those of the character before it.
+fn turned_tags<S: TextStore>(
+    changes: &TagChanges,
+    sight: &Sight<'_, S>,
+    listed: Listed,
+    place: usize,
+    stop: usize,
+    before: &TagSet,
+) -> TagSet
+    requires view { ShowsLines S.content sight.now.view.now }
+    requires widget { sight.now.names.now.widget.0 < MOST_WIDGETS }
+    requires above { place < stop }
+    requires known { IsTrue listed.tags → AreChangesKnown S.content sight.now.view.now sight.now.names.now
+        place stop changes.now.next }
+    requires before { IsTrue listed.tags → AreTagsBefore S.content sight.now.view.now sight.now.names.now stop
+        before.now }
+    ensures { IsTrue listed.tags → sight.now.view.now.s + stop < sight.now.view.now.e →
+        AreTagsAt S.content sight.now.view.now sight.now.names.now stop result }
+{
+    if !listed.tags {
+        return TagSet::empty();
+    }
+    changes.turned(sight.names, stop, before)
+}
+
+/// What a dump knows at a place: the first mark that isn't passed, the tags of the character before, and its line.
 #[derive(Clone, Copy)]
 struct Reached {
     mark: Option<Marked>,
     before: TagSet,
+    line: LineSpan,
 }
 
 /// Appends the elements of the places from one to before another, and answers what is known there.
 fn push_elements<S: TextStore>(
-    list: &mut String,
+    out: &mut Listing,
     sight: &Sight<'_, S>,
     listed: Listed,
     from: usize,
@@ -448,9 +429,11 @@ fn push_elements<S: TextStore>(
     requires widget { sight.now.names.now.widget.0 < MOST_WIDGETS }
     requires ordered { from ≤ to }
     requires within { sight.now.view.now.s + to ≤ sight.now.view.now.e }
-    ensures goes { OnOk result (Goes (string_bytes list.old) (string_bytes list.new)
+    ensures goes { OnOk result (Goes (string_bytes out.old.list) (string_bytes out.new.list)
         (flat_map (elements_at listed (seen_in S.content sight.now.view.now sight.now.names.now) from to)
         (places from to))) }
+    ensures spot { IfOk result (λ reached. IsSpot (text_in S.content sight.now.view.now)
+        (record { place = to; line = reached.line })) }
     ensures mark { IfOk result (λ reached. IsTrue (stops_at_marks listed) →
         IsFirstMark S.content sight.now.view.now sight.now.names.now (sight.now.view.now.s + to) reached.mark) }
     ensures before { IfOk result (λ reached. IsTrue listed.tags →
@@ -458,47 +441,56 @@ fn push_elements<S: TextStore>(
 {
     let mut changes = TagChanges::new(from);
     let mut mark = listed_mark(sight, listed, from);
-    let mut tags = listed_before(sight, listed, from);
-    let mut may_change = true;
+    let mut before = listed_before(sight, listed, from);
+    let mut behind = listed_behind(sight, listed, from);
+    let mut line = sight.view.line_at(from);
     let mut place = from;
     while place < to {
-        tags = push_listed_tags(list, sight, listed, place, tags, may_change)?;
-        mark = push_listed_marks(list, sight, listed, place, mark)?;
-        let next = next_stop(&mut changes, sight, listed, mark, place, to);
-        push_listed_text(list, sight.view, listed, place, next.place)?;
-        may_change = next.may_change;
-        place = next.place;
+        let spot = Spot { place, line };
+        push_listed_tags(out, sight, listed, spot, &before, &behind)?;
+        mark = push_listed_marks(out, sight, listed, spot, mark)?;
+        let next = next_stop(&mut changes, sight, listed, mark, spot, to);
+        push_listed_text(out, sight.view, listed, spot, next)?;
+        before = behind;
+        behind = turned_tags(&changes, sight, listed, place, next, &before);
+        line = spot.line_on(sight.view, next);
+        place = next;
     }
-    Ok(Reached { mark, before: tags })
+    Ok(Reached { mark, before, line })
 }
 
 /// Appends what is listed at the end of the view, by what is known there.
 fn push_end<S: TextStore>(
-    list: &mut String,
+    out: &mut Listing,
     sight: &Sight<'_, S>,
     listed: Listed,
     end: usize,
-    reached: Reached,
+    reached: &Reached,
 ) -> Result<(), AllocError>
     requires view { ShowsLines S.content sight.now.view.now }
+    requires spot { IsSpot (text_in S.content sight.now.view.now) (record { place = end; line = reached.now.line }) }
     requires widget { sight.now.names.now.widget.0 < MOST_WIDGETS }
     requires end { end ≡ length (text_in S.content sight.now.view.now) }
     requires mark { IsTrue (stops_at_marks listed) →
-        IsFirstMark S.content sight.now.view.now sight.now.names.now (sight.now.view.now.s + end) reached.mark }
+        IsFirstMark S.content sight.now.view.now sight.now.names.now (sight.now.view.now.s + end) reached.now.mark }
     requires before { IsTrue listed.tags → AreTagsBefore S.content sight.now.view.now sight.now.names.now
-        end reached.before }
-    ensures { OnOk result (Goes (string_bytes list.old) (string_bytes list.new)
+        end reached.now.before }
+    ensures { OnOk result (Goes (string_bytes out.old.list) (string_bytes out.new.list)
         (if_listed listed.tags (tagoff_elements (seen_in S.content sight.now.view.now sight.now.names.now) end)
         ++ if_listed listed.marks (mark_elements (seen_in S.content sight.now.view.now sight.now.names.now) end))) }
 {
-    push_listed_tags(list, sight, listed, end, reached.before, true)?;
-    push_listed_marks(list, sight, listed, end, reached.mark)?;
+    let spot = Spot {
+        place: end,
+        line: reached.line,
+    };
+    push_listed_tags(out, sight, listed, spot, &reached.before, &TagSet::empty())?;
+    push_listed_marks(out, sight, listed, spot, reached.mark)?;
     Ok(())
 }
 
 /// Appends what stands in the view from one place to before another.
 fn push_dump<S: TextStore>(
-    list: &mut String,
+    out: &mut Listing,
     sight: &Sight<'_, S>,
     listed: Listed,
     from: usize,
@@ -508,17 +500,17 @@ fn push_dump<S: TextStore>(
     requires widget { sight.now.names.now.widget.0 < MOST_WIDGETS }
     requires from { sight.now.view.now.s + from ≤ sight.now.view.now.e }
     requires to { sight.now.view.now.s + to ≤ sight.now.view.now.e }
-    ensures { OnOk result (Goes (string_bytes list.old) (string_bytes list.new)
+    ensures { OnOk result (Goes (string_bytes out.old.list) (string_bytes out.new.list)
         (dump_elements listed (seen_in S.content sight.now.view.now sight.now.names.now) from to)) }
 {
     if to < from {
         return Ok(());
     }
-    let reached = push_elements(list, sight, listed, from, to)?;
+    let reached = push_elements(out, sight, listed, from, to)?;
     if to != sight.view.len() {
         return Ok(());
     }
-    push_end(list, sight, listed, to, reached)
+    push_end(out, sight, listed, to, &reached)
 }
 
 /// What stands in the view from one place to before another (text(n), "dump"), as the text of a list: at each place the
@@ -541,7 +533,7 @@ pub fn dump<S: TextStore>(
         (seen_by (S.content view.now.store.now) view.now.s view.now.e names.now.tags.now.tags names.now.marks.now.marks
         names.now.widget.0) from to))) }
 {
-    let mut list = String::new(alloc);
-    push_dump(&mut list, &Sight { view, names }, listed, from, to)?;
-    Ok(list)
+    let mut out = Listing::new(alloc);
+    push_dump(&mut out, &Sight { view, names }, listed, from, to)?;
+    Ok(out.list)
 }

@@ -1,11 +1,12 @@
-ghost use Rattle.std.specs.Prelude.{◌≡◌, ℕ, ◌≤◌, ◌<◌, ◌+◌, length, replicate, slice_index_or};
+ghost use Rattle.std.specs.Prelude.{◌≡◌, ◌≢◌, ℕ, ◌≤◌, ◌<◌, ◌+◌, length, not, replicate, slice_index_or};
 ghost use Rattle.std.specs.FinSet as set;
 ghost use Rattle.text_model.specs.Changes.{flag_at, next_change};
 ghost use Rattle.tag_table.specs.Tags.{slots_of};
 ghost use Rattle.text_index.specs.Views.{shown_flags};
+ghost use Rattle.text_model.specs.Steps.{set_slot};
 ghost use Rattle.text_model.specs.TagBits.{slot_count};
 ghost use Rattle.text_model.specs.declared.limits.TheConstants.Limits.{MOST_WIDGETS};
-ghost use Rattle.search_dump.specs.Ahead.{slot_of_row, AreAhead, IsKnown, IsNearest};
+ghost use Rattle.search_dump.specs.Ahead.{slot_of_row, AreAhead, AreTurned, IsKnown, IsNearest};
 ghost use Rattle.search_dump.specs.Dump.{flag_before, own_slot};
 ghost use Rattle.search_dump.specs.Sight.{ShowsLines};
 
@@ -53,6 +54,18 @@ pub fn tags_behind<S: TextStore>(view: &View<'_, S>, place: usize) -> TagSet
         return TagSet::empty();
     }
     view.store.tags_at(view.s + place)
+}
+
+/// Puts a slot into a set, or takes it out.
+fn set_slot(slots: &mut TagSet, slot: TagSlot, is_on: bool)
+    requires { slot.0 < slot_count }
+    ensures { slots.new ≡ set_slot slot.0 is_on slots.old }
+{
+    *slots = if is_on {
+        slots.with(slot)
+    } else {
+        slots.without(slot)
+    };
 }
 
 /// Where the next place behind one is at which a tag begins or ends, or the end of the view.
@@ -132,5 +145,31 @@ impl TagChanges {
             nearest = nearest.min(self.next[slot.0 as usize]);
         }
         nearest
+    }
+
+    /// Turns a slot in a set, if its tag changes at a place, by how it is in another.
+    fn turn(&self, slot: TagSlot, place: usize, tags: &TagSet, turned: &mut TagSet)
+        requires { slot.0 < slot_count }
+        ensures turned { slice_index_or self.now.next slot.0 0 ≡ place →
+            turned.new ≡ set_slot slot.0 (not (set.contains tags.now slot.0)) turned.old }
+        ensures same { slice_index_or self.now.next slot.0 0 ≢ place → turned.new ≡ turned.old }
+    {
+        if self.next[slot.0 as usize] == place {
+            set_slot(turned, slot, !tags.has(slot));
+        }
+    }
+
+    /// The tags of a set, those turned that change at a place.
+    pub fn turned(&self, names: &Names<'_>, place: usize, tags: &TagSet) -> TagSet
+        requires widget { names.now.widget.0 < MOST_WIDGETS }
+        ensures { AreTurned self.now.next names.now.widget.0 (slots_of names.now.tags.now.tags)
+            (length names.now.tags.now.tags) place tags.now result }
+    {
+        let mut turned = *tags;
+        for at in 0..names.tags.len() {
+            let slot = own_slot(names, at);
+            self.turn(slot, place, tags, &mut turned);
+        }
+        turned
     }
 }

@@ -1,11 +1,13 @@
 -- Where the lines of a view begin, by those of the text, and which lines it has.
 use Rattle.std.proofs.Common.{◌≡◌, ℕ, suc, inl, inr, ◌+◌, ◌-◌, ◌<◌, ◌≤◌, true, false, min, List, Some, length, refl, ap}
+use Rattle.std.proofs.Common.{sym, ◌∙◌}
 use Rattle.std.proofs.Common.{arith}
 use Rattle.std.specs.Prelude.{nat_lt, slice_range, if◌then◌else◌}
 use Rattle.std.proofs.lemmas.Bool.{cases_lt}
 use Rattle.std.proofs.lemmas.Bool.Decides.{nat_tests}
 use Rattle.text_index.specs.Values.{in_line, line_value}
-use Rattle.text_model.specs.Lines.{IsLineStart, lines, line_of, line_start}
+use Rattle.text_model.specs.Lines.{IsLineOf, IsLineStart, lines, line_of, line_start}
+use Rattle.text_model.specs.declared.places.LineSpan.{LineSpan}
 use Rattle.text_model.proofs.LineLaws.{line_start-le, line_start-rises}
 use Rattle.text_index.proofs.ViewLaws.{before-end, line_of-within, line_start-add, line_start-before, lines-of-part}
 use Rattle.text_index.proofs.ViewLaws.{lines-part, start-part}
@@ -90,6 +92,31 @@ module _ (text : List ℕ) (start end : ℕ) (first : IsLineStart text start) (b
         before,
         omega (arith, start-shown (line_of part place), same, before, within),
       )
+
+  -- the line of a place, by that of the text
+  pub line-shown : (place : ℕ) (line : LineSpan) → start + place ≤ end → IsLineOf text (start + place) line →
+      IsLineOf part place (record {
+        number = line.number - line_of text start;
+        start = line.start - start;
+        end = min line.end end - start;
+      })
+  line-shown place line within is =
+      let number = lines-part text start end place within in
+      let here : line.number - line_of text start ≡ line_of part place = omega (arith, is.number, number) in
+      let there : line.number + 1 ≡ line_of text start + (line_of part place + 1) = omega (
+        arith,
+        is.number,
+        number,
+      ) in
+      record {
+        number = here;
+        start =
+            ap (λ n. n - start) (is.start ∙ ap (λ k. line_start k text) is.number) ∙ (place-start place within).2
+            ∙ ap (λ k. line_start k part) (sym here);
+        end =
+            ap (λ n. min n end - start) (is.end ∙ ap (λ k. line_start k text) there)
+            ∙ sym (start-shown (line_of part place + 1)) ∙ ap (λ k. line_start (k + 1) part) (sym here);
+      }
 
   -- and the one behind it
   pub place-behind : (place : ℕ) → start + place < end

@@ -15,7 +15,7 @@ pub use index_grammar::{
 };
 pub use locating::locate;
 pub use moves::{back, forward, lines_by, word_end, word_start};
-pub use positions::push_index;
+pub use positions::{push_index, push_index_on};
 pub use ranges::{TagRange, next_range, previous_range};
 pub use values::resolve;
 pub use views::View;

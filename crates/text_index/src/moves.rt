@@ -55,8 +55,8 @@ pub fn line_and_column<S: TextStore>(view: &View<'_, S>, place: usize) -> (usize
     ensures line { result.0 ≡ line_of (shown (S.content view.now.store.now) view.now.s view.now.e) place }
     ensures column { result.1 ≡ column_of (shown (S.content view.now.store.now) view.now.s view.now.e) place }
 {
-    let (line, start) = view.line_at(place);
-    (line, place - start)
+    let line = view.line_at(place);
+    (line.number, place - line.start)
 }
 
 /// The same character so many lines on, or on the last line; its newline where that line is shorter. The end stays.

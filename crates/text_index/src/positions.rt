@@ -1,12 +1,13 @@
-ghost use Rattle.std.specs.Prelude.{◌≡◌, ◌≤◌, ◌+◌, ◌++◌, ◌∷◌, chars, string_bytes, decimal, OnOk, OnErr, IsAscii};
+ghost use Rattle.std.specs.Prelude.{◌≡◌, ℕ, ◌≤◌, ◌+◌, ◌-◌, ◌++◌, ◌∷◌, List, chars, string_bytes, decimal, OnOk, OnErr};
+ghost use Rattle.std.specs.Prelude.{IsAscii};
+ghost use Rattle.text_model.specs.Lines.{IsLineOf};
 ghost use Rattle.text_index.specs.Views.{shown, IsView};
 ghost use Rattle.text_index.specs.Positions.{position_text};
 
-use crate::moves::line_and_column;
 use crate::views::View;
 use itoa::Buffer;
 use std::alloc::AllocError;
-use text_model::TextStore;
+use text_model::{LineSpan, TextStore};
 
 /// Appends two numbers round a dot, or nothing.
 fn push_numbers(text: &mut String, line: u128, character: usize) -> Result<(), AllocError>
@@ -27,6 +28,21 @@ fn push_numbers(text: &mut String, line: u128, character: usize) -> Result<(), A
     Ok(())
 }
 
+/// Appends a place of a line as `line.char`: the line from 1, and the character from 0. After want of memory the text
+/// is as before.
+pub fn push_index_on(text: &mut String, line: LineSpan, place: usize) -> Result<(), AllocError>
+    requires { line.start ≤ place }
+    ensures ok { OnOk result ((shown : List ℕ) → IsLineOf shown place line →
+        chars (string_bytes text.new) ≡ chars (string_bytes text.old) ++ position_text shown place) }
+    ensures digits { OnOk result (string_bytes text.new ≡ string_bytes text.old
+        ++ (decimal (1 + line.number) ++ 46 ∷ decimal (place - line.start))) }
+    ensures err { OnErr result (string_bytes text.new ≡ string_bytes text.old) }
+{
+    // A text of all the newlines that a machine can count has one line more than that.
+    push_numbers(text, 1 + line.number as u128, place - line.start)?;
+    Ok(())
+}
+
 /// Appends a place of a view as `line.char`: the line from 1, and the character from 0. After want of memory the text
 /// is as before.
 pub fn push_index<S: TextStore>(
@@ -41,8 +57,6 @@ pub fn push_index<S: TextStore>(
         place) }
     ensures err { OnErr result (string_bytes text.new ≡ string_bytes text.old) }
 {
-    let (line, character) = line_and_column(view, place);
-    // A text of all the newlines that a machine can count has one line more than that.
-    push_numbers(text, 1 + line as u128, character)?;
+    push_index_on(text, view.line_at(place), place)?;
     Ok(())
 }

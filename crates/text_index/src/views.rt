@@ -1,9 +1,9 @@
 ghost use Rattle.std.specs.Prelude.{◌≡◌, ℕ, suc, ◌≤◌, ◌<◌, ◌+◌, ◌-◌, None, Some, length, slice_index, IfSome, IsTrue};
 ghost use Rattle.text_model.specs.Content.{characters};
-ghost use Rattle.text_model.specs.Lines.{IsLineStart, lines, line_of, line_start};
+ghost use Rattle.text_model.specs.Lines.{IsLineOf, IsLineStart, lines, line_of, line_start};
 ghost use Rattle.text_index.specs.Views.{shown, IsView};
 
-use text_model::TextStore;
+use text_model::{LineSpan, TextStore};
 
 /// Whether a line begins at an offset, or the text ends there.
 fn is_line_start<S: TextStore>(store: &S, offset: usize) -> bool
@@ -116,19 +116,21 @@ impl<'a, S: TextStore> View<'a, S> {
         self.store.line_of(self.s + place) - self.first_line()
     }
 
-    /// The line of a place, and where it begins.
-    pub fn line_at(&self, place: usize) -> (usize, usize)
+    /// The line of a place, with where it begins and where the line behind it does. The store is asked once, and for
+    /// the first line where that isn't known.
+    pub fn line_at(&self, place: usize) -> LineSpan
         requires view { IsView (S.content self.now.store.now) self.now.s self.now.e }
         requires within { self.now.s + place ≤ self.now.e }
-        ensures line { result.0 ≡ line_of (shown (S.content self.now.store.now) self.now.s self.now.e) place }
-        ensures start { result.1 ≡ line_start result.0 (shown (S.content self.now.store.now) self.now.s self.now.e) }
-        ensures before { result.1 ≤ place }
+        ensures line { IsLineOf (shown (S.content self.now.store.now) self.now.s self.now.e) place result }
+        ensures before { result.start ≤ place }
+        ensures bound { self.now.s + result.end ≤ self.now.e }
     {
-        let number = self.store.line_of(self.s + place);
-        (
-            number - self.first_line(),
-            self.store.line_start(number) - self.s,
-        )
+        let line = self.store.line_at(self.s + place);
+        LineSpan {
+            number: line.number - self.first_line(),
+            start: line.start - self.s,
+            end: line.end.min(self.e) - self.s,
+        }
     }
 
     /// Where the line of a place begins.
@@ -139,7 +141,7 @@ impl<'a, S: TextStore> View<'a, S> {
             (shown (S.content self.now.store.now) self.now.s self.now.e) }
         ensures bound { self.now.s + result ≤ self.now.e }
     {
-        self.store.line_start(self.store.line_of(self.s + place)) - self.s
+        self.store.line_at(self.s + place).start - self.s
     }
 
     /// Where the line behind that of a place begins.
@@ -152,9 +154,7 @@ impl<'a, S: TextStore> View<'a, S> {
         ensures some { 0 < result }
         ensures bound { self.now.s + result ≤ self.now.e }
     {
-        self.store
-            .line_start(self.store.line_of(self.s + place) + 1)
-            - self.s
+        self.store.line_at(self.s + place).end - self.s
     }
 
     /// Where a line begins; the end for one behind the last.

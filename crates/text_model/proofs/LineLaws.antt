@@ -51,6 +51,18 @@ line_start-rises (c ∷ text) (suc line) within =
           omega (arith, line_start-rises text (suc line) below)
     ] (lines-cons c text)
 
+-- no line begins before the one before it does, also behind the last
+pub line_start-later : (text : List ℕ) (line : ℕ) → line_start line text ≤ line_start (suc line) text
+line_start-later [] zero = omega arith
+line_start-later [] (suc line) = omega arith
+line_start-later (c ∷ text) zero = omega arith
+line_start-later (c ∷ text) (suc line) =
+    elim (is_newline c) as (λ b. 1 + line_start (if b then line else suc line) text
+    ≤ 1 + line_start (if b then suc line else suc (suc line)) text) [
+      | true ↦ omega (arith, line_start-later text line)
+      | false ↦ omega (arith, line_start-later text (suc line))
+    ]
+
 -- a line begins within the text, and the one behind the last at its end
 pub line_start-le : (text : List ℕ) (line : ℕ) → line_start line text ≤ length text
 line_start-le [] zero = omega arith

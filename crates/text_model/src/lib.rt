@@ -13,7 +13,7 @@ mod texts;
 pub use cells::Cell;
 pub use edits::{Edit, Step, StepList};
 pub use limits::Limits;
-pub use places::{Gravity, MarkNo, Place, TagSlot};
+pub use places::{Gravity, LineSpan, MarkNo, Place, TagSlot};
 pub use plain_store::PlainStore;
 pub use store::TextStore;
 pub use tag_set::{TagSet, WORDS};

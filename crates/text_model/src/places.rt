@@ -53,3 +53,11 @@ impl Place {
         }
     }
 }
+
+/// A line of a text: its number, the offset of its first character, and the offset behind its newline.
+#[derive(Clone, Copy)]
+pub struct LineSpan {
+    pub number: usize,
+    pub start: usize,
+    pub end: usize,
+}

@@ -13,7 +13,7 @@ ghost use Rattle.std.specs.FinMap as finite;
 
 use crate::cells::Cell;
 use crate::edits::{Edit, Step};
-use crate::places::{MarkNo, Place, TagSlot};
+use crate::places::{LineSpan, MarkNo, Place, TagSlot};
 use crate::store::TextStore;
 use crate::tag_set::TagSet;
 use crate::texts::Text;
@@ -370,6 +370,15 @@ impl TextStore for PlainStore {
 
     fn line_of(&self, offset: usize) -> usize {
         count_newlines(&self.cells[..offset])
+    }
+
+    fn line_at(&self, offset: usize) -> LineSpan {
+        let number = count_newlines(&self.cells[..offset]);
+        LineSpan {
+            number,
+            start: find_line(&self.cells, number),
+            end: find_line(&self.cells, number + 1),
+        }
     }
 
     fn char_at(&self, offset: usize) -> char {

@@ -3,13 +3,13 @@ ghost use Rattle.std.specs.Prelude.{string_bytes};
 ghost use Rattle.std.specs.FinMap as finite;
 ghost use Rattle.text_model.specs.Changes.{next_change, previous_change};
 ghost use Rattle.text_model.specs.Content.{Content, characters, flags, new_content, slot_sets};
-ghost use Rattle.text_model.specs.Lines.{lines, line_of, line_start};
+ghost use Rattle.text_model.specs.Lines.{IsLineOf, lines, line_of, line_start};
 ghost use Rattle.text_model.specs.MarkOrder.{marks_at, next_mark, previous_mark};
 ghost use Rattle.text_model.specs.Steps.{Fits, after};
 ghost use Rattle.text_model.specs.TagBits.{slot_count};
 
 use crate::edits::Edit;
-use crate::places::{MarkNo, Place, TagSlot};
+use crate::places::{LineSpan, MarkNo, Place, TagSlot};
 use crate::tag_set::TagSet;
 use std::alloc::{AllocError, Global};
 
@@ -53,6 +53,12 @@ pub trait TextStore: Drop {
     fn line_of(&self, offset: usize) -> usize
         requires { offset ≤ length (content self.now).cells }
         ensures { result ≡ line_of (characters (content self.now).cells) offset };
+
+    /// The line that an offset stands in, with where it begins and where the line behind it does. From the end of the
+    /// text on both are the length.
+    fn line_at(&self, offset: usize) -> LineSpan
+        requires { offset ≤ length (content self.now).cells }
+        ensures { IsLineOf (characters (content self.now).cells) offset result };
 
     /// The character at an offset.
     fn char_at(&self, offset: usize) -> char

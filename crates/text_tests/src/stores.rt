@@ -214,6 +214,20 @@ fn has_cell<S: TextStore>(store: &S, offset: usize, character: char, line: usize
     offset < store.len() && store.char_at(offset) == character && store.line_of(offset) == line
 }
 
+/// Whether a store answers at an offset that so many newlines stand before its line, and where that begins and ends.
+fn has_line<S: TextStore>(store: &S, offset: usize, number: usize, start: usize) -> bool {
+    if store.len() < offset {
+        return false;
+    }
+    let end = if number < store.lines() {
+        store.line_start(number + 1)
+    } else {
+        store.len()
+    };
+    let line = store.line_at(offset);
+    line.number == number && line.start == start && line.end == end
+}
+
 fn check_cell<S: TextStore>(
     rt: &impl Abort,
     store: &S,
@@ -243,14 +257,18 @@ fn has_text<S: TextStore>(store: &S, text: &PlainText) -> Result<bool, AllocErro
 fn check_text<S: TextStore>(rt: &impl Abort, store: &S, text: &PlainText) {
     assert!(rt; store.len() == text.cells.len());
     let mut line = 0usize;
+    let mut start = 0usize;
     for (offset, cell) in text.cells.iter().enumerate() {
         check_cell(rt, store, offset, cell.0, line);
+        assert!(rt; has_line(store, offset, line, start), "at {offset}");
         if cell.0 == '\n' {
             line = line.saturating_add(1);
-            check_line_start(rt, store, line, offset.saturating_add(1));
+            start = offset.saturating_add(1);
+            check_line_start(rt, store, line, start);
         }
     }
     assert!(rt; store.lines() == line);
+    assert!(rt; has_line(store, start, line, start));
 }
 
 /// The first place behind an offset with a cell that is unlike in one of `SLOTS`.

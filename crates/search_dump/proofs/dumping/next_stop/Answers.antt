@@ -1,14 +1,13 @@
 use Rattle.std.proofs.Common.{◌≤◌, arith}
 use Rattle.std.proofs.lemmas.Bool.{or_left}
-use Rattle.search_dump.specs.Sight.{seen_in}
 use Rattle.search_dump.proofs.ChangeLaws.{ahead-on}
-use Rattle.search_dump.proofs.StopLaws.{mark-stays, no-tag-there, stop-is, stop-within}
+use Rattle.search_dump.proofs.StopLaws.{mark-stays, stop-is, stop-within}
 use Rattle.search_dump.proofs.dumping.next_stop.Goals as goal
 
 pub returns-clause-ahead : goal.returns-clause-ahead
 returns-clause-ahead g c =
     let view = c.args.sight.now.view.now in
-    ahead-on (g.S.TextStore.content view.store.now) view.s view.e c.args.place c.stop_at_line-next.result
+    ahead-on (g.S.TextStore.content view.store.now) view.s view.e c.args.spot.place c.stop_at_line.result
     c.stop_at_tag-tag.new.changes.next c.stop_at_tag-tag.ensures.ahead (omega arith)
 
 pub returns-clause-mark : goal.returns-clause-mark
@@ -16,10 +15,10 @@ returns-clause-mark g c =
     let view = c.args.sight.now.view.now in
     let names = c.args.sight.now.names.now in
     mark-stays (g.S.TextStore.content view.store.now) view.s view.e names.tags.now.tags names.marks.now.marks
-    names.widget.0 c.args.listed c.args.mark c.args.place c.args.to
-    c.stop_at_tag-tag.result c.stop_at_mark.result c.stop_at_line-next.result c.requires.view.ordered
+    names.widget.0 c.args.listed c.args.mark c.args.spot.place c.args.to
+    c.stop_at_tag-tag.result c.stop_at_mark.result c.stop_at_line.result c.requires.view.ordered
     c.stop_at_tag-tag.ensures.stop c.requires.mark c.stop_at_mark.ensures
-    c.stop_at_line-next.ensures.stop c.stop_at_line-next.ensures.above c.stop_at_line-next.ensures.below
+    c.stop_at_line.ensures.stop c.stop_at_line.ensures.above c.stop_at_line.ensures.below
     c.stop_at_tag-tag.ensures.below
 
 pub returns-clause-stop : goal.returns-clause-stop
@@ -27,20 +26,18 @@ returns-clause-stop g c =
     let view = c.args.sight.now.view.now in
     let names = c.args.sight.now.names.now in
     stop-is (g.S.TextStore.content view.store.now) view.s view.e names.tags.now.tags names.marks.now.marks
-    names.widget.0 c.args.listed c.args.mark c.args.place c.args.to
-    c.stop_at_tag-tag.result c.stop_at_mark.result c.stop_at_line-next.result c.requires.view.ordered
+    names.widget.0 c.args.listed c.args.mark c.args.spot.place c.args.to
+    c.stop_at_tag-tag.result c.stop_at_mark.result c.stop_at_line.result c.requires.view.ordered
     c.stop_at_tag-tag.ensures.stop c.requires.mark c.stop_at_mark.ensures
-    c.stop_at_line-next.ensures.stop c.stop_at_line-next.ensures.above c.stop_at_line-next.ensures.below
+    c.stop_at_line.ensures.stop c.stop_at_line.ensures.above c.stop_at_line.ensures.below
     c.stop_at_tag-tag.ensures.below
 
-pub returns-clause-still : goal.returns-clause-still
-returns-clause-still g c other is =
-    let stop : c.stop_at_line-next.result ≤ c.stop_at_tag-tag.result = omega (
+pub returns-clause-known : goal.returns-clause-known
+returns-clause-known g c is at below =
+    let known = c.stop_at_tag-tag.ensures.known (or_left c.args.listed.tags c.args.listed.text is) at below in
+    let stop : c.stop_at_line.result ≤ c.stop_at_tag-tag.result = omega (
       arith,
-      c.stop_at_line-next.ensures.below,
+      c.stop_at_line.ensures.below,
       stop-within c.stop_at_tag-tag.result c.stop_at_mark.result c.args.mark c.stop_at_mark.ensures,
     ) in
-    no-tag-there (seen_in g.S.TextStore.content c.args.sight.now.view.now c.args.sight.now.names.now) c.args.place c.args.to
-    c.stop_at_tag-tag.result c.stop_at_line-next.result
-    (c.stop_at_tag-tag.ensures.stop (or_left c.args.listed.tags c.args.listed.text is))
-    c.stop_at_line-next.ensures.above stop other
+    (known.0, omega (arith, known.1, stop))

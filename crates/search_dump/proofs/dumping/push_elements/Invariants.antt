@@ -1,12 +1,14 @@
-use Rattle.std.proofs.Common.{◌≡◌, ◌+◌, ◌-◌, ◌≤◌, ◌⊎◌, ◌||◌, ◌==◌, string_bytes, false, true}
+use Rattle.std.proofs.Common.{◌≡◌, ◌+◌, ◌-◌, ◌<◌, ◌≤◌, ◌⊎◌, ◌||◌, ◌==◌, string_bytes, true}
 use Rattle.std.specs.List.{flat_map}
 use Rattle.std.specs.Option.{option_map}
 use Rattle.tcl_words.specs.ListGrowth.{Goes}
-use Rattle.search_dump.specs.Ahead.{AreAhead, AreBefore}
+use Rattle.text_index.specs.Views.{shown}
+use Rattle.search_dump.specs.Ahead.{AreAhead, AreAt, AreBefore}
 use Rattle.search_dump.specs.Dump.{elements_at, is_cut, seen_by}
 use Rattle.search_dump.specs.MarksAhead.{IsMarkFrom, shown_of, usable_by}
 use Rattle.search_dump.specs.Matches.{places}
-use Rattle.search_dump.specs.Stops.{has_tag_at, stops_at_marks}
+use Rattle.search_dump.specs.Spots.{IsSpot}
+use Rattle.search_dump.specs.Stops.{stops_at_marks}
 use Rattle.search_dump.proofs.dumping.push_elements.Given as goal
 
 abbrev pub invariant-loop-place : goal.invariant-loop-place
@@ -15,17 +17,19 @@ invariant-loop-place g l =
     let marks = l.sight.names.now.marks.now.marks in
     let seen = seen_by content l.sight.view.now.s l.sight.view.now.e l.sight.names.now.tags.now.tags marks l.sight.names.now.widget.0 in
     record {
-      goes : Goes (string_bytes l.fn.list) (string_bytes l.list)
+      goes : Goes (string_bytes l.fn.out.list) (string_bytes l.out.list)
           (flat_map (elements_at l.listed seen l.from l.to) (places l.from l.place));
+      spot : IsSpot (shown content l.sight.view.now.s l.sight.view.now.e) (record { place = l.place; line = l.line });
       begun : l.from ≤ l.place;
       within : l.place ≤ l.to;
       ahead : AreAhead content l.sight.view.now.s l.sight.view.now.e l.place l.changes.next;
       mark : stops_at_marks l.listed ≡ true →
           IsMarkFrom (usable_by content l.sight.view.now.s l.sight.view.now.e marks l.sight.names.now.widget.0) (l.sight.view.now.s + l.place)
           (option_map (shown_of l.sight.view.now.s) l.mark);
-      tags : l.listed.tags ≡ true →
-          AreBefore content l.sight.view.now.s l.sight.view.now.e l.sight.names.now.tags.now.tags l.sight.names.now.widget.0 l.place l.tags;
-      still : l.may_change ≡ false → l.listed.tags ≡ true → has_tag_at seen l.place ≡ false;
+      before : l.listed.tags ≡ true →
+          AreBefore content l.sight.view.now.s l.sight.view.now.e l.sight.names.now.tags.now.tags l.sight.names.now.widget.0 l.place l.before;
+      behind : l.listed.tags ≡ true → l.place < l.to →
+          AreAt content l.sight.view.now.s l.sight.view.now.e l.sight.names.now.tags.now.tags l.sight.names.now.widget.0 l.place l.behind;
       cut : l.listed.text ≡ true → (l.place ≡ l.to) ⊎ ((l.place == l.from || is_cut seen l.place) ≡ true);
     }
 

@@ -1,21 +1,45 @@
-use Rattle.std.proofs.Common.{string_bytes, subst, sym}
+use Rattle.std.proofs.Common.{◌++◌, ap, string_bytes, subst, sym, ◌∙◌}
+use Rattle.std.specs.List.{flat_map}
+use Rattle.std.proofs.lemmas.Bool.{not-false}
 use Rattle.tcl_words.specs.ListGrowth.{Goes}
-use Rattle.tcl_words.proofs.ListGrowth.{goes_nowhere}
-use Rattle.search_dump.specs.Sight.{seen_in}
-use Rattle.search_dump.proofs.StopLaws.{tags-none}
-use Rattle.search_dump.proofs.TagStops.{at-still}
+use Rattle.tcl_words.proofs.ListGrowth.{goes_on}
+use Rattle.text_index.specs.Views.{shown}
+use Rattle.search_dump.specs.Dump.{if_listed, only_in, seen_by, tagoff_elements, tagon_elements}
+use Rattle.search_dump.proofs.PlainWords.{tagoff-plain, tagon-plain}
+use Rattle.search_dump.proofs.SeenLaws.{tagoff-characters, tagoffs-are, tagon-characters, tagons-are}
 use Rattle.search_dump.proofs.dumping.push_listed_tags.Goals as goal
 
-pub returns-then-not-may_change-clause-goes : goal.returns-then-not-may_change-clause-goes
-returns-then-not-may_change-clause-goes g c =
-    let seen = seen_in g.S.TextStore.content c.args.sight.now.view.now c.args.sight.now.names.now in
-    subst (Goes (string_bytes c.args.list.now) (string_bytes c.args.list.now))
-    (sym (tags-none c.args.listed seen c.args.place (c.requires.still c.if-not-may_change.true)))
-    (goes_nowhere (string_bytes c.args.list.now))
-
-pub returns-then-not-may_change-clause-behind : goal.returns-then-not-may_change-clause-behind
-returns-then-not-may_change-clause-behind g c is =
+pub returns : goal.returns
+returns g c =
     let view = c.args.sight.now.view.now in
-    let names = c.args.sight.now.names.now in
-    at-still (g.S.TextStore.content view.store.now) view.s view.e names.tags.now.tags names.marks.now.marks
-    names.widget.0 c.args.place c.args.before (c.requires.still c.if-not-may_change.true is) (c.requires.before is)
+    let content = g.S.TextStore.content view.store.now in
+    let text = shown content view.s view.e in
+    let tags = c.args.sight.now.names.now.tags.now.tags in
+    let marks = c.args.sight.now.names.now.marks.now.marks in
+    let widget = c.args.sight.now.names.now.widget.0 in
+    let place = c.args.spot.place in
+    let before = c.args.before.now in
+    let behind = c.args.behind.now in
+    let seen = seen_by content view.s view.e tags marks widget in
+    let is = not-false c.args.listed.tags c.if-not-listed.false in
+    subst (λ b. Goes (string_bytes c.args.out.now.list) (string_bytes c.push_tags-2.new.out.list)
+    (if_listed b (tagoff_elements seen place) ++ if_listed b (tagon_elements seen place))) (sym is)
+    (goes_on (string_bytes c.args.out.now.list) (string_bytes c.push_tags.new.out.list)
+    (string_bytes c.push_tags-2.new.out.list)
+    (tagoff_elements seen place) (tagon_elements seen place)
+    (subst (Goes (string_bytes c.args.out.now.list) (string_bytes c.push_tags.new.out.list))
+    (ap (λ key. flat_map (only_in before behind widget key text place) tags) tagoff-characters
+    ∙ tagoffs-are content view.s view.e tags marks widget place before behind (c.requires.before is)
+    (c.requires.behind is))
+    c.in_ok-push_tags.ensures)
+    (subst (Goes (string_bytes c.push_tags.new.out.list) (string_bytes c.push_tags-2.new.out.list))
+    (ap (λ key. flat_map (only_in behind before widget key text place) tags) tagon-characters
+    ∙ tagons-are content view.s view.e tags marks widget place before behind (c.requires.before is)
+    (c.requires.behind is))
+    c.in_ok-push_tags-2.ensures))
+
+pub push_tags-requires-clause-plain : goal.push_tags-requires-clause-plain
+push_tags-requires-clause-plain g c = tagoff-plain
+
+pub push_tags-requires-2-clause-plain : goal.push_tags-requires-2-clause-plain
+push_tags-requires-2-clause-plain g c = tagon-plain

@@ -1,10 +1,13 @@
 use Rattle.std.proofs.Common.{ap, ap₂, chars, string_bytes, subst, sym, ◌∙◌}
 use Rattle.std.specs.Prelude.{OnOk, codes, slice_range}
 use Rattle.std.proofs.lemmas.Bool.{not-false}
+use Rattle.std.proofs.lemmas.Result.{on_ok_weaker}
 use Rattle.tcl_words.specs.ListGrowth.{Goes}
 use Rattle.text_model.specs.Content.{characters}
 use Rattle.text_index.specs.Views.{shown}
 use Rattle.search_dump.specs.Dump.{element, if_listed}
+use Rattle.search_dump.specs.Sight.{text_in}
+use Rattle.search_dump.proofs.PlainWords.{text-plain}
 use Rattle.search_dump.proofs.SeenLaws.{text-characters}
 use Rattle.search_dump.proofs.WindowLaws.{slice-part}
 use Rattle.search_dump.proofs.dumping.push_listed_text.Goals as goal
@@ -14,12 +17,15 @@ returns g c =
     let view = c.args.view.now in
     let content = g.S.TextStore.content view.store.now in
     let text = shown content view.s view.e in
-    let written = element (codes "text") text c.args.from (slice_range text c.args.from c.args.to) in
-    subst (λ xs. OnOk c.push_dumped.result (Goes (string_bytes c.args.list.now) (string_bytes c.push_dumped.new.list)
+    let written = element (codes "text") text c.args.spot.place (slice_range text c.args.spot.place c.args.to) in
+    subst (λ xs. OnOk c.push.result (Goes (string_bytes c.args.out.now.list) (string_bytes c.push.new.self.list)
     xs))
-    (ap₂ (λ key value. element key text c.args.from value) text-characters
+    (ap₂ (λ key value. element key text c.args.spot.place value) text-characters
     (ap chars c.as_str.ensures.value ∙ c.in_ok-text.ensures
-    ∙ sym (slice-part (characters content.cells) view.s view.e c.args.from c.args.to c.requires.ordered
+    ∙ sym (slice-part (characters content.cells) view.s view.e c.args.spot.place c.args.to c.requires.ordered
     c.requires.within))
     ∙ sym (ap (λ b. if_listed b written) (not-false c.args.listed.text c.if-not-listed.false)))
-    c.push_dumped.ensures
+    (on_ok_weaker c.push.result (λ all. all (text_in g.S.TextStore.content c.args.view.now) c.requires.spot) c.push.ensures)
+
+pub push-requires-clause-plain : goal.push-requires-clause-plain
+push-requires-clause-plain g c = text-plain

@@ -1,12 +1,15 @@
 use Rattle.std.proofs.Common.{ap, ap₂, arith, string_bytes, subst, sym, ◌∙◌}
 use Rattle.std.specs.Prelude.{OnOk}
 use Rattle.std.proofs.lemmas.List.{length-map}
+use Rattle.std.proofs.lemmas.Result.{on_ok_weaker}
 use Rattle.mark_table.specs.SharedMarks.{Mark, names_of}
 use Rattle.tcl_words.specs.ListGrowth.{Goes}
 use Rattle.text_index.specs.Views.{shown}
 use Rattle.search_dump.specs.Dump.{element, if_listed}
 use Rattle.search_dump.specs.MarksAhead.{mark_element, shown_of}
+use Rattle.search_dump.specs.Sight.{text_in}
 use Rattle.search_dump.proofs.MarkOrderLaws.{usable-placed}
+use Rattle.search_dump.proofs.PlainWords.{mark-plain}
 use Rattle.search_dump.proofs.SeenLaws.{mark-characters}
 use Rattle.search_dump.proofs.dumping.push_mark.Goals as goal
 
@@ -23,9 +26,12 @@ returns g c =
     let view = c.args.sight.now.view.now in
     let names = names_of c.args.sight.now.names.now.marks.now.marks in
     let text = shown (g.S.TextStore.content view.store.now) view.s view.e in
-    subst (λ xs. OnOk c.push_dumped.result (Goes (string_bytes c.args.list.now) (string_bytes c.push_dumped.new.list)
+    subst (λ xs. OnOk c.push.result (Goes (string_bytes c.args.out.now.list) (string_bytes c.push.new.self.list)
     xs))
-    (ap₂ (λ key name. element key text c.args.place name) mark-characters c.name.ensures
-    ∙ sym (ap (λ b. if_listed b (mark_element text names c.args.place (shown_of view.s c.args.mark)))
+    (ap₂ (λ key name. element key text c.args.spot.place name) mark-characters c.name.ensures
+    ∙ sym (ap (λ b. if_listed b (mark_element text names c.args.spot.place (shown_of view.s c.args.mark)))
     c.if-not-is_listed.false))
-    c.push_dumped.ensures
+    (on_ok_weaker c.push.result (λ all. all (text_in g.S.TextStore.content c.args.sight.now.view.now) c.requires.spot) c.push.ensures)
+
+pub push-requires-clause-plain : goal.push-requires-clause-plain
+push-requires-clause-plain g c = mark-plain

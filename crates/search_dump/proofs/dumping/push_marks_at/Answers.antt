@@ -17,29 +17,29 @@ loop-next-init g c =
     let content = g.S.TextStore.content view.store.now in
     let marks = names.marks.now.marks in
     let all = usable_by content view.s view.e marks names.widget.0 in
-    let each = mark_element (shown content view.s view.e) (names_of marks) c.args.place in
-    let place = view.s + c.args.place in
+    let each = mark_element (shown content view.s view.e) (names_of marks) c.args.spot.place in
+    let place = view.s + c.args.spot.place in
     let first = option_map (shown_of view.s) c.args.first in
     record {
-      goes = listed-none-yet c.args.is_listed (string_bytes c.args.list.now) (passed place each first all)
+      goes = listed-none-yet c.args.is_listed (string_bytes c.args.out.now.list) (passed place each first all)
           (passed-none all place each first c.requires.first);
       on = on-begun all place first c.requires.first;
     }
 
-pub returns-then-mark-place-clause-goes : goal.returns-then-mark-place-clause-goes
-returns-then-mark-place-clause-goes g c =
+pub returns-then-mark-spot-clause-goes : goal.returns-then-mark-spot-clause-goes
+returns-then-mark-spot-clause-goes g c =
     let view = c.args.sight.now.view.now in
     let names = c.args.sight.now.names.now in
     let content = g.S.TextStore.content view.store.now in
     let marks = names.marks.now.marks in
     let all = usable_by content view.s view.e marks names.widget.0 in
-    let each = mark_element (shown content view.s view.e) (names_of marks) c.args.place in
-    let place = view.s + c.args.place in
+    let each = mark_element (shown content view.s view.e) (names_of marks) c.args.spot.place in
+    let place = view.s + c.args.spot.place in
     let next = option_map (shown_of view.s) c.loop-next.next in
     let other = subst (λ o. MatchOption (option_map (shown_of view.s) o) (Unit {0}) (λ m. m.place ≡ place → ⊥))
-    (sym c.in-Some.is) (λ same. c.if-mark-place.true (omega arith)) in
-    goes-all content view.s view.e names.tags.now.tags marks names.widget.0 c.args.place c.args.is_listed
-    (string_bytes c.args.list.now) (string_bytes c.loop-next.list) next
+    (sym c.in-Some.is) (λ same. c.if-mark-spot.true (omega arith)) in
+    goes-all content view.s view.e names.tags.now.tags marks names.widget.0 c.args.spot.place c.args.is_listed
+    (string_bytes c.args.out.now.list) (string_bytes c.loop-next.out.list) next
     c.requires.view.ordered (on-above all place next c.loop-next.invariant.on other) c.loop-next.invariant.goes
 
 pub loop-next-smaller : goal.loop-next-smaller
@@ -49,8 +49,8 @@ loop-next-smaller g c =
     let content = g.S.TextStore.content view.store.now in
     let marks = names.marks.now.marks in
     let all = usable_by content view.s view.e marks names.widget.0 in
-    let each = mark_element (shown content view.s view.e) (names_of marks) c.args.place in
-    let place = view.s + c.args.place in
+    let each = mark_element (shown content view.s view.e) (names_of marks) c.args.spot.place in
+    let place = view.s + c.args.spot.place in
     let on = subst (λ o. IsMarkOn all place (option_map (shown_of view.s) o)) c.in-Some.is c.loop-next.invariant.on in
     subst (λ o. marks_left all (option_map (shown_of view.s) c.next-next.result)
     < marks_left all (option_map (shown_of view.s) o)) (sym c.in-Some.is)
@@ -64,19 +64,19 @@ loop-next-preserved g c =
     let content = g.S.TextStore.content view.store.now in
     let marks = names.marks.now.marks in
     let all = usable_by content view.s view.e marks names.widget.0 in
-    let each = mark_element (shown content view.s view.e) (names_of marks) c.args.place in
-    let place = view.s + c.args.place in
+    let each = mark_element (shown content view.s view.e) (names_of marks) c.args.spot.place in
+    let place = view.s + c.args.spot.place in
     let mark = shown_of view.s c.in-Some.mark in
     let next = option_map (shown_of view.s) c.next-next.result in
     let on = subst (λ o. IsMarkOn all place (option_map (shown_of view.s) o)) c.in-Some.is c.loop-next.invariant.on in
-    let here : mark.place ≡ place = omega (arith, c.if-mark-place.false) in
+    let here : mark.place ≡ place = omega (arith, c.if-mark-spot.false) in
     record {
-      goes = listed-on c.args.is_listed (string_bytes c.args.list.now) (string_bytes c.loop-next.list)
-          (string_bytes c.push_mark.new.list)
+      goes = listed-on c.args.is_listed (string_bytes c.args.out.now.list) (string_bytes c.loop-next.out.list)
+          (string_bytes c.push_mark.new.out.list)
           (passed place each (Some mark) all) (each mark) (passed place each next all)
           (passed-on all place each mark next (usable-rising content view.s view.e marks names.widget.0) on.0 here
           c.next-next.ensures)
-          (subst (λ o. Goes (string_bytes c.args.list.now) (string_bytes c.loop-next.list)
+          (subst (λ o. Goes (string_bytes c.args.out.now.list) (string_bytes c.loop-next.out.list)
           (if_listed c.args.is_listed (passed place each (option_map (shown_of view.s) o) all))) c.in-Some.is
           c.loop-next.invariant.goes)
           c.in_ok-push_mark.ensures;
@@ -90,11 +90,11 @@ returns-clause-goes g c =
     let content = g.S.TextStore.content view.store.now in
     let marks = names.marks.now.marks in
     let all = usable_by content view.s view.e marks names.widget.0 in
-    let each = mark_element (shown content view.s view.e) (names_of marks) c.args.place in
-    let place = view.s + c.args.place in
-    goes-all content view.s view.e names.tags.now.tags marks names.widget.0 c.args.place c.args.is_listed
-    (string_bytes c.args.list.now) (string_bytes c.loop-next.list) None
+    let each = mark_element (shown content view.s view.e) (names_of marks) c.args.spot.place in
+    let place = view.s + c.args.spot.place in
+    goes-all content view.s view.e names.tags.now.tags marks names.widget.0 c.args.spot.place c.args.is_listed
+    (string_bytes c.args.out.now.list) (string_bytes c.loop-next.out.list) None
     c.requires.view.ordered tt
-    (subst (λ o. Goes (string_bytes c.args.list.now) (string_bytes c.loop-next.list)
+    (subst (λ o. Goes (string_bytes c.args.out.now.list) (string_bytes c.loop-next.out.list)
     (if_listed c.args.is_listed (passed place each (option_map (shown_of view.s) o) all))) c.in_default.is
     c.loop-next.invariant.goes)

@@ -14,11 +14,11 @@ invariant-loop-next g l =
     let marks = l.sight.names.now.marks.now.marks in
     let all = usable_by content l.sight.view.now.s l.sight.view.now.e marks l.sight.names.now.widget.0 in
     record {
-      goes : Goes (string_bytes l.fn.list) (string_bytes l.list)
-          (if_listed l.is_listed (passed (l.sight.view.now.s + l.place)
-          (mark_element (shown content l.sight.view.now.s l.sight.view.now.e) (names_of marks) l.place)
+      goes : Goes (string_bytes l.fn.out.list) (string_bytes l.out.list)
+          (if_listed l.is_listed (passed (l.sight.view.now.s + l.spot.place)
+          (mark_element (shown content l.sight.view.now.s l.sight.view.now.e) (names_of marks) l.spot.place)
           (option_map (shown_of l.sight.view.now.s) l.next) all));
-      on : IsMarkOn all (l.sight.view.now.s + l.place) (option_map (shown_of l.sight.view.now.s) l.next);
+      on : IsMarkOn all (l.sight.view.now.s + l.spot.place) (option_map (shown_of l.sight.view.now.s) l.next);
     }
 
 abbrev pub decreases-loop-next : goal.decreases-loop-next

@@ -1,6 +1,7 @@
 use Rattle.std.proofs.Common.{ℕ, List, [], ap, get_or, chars, string_bytes, subst, sym, ◌∙◌}
 use Rattle.std.specs.Prelude.{OnOk}
 use Rattle.std.proofs.lemmas.Option.{get_or_from_slice_get}
+use Rattle.std.proofs.lemmas.Result.{on_ok_weaker}
 use Rattle.tag_table.specs.Tags.{names_of}
 use Rattle.tcl_words.specs.ListGrowth.{Goes}
 use Rattle.search_dump.specs.Dump.{element, if_listed}
@@ -11,9 +12,9 @@ pub returns : goal.returns
 returns g c =
     let tags = names_of c.args.sight.now.names.now.tags.now.tags in
     let written : List ℕ → List (List ℕ) = λ name.
-    element (chars c.args.key.now) (text_in g.S.TextStore.content c.args.sight.now.view.now) c.args.place name in
-    subst (λ words. OnOk c.push_dumped.result
-    (Goes (string_bytes c.args.list.now) (string_bytes c.push_dumped.new.list) words))
+    element (chars c.args.key.now) (text_in g.S.TextStore.content c.args.sight.now.view.now) c.args.spot.place name in
+    subst (λ words. OnOk c.push.result
+    (Goes (string_bytes c.args.out.now.list) (string_bytes c.push.new.self.list) words))
     (ap written (sym (get_or_from_slice_get tags c.args.at (chars c.name.result.now) [] c.name.ensures))
     ∙ sym (ap (λ b. if_listed b (written (get_or tags c.args.at []))) c.if-not-is_listed.false))
-    c.push_dumped.ensures
+    (on_ok_weaker c.push.result (λ all. all (text_in g.S.TextStore.content c.args.sight.now.view.now) c.requires.spot) c.push.ensures)

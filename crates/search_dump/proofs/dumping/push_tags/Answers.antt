@@ -3,7 +3,7 @@ use Rattle.std.specs.Prelude.{[], slice_index_or}
 use Rattle.tag_table.specs.Tags.{names_of}
 use Rattle.text_index.specs.Views.{shown}
 use Rattle.search_dump.specs.Dump.{element, if_listed, only_in}
-use Rattle.search_dump.proofs.DumpLaws.{goes-same, goes_flat, no_tag, tag-row}
+use Rattle.search_dump.proofs.DumpLaws.{goes-within, goes_flat, no_tag, tag-row}
 use Rattle.search_dump.proofs.dumping.push_tags.Goals as goal
 
 pub loop-at-preserved : goal.loop-at-preserved
@@ -13,18 +13,18 @@ loop-at-preserved g c =
     let tags = c.args.sight.now.names.now.tags.now.tags in
     let key = chars c.args.key.now in
     let widget = c.args.sight.now.names.now.widget.0 in
-    goes_flat (only_in c.args.on c.args.off widget key text c.args.place) (string_bytes c.args.list.now)
-    (string_bytes c.loop-at.list) (string_bytes c.push_tag.new.list) tags c.loop-at.at no_tag
-    (if_listed c.is_only_in.result (element key text c.args.place (slice_index_or (names_of tags) c.loop-at.at [])))
+    goes_flat (only_in c.args.on.now c.args.off.now widget key text c.args.spot.place) (string_bytes c.args.out.now.list)
+    (string_bytes c.loop-at.out.list) (string_bytes c.push_tag.new.out.list) tags c.loop-at.at no_tag
+    (if_listed c.is_only_in.result (element key text c.args.spot.place (slice_index_or (names_of tags) c.loop-at.at [])))
     (omega (arith, c.len-at-end.ensures.value))
-    (tag-row c.args.on c.args.off widget key text c.args.place tags c.loop-at.at no_tag c.is_only_in.result
+    (tag-row c.args.on.now c.args.off.now widget key text c.args.spot.place tags c.loop-at.at no_tag c.is_only_in.result
     c.own_slot-slot.result.0 (omega (arith, c.len-at-end.ensures.value))
     c.is_only_in.ensures c.own_slot-slot.ensures.value)
     c.loop-at.invariant c.in_ok-push_tag.ensures
 
-pub returns-then-are_same : goal.returns-then-are_same
-returns-then-are_same g c =
+pub returns-then-is_within : goal.returns-then-is_within
+returns-then-is_within g c =
     let view = c.args.sight.now.view.now in
-    goes-same c.args.on c.args.off c.args.sight.now.names.now.widget.0 (chars c.args.key.now)
-    (shown (g.S.TextStore.content view.store.now) view.s view.e) c.args.place c.args.sight.now.names.now.tags.now.tags
-    (string_bytes c.args.list.now) (c.are_same.ensures c.if-are_same.true)
+    goes-within c.args.on.now c.args.off.now c.args.sight.now.names.now.widget.0 (chars c.args.key.now)
+    (shown (g.S.TextStore.content view.store.now) view.s view.e) c.args.spot.place c.args.sight.now.names.now.tags.now.tags
+    (string_bytes c.args.out.now.list) (c.is_within.ensures c.if-is_within.true)

@@ -43,3 +43,6 @@ returns-clause-below g c = c.nearest.ensures.within
 
 pub returns-clause-ahead : goal.returns-clause-ahead
 returns-clause-ahead g c = c.pass.ensures.ahead
+
+pub returns-clause-known : goal.returns-clause-known
+returns-clause-known g c = λ _ at below. (c.pass.ensures.known at below, c.nearest.ensures.each at below)

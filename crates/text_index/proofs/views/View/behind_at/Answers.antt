@@ -5,24 +5,12 @@ use Rattle.text_index.proofs.StartLaws.{place-behind}
 use Rattle.text_index.proofs.ViewLaws.{length-shown}
 use Rattle.text_index.proofs.views.View.behind_at.Goals as goal
 
-pub line_start-requires : goal.line_start-requires
-line_start-requires g c =
-    let view = c.args.self.now in
-    let content = g.S.TextStore.content view.store.now in
-    let text = characters content.cells in
-    omega (
-      arith,
-      c.line_of.ensures,
-      (place-behind text view.s view.e c.requires.view.first c.requires.view.behind c.requires.view.ordered
-          (length-shown content view.s view.e c.requires.view) c.args.place c.requires.within).0,
-    )
-
 pub overflow_sub-result : goal.overflow_sub-result
 overflow_sub-result g c =
     let view = c.args.self.now in
     let content = g.S.TextStore.content view.store.now in
     let text = characters content.cells in
-    let there = c.line_start.ensures.value ∙ ap (λ k. line_start (k + 1) text) c.line_of.ensures in
+    let there = c.line_at.ensures.end ∙ ap (λ k. line_start (k + 1) text) c.line_at.ensures.number in
     let is = place-behind text view.s view.e c.requires.view.first c.requires.view.behind c.requires.view.ordered
     (length-shown content view.s view.e c.requires.view) c.args.place c.requires.within in
     omega (arith, there, is.1)
@@ -32,7 +20,7 @@ returns-clause-value g c =
     let view = c.args.self.now in
     let content = g.S.TextStore.content view.store.now in
     let text = characters content.cells in
-    let there = c.line_start.ensures.value ∙ ap (λ k. line_start (k + 1) text) c.line_of.ensures in
+    let there = c.line_at.ensures.end ∙ ap (λ k. line_start (k + 1) text) c.line_at.ensures.number in
     let is = place-behind text view.s view.e c.requires.view.first c.requires.view.behind c.requires.view.ordered
     (length-shown content view.s view.e c.requires.view) c.args.place c.requires.within in
     omega (arith, there, is.3)
@@ -42,7 +30,7 @@ returns-clause-some g c =
     let view = c.args.self.now in
     let content = g.S.TextStore.content view.store.now in
     let text = characters content.cells in
-    let there = c.line_start.ensures.value ∙ ap (λ k. line_start (k + 1) text) c.line_of.ensures in
+    let there = c.line_at.ensures.end ∙ ap (λ k. line_start (k + 1) text) c.line_at.ensures.number in
     let is = place-behind text view.s view.e c.requires.view.first c.requires.view.behind c.requires.view.ordered
     (length-shown content view.s view.e c.requires.view) c.args.place c.requires.within in
     omega (arith, there, is.1)
@@ -52,7 +40,7 @@ returns-clause-bound g c =
     let view = c.args.self.now in
     let content = g.S.TextStore.content view.store.now in
     let text = characters content.cells in
-    let there = c.line_start.ensures.value ∙ ap (λ k. line_start (k + 1) text) c.line_of.ensures in
+    let there = c.line_at.ensures.end ∙ ap (λ k. line_start (k + 1) text) c.line_at.ensures.number in
     let is = place-behind text view.s view.e c.requires.view.first c.requires.view.behind c.requires.view.ordered
     (length-shown content view.s view.e c.requires.view) c.args.place c.requires.within in
     omega (arith, there, is.1, is.2)

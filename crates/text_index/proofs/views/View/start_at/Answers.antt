@@ -10,7 +10,7 @@ overflow_sub-result g c =
     let view = c.args.self.now in
     let content = g.S.TextStore.content view.store.now in
     let text = characters content.cells in
-    let there = c.line_start.ensures.value ∙ ap (λ k. line_start k text) c.line_of.ensures in
+    let there = c.line_at.ensures.start ∙ ap (λ k. line_start k text) c.line_at.ensures.number in
     omega (
       arith,
       there,
@@ -23,7 +23,7 @@ returns-clause-value g c =
     let view = c.args.self.now in
     let content = g.S.TextStore.content view.store.now in
     let text = characters content.cells in
-    let there = c.line_start.ensures.value ∙ ap (λ k. line_start k text) c.line_of.ensures in
+    let there = c.line_at.ensures.start ∙ ap (λ k. line_start k text) c.line_at.ensures.number in
     omega (
       arith,
       there,
@@ -36,7 +36,7 @@ returns-clause-bound g c =
     let view = c.args.self.now in
     let content = g.S.TextStore.content view.store.now in
     let text = characters content.cells in
-    let there = c.line_start.ensures.value ∙ ap (λ k. line_start k text) c.line_of.ensures in
+    let there = c.line_at.ensures.start ∙ ap (λ k. line_start k text) c.line_at.ensures.number in
     let is = place-start text view.s view.e c.requires.view.first c.requires.view.behind c.requires.view.ordered
     (length-shown content view.s view.e c.requires.view) c.args.place c.requires.within in
     omega (arith, there, is.0, is.1, c.requires.within)

@@ -1,0 +1,20 @@
+use Rattle.std.proofs.Common.{arith}
+use Rattle.text_model.specs.Content.{flags}
+use Rattle.text_index.proofs.FlagLaws.{flags-within, length-part}
+use Rattle.search_dump.proofs.TurnLaws.{turned-are}
+use Rattle.search_dump.proofs.dumping.turned_tags.Goals as goal
+
+pub returns : goal.returns
+returns g c is within =
+    let view = c.args.sight.now.view.now in
+    let names = c.args.sight.now.names.now in
+    let content = g.S.TextStore.content view.store.now in
+    turned-are content view.s view.e names.tags.now.tags names.widget.0 c.args.place c.args.stop c.args.changes.now.next
+    c.args.before.now c.turned.result c.requires.above
+    (λ slot. omega (
+      arith,
+      within,
+      length-part (flags slot content.cells) view.s view.e
+          (flags-within content slot view.s view.e c.requires.view) c.requires.view.ordered,
+    ))
+    (c.requires.known is) (c.requires.before is) c.turned.ensures
