@@ -14,7 +14,7 @@ has just proved (tools/build_library.py).  Without a C compiler one line says so
 - Python and Tcl with growths of memory refused (tools/refuse_calls.c): want of memory is an error of the language, and the
   command answers as ever when it is given again.
 - The time of a command by its words and by a script.
-- The examples of three languages answer alike, and README's lines run.
+- The examples of three languages answer alike, and the lines of README and docs/use.md run.
 
 Ends in a line `N passed, M failed`; the exit status is 1 if anything failed.
 """
@@ -557,25 +557,33 @@ def check_examples(has_tcl, tally):
 # ---------------------------------------------------------------------------------------------------
 
 
-def readme_block(language):
-    """The lines in a language that README shows."""
-    with open(source("README.md"), encoding="utf-8") as page:
-        return page.read().split(f"```{language}\n")[1].split("```")[0]
+def shown_lines(page, language):
+    """The lines in a language that a page shows."""
+    with open(source(page), encoding="utf-8") as file:
+        return file.read().split(f"```{language}\n")[1].split("```")[0]
 
 
-def check_readme(has_tcl, folder, tally):
-    """README's lines run as they stand there."""
-    file, program = os.path.join(folder, "readme.c"), os.path.join(folder, "readme")
+def used_lines(language):
+    """The lines in a language that docs/use.md shows."""
+    return shown_lines(os.path.join("docs", "use.md"), language)
+
+
+def check_shown(has_tcl, folder, tally):
+    """The lines of README and of docs/use.md run as they stand there."""
+    file, program = os.path.join(folder, "shown.c"), os.path.join(folder, "shown")
     with open(file, "w", encoding="utf-8") as written:
-        written.write(f'#include "tktext.h"\nint main(void)\n{{\n{readme_block("c")}return code != TKTEXT_ANSWER || length != 3 || line[2] != 10;\n}}\n')
+        written.write(f'#include "tktext.h"\nint main(void)\n{{\n{used_lines("c")}return code != TKTEXT_ANSWER || length != 3 || line[2] != 10;\n}}\n')
     run(["cc", *FLAGS, file, ARCHIVE, "-o", program])
-    tally.check(run([program])[1] == 0, "README's lines in C")
+    tally.check(run([program])[1] == 0, "the lines in C of docs/use.md")
     end = 'print(peer.get("1.0", "1.end"), *text.tag_ranges("bold"))'
-    given = run([sys.executable, "-c", readme_block("python") + end], env=dict(os.environ, PYTHONPATH=source("python")))
-    tally.check(given == (b"hello, wide world 1.7 2.0\n", 0, b""), f"README's lines in Python: {given!r}")
+    given = run([sys.executable, "-c", used_lines("python") + end], env=dict(os.environ, PYTHONPATH=source("python")))
+    tally.check(given == (b"hello, wide world 1.7 2.0\n", 0, b""), f"the lines in Python of docs/use.md: {given!r}")
+    end = 'print(text.get("1.0", "1.end"))'
+    given = run([sys.executable, "-c", shown_lines("README.md", "python") + end], env=dict(os.environ, PYTHONPATH=source("python")))
+    tally.check(given == (b"hello, wide world\n", 0, b""), f"README's lines in Python: {given!r}")
     if has_tcl:
-        given = run(["tclsh8.6"], readme_block("tcl").encode(), env=dict(os.environ, TCLLIBPATH=source("tcl")))
-        tally.check(given == (b"5.0\n", 0, b""), f"README's lines in Tcl: {given!r}")
+        given = run(["tclsh8.6"], used_lines("tcl").encode(), env=dict(os.environ, TCLLIBPATH=source("tcl")))
+        tally.check(given == (b"5.0\n", 0, b""), f"the lines in Tcl of docs/use.md: {given!r}")
 
 
 def add_counts(output, status, tally):
@@ -622,7 +630,7 @@ def main():
     compile_all(has_tcl)
     check_examples(has_tcl, tally)
     with tempfile.TemporaryDirectory() as folder:
-        check_readme(has_tcl, folder, tally)
+        check_shown(has_tcl, folder, tally)
     check_uses(tally)
     for row in worked.ROWS:
         if row.limits == model.PROGRAM_LIMITS:

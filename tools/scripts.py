@@ -668,6 +668,14 @@ def compare_command(chance):
     return [widget(chance), "compare", argument_index(chance), operator(chance), argument_index(chance)]
 
 
+# The words of each subcommand behind which no word may stand.
+BARE = [list(words) for words, subcommand in model.SUBCOMMANDS.items() if subcommand.greatest == 0]
+
+
+def bare_command(chance):
+    return [widget(chance), *chance.choice(BARE)]
+
+
 def wrong_count_command(chance):
     """A command of too few words or too many, whose other words may be wrong too."""
     subcommand, counts = chance.choice([
@@ -678,11 +686,7 @@ def wrong_count_command(chance):
         (["index"], [0, 2, 3]),
         (["compare"], [0, 1, 2, 4]),
         (["edit", "modified"], [2, 3]),
-        (["edit", "undo"], [1]),
-        (["edit", "redo"], [1]),
-        (["edit", "separator"], [1, 2]),
         (["peer", "create"], [0]),
-        (["peer", "names"], [1, 2]),
         (["configure"], [0]),
         (["configure", "-undo"], [0]),
         (["configure", "-undo", "1", "-state"], [0]),
@@ -697,7 +701,6 @@ def wrong_count_command(chance):
         (["dump", "-all", "-text"], [0, 3]),
         (["mark", "set"], [0, 1, 3]),
         (["mark", "gravity"], [0, 3]),
-        (["mark", "names"], [1, 2]),
         (["mark", "next"], [0, 2]),
         (["mark", "previous"], [0, 2]),
         (["tag", "add"], [0, 1]),
@@ -710,6 +713,7 @@ def wrong_count_command(chance):
         (["tag", "raise"], [0, 3]),
         (["tag", "lower"], [0, 3]),
         ([], [0]),
+        *[(words, [1, 2]) for words in BARE],
     ])
     arguments = [argument_index(chance) for _ in range(chance.choice(counts))]
     return [widget(chance)] + subcommand + arguments
@@ -761,6 +765,7 @@ COMMANDS = [
     (edit_step_command, 6),
     (edit_modified_command, 2.5),
     (edit_alone, 0.3),
+    (bare_command, 0.7),
     (configure_command, 1.5),
     (cget_command, 1.5),
     (show_command, 2),
@@ -845,9 +850,9 @@ FORMS = [
     Form(FORM_UNDO_WORLD, [".t", "configure"], [FORM_SETTINGS, [None, *FORM_SETTINGS]]),
     Form(FORM_UNDO_WORLD, [".t", "configure"], [["-undo", "-autoseparators"], FORM_BOOLEANS]),
     Form(FORM_UNDO_WORLD, [".t", "cget"], [list(model.OPTIONS)]),
-    Form(FORM_UNDO_WORLD, [".t", "edit"], [["undo", "redo", "reset", "separator", "modified"]]),
-    Form(FORM_UNDO_WORLD, [".t", "edit", "modified"], [FORM_BOOLEANS]),
-    Form(FORM_UNDO_WORLD + [".t edit undo"], [".t", "edit"], [["undo", "redo", "reset", "separator", "modified"]]),
+    *[Form(before, [".t", *words], []) for before in (FORM_UNDO_WORLD, FORM_UNDO_WORLD + [".t edit undo"]) for words in BARE],
+    Form(FORM_UNDO_WORLD, [".t", "edit", "modified"], [[None, *FORM_BOOLEANS]]),
+    Form(FORM_UNDO_WORLD + [".t edit undo"], [".t", "edit", "modified"], []),
     Form(
         FORM_UNDO_WORLD + [".t configure -state disabled"],
         [".t"],

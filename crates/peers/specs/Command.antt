@@ -87,14 +87,14 @@ done PeerNames document call = asked document (peer_names document call.widget)
 done Text document call = refused document (BadOption 1)
 done Destroy document call = refused document (BadOption 1)
 
--- commands that take no memory
+-- frugal commands, which take no memory
 abbrev pub is_frugal : Command → Bool
 is_frugal EditModified = true
 is_frugal EditReset = true
 is_frugal EditSeparator = true
 is_frugal command = false
 
--- words that are such a command, or none
+-- words that are a frugal command, or none
 abbrev pub is_frugal_reading : Result Shape ShapeFault → Bool
 is_frugal_reading (Err fault) = true
 is_frugal_reading (Ok shape) = is_frugal shape.command

@@ -101,11 +101,11 @@ on_widget world name words = on_home world name words (home name world.documents
 
 -- ---- any command
 
--- a command of a widget that takes no memory: `edit modified`, `edit reset` or `edit separator`, or words that are no
--- command
-abbrev pub takes_none : List (List ℕ) → Bool
-takes_none [] = false
-takes_none (name ∷ others) =
+-- words of a frugal command of a widget, which takes no memory: `edit modified`, `edit reset` or `edit separator`, or
+-- words that are no command
+abbrev pub are_frugal : List (List ℕ) → Bool
+are_frugal [] = false
+are_frugal (name ∷ others) =
     if is_same name (literal "text") then false
     else (if is_same name (literal "destroy") then false
     else is_frugal_reading (reading (name ∷ others)))

@@ -55,7 +55,7 @@ fn carry_out<S: TextStore>(
           at = call.entry.at;
           arguments = texts_of call.entry.arguments.now;
         })) }
-    ensures sure { is_frugal command ≡ true → result ≢ Err Memory }
+    ensures frugal { is_frugal command ≡ true → result ≢ Err Memory }
 {
     let Call {
         limits,
@@ -118,7 +118,7 @@ pub fn command<S: TextStore>(
     requires own { shape.command ≢ PeerCreate }
     ensures does { (windows : List (List ℕ)) → Does limits.now document.old document.new result
         (command limits.now windows document.old (widget_at document.old widget) (texts_of words.now)) }
-    ensures sure { is_frugal shape.command ≡ true → result ≢ Err Memory }
+    ensures frugal { is_frugal shape.command ≡ true → result ≢ Err Memory }
 {
     let call = Call {
         limits,

@@ -19,7 +19,7 @@ fn set_modified_by<S: TextStore>(
 ) -> Result<Answer, Fault>
     ensures does { Does limits.now document.old document.new result
         (change_with document.old (ok_or (boolean_of (chars word.now)) (BadBoolean at)) (modified_set document.old)) }
-    ensures sure { result ≢ Err Memory }
+    ensures frugal { result ≢ Err Memory }
 {
     match boolean_at(at, word) {
         Err(fault) => Err(fault),
@@ -35,7 +35,7 @@ fn modified_word<S: TextStore>(
 ) -> Result<Answer, Fault>
     ensures does { Does limits.now document.old document.new result
         (modified_word document.old at (option_map (λ word. chars word.now) word.entry)) }
-    ensures sure { result ≢ Err Memory }
+    ensures frugal { result ≢ Err Memory }
 {
     match word {
         None => Ok(Answer::Flag(document.is_modified())),
@@ -52,7 +52,7 @@ pub fn edit_modified<S: TextStore>(
 ) -> Result<Answer, Fault>
     ensures does { Does limits.now document.old document.new result
         (edit_modified document.old at (texts_of arguments.now)) }
-    ensures sure { result ≢ Err Memory }
+    ensures frugal { result ≢ Err Memory }
 {
     match none_or_one(arguments) {
         Err(fault) => Err(fault),

@@ -7,7 +7,7 @@ ghost use Rattle.command_parts.specs.Words.{is_among};
 ghost use Rattle.documents.specs.Documents.{characters, widget_at};
 ghost use Rattle.documents.specs.Kept.{is_window_name};
 ghost use Rattle.peers.specs.Step.{changed, create_named, create, create_shaped, destroy, destroy_shaped, on_home};
-ghost use Rattle.peers.specs.Step.{on_widget, step, takes_none};
+ghost use Rattle.peers.specs.Step.{on_widget, step, are_frugal};
 ghost use Rattle.peers.specs.Command.{is_frugal, is_frugal_reading};
 ghost use Rattle.peers.specs.Peers.{peer_create, peer_with, peer_words};
 ghost use Rattle.peers.specs.WellFormed.{IsWellFormed};
@@ -256,7 +256,7 @@ impl<S: TextStore> World<S> {
         ensures world { result ≢ Err Fault.Memory →
             self.new ≡ (on_home self.old (chars name.now) (texts_of words.now) (Some place)).world }
         ensures refused { IfErr result (λ _. self.new ≡ self.old) }
-        ensures sure { is_frugal shape.command ≡ true → result ≢ Err Fault.Memory }
+        ensures frugal { is_frugal shape.command ≡ true → result ≢ Err Fault.Memory }
         ensures well_formed { IsWellFormed self.new }
     {
         let Some(widget) = self.documents.list[place].find_widget(name) else {
@@ -287,7 +287,7 @@ impl<S: TextStore> World<S> {
         ensures world { result ≢ Err Fault.Memory →
             self.new ≡ (on_widget self.old (chars name.now) (texts_of words.now)).world }
         ensures refused { IfErr result (λ _. self.new ≡ self.old) }
-        ensures sure { is_frugal_reading (reading (texts_of words.now)) ≡ true → result ≢ Err Fault.Memory }
+        ensures frugal { is_frugal_reading (reading (texts_of words.now)) ≡ true → result ≢ Err Fault.Memory }
         ensures well_formed { IsWellFormed self.new }
     {
         let Some(place) = self.documents.windows.home(name) else {
@@ -305,7 +305,7 @@ impl<S: TextStore> World<S> {
         ensures reply { result ≢ Err Fault.Memory → result ≡ (step self.old (texts_of words.now)).reply }
         ensures world { result ≢ Err Fault.Memory → self.new ≡ (step self.old (texts_of words.now)).world }
         ensures refused { IfErr result (λ _. self.new ≡ self.old) }
-        ensures sure { takes_none (texts_of words.now) ≡ true → result ≢ Err Fault.Memory }
+        ensures frugal { are_frugal (texts_of words.now) ≡ true → result ≢ Err Fault.Memory }
         ensures well_formed { IsWellFormed self.new }
     {
         let [name, ..] = words else { unreachable!() };

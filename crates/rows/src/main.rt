@@ -37,10 +37,10 @@ fn check_rows(rt: &HostRuntime, folder: &str) -> io::Result<ExitCode> {
     };
     check_folder(rt, folder, &mut tally)?;
     let Tally { rows, failures } = tally;
-    if failures > 0 {
+    if failures > 0 || rows == 0 {
         println!(rt; "{rows} rows as wanted, {failures} failures")?;
         return Ok(ExitCode::from(1));
     }
-    println!(rt; "{rows} rows, all as wanted")?;
+    println!(rt; "all rows as wanted")?;
     Ok(ExitCode::SUCCESS)
 }

@@ -15,6 +15,15 @@ use std::alloc::Global;
 use tcl_words::Splitter;
 use text_model::{Limits, TextStore};
 
+/// What a run has in hand between its reads: the bytes of a command that isn't whole yet, the words of the last one,
+/// whose room the next one takes, and what waits to be written.
+#[derive(Drop)]
+struct Buffers {
+    splitter: Splitter,
+    words: Vec<String>,
+    output: Output,
+}
+
 /// Runs a script as it is read: after each read, of up to 4,096 bytes, carries out the commands that are whole, and
 /// writes the answer or the fault of each before it reads on. The end of the script ends its last command, and a script
 /// fault that the bytes hold however they go on ends the run.
@@ -52,24 +61,17 @@ pub fn run<S: TextStore, R: ByteSource, W: ByteSink>(
         (R.log source.new).ends ≡ (R.log source.old).ends) }
 {
     let mut world = World::<S>::new(alloc, limits);
-    let mut splitter = Splitter::new(alloc);
-    let mut words = Vec::new(alloc);
-    let mut output = Output::new();
+    let mut buffers = Buffers {
+        splitter: Splitter::new(alloc),
+        words: Vec::new(alloc),
+        output: Output::new(),
+    };
     let mut summary = RunSummary {
         commands: 0,
         refused: 0,
         script_fault: false,
     };
-    let ended = run_reads(
-        &mut world,
-        &mut splitter,
-        &mut words,
-        &mut output,
-        &mut summary,
-        source,
-        sink,
-        limits,
-    );
+    let ended = run_reads(&mut world, &mut buffers, &mut summary, source, sink, limits);
     match ended {
         Ok(()) => Ok(summary),
         Err(fault) => Err(fault),
@@ -80,9 +82,7 @@ pub fn run<S: TextStore, R: ByteSource, W: ByteSink>(
 /// state its caller drops.
 fn run_reads<S: TextStore, R: ByteSource, W: ByteSink>(
     world: &mut World<S>,
-    splitter: &mut Splitter,
-    words: &mut Vec<String>,
-    output: &mut Output,
+    buffers: &mut Buffers,
     summary: &mut RunSummary,
     source: &mut R,
     sink: &mut W,
@@ -91,8 +91,8 @@ fn run_reads<S: TextStore, R: ByteSource, W: ByteSink>(
     requires source { R.is_failed source.old ≡ false }
     requires sink { W.is_failed sink.old ≡ false }
     requires world { world.old ≡ no_documents limits }
-    requires unread { splitter.old ≡ unread [] false }
-    requires empty { output.old ≡ [] }
+    requires unread { buffers.old.splitter ≡ unread [] false }
+    requires empty { buffers.old.output ≡ [] }
     requires unfaulted { summary.old.script_fault ≡ false }
     requires commands { summary.old.commands ≡ 0 }
     requires refused { summary.old.refused ≡ 0 }
@@ -114,8 +114,15 @@ fn run_reads<S: TextStore, R: ByteSource, W: ByteSink>(
         (R.log source.new).ends ≡ (R.log source.old).ends) }
 {
     for _made in 0..limits.reads() {
-        let brought = feed_read(source, splitter)?;
-        carry_out(world, splitter, words, output, sink, summary)?;
+        let brought = feed_read(source, &mut buffers.splitter)?;
+        carry_out(
+            world,
+            &mut buffers.splitter,
+            &mut buffers.words,
+            &mut buffers.output,
+            sink,
+            summary,
+        )?;
         if summary.script_fault {
             return Ok(());
         }

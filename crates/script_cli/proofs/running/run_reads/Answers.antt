@@ -34,7 +34,7 @@ returns-in_err-brought-clause-front g c =
     on_err c.from_residual.result
     (running_lost c.args.limits (read c.args.source.now) (read l.source) (read c.feed_read.new.source)
     (written c.args.sink.now) (written l.sink)
-    l.world l.splitter.rest l.summary.commands l.summary.refused lost.0 l.invariant.running lost.1)
+    l.world l.buffers.splitter.rest l.summary.commands l.summary.refused lost.0 l.invariant.running lost.1)
 
 pub returns-in_err-carry_out-clause-front : goal.returns-in_err-carry_out-clause-front
 returns-in_err-carry_out-clause-front g c =
@@ -42,7 +42,7 @@ returns-in_err-carry_out-clause-front g c =
     on_err c.from_residual-in_err-carry_out.result
     (running_cut c.args.limits (read c.args.source.now) (read l.source) (read c.feed_read.new.source)
     (written c.args.sink.now) (written l.sink)
-    (written c.carry_out.new.sink) l.world l.splitter.rest l.summary.commands l.summary.refused c.feed_read.new.splitter
+    (written c.carry_out.new.sink) l.world l.buffers.splitter.rest l.summary.commands l.summary.refused c.feed_read.new.splitter
     (is_end c.in_ok-brought.brought)
     l.invariant.running c.in_ok-brought.ensures.feeds c.in_err-carry_out.ensures.cut)
 
@@ -51,7 +51,7 @@ returns-then-summary-clause-run g c =
     let read = g.R.ByteSource.log in let written = g.W.ByteSink.log in let l = c.loop-made in let t = c.carry_out.new in
     run_to_fault c.args.limits (read c.args.source.now) (read l.source) (read c.feed_read.new.source)
     (written c.args.sink.now) (written l.sink)
-    (written t.sink) l.world l.splitter.rest l.summary c.feed_read.new.splitter (is_end c.in_ok-brought.brought) t.world
+    (written t.sink) l.world l.buffers.splitter.rest l.summary c.feed_read.new.splitter (is_end c.in_ok-brought.brought) t.world
     t.splitter.rest t.summary
     l.invariant.running c.in_ok-brought.ensures.feeds c.in_ok-carry_out.ensures.carried c.if-summary.true
 
@@ -60,7 +60,7 @@ returns-in-End-clause-run g c =
     let read = g.R.ByteSource.log in let written = g.W.ByteSink.log in let l = c.loop-made in let t = c.carry_out.new in
     run_to_end c.args.limits (read c.args.source.now) (read l.source) (read c.feed_read.new.source)
     (written c.args.sink.now) (written l.sink)
-    (written t.sink) l.world l.splitter.rest l.summary c.feed_read.new.splitter t.world t.splitter.rest t.summary
+    (written t.sink) l.world l.buffers.splitter.rest l.summary c.feed_read.new.splitter t.world t.splitter.rest t.summary
     l.invariant.running (rw c.in-End.is at c.in_ok-brought.ensures.feeds) c.in_ok-carry_out.ensures.carried
     c.if-summary.false
 
@@ -68,15 +68,15 @@ pub loop-made-preserved : goal.loop-made-preserved
 loop-made-preserved g c =
     let read = g.R.ByteSource.log in let written = g.W.ByteSink.log in let l = c.loop-made in let t = c.carry_out.new in
     let f = c.feed_read.new in let h = c.in_ok-carry_out.ensures in
-    let feeds : Feeds (read l.source) (read f.source) l.splitter.rest f.splitter false = rw c.in-Bytes.is at
+    let feeds : Feeds (read l.source) (read f.source) l.buffers.splitter.rest f.splitter false = rw c.in-Bytes.is at
     c.in_ok-brought.ensures.feeds in
-    let long : length f.splitter.rest ≡ length l.splitter.rest + length feeds.0 =
-    ap (λ (u : Unread). length u.rest) feeds.3 ∙ length-append l.splitter.rest feeds.0 in
+    let long : length f.splitter.rest ≡ length l.buffers.splitter.rest + length feeds.0 =
+    ap (λ (u : Unread). length u.rest) feeds.3 ∙ length-append l.buffers.splitter.rest feeds.0 in
     let piece = feeds.2 in let before = l.invariant.most in let after = h.most c.if-summary.false in
     record {
       running = running_more c.args.limits (read c.args.source.now) (read l.source) (read f.source)
           (written c.args.sink.now) (written l.sink)
-          (written t.sink) l.world l.splitter.rest l.summary f.splitter t.world t.splitter.rest t.summary
+          (written t.sink) l.world l.buffers.splitter.rest l.summary f.splitter t.world t.splitter.rest t.summary
           l.invariant.running feeds h.carried c.if-summary.false;
       fed = h.same c.if-summary.false ∙ ap (λ (u : Unread). record u { rest = t.splitter.rest }) feeds.3;
       empty = h.empty;
@@ -93,4 +93,4 @@ pub returns-clause-front : goal.returns-clause-front
 returns-clause-front g c =
     let read = g.R.ByteSource.log in let written = g.W.ByteSink.log in let l = c.loop-made in
     running_stops c.args.limits (read c.args.source.now) (read l.source) (written c.args.sink.now) (written l.sink)
-    l.world l.splitter.rest l.summary.commands l.summary.refused l.invariant.running
+    l.world l.buffers.splitter.rest l.summary.commands l.summary.refused l.invariant.running

@@ -168,7 +168,7 @@ returns-in_default-command g c =
       refused = subst (λ (w : World). IfErr c.command.result (λ _.
           with_all limits (slice_set documents c.args.place c.command.new.document) ≡ w)) c.self.view_is
           (does-refuse limits documents c.args.place c.command.new.document c.command.result change does);
-      sure = c.command.ensures.sure;
+      frugal = c.command.ensures.frugal;
       well_formed = does-form limits documents c.args.place c.command.new.document c.command.result change does
           c.self.invariant.0 found.0;
     }
