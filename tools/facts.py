@@ -156,7 +156,7 @@ def check_limits(tally):
     code = text_of("crates", "text_model", "src", "limits.rt")
     written = text_of("docs", "model.md")
     pages = {
-        "README.md": text_of("README.md"), "docs/tktext.1.md": text_of("docs", "tktext.1.md"),
+        "docs/theorems.md": text_of("docs", "theorems.md"), "docs/tktext.1.md": text_of("docs", "tktext.1.md"),
         "docs/differences.md": text_of("docs", "differences.md"),
         "include/tktext.h": re.sub(r"\b(\d+)\b", lambda it: f"{int(it[1]):,}", text_of("include", "tktext.h")),
     }

@@ -6,7 +6,7 @@ use std::process::Abort;
 use std::test::Fail;
 use text_model::{Gravity, MarkNo, Place, TagSet, TagSlot};
 
-static SLOTS: [TagSlot; 3] = [TagSlot(0), TagSlot(64), TagSlot(1_023)];
+static SLOTS: [TagSlot; 3] = [TagSlot(0), TagSlot(64), TagSlot(255)];
 
 // Characters of one to four bytes.
 static TEXTS: [&str; 5] = ["a", "é", "€x", "𐍈", "bcdef"];
@@ -115,7 +115,7 @@ fn mark_below(plain: &Plain, column: usize) -> Option<usize> {
 }
 
 fn check_slot(rt: &impl Abort, scene: &Scene, column: usize, index: usize, slot: TagSlot)
-    requires { slot.0 < 1024 }
+    requires { slot.0 < 256 }
 {
     assert!(rt; column <= scene.line.len());
     assert!(rt; scene.line.next_toggle(column, slot) == toggle_from(&scene.plain, column, index));
@@ -128,11 +128,26 @@ fn check_column(rt: &impl Abort, scene: &Scene, column: usize) {
     assert!(rt; column <= scene.line.len());
     let tags = scene.line.tags_before(column);
     assert!(rt; tags.words() == set_of(bits_before(&scene.plain, column)).words());
+    let mut turned = tags;
+    scene.line.turn_tags_before(column, &mut turned);
+    assert!(rt; turned.is_empty());
     for (index, slot) in SLOTS.iter().enumerate() {
         check_slot(rt, scene, column, index, *slot);
     }
     assert!(rt; scene.line.next_mark(column) == mark_from(&scene.plain, column));
     assert!(rt; scene.line.previous_mark(column) == mark_below(&scene.plain, column));
+}
+
+// What is asked of the whole line.
+fn check_whole(rt: &impl Abort, scene: &Scene) {
+    let mut turned = scene.line.tags_before(scene.line.len());
+    scene.line.turn_odd_slots(&mut turned);
+    assert!(rt; turned.is_empty());
+    for (index, slot) in SLOTS.iter().enumerate() {
+        let found = toggle_from(&scene.plain, 0, index);
+        assert!(rt; scene.line.has_toggle(*slot) == found.is_some());
+    }
+    assert!(rt; scene.line.marks() == scene.line.sum().marks());
 }
 
 fn check(rt: &impl Abort, scene: &Scene) {
@@ -143,6 +158,7 @@ fn check(rt: &impl Abort, scene: &Scene) {
         check_column(rt, scene, column);
     }
     check_column(rt, scene, len);
+    check_whole(rt, scene);
     for (number, place) in scene.plain.marks.iter().enumerate() {
         assert!(rt; scene.line.mark_place(MarkNo(number as u16)) == *place);
     }

@@ -4,7 +4,8 @@ ghost use Rattle.std.specs.Prelude.{◌≤◌};
 use raw_nodes::{NodeStore, Steps};
 use segments::Line;
 use std::test::Fail;
-use text_model::TagSlot;
+use text_model::{TagSet, TagSlot};
+use toggle_sums::{Exchange, Sums};
 
 /// Two nodes are made and given back, the first one first: the next two come in the other order.
 fn turn(store: &mut NodeStore<Steps>)
@@ -79,7 +80,30 @@ fn marks_and_toggles(rt: HostRuntime) -> Result<(), Fail> {
     let mut steps = Steps::new();
     assert!(rt; store.marks(name, &mut steps) == 0);
     assert!(rt; !store.has_toggle(name, TagSlot(3), &mut steps));
-    assert!(rt; !store.odd_slots(name, &mut steps).has(TagSlot(3)));
+    let mut slots = TagSet::empty().with(TagSlot(3));
+    store.turn_odd_slots(name, &mut slots, &mut steps);
+    assert!(rt; slots.has(TagSlot(3)) && store.is_bare(name, &mut steps));
+    Ok(())
+}
+
+#[test]
+fn sums_below(rt: HostRuntime) -> Result<(), Fail> {
+    let mut store: NodeStore<Steps> = NodeStore::new(rt.alloc());
+    store.reserve(1)?;
+    let mut steps = Steps::new();
+    let top = store.make(None);
+    store.set_sum(top, Sums::counting(2, 9, 1));
+    store.add_counts(top, 1, 4, 0);
+    store.lose_counts(top, 2, 9, 1);
+    assert!(rt; store.size(top, &mut steps) == (1, 4));
+    store.exchange(
+        top,
+        &Exchange::of(Sums::counting(1, 4, 0), Sums::counting(3, 6, 0)),
+    );
+    assert!(rt; store.size(top, &mut steps) == (3, 6));
+    let mut sum = Sums::counting(1, 1, 1);
+    store.add_sum_to(top, &mut sum, &mut steps);
+    assert!(rt; sum.lines() == 4 && sum.characters() == 7 && sum.marks() == 1);
     Ok(())
 }
 

@@ -3,11 +3,11 @@ use Rattle.std.specs.Prelude.{ℕ, ◌<◌, ◌≤◌}
 
 -- the greatest number of characters of a text, its last newline included
 abbrev pub most_chars : ℕ
-most_chars = 134217728
+most_chars = 16777216
 
 -- the greatest number of tags besides `sel`
 abbrev pub most_tags : ℕ
-most_tags = 960
+most_tags = 192
 
 -- the greatest number of marks that widgets share
 abbrev pub most_marks : ℕ

@@ -49,10 +49,10 @@ impl Model for Limits {
 
 impl Limits {
     /// The greatest number of characters of a text, its last newline included.
-    pub const MOST_CHARS: usize = 134_217_728;
+    pub const MOST_CHARS: usize = 16_777_216;
 
     /// The greatest number of tags besides `sel`.
-    pub const MOST_TAGS: u16 = 960;
+    pub const MOST_TAGS: u16 = 192;
 
     /// The greatest number of shared marks.
     pub const MOST_MARKS: u16 = 4_096;

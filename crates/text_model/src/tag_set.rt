@@ -7,7 +7,7 @@ use crate::places::TagSlot;
 use std::marker::Model;
 
 /// How many words of 64 slots a set has.
-pub const WORDS: usize = 16;
+pub const WORDS: usize = 4;
 
 /// A set of tag slots. It takes no memory of its own.
 #[derive(Clone, Copy)]

@@ -1,9 +1,10 @@
 use text_model::{TagSet, TagSlot, WORDS};
-use toggle_sums::{Summary, Sums};
+use toggle_sums::{Exchange, Summary, Sums};
 
 fn joined() -> Sums<WORDS> {
     let slots = TagSet::empty().with(TagSlot(3)).with(TagSlot(64));
-    let first = Sums::counting(1, 5, 2).with_toggles(&slots);
+    let mut first = Sums::counting(1, 5, 2);
+    first.add_toggles(&slots);
     let second = Sums::counting(2, 7, 0).toggled(TagSlot(3));
     Sums::zero().plus(&first).plus(&second)
 }
@@ -16,6 +17,9 @@ fn sums_add_up(rt: HostRuntime) {
     assert!(rt; sums.has(TagSlot(64)) && sums.parity(TagSlot(64)));
     assert!(rt; !sums.has(TagSlot(65)) && !sums.parity(TagSlot(65)));
     assert!(rt; sums.odd_slots().has(TagSlot(64)));
+    let mut slots = TagSet::empty().with(TagSlot(64)).with(TagSlot(65));
+    sums.turn_odd_slots(&mut slots);
+    assert!(rt; !slots.has(TagSlot(64)) && slots.has(TagSlot(65)));
 }
 
 #[test]
@@ -45,16 +49,44 @@ fn sums_lose_a_part(rt: HostRuntime) {
     assert!(rt; part.is_within(&sums) && !sums.is_within(&part));
     assert!(rt; part.lines() == 1 && part.characters() == 5 && part.marks() == 2);
     assert!(rt; sums.lines() == 3 && sums.characters() == 12 && sums.marks() == 2);
-    let rest = sums.without(&part);
+    let mut rest = sums;
+    rest.lose(&part);
     assert!(rt; rest.lines() == 2 && rest.characters() == 7 && rest.marks() == 0);
     assert!(rt; rest.has(TagSlot(64)) && !rest.parity(TagSlot(64)));
 }
 
 #[test]
+fn sums_exchange_a_part(rt: HostRuntime) {
+    let tagged: Sums<WORDS> = Sums::counting(1, 5, 0).toggled(TagSlot(64));
+    let longer = Sums::counting(1, 8, 1).toggled(TagSlot(64));
+    let bare = Sums::counting(1, 5, 0);
+    assert!(rt; tagged.has_toggles_of(&longer) && !tagged.has_toggles_of(&bare));
+    let level = Exchange::of(tagged, longer);
+    let within = Exchange::of(bare, tagged);
+    let outside = Exchange::of(tagged, bare);
+    assert!(rt; level.is_level && level.is_within && within.is_within && !within.is_level);
+    assert!(rt; !outside.is_within && !outside.is_level);
+    let none = Exchange::none();
+    assert!(rt; none.is_level && none.gone.is_bare() && none.more.is_bare());
+    let mut sum = bare;
+    assert!(rt; sum.lines() == 1 && sum.characters() == 5 && sum.marks() == 0);
+    assert!(rt; tagged.lines() == 1 && tagged.characters() == 5 && tagged.marks() == 0);
+    sum.add(&tagged);
+    assert!(rt; sum.lines() == 2 && sum.characters() == 10 && sum.parity(TagSlot(64)));
+    sum.lose_counts(1, 5, 0);
+    assert!(rt; sum.lines() == 1 && sum.characters() == 5 && sum.has(TagSlot(64)));
+}
+
+#[test]
 fn sets_differ(rt: HostRuntime) {
     let some = TagSet::empty().with(TagSlot(3)).with(TagSlot(64));
-    let other = TagSet::empty().with(TagSlot(3)).with(TagSlot(1_023));
+    let other = TagSet::empty().with(TagSlot(3)).with(TagSlot(255));
     let differing = TagSet::of_words(some.words()).differing(&other);
-    assert!(rt; differing.has(TagSlot(64)) && differing.has(TagSlot(1_023)));
+    assert!(rt; differing.has(TagSlot(64)) && differing.has(TagSlot(255)));
     assert!(rt; !differing.has(TagSlot(3)));
+    let mut turned = some;
+    turned.flip(&other);
+    assert!(rt; turned.has(TagSlot(64)) && turned.has(TagSlot(255)) && !turned.is_empty());
+    turned.flip_words(&differing.words());
+    assert!(rt; turned.is_empty());
 }

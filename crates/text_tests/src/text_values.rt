@@ -61,16 +61,14 @@ fn readers_give_the_numbers(rt: HostRuntime) {
     assert!(rt; limits.is_some_and(|limits| gives_numbers(&limits)));
 }
 
-static KNOWN: [(usize, u16, u16, u16, bool); 9] = [
+static KNOWN: [(usize, u16, u16, u16, bool); 7] = [
     (1, 0, 0, 0, true),
     (0, 0, 0, 0, false),
-    (0, 1, 1, 1, false),
-    (16_777_217, 193, 0, 0, true),
-    (134_217_728, 960, 4_096, 64, true),
-    (134_217_729, 960, 4_096, 64, false),
-    (134_217_728, 961, 4_096, 64, false),
-    (134_217_728, 960, 4_097, 64, false),
-    (134_217_728, 960, 4_096, 65, false),
+    (16_777_216, 192, 4_096, 64, true),
+    (16_777_217, 192, 4_096, 64, false),
+    (16_777_216, 193, 4_096, 64, false),
+    (16_777_216, 192, 4_097, 64, false),
+    (16_777_216, 192, 4_096, 65, false),
 ];
 
 #[test]
@@ -91,7 +89,7 @@ fn has_ends(tags: &TagSet, first: bool, middle: bool, last: bool) -> bool {
     tags.has(TagSlot(0)) == first
         && tags.has(TagSlot(63)) == middle
         && tags.has(TagSlot(64)) == middle
-        && tags.has(TagSlot(1_023)) == last
+        && tags.has(TagSlot(255)) == last
 }
 
 fn ends() -> TagSet {
@@ -99,7 +97,7 @@ fn ends() -> TagSet {
         .with(TagSlot(0))
         .with(TagSlot(63))
         .with(TagSlot(64))
-        .with(TagSlot(1_023))
+        .with(TagSlot(255))
 }
 
 #[test]
@@ -107,7 +105,7 @@ fn slots_are_put_in(rt: HostRuntime) {
     let none = TagSet::empty();
     let ends = ends();
     for number in 0..TagSet::SLOTS {
-        let is_end = number == 0 || number == 63 || number == 64 || number == 1_023;
+        let is_end = number == 0 || number == 63 || number == 64 || number == 255;
         assert!(rt; !none.has(TagSlot(number)), "{number}");
         assert!(rt; ends.has(TagSlot(number)) == is_end, "{number}");
     }

@@ -243,8 +243,8 @@ impl Sums<WORDS> {
         slots.flip_words(&self.parity);
     }
 
-    /// Counts what comes more, and what goes less, where each slot that is toggled in what goes is toggled in what stays
-    /// too.
+    /// Counts what comes more, and what goes less, where each slot that is toggled in what goes is toggled in what
+    /// stays too.
     pub fn exchange(&mut self, exchange: &Exchange)
         requires { CanExchange exchange.now.gone exchange.now.more exchange.now.is_level self.old }
         ensures { self.new ≡ exchanged exchange.now.gone exchange.now.more self.old }
