@@ -1,14 +1,15 @@
 #!/usr/bin/env python3
 """Runs the program and real Tk 8.6 in turn on the workloads of tools/workloads.py: what `make versus` calls.
 
-    python3 tools/versus.py --program PATH --out FILE [--only WORD] [--repeat 5] [--quick] [--kept FILE]
+    python3 tools/versus.py --program PATH --out FILE [--only WORD] [--repeat 5] [--quick] [--kept FILE] [--ours]
 
 Needs `Xvfb`, `wish` 8.6 and `valgrind` (on Debian `apt-get install xvfb tk8.6 valgrind`).  For each workload: whether
 the answers are the same bytes; the instructions of both by callgrind, Tk's without those of a script without commands,
 and what ours are spent on; the least time of both, Tk's by its own clock from the first command to the last answer,
 ours of the whole process; then the greatest resident size, long texts, and what a command costs before it does
 anything.  The tables are written to FILE between its two marks.  --quick leaves out the instructions of Tk, which take
-most of the time; --kept names a file in which they are kept from one run to the next.  The exit status is 1 if answers
+most of the time; --kept names a file in which they are kept from one run to the next.  --ours needs valgrind alone: it
+counts our instructions anew, and leaves what FILE says of Tk and of the times of both.  The exit status is 1 if answers
 differ.
 """
 
@@ -48,6 +49,9 @@ PARTS = {
     "tree": ("line_tree", "raw_nodes", "toggle_sums"),
 }
 MEMORY = re.compile(r"malloc|free|alloc_|_alloc|dealloc")
+# What the page says of Tk's size, and what the last cell of a workload is.
+TOLD_SIZE = re.compile(r"resident size over `load-100000`: Tk (\d+) MB")
+VERDICTS = ("met", "missed", "answers differ")
 # The place that Tk tells for the end of any line that is longer.
 LONGEST = re.compile(rb"(\d+)\.1000000")
 INSTALL = "apt-get install xvfb tk8.6 valgrind"
@@ -219,6 +223,37 @@ def measure(program, tk, workload, folder, repeat, is_quick):
     )
 
 
+def number(cell):
+    """The number that a cell of the page shows."""
+    return float(cell.replace(",", ""))
+
+
+def told_of_tk(path):
+    """What a page says of Tk and of the times of both, by workload: Tk's cost, our seconds, and whether it was whole."""
+    with open(path, encoding="utf-8") as file:
+        text = file.read()
+    size = int(TOLD_SIZE.search(text).group(1)) * 1024
+    cells = [[cell.strip() for cell in line.split("|")[1:-1]] for line in text.splitlines() if line.startswith("| `")]
+    return {
+        row[0].strip("`"): (
+            Cost(number(row[2]) * 1e6, number(row[5]) / 1e3, size), number(row[6]) / 1e3, "differ" not in row[8]
+        )
+        for row in cells if row[-1].strip("*") in VERDICTS
+    }
+
+
+def measure_ours(program, told, workload, folder):
+    """One workload, run by our program alone: its instructions and its size, beside what was told before."""
+    commands = workload.commands()
+    script, profile = (os.path.join(folder, name) for name in ("script", "profile"))
+    with open(script, "w", encoding="utf-8", newline="\n") as file:
+        file.write("\n".join(commands) + "\n")
+    tk, seconds, is_same = told[workload.name]
+    instructions = count_instructions([program], script, profile=profile)
+    _, size = time_ours(program, script, os.devnull)
+    return Line(workload, len(commands), tk, Cost(instructions, seconds, size), is_same, parts_of(profile))
+
+
 def part(ours, theirs):
     """How much of Tk's."""
     return ours / theirs if theirs else float("nan")
@@ -384,10 +419,34 @@ def write_page(path, said):
         file.write("\n".join([before + BEGIN, "", *said, "", END + after]))
 
 
-def missing():
+def missing(is_ours):
     """What isn't installed."""
-    found = {"Xvfb": shutil.which("Xvfb"), "wish 8.6": find_wish(), "valgrind": shutil.which("valgrind")}
+    found = {"valgrind": shutil.which("valgrind")}
+    if not is_ours:
+        found |= {"Xvfb": shutil.which("Xvfb"), "wish 8.6": find_wish()}
     return [name for name, path in found.items() if path is None]
+
+
+def lines_beside_tk(options, folder):
+    """The workloads, run by both in turn."""
+    tk = Tk(folder, options.kept)
+    try:
+        for name in chosen(options):
+            yield measure(options.program, tk, workloads.named(name), folder, options.repeat, options.quick)
+    finally:
+        tk.close()
+
+
+def lines_of_ours(options, folder):
+    """The workloads, run by our program alone."""
+    told = told_of_tk(options.out)
+    for name in chosen(options):
+        yield measure_ours(options.program, told, workloads.named(name), folder)
+
+
+def chosen(options):
+    """The workloads that are asked for."""
+    return [name for name in workloads.NAMES if options.only in name]
 
 
 def main():
@@ -398,22 +457,19 @@ def main():
     parser.add_argument("--repeat", type=int, default=5)
     parser.add_argument("--quick", action="store_true")
     parser.add_argument("--kept")
+    parser.add_argument("--ours", action="store_true")
     options = parser.parse_args()
-    if missing():
-        print(f"{', '.join(missing())}: not installed here; on Debian: {INSTALL}", file=sys.stderr)
+    if options.ours and not options.out:
+        parser.error("--ours wants --out, the page that says what Tk costs")
+    if missing(options.ours):
+        print(f"{', '.join(missing(options.ours))}: not installed here; on Debian: {INSTALL}", file=sys.stderr)
         return 2
     resource.setrlimit(resource.RLIMIT_CORE, (0, 0))
     lines = []
     with tempfile.TemporaryDirectory() as folder:
-        tk = Tk(folder, options.kept)
-        try:
-            for name in workloads.NAMES:
-                if options.only in name:
-                    workload = workloads.named(name)
-                    lines.append(measure(options.program, tk, workload, folder, options.repeat, options.quick))
-                    print(table([workload_row(lines[-1])])[0], flush=True)
-        finally:
-            tk.close()
+        for line in (lines_of_ours if options.ours else lines_beside_tk)(options, folder):
+            lines.append(line)
+            print(table([workload_row(line)])[0], flush=True)
         said = page(lines, options.program, folder, options.out is not None)
     if options.out:
         write_page(options.out, said)

@@ -87,23 +87,38 @@ fn marks_and_toggles(rt: HostRuntime) -> Result<(), Fail> {
 }
 
 #[test]
-fn sums_below(rt: HostRuntime) -> Result<(), Fail> {
+fn counts_below(rt: HostRuntime) -> Result<(), Fail> {
     let mut store: NodeStore<Steps> = NodeStore::new(rt.alloc());
     store.reserve(1)?;
-    let mut steps = Steps::new();
     let top = store.make(None);
     store.set_sum(top, Sums::counting(2, 9, 1));
     store.add_counts(top, 1, 4, 0);
     store.lose_counts(top, 2, 9, 1);
-    assert!(rt; store.size(top, &mut steps) == (1, 4));
-    store.exchange(
-        top,
-        &Exchange::of(Sums::counting(1, 4, 0), Sums::counting(3, 6, 0)),
-    );
-    assert!(rt; store.size(top, &mut steps) == (3, 6));
+    assert!(rt; store.size(top, &mut Steps::new()) == (1, 4));
+    Ok(())
+}
+
+#[test]
+fn sums_exchanged(rt: HostRuntime) -> Result<(), Fail> {
+    let mut store: NodeStore<Steps> = NodeStore::new(rt.alloc());
+    store.reserve(1)?;
+    let top = store.make(None);
+    store.set_sum(top, Sums::counting(2, 9, 1));
+    let exchange = Exchange::of(Sums::counting(1, 4, 0), Sums::counting(2, 6, 0));
+    store.exchange(top, &exchange);
+    assert!(rt; store.size(top, &mut Steps::new()) == (3, 11));
+    Ok(())
+}
+
+#[test]
+fn sums_added(rt: HostRuntime) -> Result<(), Fail> {
+    let mut store: NodeStore<Steps> = NodeStore::new(rt.alloc());
+    store.reserve(1)?;
+    let top = store.make(None);
+    store.set_sum(top, Sums::counting(2, 9, 1));
     let mut sum = Sums::counting(1, 1, 1);
-    store.add_sum_to(top, &mut sum, &mut steps);
-    assert!(rt; sum.lines() == 4 && sum.characters() == 7 && sum.marks() == 1);
+    store.add_sum_to(top, &mut sum, &mut Steps::new());
+    assert!(rt; sum.lines() == 3 && sum.characters() == 10 && sum.marks() == 2);
     Ok(())
 }
 

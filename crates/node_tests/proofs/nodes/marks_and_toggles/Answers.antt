@@ -7,5 +7,8 @@ marks-requires g c = named-made _ _ _ _ c.make-name.ensures.records
 pub has_toggle-requires-clause-name : goal.has_toggle-requires-clause-name
 has_toggle-requires-clause-name g c = named-made _ _ _ _ c.make-name.ensures.records
 
-pub odd_slots-requires : goal.odd_slots-requires
-odd_slots-requires g c = named-made _ _ _ _ c.make-name.ensures.records
+pub turn_odd_slots-requires : goal.turn_odd_slots-requires
+turn_odd_slots-requires g c = named-made _ _ _ _ c.make-name.ensures.records
+
+pub is_bare-requires : goal.is_bare-requires
+is_bare-requires g c = named-made _ _ _ _ c.make-name.ensures.records
