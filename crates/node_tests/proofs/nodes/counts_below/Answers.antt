@@ -11,36 +11,36 @@ set_sum-requires g c = inner _ _ (blank None) (get-made _ _ _ _ c.make-top.ensur
 pub add_counts-requires-clause-name : goal.add_counts-requires-clause-name
 add_counts-requires-clause-name g c =
     inner _ _ (with_sum (blank None) c.counting.result)
-      (get-summed _ _ _ _ c.counting.result c.make-top.ensures.records c.set_sum.ensures.records) refl
+    (get-summed _ _ _ _ c.counting.result c.make-top.ensures.records c.set_sum.ensures.records) refl
 
 pub add_counts-requires-clause-fits : goal.add_counts-requires-clause-fits
 add_counts-requires-clause-fits g c =
     at _ _ (with_sum (blank None) c.counting.result) (λ r. CountsFit r.sum (counting 1 4 0))
-      (get-summed _ _ _ _ c.counting.result c.make-top.ensures.records c.set_sum.ensures.records)
-      (subst (λ (s : Count). CountsFit s (counting 1 4 0)) (sym c.counting.ensures)
-        (record { lines = omega arith; characters = omega arith; marks = omega arith }))
+    (get-summed _ _ _ _ c.counting.result c.make-top.ensures.records c.set_sum.ensures.records)
+    (subst (λ (s : Count). CountsFit s (counting 1 4 0)) (sym c.counting.ensures)
+    (record { lines = omega arith; characters = omega arith; marks = omega arith }))
 
 pub lose_counts-requires-clause-name : goal.lose_counts-requires-clause-name
 lose_counts-requires-clause-name g c =
     inner _ _ (with_sum (blank None) (plus c.counting.result (counting 1 4 0)))
-      (get-updated _ _ _ (λ r. with_sum r (plus r.sum (counting 1 4 0))) (with_sum (blank None) c.counting.result)
-        c.add_counts.ensures.records
-        (get-summed _ _ _ _ c.counting.result c.make-top.ensures.records c.set_sum.ensures.records)) refl
+    (get-updated _ _ _ (λ r. with_sum r (plus r.sum (counting 1 4 0))) (with_sum (blank None) c.counting.result)
+    c.add_counts.ensures.records
+    (get-summed _ _ _ _ c.counting.result c.make-top.ensures.records c.set_sum.ensures.records)) refl
 
 pub lose_counts-requires-clause-counts : goal.lose_counts-requires-clause-counts
 lose_counts-requires-clause-counts g c =
     at _ _ (with_sum (blank None) (plus c.counting.result (counting 1 4 0)))
-      (λ r. HasCounts (counting 2 9 1) r.sum)
-      (get-updated _ _ _ (λ r. with_sum r (plus r.sum (counting 1 4 0))) (with_sum (blank None) c.counting.result)
-        c.add_counts.ensures.records
-        (get-summed _ _ _ _ c.counting.result c.make-top.ensures.records c.set_sum.ensures.records))
-      (subst (λ (s : Count). HasCounts (counting 2 9 1) (plus s (counting 1 4 0))) (sym c.counting.ensures)
-        (record { lines = omega arith; characters = omega arith; marks = omega arith }))
+    (λ r. HasCounts (counting 2 9 1) r.sum)
+    (get-updated _ _ _ (λ r. with_sum r (plus r.sum (counting 1 4 0))) (with_sum (blank None) c.counting.result)
+    c.add_counts.ensures.records
+    (get-summed _ _ _ _ c.counting.result c.make-top.ensures.records c.set_sum.ensures.records))
+    (subst (λ (s : Count). HasCounts (counting 2 9 1) (plus s (counting 1 4 0))) (sym c.counting.ensures)
+    (record { lines = omega arith; characters = omega arith; marks = omega arith }))
 
 pub size-requires : goal.size-requires
 size-requires g c =
     named _ _ _
-      (get-updated _ _ _ (λ r. with_sum r (less 2 9 1 r.sum)) _ c.lose_counts.ensures.records
-        (get-updated _ _ _ (λ r. with_sum r (plus r.sum (counting 1 4 0))) (with_sum (blank None) c.counting.result)
-          c.add_counts.ensures.records
-          (get-summed _ _ _ _ c.counting.result c.make-top.ensures.records c.set_sum.ensures.records)))
+    (get-updated _ _ _ (λ r. with_sum r (less 2 9 1 r.sum)) _ c.lose_counts.ensures.records
+    (get-updated _ _ _ (λ r. with_sum r (plus r.sum (counting 1 4 0))) (with_sum (blank None) c.counting.result)
+    c.add_counts.ensures.records
+    (get-summed _ _ _ _ c.counting.result c.make-top.ensures.records c.set_sum.ensures.records)))
