@@ -50,13 +50,13 @@ percent of the time. (These are counts of a day when a line was looked for from 
 from the nearer end.) At each level some children are asked for their lines, each in a node of its own. One place in
 memory a level would do if a node kept beside each link how many lines that child has; the map of records, which is all
 that is known of the nodes, has each number at the child alone. Two nodes with 12 children in all share them rather
-than be one node, so that edits of one line don't split and merge it by turns. A million lines taken out at random took
-2.8 s before that and before lines were looked for from the nearer end, put in by one call and one by one more than now;
-which of the two costs the removal more was not measured apart (such nodes want children again sooner).
+than be one node, so that edits of one line don't split and merge it by turns.
 
-Of the bytes a line that is put in with a thousand others 3 are in spare nodes and rooms for the next thousand,
-whatever would split (as many of each for a line as such a tree can have levels, and two), 48 in one inner node for
-every six lines, and 144 in the line's own node and text.
+A full node shares with a neighbour before it splits, and the left one is filled where lines come in order: so lines
+that are put in a thousand in a call leave 12 in a node, and lines put in anywhere 9.4 (7 and 8.4 where nodes split
+alone, with 197 and 185 bytes a line). Of the bytes a line that is put in with a thousand others 4 are in spare nodes
+and rooms for the next thousand, whatever would split (as many of each for a line as such a tree can have levels, and
+two), 26 in one inner node for every twelve lines and in those above, and 144 in the line's own node and text.
 """
 
 
