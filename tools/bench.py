@@ -3,11 +3,12 @@
 
     python3 tools/bench.py --program PATH --out FILE [--sizes 5000,10000,20000] [--repeat 3]
 
-Prints a table and writes it to FILE, so that the next change can be compared with it. Each time is the
-least of several runs of the whole program, from its start to its end; a run of more than five seconds isn't made again. Below stands the greatest resident
-size over scripts of three lengths, of short commands and of edits whose history is bounded. The exit
-status is 1 if a run didn't answer as it has to, if appending 20,000 words takes five seconds or more, or
-if the greatest resident size grows with the script.
+Prints a table and writes it to FILE, so that the next change can be compared with it. Each time is the least of
+several runs of the whole program, from its start to its end; a run of more than five seconds isn't made again. Below
+stands what it takes to load as many lines as fit into a text by one insertion, and the greatest resident size over
+scripts of three lengths, of short commands and of edits whose history is bounded. The exit status is 1 if a run didn't
+answer as it has to, if appending 20,000 words takes five seconds or more, or if the greatest resident size grows with
+the script.
 """
 
 import argparse
@@ -20,6 +21,7 @@ import time
 from typing import NamedTuple
 
 from harness import SIZE_MARGIN, measure_size
+from model import PROGRAM_LIMITS
 
 GOAL_COMMANDS = 20_000
 GOAL_SECONDS = 5.0
@@ -350,7 +352,7 @@ def emit(lines, line):
 def measure(program, sizes, repeat, folder):
     """The table's lines, and whether the goal is met."""
     lines = []
-    for line in HEADER:
+    for line in [f"{len(os.sched_getaffinity(0))} cores.", *HEADER]:
         emit(lines, line)
     emit(lines, table_row("an empty script", 0, time_script(program, [], repeat, folder), None))
     for kind in KINDS:
@@ -368,6 +370,43 @@ def measure(program, sizes, repeat, folder):
         f"(goal: under {GOAL_SECONDS:.0f} s, {'met' if is_met else 'MISSED'})",
     )
     return lines, is_met
+
+
+# A line of a text that is loaded, and how many there are at most; what that is to take.
+LOADED_LINE = "the quick brown fox jumps over lazy"
+LOADED_LINES = 1_000_000
+LOAD_SECONDS, LOAD_BYTES = 2.0, 260
+
+
+def run_sized(program, script_path):
+    """The seconds of one run, and its greatest resident size in bytes."""
+    with open(script_path, "rb") as script:
+        begin = time.perf_counter()
+        process = subprocess.Popen([program], stdin=script, stdout=subprocess.DEVNULL)
+        _, status, usage = os.wait4(process.pid, 0)
+        seconds = time.perf_counter() - begin
+    process.returncode = os.waitstatus_to_exitcode(status)
+    if process.returncode != 0:
+        sys.exit(f"status {process.returncode} for {script_path}: this isn't measured")
+    return seconds, usage.ru_maxrss * 1024
+
+
+def measure_load(program, lines, folder):
+    """Adds the lines on a text that is loaded by one insertion."""
+    count = min(LOADED_LINES, (PROGRAM_LIMITS.characters - 1) // (len(LOADED_LINE) + 1))
+    path = os.path.join(folder, "load.tcl")
+    runs = {}
+    for loaded in (0, count):
+        with open(path, "w", encoding="utf-8") as file:
+            file.write("text .t\n.t insert end {" + f"{LOADED_LINE}\n" * loaded + "}\n")
+        runs[loaded] = [run_sized(program, path) for _ in range(3)]
+    seconds = min(seconds for seconds, _ in runs[count])
+    size = (min(size for _, size in runs[count]) - min(size for _, size in runs[0])) / count
+    emit(lines, "")
+    emit(lines, f"{count:,} lines of {len(LOADED_LINE)} characters by one insertion: {seconds:.2f} s "
+         f"(goal: under {LOAD_SECONDS:.0f} s, {'met' if seconds < LOAD_SECONDS else 'MISSED'}),")
+    emit(lines, f"{size:.0f} bytes a line at most, the script's word among them "
+         f"(goal: {LOAD_BYTES}, {'met' if size <= LOAD_BYTES else 'MISSED'})")
 
 
 # What a script is made of whose size is measured: its name, its first command, the one that follows, and its lengths in bytes.
@@ -410,6 +449,7 @@ def main():
     options = parser.parse_args()
     with tempfile.TemporaryDirectory() as folder:
         lines, is_fast = measure(options.program, options.sizes, options.repeat, folder)
+        measure_load(options.program, lines, folder)
     is_met = measure_sizes(options.program, lines) and is_fast
     with open(options.out, "w", encoding="utf-8") as file:
         file.write("".join(line.rstrip() + "\n" for line in lines))

@@ -238,7 +238,7 @@ def told_of_tk(path):
         row[0].strip("`"): (
             Cost(number(row[2]) * 1e6, number(row[5]) / 1e3, size), number(row[6]) / 1e3, "differ" not in row[8]
         )
-        for row in cells if row[-1].strip("*") in VERDICTS
+        for row in cells if row[8:] and row[8].strip("*") in VERDICTS
     }
 
 
@@ -266,6 +266,13 @@ def table(rows):
     return [f"| {head} |", "|" + "---|" * len(rows[0]), *(f"| {row} |" for row in rest)]
 
 
+def most_of(parts, count=3):
+    """What most is spent on, the dearest first, in percent."""
+    total = sum(parts.values())
+    dearest = sorted(parts.items(), key=lambda part: -part[1])[:count]
+    return ", ".join(f"{name} {100 * spent / total:.0f}" for name, spent in dearest)
+
+
 def workload_row(line):
     """A workload beside its goal."""
     goal = UNDO_GOAL if line.workload.kind == "undo" else GOAL
@@ -282,11 +289,13 @@ def workload_row(line):
         f"{line.ours.seconds * 1e3:,.1f}",
         f"{seconds:.3f}",
         ("met" if is_met else "**missed**") if line.is_same else "**answers differ**",
+        "" if is_met else most_of(line.parts),
     ]
 
 
 WORKLOAD_HEAD = [
     "Workload", "Commands", "Tk, M instr.", "`tktext`, M instr.", "part", "Tk, ms", "`tktext`, ms", "part", "A third?",
+    "Most of it",
 ]
 
 
