@@ -29,7 +29,7 @@ sys.set_int_max_str_digits(0)
 class Limits(NamedTuple):
     """The greatest numbers that a world may hold.  `characters` counts the last newline too."""
 
-    characters: int = 16_777_216
+    characters: int = 134_217_728
     tags: int = 192
     marks: int = 4_096
     widgets: int = 64

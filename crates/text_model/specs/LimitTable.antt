@@ -3,7 +3,7 @@ use Rattle.std.specs.Prelude.{ℕ, ◌<◌, ◌≤◌}
 
 -- the greatest number of characters of a text, its last newline included
 abbrev pub most_chars : ℕ
-most_chars = 16777216
+most_chars = 134217728
 
 -- the greatest number of tags besides `sel`
 abbrev pub most_tags : ℕ

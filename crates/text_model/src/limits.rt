@@ -49,7 +49,7 @@ impl Model for Limits {
 
 impl Limits {
     /// The greatest number of characters of a text, its last newline included.
-    pub const MOST_CHARS: usize = 16_777_216;
+    pub const MOST_CHARS: usize = 134_217_728;
 
     /// The greatest number of tags besides `sel`.
     pub const MOST_TAGS: u16 = 192;
