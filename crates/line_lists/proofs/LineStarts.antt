@@ -116,3 +116,13 @@ at-within lines offset k column at last =
 pub lent-length : (lines : List LineContent) (k : ℕ) (line : LineContent) → slice_get lines k ≡ Some line →
     length_at lines k ≡ length line.columns
 lent-length lines k line is = ap (λ (l : LineContent). length l.columns) (lent lines k line is)
+
+-- a line that is lent ends where the next one begins
+pub start-behind : (lines : List LineContent) (k start len : ℕ) (here : LineContent) → k < length lines →
+    start ≡ start_of lines k → slice_get lines k ≡ Some here → len ≡ length here.columns
+    → start + len ≡ start_of lines (suc k)
+start-behind lines k start len here within starts is long =
+    omega (arith, starts, long, lent-length lines k here is, start-next lines k within)
+
+pub start-most : (lines : List LineContent) (k : ℕ) → k ≤ length lines → start_of lines k ≤ length (whole lines).columns
+start-most lines k within = omega (arith, start-rises lines k (length lines) within, start-all lines)

@@ -1,13 +1,13 @@
 -- What stands at an offset of lines in a row.
 use Rattle.std.proofs.Common.{◌≡◌, ℕ, zero, suc, ◌+◌, ◌<◌, ◌≤◌, List, [], ◌∷◌, ◌++◌, Option, None, Some, length, take}
-use Rattle.std.proofs.Common.{drop, refl, sym, ap, ap₂, subst, ◌∙◌, arith, length-append}
+use Rattle.std.proofs.Common.{drop, refl, sym, ap, ap₂, subst, ◌∙◌, arith, add-one, length-append}
 use Rattle.std.specs.FinSet as set
 use Rattle.std.specs.Prelude.{IfSome, option_map, slice_get}
 use Rattle.std.proofs.Math.Seq.{take-append-add}
 use Rattle.std.proofs.lemmas.List.{length-map, take-append-le, take-map}
-use Rattle.std.proofs.lemmas.Option.{slice_get-map}
+use Rattle.std.proofs.lemmas.Option.{get_or_from_slice_get, slice_get-map}
 use Rattle.text_model.specs.declared.cells.Cell.{Cell}
-use Rattle.text_model.specs.Content.{Slots, flags, slot_sets}
+use Rattle.text_model.specs.Content.{Slots, flags, slot_sets, slots_behind}
 use Rattle.text_model.specs.Content.{characters as cell_characters}
 use Rattle.text_model.specs.SlotSets.{differing}
 use Rattle.toggle_sums.specs.CountLaws.{empty-differing}
@@ -81,6 +81,15 @@ tags-middle front middle back at within =
     ∙ ap (λ part. front ++ part) (take-append-le (at + 1) middle back (omega arith)))
     ∙ behind-append front (take (at + 1) middle)
 
+-- and those of the last of the cells before a place are those toggled an odd number of times before the place
+pub tags-behind : (columns : List Column) (at : ℕ) → at ≤ length columns →
+    slots_behind at (cells_of_columns columns) ≡ tags_behind (take at columns)
+tags-behind columns zero within = refl
+tags-behind columns (suc n) within =
+    get_or_from_slice_get (slot_sets (cells_of_columns columns)) n (tags_before n columns) set.empty
+    (tags-column columns n (omega (arith, within)))
+    ∙ ap (λ k. tags_behind (take k columns)) (add-one n)
+
 -- ---- lines in a row
 pub whole-at : (lines : List LineContent) (k : ℕ) (line : LineContent) → slice_get lines k ≡ Some line
     → whole lines ≡ between (whole (take k lines)) line (whole (drop (suc k) lines))
@@ -151,6 +160,29 @@ tags-at lines offset k column line holds is =
     ∙ tags-column (front ++ (line.columns ++ back)) (length front + column) long
     ∙ ap (λ s. Some s) (tags-middle front line.columns back column within
     ∙ ap (λ s. differing s (tags_before column line.columns)) (sym (count-parity (take k lines))))
+
+-- the slots of the last of the cells before an offset
+pub tags-before : (lines : List LineContent) (offset k column : ℕ) (line : LineContent) →
+    Holds lines offset k column → slice_get lines k ≡ Some line
+    → slots_behind offset (content_of lines).cells
+    ≡ differing (count_of (take k lines)).parity (tags_behind (take column line.columns))
+tags-before lines offset k column line holds is =
+    let within = inside lines offset k column line holds is in
+    let front = (whole (take k lines)).columns in
+    let back = (whole (drop (suc k) lines)).columns in
+    let row = ap (λ (row : LineContent). row.columns) (whole-at lines k line is) in
+    let long : length front + column ≤ length (front ++ (line.columns ++ back)) = omega (
+      arith,
+      length-append front (line.columns ++ back),
+      length-append line.columns back,
+      within,
+    ) in
+    ap₂ (λ columns at. slots_behind at (cells_of_columns columns)) row holds.behind
+    ∙ tags-behind (front ++ (line.columns ++ back)) (length front + column) long
+    ∙ ap tags_behind (take-append-add front (line.columns ++ back) column
+    ∙ ap (λ part. front ++ part) (take-append-le column line.columns back (omega (arith, within))))
+    ∙ behind-append front (take column line.columns)
+    ∙ ap (λ s. differing s (tags_behind (take column line.columns))) (sym (count-parity (take k lines)))
 
 -- whether a cell has a slot
 flag_of : (slot : ℕ) (tags : Slots) (found : Option Cell) → option_map (λ (cell : Cell). cell.tags) found ≡ Some tags →

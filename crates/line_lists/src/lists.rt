@@ -43,6 +43,15 @@ pub trait LineList: Drop {
         requires { index < length (lines self.now) }
         ensures { slice_get (lines self.now) index ≡ Some result.now };
 
+    /// A line, lent, behind how many characters stand before it.
+    fn placed_line(&self, index: usize) -> (usize, &Line)
+        requires { index < length (lines self.now) }
+        ensures start { result.0 ≡ length (whole (take index (lines self.now))).columns }
+        ensures line { slice_get (lines self.now) index ≡ Some result.1.now }
+    {
+        (self.start(index), self.line(index))
+    }
+
     /// The number of the line that holds an offset, and the column there.
     fn locate(&self, offset: usize) -> (usize, usize)
         requires { offset < length (whole (lines self.now)).columns }

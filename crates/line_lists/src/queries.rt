@@ -4,7 +4,7 @@ ghost use Rattle.std.specs.Prelude.{◌≡◌, ◌+◌, ◌<◌, ◌≤◌, leng
 ghost use Rattle.std.specs.Prelude.{chars, string_bytes};
 ghost use Rattle.std.specs.FinMap as finite;
 ghost use Rattle.text_model.specs.Changes.{next_change, previous_change};
-ghost use Rattle.text_model.specs.Content.{characters, flags, slot_sets};
+ghost use Rattle.text_model.specs.Content.{characters, flags, slot_sets, slots_behind};
 ghost use Rattle.text_model.specs.Lines.{IsLineOf, lines, line_of, line_start};
 ghost use Rattle.text_model.specs.MarkOrder.{marks_at, next_mark, previous_mark};
 ghost use Rattle.text_model.specs.TagBits.{slot_count};
@@ -50,6 +50,19 @@ pub fn tags_at<L: LineList>(list: &L, offset: usize) -> TagSet
     tags
 }
 
+/// The tags of the character before an offset, of which there are none before the first, and those of the one at it.
+pub fn tags_around<L: LineList>(list: &L, offset: usize) -> (TagSet, TagSet)
+    requires { offset < length (content_of (L.lines list.now)).cells }
+    ensures before { result.0 ≡ slots_behind offset (content_of (L.lines list.now)).cells }
+    ensures at { slice_get (slot_sets (content_of (L.lines list.now)).cells) offset ≡ Some result.1 }
+{
+    let (index, column, line) = list.line_at(offset);
+    let mut here = list.odd_slots(index);
+    let before = here.differing(&line.tags_behind(column));
+    line.turn_tags_before(column, &mut here);
+    (before, here)
+}
+
 /// Whether the character at an offset has a tag.
 pub fn has_tag<L: LineList>(list: &L, offset: usize, slot: TagSlot) -> bool
     requires within { offset < length (content_of (L.lines list.now)).cells }
@@ -66,6 +79,17 @@ pub fn line_start<L: LineList>(list: &L, line: usize) -> usize
     ensures bound { result ≤ length (content_of (L.lines list.now)).cells }
 {
     list.start(line)
+}
+
+/// Where a line begins, and where the line behind it does.
+pub fn line_bounds<L: LineList>(list: &L, line: usize) -> (usize, usize)
+    requires { line < lines (characters (content_of (L.lines list.now)).cells) }
+    ensures start { result.0 ≡ line_start line (characters (content_of (L.lines list.now)).cells) }
+    ensures end { result.1 ≡ line_start (line + 1) (characters (content_of (L.lines list.now)).cells) }
+    ensures bound { result.1 ≤ length (content_of (L.lines list.now)).cells }
+{
+    let (start, here) = list.placed_line(line);
+    (start, start + here.len())
 }
 
 /// The line that an offset stands in, which is how many newlines stand before it.

@@ -119,6 +119,10 @@ impl<L: LineList> TextStore for LineStore<L> {
         queries::line_at(&self.list, offset)
     }
 
+    fn line_bounds(&self, line: usize) -> (usize, usize) {
+        queries::line_bounds(&self.list, line)
+    }
+
     fn char_at(&self, offset: usize) -> char {
         queries::char_at(&self.list, offset)
     }
@@ -129,6 +133,10 @@ impl<L: LineList> TextStore for LineStore<L> {
 
     fn tags_at(&self, offset: usize) -> TagSet {
         queries::tags_at(&self.list, offset)
+    }
+
+    fn tags_around(&self, offset: usize) -> (TagSet, TagSet) {
+        queries::tags_around(&self.list, offset)
     }
 
     fn next_change(&self, offset: usize, slot: TagSlot) -> usize {

@@ -1,12 +1,15 @@
 -- Ways down with the characters or the slots before a line alone.
 use Rattle.std.proofs.Common.{◌≡◌, ℕ, zero, suc, ◌+◌, ◌^◌, ◌<◌, List, [], ◌∷◌, length, take, refl, sym, ap, ◌∙◌, arith}
-use Rattle.std.specs.Prelude.{IfSome, IsSome}
+use Rattle.std.specs.Prelude.{IfSome, IsSome, option_map, slice_get}
 use Rattle.std.specs.FinMap as finite
 use Rattle.std.specs.FinSet as set
 use Rattle.std.specs.List.{sum_by}
+use Rattle.std.specs.declared.option.Option.{Option}
+use Rattle.std.specs.declared.option.Option.TheVariants.{None, Some}
 use Rattle.std.proofs.lemmas.List.Sums.{sum_by-cons}
 use Rattle.text_model.specs.Content.{Slots}
 use Rattle.text_model.specs.SlotSets.{differing}
+use Rattle.segments.specs.Columns.{LineContent}
 use Rattle.toggle_sums.specs.CountLaws.{differing-associative, differing-empty}
 use Rattle.toggle_sums.specs.Counts.{Count, no_text, plus}
 use Rattle.line_lists.proofs.SlotLaws.{differing-self}
@@ -17,13 +20,14 @@ use Rattle.raw_nodes.proofs.MapLaws.{at_some, some_of}
 use Rattle.line_tree.specs.Changes.{FitsSum, sum_all}
 use Rattle.line_tree.specs.Locating.{characters_at, characters_below}
 use Rattle.line_tree.specs.Prefixes.{IsBehind, IsFront, IsOpened}
-use Rattle.line_tree.specs.Shape.{IsTree, lines_in, sum_at, sum_of}
-use Rattle.line_tree.specs.Trees.{Named, total}
+use Rattle.line_tree.specs.Places.{IsLineAt}
+use Rattle.line_tree.specs.Shape.{IsTree, line_of, lines_in, sum_at, sum_of}
+use Rattle.line_tree.specs.Trees.{Named, lines, total}
 use Rattle.line_tree.specs.declared.prefix.Front.{Front}
 use Rattle.line_tree.specs.declared.starts.Behind.{Behind}
 use Rattle.line_tree.specs.declared.starts.Opened.{Opened}
 use Rattle.line_tree.proofs.PrefixLaws.{Leaves, leaves-fits, leaves-line, leaves-start, leaves-step, summed}
-use Rattle.line_tree.proofs.TreeLaws.{sum-tree}
+use Rattle.line_tree.proofs.TreeLaws.{get-right, sum-tree}
 
 -- what a call answers of a node's sum
 pub said : {T : Type 0} (of : Count → T) (m : Records) (q : NodePtr) (x : T) → IsSome (finite.get m q) →
@@ -91,6 +95,16 @@ starts-step m h q ls k r b f is w found =
 pub starts-line : (m : Records) (q : NodePtr) (ls : List Named) (k r b : ℕ) → Starts ls (lines_in m zero q) k r b →
     b ≡ (total (take k ls)).characters
 starts-line m q ls k r b w = w.characters ∙ ap (λ s. s.characters) (leaves-line m q ls k r w.sum w.leaves)
+
+-- the line itself
+pub starts-named : (m : Records) (q : NodePtr) (ls : List Named) (k r b : ℕ) → Starts ls (lines_in m zero q) k r b →
+    IsLineAt ls k q
+starts-named m q ls k r b w = one (line_of (finite.get m q)) w.leaves where
+  one : (o : Option LineContent) → Leaves ls (lines zero (q, o)) k r w.sum → IsLineAt ls k q
+  one None w = let bad = w.rest in absurd (omega arith)
+  one (Some l) w = let place = w.place in let rest = w.rest in let here : k ≡ length w.front + 0 = omega arith in
+      ap (option_map (λ (x : Named). x.0)) (ap (λ zs. slice_get zs k) w.split
+      ∙ get-right w.front ((q, l) ∷ w.back) 0 k here)
 
 -- ---- with the slots
 pub record Opens (ls xs : List Named) (k r : ℕ) (b : Slots) : Type 0 where

@@ -29,6 +29,7 @@ mod tree_store;
 mod walk;
 
 pub use locate::Located;
+pub use starts::Placed;
 pub use tree::LineTree;
 pub use tree_lines::TreeLines;
 pub use tree_store::TreeStore;

@@ -4,9 +4,10 @@ ghost use Rattle.raw_nodes.specs.Rows.{kids};
 ghost use Rattle.text_model.specs.SlotSets.{differing};
 ghost use Rattle.line_tree.specs.Changes.{FitsSum, sum_all};
 ghost use Rattle.line_tree.specs.Finds.{HasRow, lines_below};
-ghost use Rattle.line_tree.specs.Locating.{characters_below};
+ghost use Rattle.line_tree.specs.Locating.{characters_at, characters_below};
+ghost use Rattle.line_tree.specs.Places.{IsLineAt};
 ghost use Rattle.line_tree.specs.Prefixes.{IsBehind, IsOpened};
-ghost use Rattle.line_tree.specs.Shape.{IsTree, lines_in, sum_at};
+ghost use Rattle.line_tree.specs.Shape.{IsTree, lines_at, lines_in, sum_at};
 ghost use Rattle.line_tree.specs.Trees.{total};
 
 use raw_nodes::{NodePtr, NodeStore, Ticks};
@@ -130,6 +131,46 @@ fn find_behind_near<C: Ticks>(store: &NodeStore<C>, from: Behind, ticks: &mut C)
     find_behind_back(store, from.child, behind, from.characters + length, ticks)
 }
 
+/// A line, and how many characters the lines before it have.
+#[derive(Clone, Copy)]
+pub struct Placed {
+    pub name: NodePtr,
+    pub start: usize,
+}
+
+/// Line `k`, where the root has so many lines and characters.
+pub fn place<C: Ticks>(
+    store: &NodeStore<C>,
+    root: NodePtr,
+    height: usize,
+    size: (usize, usize),
+    k: usize,
+    ticks: &mut C,
+) -> Placed
+    requires tree { IsTree (records store.now) height root }
+    requires size { size ≡ (lines_at (records store.now) root, characters_at (records store.now) root) }
+    requires within { k < length (lines_in (records store.now) height root) }
+    requires fits { FitsSum (total (lines_in (records store.now) height root)) }
+    ensures name { IsLineAt (lines_in (records store.now) height root) k result.name }
+    ensures start { result.start ≡ (total (take k (lines_in (records store.now) height root))).characters }
+{
+    let mut at = Behind {
+        child: root,
+        size,
+        rest: k,
+        characters: 0,
+    };
+    let mut level = height;
+    while level > 0 {
+        at = find_behind_near(store, at, ticks);
+        level -= 1;
+    }
+    Placed {
+        name: at.child,
+        start: at.characters,
+    }
+}
+
 /// How many characters the first `k` lines have.
 pub fn start<C: Ticks>(
     store: &NodeStore<C>,
@@ -150,18 +191,7 @@ pub fn start<C: Ticks>(
     if k == lines {
         return all;
     }
-    let mut at = Behind {
-        child: root,
-        size: (lines, all),
-        rest: k,
-        characters: 0,
-    };
-    let mut level = height;
-    while level > 0 {
-        at = find_behind_near(store, at, ticks);
-        level -= 1;
-    }
-    at.characters
+    place(store, root, height, (lines, all), k, ticks).start
 }
 
 /// The child that has line `k` of those below a node, where some slots are toggled before the node.

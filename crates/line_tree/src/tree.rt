@@ -9,7 +9,7 @@ use crate::prefix::prefix;
 use crate::remove::{lower, remove_in};
 use crate::replacing::{LineBelow, replace_in};
 use crate::select::select;
-use crate::starts::{odd_slots, start};
+use crate::starts::{Placed, odd_slots, place, start};
 use crate::taking::take_in;
 use crate::walk::behind;
 use raw_nodes::{NodePtr, NodeStore, Ticks};
@@ -214,6 +214,16 @@ impl<C: Ticks> LineTree<C> {
         ensures { result ≡ length (whole (take k (contents self.now.lines))).columns }
     {
         start(&self.store, self.root, self.height, k, ticks)
+    }
+
+    /// The name of line `k`, and how many characters the first `k` lines have.
+    pub fn place(&self, k: usize, ticks: &mut C) -> Placed
+        requires { k < length self.now.lines }
+        ensures name { IsLineAt self.now.lines k result.name }
+        ensures start { result.start ≡ length (whole (take k (contents self.now.lines))).columns }
+    {
+        let size = self.store.size(self.root, ticks);
+        place(&self.store, self.root, self.height, size, k, ticks)
     }
 
     /// The slots that are toggled an odd number of times in the first `k` lines.

@@ -71,6 +71,11 @@ impl LineList for TreeLines {
         self.tree.line(self.tree.select(index, &mut Steps::new()))
     }
 
+    fn placed_line(&self, index: usize) -> (usize, &Line) {
+        let placed = self.tree.place(index, &mut Steps::new());
+        (placed.start, self.tree.line(placed.name))
+    }
+
     fn locate(&self, offset: usize) -> (usize, usize) {
         self.tree.locate(offset, &mut Steps::new())
     }

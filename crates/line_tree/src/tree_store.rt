@@ -61,6 +61,10 @@ impl TextStore for TreeStore {
         self.lines.line_at(offset)
     }
 
+    fn line_bounds(&self, line: usize) -> (usize, usize) {
+        self.lines.line_bounds(line)
+    }
+
     fn char_at(&self, offset: usize) -> char {
         self.lines.char_at(offset)
     }
@@ -71,6 +75,10 @@ impl TextStore for TreeStore {
 
     fn tags_at(&self, offset: usize) -> TagSet {
         self.lines.tags_at(offset)
+    }
+
+    fn tags_around(&self, offset: usize) -> (TagSet, TagSet) {
+        self.lines.tags_around(offset)
     }
 
     fn next_change(&self, offset: usize, slot: TagSlot) -> usize {

@@ -200,3 +200,18 @@ module _ (text : List ℕ) (start end : ℕ) (first : IsLineStart text start) (b
           ap (λ k. line_start k text) there,
         ),
       )
+
+  -- where such a line begins
+  pub start-within : (line : ℕ) → line_of text start + line < lines text →
+      line_start (line_of text start + line + 1) text ≤ end
+      → line_start (line_of text start + line) text - start ≡ line_start line part
+  start-within line known within =
+      let number : ℕ = line_of text start + line in
+      let same : number + 1 ≡ suc number = omega arith in
+      omega (
+        arith,
+        start-shown line,
+        line_start-rises text number known,
+        ap (λ k. line_start k text) same,
+        within,
+      )

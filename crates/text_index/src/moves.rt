@@ -2,7 +2,7 @@ ghost use Rattle.std.specs.Prelude.{◌≡◌, ◌≤◌, ◌<◌, ◌+◌, ◌-
 ghost use Rattle.std.specs.List.{prefix_len, suffix_len};
 ghost use Rattle.text_model.specs.Lines.{lines, line_of};
 ghost use Rattle.text_index.specs.Views.{shown, IsView};
-ghost use Rattle.text_index.specs.Values.{in_line, newline_of, column_of, lines_on, lines_back, lines_by, modified};
+ghost use Rattle.text_index.specs.Values.{in_line, column_of, lines_on, lines_back, lines_by, modified};
 ghost use Rattle.text_index.specs.Words.{is_word};
 ghost use Rattle.index_grammar.specs.declared.indices.Modifier.TheVariants as modifier;
 
@@ -27,16 +27,6 @@ pub fn back(place: usize, count: usize) -> usize
     place.saturating_sub(count)
 }
 
-/// The newline of a line.
-fn newline_of<S: TextStore>(view: &View<'_, S>, line: usize) -> usize
-    requires view { IsView (S.content view.now.store.now) view.now.s view.now.e }
-    requires known { line < lines (shown (S.content view.now.store.now) view.now.s view.now.e) }
-    ensures value { result ≡ newline_of line (shown (S.content view.now.store.now) view.now.s view.now.e) }
-    ensures bound { view.now.s + result ≤ view.now.e }
-{
-    view.line_start(line + 1) - 1
-}
-
 /// A character of a line, or its newline where the line is shorter.
 fn in_line<S: TextStore>(view: &View<'_, S>, line: usize, character: usize) -> usize
     requires view { IsView (S.content view.now.store.now) view.now.s view.now.e }
@@ -44,8 +34,8 @@ fn in_line<S: TextStore>(view: &View<'_, S>, line: usize, character: usize) -> u
     ensures value { result ≡ in_line line character (shown (S.content view.now.store.now) view.now.s view.now.e) }
     ensures bound { view.now.s + result ≤ view.now.e }
 {
-    let newline = newline_of(view, line);
-    view.line_start(line).saturating_add(character).min(newline)
+    let (start, behind) = view.line_bounds(line).unwrap();
+    start.saturating_add(character).min(behind - 1)
 }
 
 /// The line of a place, and how many characters stand before it there.

@@ -40,13 +40,9 @@ fn character_on<S: TextStore>(view: &View<'_, S>, line: usize, character: usize)
         ≡ line_value (suc line) (Some character) (shown (S.content view.now.store.now) view.now.s view.now.e) }
     ensures bound { view.now.s + result ≤ view.now.e }
 {
-    let start = view.line_start(line);
-    if character == 0 {
-        return start;
-    }
-    match view.behind_line(line) {
-        None => start,
-        Some(behind) => start.saturating_add(character).min(behind - 1),
+    match view.line_bounds(line) {
+        None => view.len(),
+        Some((start, behind)) => start.saturating_add(character).min(behind - 1),
     }
 }
 

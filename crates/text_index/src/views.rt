@@ -170,6 +170,29 @@ impl<'a, S: TextStore> View<'a, S> {
         self.store.line_start(number).min(self.e) - self.s
     }
 
+    /// Where a line begins, and where the line behind it does, if the view has that line. The store is asked once, and
+    /// for the first line where that isn't known.
+    pub fn line_bounds(&self, line: usize) -> Option<(usize, usize)>
+        requires { IsView (S.content self.now.store.now) self.now.s self.now.e }
+        ensures none { result ≡ None → lines (shown (S.content self.now.store.now) self.now.s self.now.e) ≤ line }
+        ensures some { IfSome result (λ _. line < lines (shown (S.content self.now.store.now) self.now.s self.now.e)) }
+        ensures start { IfSome result (λ bounds.
+            bounds.0 ≡ line_start line (shown (S.content self.now.store.now) self.now.s self.now.e)) }
+        ensures end { IfSome result (λ bounds.
+            bounds.1 ≡ line_start (suc line) (shown (S.content self.now.store.now) self.now.s self.now.e)) }
+        ensures bound { IfSome result (λ bounds. self.now.s + bounds.1 ≤ self.now.e) }
+    {
+        let number = self.first_line().saturating_add(line);
+        if number >= self.store.lines() {
+            return None;
+        }
+        let (start, behind) = self.store.line_bounds(number);
+        if self.e < behind {
+            return None;
+        }
+        Some((start - self.s, behind - self.s))
+    }
+
     /// Where the line behind a line begins, if the view has that line.
     pub fn behind_line(&self, line: usize) -> Option<usize>
         requires { IsView (S.content self.now.store.now) self.now.s self.now.e }

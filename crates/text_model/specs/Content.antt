@@ -1,5 +1,5 @@
 -- What a text store keeps: cells, each a character with a set of tag slots, and marks by their numbers.
-use Rattle.std.specs.Prelude.{ℕ, Bool, List, [], ◌∷◌, map}
+use Rattle.std.specs.Prelude.{ℕ, zero, suc, Bool, List, [], ◌∷◌, get_or, map}
 use Rattle.std.specs.FinSet as set
 use Rattle.std.specs.FinMap as finite
 use Rattle.std.specs.Ordering.{nat_cmp}
@@ -22,6 +22,11 @@ characters cells = map (λ (cell : Cell). cell.character) cells
 -- the slots of each cell
 abbrev pub slot_sets : List Cell → List Slots
 slot_sets cells = map (λ (cell : Cell). cell.tags) cells
+
+-- the slots of the last of the cells before a place, if there is one
+abbrev pub slots_behind : ℕ → List Cell → Slots
+slots_behind zero cells = set.empty
+slots_behind (suc n) cells = get_or (slot_sets cells) n set.empty
 
 -- whether each cell has a slot
 abbrev pub flags : ℕ → List Cell → List Bool

@@ -2,7 +2,7 @@ ghost use Rattle.std.specs.Prelude.{◌≡◌, ◌+◌, ◌-◌, ◌++◌, ◌�
 ghost use Rattle.std.specs.Prelude.{get_or, slice_get, OnOk, IfOk, None, Some, chars, string_bytes, option_map};
 ghost use Rattle.std.specs.List.{prefix_len, suffix_len};
 ghost use Rattle.text_model.specs.Changes.{is_alike};
-ghost use Rattle.text_model.specs.Content.{characters, flags};
+ghost use Rattle.text_model.specs.Content.{characters, flags, slots_behind};
 ghost use Rattle.text_model.specs.Lines.{lines, line_start};
 ghost use Rattle.text_model.specs.MarkOrder.{marks_at, next_mark, previous_mark};
 ghost use Rattle.text_model.specs.Plain.{plain_content, plain_marks, stands_at, with_next, with_previous, IsPlain};
@@ -59,6 +59,17 @@ fn find_line(cells: &[Cell], line: usize) -> usize
         }
     }
     cells.len()
+}
+
+/// The tags of the cell before an offset, if there is one.
+fn tags_behind(cells: &[Cell], offset: usize) -> TagSet
+    requires { offset ≤ length cells.now }
+    ensures { result ≡ slots_behind offset cells.now }
+{
+    if offset == 0 {
+        return TagSet::empty();
+    }
+    cells[offset - 1].tags
 }
 
 /// How many cells from the first on all have a tag, or all lack it.
@@ -381,6 +392,13 @@ impl TextStore for PlainStore {
         }
     }
 
+    fn line_bounds(&self, line: usize) -> (usize, usize) {
+        (
+            find_line(&self.cells, line),
+            find_line(&self.cells, line + 1),
+        )
+    }
+
     fn char_at(&self, offset: usize) -> char {
         self.cells[offset].character
     }
@@ -391,6 +409,10 @@ impl TextStore for PlainStore {
 
     fn tags_at(&self, offset: usize) -> TagSet {
         self.cells[offset].tags
+    }
+
+    fn tags_around(&self, offset: usize) -> (TagSet, TagSet) {
+        (tags_behind(&self.cells, offset), self.cells[offset].tags)
     }
 
     fn next_change(&self, offset: usize, slot: TagSlot) -> usize {

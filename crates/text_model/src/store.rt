@@ -1,8 +1,8 @@
-ghost use Rattle.std.specs.Prelude.{◌≡◌, ◌-◌, ◌<◌, ◌≤◌, length, slice_range, slice_get, Some, IfOk, IfSome, chars};
+ghost use Rattle.std.specs.Prelude.{◌≡◌, ◌+◌, ◌-◌, ◌<◌, ◌≤◌, length, slice_range, slice_get, Some, IfOk, IfSome, chars};
 ghost use Rattle.std.specs.Prelude.{string_bytes};
 ghost use Rattle.std.specs.FinMap as finite;
 ghost use Rattle.text_model.specs.Changes.{next_change, previous_change};
-ghost use Rattle.text_model.specs.Content.{Content, characters, flags, new_content, slot_sets};
+ghost use Rattle.text_model.specs.Content.{Content, characters, flags, new_content, slot_sets, slots_behind};
 ghost use Rattle.text_model.specs.Lines.{IsLineOf, lines, line_of, line_start};
 ghost use Rattle.text_model.specs.MarkOrder.{marks_at, next_mark, previous_mark};
 ghost use Rattle.text_model.specs.Steps.{Fits, after};
@@ -60,6 +60,13 @@ pub trait TextStore: Drop {
         requires { offset ≤ length (content self.now).cells }
         ensures { IsLineOf (characters (content self.now).cells) offset result };
 
+    /// Where a line begins, and where the line behind it does.
+    fn line_bounds(&self, line: usize) -> (usize, usize)
+        requires { line < lines (characters (content self.now).cells) }
+        ensures start { result.0 ≡ line_start line (characters (content self.now).cells) }
+        ensures end { result.1 ≡ line_start (line + 1) (characters (content self.now).cells) }
+        ensures bound { result.1 ≤ length (content self.now).cells };
+
     /// The character at an offset.
     fn char_at(&self, offset: usize) -> char
         requires { offset < length (content self.now).cells }
@@ -75,6 +82,13 @@ pub trait TextStore: Drop {
     fn tags_at(&self, offset: usize) -> TagSet
         requires { offset < length (content self.now).cells }
         ensures { slice_get (slot_sets (content self.now).cells) offset ≡ Some result };
+
+    /// The tags of the character before an offset, of which there are none before the first, and those of the one at
+    /// it.
+    fn tags_around(&self, offset: usize) -> (TagSet, TagSet)
+        requires { offset < length (content self.now).cells }
+        ensures before { result.0 ≡ slots_behind offset (content self.now).cells }
+        ensures at { slice_get (slot_sets (content self.now).cells) offset ≡ Some result.1 };
 
     /// Where the run of characters that are like the one at an offset in a tag ends: the least offset above it at
     /// which the tag differs, else the length.

@@ -2,21 +2,9 @@ use Rattle.std.proofs.Common.{◌≡◌, ◌≤◌, length, sym, ◌∙◌}
 use Rattle.text_model.specs.Content.{characters}
 use Rattle.text_model.specs.Lines.{lines, line_start}
 use Rattle.text_index.specs.Views.{shown}
-use Rattle.text_index.proofs.StartLaws.{first-on, none-on, past-start}
+use Rattle.text_index.proofs.StartLaws.{none-on, past-start}
 use Rattle.text_index.proofs.ViewLaws.{length-shown}
 use Rattle.text_index.proofs.values.character_on.Goals as goal
-
-pub returns-then-character-eq0-clause-value : goal.returns-then-character-eq0-clause-value
-returns-then-character-eq0-clause-value g c =
-    let view = c.args.view.now in
-    let content = g.S.TextStore.content view.store.now in
-    let text = shown content view.s view.e in
-    let long = length-shown content view.s view.e c.requires in
-    let past : lines text ≤ c.args.line → line_start c.args.line text ≡ length text =
-    λ over. past-start (characters content.cells) view.s view.e c.requires.first c.requires.behind c.requires.ordered
-    long c.args.line over ∙ sym long in
-    first-on text c.args.line c.args.character c.line_start-start.result past c.if-character-eq0.true
-    c.line_start-start.ensures.value
 
 pub returns-in-None-clause-value : goal.returns-in-None-clause-value
 returns-in-None-clause-value g c =
@@ -27,5 +15,5 @@ returns-in-None-clause-value g c =
     let past : lines text ≤ c.args.line → line_start c.args.line text ≡ length text =
     λ over. past-start (characters content.cells) view.s view.e c.requires.first c.requires.behind c.requires.ordered
     long c.args.line over ∙ sym long in
-    none-on text c.args.line c.args.character c.line_start-start.result past (c.behind_line.ensures.none c.in-None.is)
-    c.line_start-start.ensures.value
+    let over = c.line_bounds.ensures.none c.in-None.is in
+    none-on text c.args.line c.args.character c.len.result past over (c.len.ensures ∙ sym (past over))

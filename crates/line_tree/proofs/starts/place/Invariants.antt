@@ -3,7 +3,7 @@ use Rattle.raw_nodes.specs.Names.{records}
 use Rattle.line_tree.specs.Locating.{characters_at}
 use Rattle.line_tree.specs.Shape.{IsTree, lines_at, lines_in}
 use Rattle.line_tree.proofs.StartLaws.{Starts}
-use Rattle.line_tree.proofs.starts.start.Given as goal
+use Rattle.line_tree.proofs.starts.place.Given as goal
 
 abbrev pub invariant-loop-level : goal.invariant-loop-level
 invariant-loop-level g l = record {

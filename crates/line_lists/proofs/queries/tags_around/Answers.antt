@@ -1,0 +1,30 @@
+use Rattle.std.proofs.Common.{◌<◌, ◌∙◌, ap, ap₂, sym, subst}
+use Rattle.std.specs.Prelude.{Some}
+use Rattle.text_model.specs.SlotSets.{differing}
+use Rattle.segments.specs.Columns.{tags_before}
+use Rattle.line_lists.proofs.PlaceRows.{length-content, tags-at, tags-before}
+use Rattle.line_lists.proofs.queries.tags_around.Goals as goal
+
+pub line_at-index-requires : goal.line_at-index-requires
+line_at-index-requires g c =
+    subst (λ n. c.args.offset < n) (length-content (g.L.LineList.lines c.args.list.now)) c.requires
+
+pub returns-clause-before : goal.returns-clause-before
+returns-clause-before g c =
+    let list = g.L.LineList.lines c.args.list.now in
+    c.differing-before.ensures
+    ∙ ap₂ differing c.odd_slots-here.ensures c.tags_behind.ensures
+    ∙ sym (tags-before list c.args.offset c.line_at-index.result.0 c.line_at-index.result.1
+    c.line_at-index.result.2.now
+    c.line_at-index.ensures.place
+    c.line_at-index.ensures.line)
+
+pub returns-clause-at : goal.returns-clause-at
+returns-clause-at g c =
+    let list = g.L.LineList.lines c.args.list.now in
+    tags-at list c.args.offset c.line_at-index.result.0 c.line_at-index.result.1 c.line_at-index.result.2.now
+    c.line_at-index.ensures.place
+    c.line_at-index.ensures.line
+    ∙ ap (λ s. Some s) (sym (c.turn_tags_before.ensures
+    ∙ ap (λ s. differing s (tags_before c.line_at-index.result.1 c.line_at-index.result.2.now.columns))
+    c.odd_slots-here.ensures))

@@ -1,0 +1,15 @@
+use Rattle.std.proofs.Common.{length, take, sym, ap, ◌∙◌}
+use Rattle.toggle_sums.specs.Counts.{Count}
+use Rattle.raw_nodes.specs.Names.{records}
+use Rattle.line_lists.specs.Texts.{whole}
+use Rattle.line_lists.proofs.CountRows.{count-characters}
+use Rattle.line_tree.specs.Shape.{lines_in}
+use Rattle.line_tree.specs.Trees.{contents}
+use Rattle.line_tree.proofs.PrefixLaws.{count-first}
+use Rattle.line_tree.proofs.tree.LineTree.place.Goals as goal
+
+pub returns-clause-start : goal.returns-clause-start
+returns-clause-start g c = let ls = lines_in (records c.self.inside.store) c.self.inside.height c.self.inside.root in
+    c.place.ensures.start ∙ ap (λ (s : Count). s.characters) (sym (count-first c.args.k ls))
+    ∙ count-characters (take c.args.k (contents ls))
+    ∙ ap (λ v. length (whole (take c.args.k (contents v.lines))).columns) c.self.view_is
