@@ -76,7 +76,7 @@ impl Draft {
         let count = count_of(text);
         cursor.seek(at)?;
         let slots = cursor.shared(store);
-        self.put_in(at, text, slots, count, cursor.len)?;
+        self.put_copy(at, text, slots, count, cursor.len)?;
         cursor.put(text, count, slots)?;
         Ok(())
     }
