@@ -199,6 +199,7 @@ pub record Inserting (keeps : Bool) (draft new : Draft) (from start : ℕ) (arou
   pub stand : All (AnchorsStand len) new.anchors
   pub room : len + total rest < 2 ^ 64
   pub whole : len + total rest ≡ start + total pieces
+  pub place : at + start ≡ from + len
   pub goes : (recording : Recording) (kind : EditKind) (state : State) → (recording.undo ≡ true → keeps ≡ true)
       → Fits draft.steps state.content → IsBetween around behind start from (after draft.steps state.content).cells
       → InsertedSoFar recording kind draft new state from pieces at len shared behind rest
@@ -229,6 +230,7 @@ inserting-first keeps draft at len shared behind pieces left left_is within stan
       stand = stand;
       room = fits;
       whole = refl;
+      place = refl;
       goes = λ recording kind state _ fits is. record { fits = fits; between = is; makes = refl };
     })
 
@@ -255,6 +257,7 @@ inserting-more keeps draft now new from start around pieces at len shared behind
           (stand-moved at (length piece.text) len now.anchors so_far.stand);
       room = omega (arith, counted, so_far.room);
       whole = omega (arith, counted, so_far.whole);
+      place = omega (arith, so_far.place);
       goes = λ recording kind state keeping fits is.
           let before = so_far.goes recording kind state keeping fits is in
           let next = one-more recording kind now new state at len shared behind slots piece kept before.fits
@@ -282,6 +285,7 @@ inserting-none keeps draft now from start around pieces at len shared behind pie
       stand = so_far.stand;
       room = omega (arith, counted, so_far.room);
       whole = omega (arith, counted, so_far.whole, none);
+      place = so_far.place;
       goes = λ recording kind state keeping fits is.
           let before = so_far.goes recording kind state keeping fits is in
           record {

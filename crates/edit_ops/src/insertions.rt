@@ -27,7 +27,7 @@ pub fn count_of(text: &Text) -> usize
 }
 
 /// How many characters texts have, or the greatest number where that is more.
-pub fn total_of(pieces: &[Piece]) -> usize
+fn total_of(pieces: &[Piece]) -> usize
     ensures { result ≡ min (total pieces.now) (2 ^ 64 - 1) }
 {
     let mut most = 0usize;
@@ -86,7 +86,7 @@ fn slots_or(slots: Option<TagSet>, shared: TagSet) -> TagSet
 impl Draft {
     /// Puts texts in at an offset of a text of so many characters, each right behind the one before it, with the texts
     /// of the actions where these are to be kept. The characters on both sides of the offset share some slots, and the
-    /// one behind it has others too.
+    /// one behind it has others too. Where the last text ends.
     pub fn insert_pieces(
         &mut self,
         at: usize,
@@ -95,10 +95,11 @@ impl Draft {
         behind: TagSet,
         len: usize,
         keeps: bool,
-    ) -> Result<(), AllocError>
+    ) -> Result<usize, AllocError>
         requires within { at < len }
         requires stand { All (AnchorsStand len) self.old.anchors }
         requires fits { len + total pieces.items < 2 ^ 64 }
+        ensures end { IfOk result (λ end. end ≡ at + total pieces.items) }
         ensures widgets { OnOk result (length self.new.anchors ≡ length self.old.anchors) }
         ensures makes { OnOk result ((recording : Recording) (kind : EditKind) (state : State) →
             (recording.undo ≡ true → keeps ≡ true) →
@@ -123,7 +124,7 @@ impl Draft {
                 shared = slots.common(&behind);
             }
         }
-        Ok(())
+        Ok(at)
     }
 }
 

@@ -12,7 +12,7 @@ ghost use Rattle.text_model.specs.Steps.{Fits, after};
 
 use crate::drafts::{Draft, kept_text};
 use crate::faults::EditFault;
-use crate::insertions::{is_too_long, shared_around, total_of};
+use crate::insertions::{is_too_long, shared_around};
 use crate::pieces::Piece;
 use crate::plans::{Plan, prepare};
 use crate::spans::Span;
@@ -98,8 +98,7 @@ fn draft_replace<S: TextStore>(
     let store = &text.store;
     let len = store.len() - (to - from);
     let behind = store.tags_at(to);
-    let count = total_of(&pieces);
-    draft.insert_pieces(
+    let end = draft.insert_pieces(
         from,
         pieces,
         shared_around(store, from, behind),
@@ -107,7 +106,7 @@ fn draft_replace<S: TextStore>(
         len,
         keeps,
     )?;
-    match clipped(store.mark_place(mark), from, to, count) {
+    match clipped(store.mark_place(mark), from, to, end - from) {
         None => {}
         Some(place) => draft.put_mark(mark, place)?,
     }

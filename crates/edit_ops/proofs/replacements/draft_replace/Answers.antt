@@ -1,4 +1,4 @@
-use Rattle.std.proofs.Common.{◌≡◌, ◌-◌, ◌^◌, false, min, sym, ap, subst, ◌∙◌, arith}
+use Rattle.std.proofs.Common.{◌≡◌, ◌-◌, false, sym, ap, subst, ◌∙◌, arith}
 use Rattle.std.specs.Prelude.{option_and_then}
 use Rattle.std.specs.FinMap as finite
 use Rattle.text_model.specs.Steps.{Fits}
@@ -8,7 +8,7 @@ use Rattle.undo_stack.specs.declared.actions.EditKind.TheVariants.{Replace}
 use Rattle.edit_ops.specs.Insertions.{total}
 use Rattle.edit_ops.specs.Removals.{clipped}
 use Rattle.edit_ops.specs.States.{Draft, state_of}
-use Rattle.edit_ops.proofs.ReplaceLaws.{between-removed, found-most, found-within, mark-fits, mark-put, mark-none}
+use Rattle.edit_ops.proofs.ReplaceLaws.{between-removed, found-within, mark-fits, mark-put, mark-none}
 use Rattle.edit_ops.proofs.ReplaceLaws.{replaced-is}
 use Rattle.edit_ops.proofs.replacements.draft_replace.Goals as goal
 use Rattle.edit_ops.proofs.replacements.draft_replace.Goals.{in-Some+in_ok-put_mark-in-Some, in-None}
@@ -21,14 +21,13 @@ returns-clause-fits g c =
     (ap (λ n. n - (c.args.to - c.args.from)) c.len-2.ensures)
     (c.shared_around.ensures c.args.to c.tags_at-behind.ensures)
     c.tags_at-behind.ensures in
-    let made = c.in_ok-insert_pieces.ensures.makes (record { undo = false; separators = false }) Replace
+    let made = c.in_ok-end.ensures.makes (record { undo = false; separators = false }) Replace
     (state_of content c.args.text.now.anchors.items (record { history = no_history; modified = unmodified; most = 0 }))
     (λ on. absurd (cc)) c.in_ok-draft.ensures.fits is in
     let clip : c.clipped.result ≡ option_and_then (clipped c.args.from c.args.to (total c.args.pieces.items))
     (finite.get content.marks c.args.mark.0) =
-    c.clipped.ensures ∙ found-most c.args.from c.args.to (total c.args.pieces.items) c.total_of-count.result
-    c.mark_place.result c.ranges.to.fits
-    (c.total_of-count.ensures ∙ ap (λ ps. min (total ps) (2 ^ 64 - 1)) c.deref.ensures.value)
+    c.clipped.ensures ∙ ap (λ n. option_and_then (clipped c.args.from c.args.to n) c.mark_place.result)
+    (let is : c.in_ok-end.end - c.args.from ≡ total c.args.pieces.items = omega (arith, c.in_ok-end.ensures.end) in is)
     ∙ ap (option_and_then (clipped c.args.from c.args.to (total c.args.pieces.items))) c.mark_place.ensures.value in
     elim c.match-clipped.branch [
       | in-Some+in_ok-put_mark-in-Some w ↦
@@ -51,12 +50,11 @@ returns-clause-makes g c = λ recording log keeping.
     (ap (λ n. n - (c.args.to - c.args.from)) c.len-2.ensures)
     (c.shared_around.ensures c.args.to c.tags_at-behind.ensures)
     c.tags_at-behind.ensures in
-    let made = c.in_ok-insert_pieces.ensures.makes recording Replace state keeping c.in_ok-draft.ensures.fits is in
+    let made = c.in_ok-end.ensures.makes recording Replace state keeping c.in_ok-draft.ensures.fits is in
     let clip : c.clipped.result ≡ option_and_then (clipped c.args.from c.args.to (total c.args.pieces.items))
     (finite.get content.marks c.args.mark.0) =
-    c.clipped.ensures ∙ found-most c.args.from c.args.to (total c.args.pieces.items) c.total_of-count.result
-    c.mark_place.result c.ranges.to.fits
-    (c.total_of-count.ensures ∙ ap (λ ps. min (total ps) (2 ^ 64 - 1)) c.deref.ensures.value)
+    c.clipped.ensures ∙ ap (λ n. option_and_then (clipped c.args.from c.args.to n) c.mark_place.result)
+    (let is : c.in_ok-end.end - c.args.from ≡ total c.args.pieces.items = omega (arith, c.in_ok-end.ensures.end) in is)
     ∙ ap (option_and_then (clipped c.args.from c.args.to (total c.args.pieces.items))) c.mark_place.ensures.value in
     let finish = replaced-is recording c.in_ok-draft.draft c.insert_pieces.new.self c.match-clipped.draft state
     c.args.mark c.args.from c.args.to c.args.pieces.items c.clipped.result

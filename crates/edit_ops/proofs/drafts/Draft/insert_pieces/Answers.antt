@@ -39,6 +39,14 @@ loop-piece-preserved c =
     c.next.new.self.rest.items _ c.loop-piece.invariant c.in-Some.ensures.steps.0
     (omega (arith, c.if-count-gt0.false, c.count_of-count.ensures))
 
+pub returns-clause-end : goal.returns-clause-end
+returns-clause-end c =
+    let rest = c.loop-piece.piece-iterator.rest.items in
+    let none : rest ≡ [] = nil_from_length rest
+    (omega (arith, c.in-None.ensures.steps.0, c.loop-piece.piece-iterator.rest.ok.0)) in
+    let nothing : total rest ≡ 0 = ap total none in
+    omega (arith, nothing, c.loop-piece.invariant.whole, c.loop-piece.invariant.place)
+
 pub returns-clause-makes : goal.returns-clause-makes
 returns-clause-makes c = λ recording kind state keeping fits is.
     let done = c.loop-piece.invariant.goes recording kind state keeping fits is in
