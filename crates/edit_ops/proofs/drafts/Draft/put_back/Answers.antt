@@ -14,7 +14,7 @@ returns-clause-follows g c =
     (subst (λ n. c.put_copy.new.self ≡ record c.args.self.now {
       steps = c.args.self.now.steps ++ Insert c.args.at c.args.text.now c.shared-slots.result ∷ [];
       anchors = map (anchors_moved c.args.at n) c.args.self.now.anchors;
-    }) c.count_of-count.ensures c.in_ok-put_copy.ensures) in
+    }) c.requires.counted c.in_ok-put_copy.ensures) in
     all.follows
 
 pub returns-clause-makes : goal.returns-clause-makes
@@ -27,5 +27,5 @@ returns-clause-makes g c =
     (subst (λ n. c.put_copy.new.self ≡ record c.args.self.now {
       steps = c.args.self.now.steps ++ Insert c.args.at c.args.text.now c.shared-slots.result ∷ [];
       anchors = map (anchors_moved c.args.at n) c.args.self.now.anchors;
-    }) c.count_of-count.ensures c.in_ok-put_copy.ensures) in
+    }) c.requires.counted c.in_ok-put_copy.ensures) in
     all.makes
