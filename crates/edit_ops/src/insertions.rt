@@ -2,7 +2,7 @@ ghost use Rattle.std.specs.Prelude.{◌≡◌, ◌≢◌, ◌+◌, ◌<◌, ◌�
 ghost use Rattle.std.specs.Prelude.{true, false, ℕ, Some, slice_get};
 ghost use Rattle.std.specs.List.{All};
 ghost use Rattle.edit_ops.specs.Anchors.{AnchorsStand};
-ghost use Rattle.edit_ops.specs.Insertions.{inserted_texts, slots_or, total, total_bytes, IsBetween};
+ghost use Rattle.edit_ops.specs.Insertions.{inserted_texts, needs_shared, slots_or, total, total_bytes, IsBetween};
 ghost use Rattle.edit_ops.specs.Plans.{planned, HasRoom};
 ghost use Rattle.edit_ops.specs.declared.plans.Recording.{Recording};
 ghost use Rattle.edit_ops.specs.States.{State, Log, log_of, state_of, state_in, drafted, IsUnchanged};
@@ -63,7 +63,7 @@ pub fn is_too_long(limits: &Limits, len: usize, pieces: &[Piece]) -> bool
 
 /// The slots that the character before an offset shares with the one at another offset, which has those of a set; none
 /// at the start.
-pub fn shared_around<S: TextStore>(store: &S, from: usize, behind: TagSet) -> TagSet
+fn shared_around<S: TextStore>(store: &S, from: usize, behind: TagSet) -> TagSet
     requires within { from < length (S.content store.now).cells }
     ensures { (to : ℕ) → slice_get (slot_sets (S.content store.now).cells) to ≡ Some behind →
         result ≡ slots_around from to (S.content store.now).cells }
@@ -72,6 +72,38 @@ pub fn shared_around<S: TextStore>(store: &S, from: usize, behind: TagSet) -> Ta
         return TagSet::empty();
     }
     store.tags_at(from - 1).common(&behind)
+}
+
+/// Whether a text has no slots of its own.
+pub fn needs_shared(pieces: &[Piece]) -> bool
+    ensures { result ≡ needs_shared pieces.now }
+{
+    for piece in pieces {
+        if piece.slots.is_none() {
+            return true;
+        }
+    }
+    false
+}
+
+/// The slots that the character before an offset shares with the one at another offset, and those of that one, where
+/// they are needed, and else none.
+pub fn slots_beside<S: TextStore>(
+    store: &S,
+    from: usize,
+    to: usize,
+    needed: bool,
+) -> (TagSet, TagSet)
+    requires ordered { from ≤ to }
+    requires within { to < length (S.content store.now).cells }
+    ensures shared { needed ≡ true → result.0 ≡ slots_around from to (S.content store.now).cells }
+    ensures behind { needed ≡ true → slice_get (slot_sets (S.content store.now).cells) to ≡ Some result.1 }
+{
+    if !needed {
+        return (TagSet::empty(), TagSet::empty());
+    }
+    let behind = store.tags_at(to);
+    (shared_around(store, from, behind), behind)
 }
 
 fn slots_or(slots: Option<TagSet>, shared: TagSet) -> TagSet
@@ -86,7 +118,7 @@ fn slots_or(slots: Option<TagSet>, shared: TagSet) -> TagSet
 impl Draft {
     /// Puts texts in at an offset of a text of so many characters, each right behind the one before it, with the texts
     /// of the actions where these are to be kept. The characters on both sides of the offset share some slots, and the
-    /// one behind it has others too. Where the last text ends.
+    /// one behind it has others too, which matters where a text has no slots of its own. Where the last text ends.
     pub fn insert_pieces(
         &mut self,
         at: usize,
@@ -104,7 +136,7 @@ impl Draft {
         ensures makes { OnOk result ((recording : Recording) (kind : EditKind) (state : State) →
             (recording.undo ≡ true → keeps ≡ true) →
             Fits self.old.steps state.content →
-            IsBetween shared behind len at (after self.old.steps state.content).cells →
+            IsBetween (needs_shared pieces.items) shared behind len at (after self.old.steps state.content).cells →
             Fits self.new.steps state.content
             × (length (after self.new.steps state.content).cells ≡ len + total pieces.items) ×
             (drafted recording kind self.new state
@@ -149,15 +181,8 @@ fn draft_insert<S: TextStore>(
 {
     let mut draft = Draft::new(alloc, text, pieces.len())?;
     let store = &text.store;
-    let behind = store.tags_at(at);
-    draft.insert_pieces(
-        at,
-        pieces,
-        shared_around(store, at, behind),
-        behind,
-        store.len(),
-        keeps,
-    )?;
+    let (shared, behind) = slots_beside(store, at, at, needs_shared(&pieces));
+    draft.insert_pieces(at, pieces, shared, behind, store.len(), keeps)?;
     Ok(draft)
 }
 

@@ -12,7 +12,7 @@ ghost use Rattle.text_model.specs.Steps.{Fits, after};
 
 use crate::drafts::{Draft, kept_text};
 use crate::faults::EditFault;
-use crate::insertions::{is_too_long, shared_around};
+use crate::insertions::{is_too_long, needs_shared, slots_beside};
 use crate::pieces::Piece;
 use crate::plans::{Plan, prepare};
 use crate::spans::Span;
@@ -97,15 +97,8 @@ fn draft_replace<S: TextStore>(
     let mut draft = draft_removal(alloc, text, from, to, pieces.len() + 2, keeps)?;
     let store = &text.store;
     let len = store.len() - (to - from);
-    let behind = store.tags_at(to);
-    let end = draft.insert_pieces(
-        from,
-        pieces,
-        shared_around(store, from, behind),
-        behind,
-        len,
-        keeps,
-    )?;
+    let (shared, behind) = slots_beside(store, from, to, needs_shared(&pieces));
+    let end = draft.insert_pieces(from, pieces, shared, behind, len, keeps)?;
     match clipped(store.mark_place(mark), from, to, end - from) {
         None => {}
         Some(place) => draft.put_mark(mark, place)?,

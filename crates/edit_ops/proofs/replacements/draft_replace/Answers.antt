@@ -1,11 +1,11 @@
-use Rattle.std.proofs.Common.{◌≡◌, ◌-◌, false, sym, ap, subst, ◌∙◌, arith}
+use Rattle.std.proofs.Common.{◌≡◌, ◌-◌, true, false, sym, ap, subst, ◌∙◌, arith}
 use Rattle.std.specs.Prelude.{option_and_then}
 use Rattle.std.specs.FinMap as finite
 use Rattle.text_model.specs.Steps.{Fits}
 use Rattle.undo_stack.specs.History.{no_history}
 use Rattle.undo_stack.specs.Modified.{unmodified}
 use Rattle.undo_stack.specs.declared.actions.EditKind.TheVariants.{Replace}
-use Rattle.edit_ops.specs.Insertions.{total}
+use Rattle.edit_ops.specs.Insertions.{needs_shared, total}
 use Rattle.edit_ops.specs.Removals.{clipped}
 use Rattle.edit_ops.specs.States.{Draft, state_of}
 use Rattle.edit_ops.proofs.ReplaceLaws.{between-removed, found-within, mark-fits, mark-put, mark-none}
@@ -16,11 +16,13 @@ use Rattle.edit_ops.proofs.replacements.draft_replace.Goals.{in-Some+in_ok-put_m
 pub returns-clause-fits : goal.returns-clause-fits
 returns-clause-fits g c =
     let content = g.S.TextStore.content c.args.text.now.store in
-    let is = between-removed c.shared_around.result c.tags_at-behind.result (c.len-2.result - (c.args.to - c.args.from))
-    c.args.from c.args.to content.cells _ c.in_ok-draft.ensures.cells c.requires.ordered c.requires.within
-    (ap (λ n. n - (c.args.to - c.args.from)) c.len-2.ensures)
-    (c.shared_around.ensures c.args.to c.tags_at-behind.ensures)
-    c.tags_at-behind.ensures in
+    let on : needs_shared c.args.pieces.items ≡ true → c.needs_shared.result ≡ true = λ some.
+    c.needs_shared.ensures ∙ ap needs_shared c.deref.ensures.value ∙ some in
+    let is = between-removed (needs_shared c.args.pieces.items) c.slots_beside-shared.result.0
+    c.slots_beside-shared.result.1 (c.len-2.result - (c.args.to - c.args.from)) c.args.from c.args.to content.cells _
+    c.in_ok-draft.ensures.cells c.requires.ordered c.requires.within (ap (λ n. n - (c.args.to - c.args.from)) c.len-2.ensures)
+    (λ some. c.slots_beside-shared.ensures.shared (on some))
+    (λ some. c.slots_beside-shared.ensures.behind (on some)) in
     let made = c.in_ok-end.ensures.makes (record { undo = false; separators = false }) Replace
     (state_of content c.args.text.now.anchors.items (record { history = no_history; modified = unmodified; most = 0 }))
     (λ on. absurd (cc)) c.in_ok-draft.ensures.fits is in
@@ -45,11 +47,13 @@ pub returns-clause-makes : goal.returns-clause-makes
 returns-clause-makes g c = λ recording log keeping.
     let content = g.S.TextStore.content c.args.text.now.store in
     let state = state_of content c.args.text.now.anchors.items log in
-    let is = between-removed c.shared_around.result c.tags_at-behind.result (c.len-2.result - (c.args.to - c.args.from))
-    c.args.from c.args.to content.cells _ c.in_ok-draft.ensures.cells c.requires.ordered c.requires.within
-    (ap (λ n. n - (c.args.to - c.args.from)) c.len-2.ensures)
-    (c.shared_around.ensures c.args.to c.tags_at-behind.ensures)
-    c.tags_at-behind.ensures in
+    let on : needs_shared c.args.pieces.items ≡ true → c.needs_shared.result ≡ true = λ some.
+    c.needs_shared.ensures ∙ ap needs_shared c.deref.ensures.value ∙ some in
+    let is = between-removed (needs_shared c.args.pieces.items) c.slots_beside-shared.result.0
+    c.slots_beside-shared.result.1 (c.len-2.result - (c.args.to - c.args.from)) c.args.from c.args.to content.cells _
+    c.in_ok-draft.ensures.cells c.requires.ordered c.requires.within (ap (λ n. n - (c.args.to - c.args.from)) c.len-2.ensures)
+    (λ some. c.slots_beside-shared.ensures.shared (on some))
+    (λ some. c.slots_beside-shared.ensures.behind (on some)) in
     let made = c.in_ok-end.ensures.makes recording Replace state keeping c.in_ok-draft.ensures.fits is in
     let clip : c.clipped.result ≡ option_and_then (clipped c.args.from c.args.to (total c.args.pieces.items))
     (finite.get content.marks c.args.mark.0) =
