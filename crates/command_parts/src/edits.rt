@@ -141,18 +141,18 @@ pub fn put_texts<S: TextStore>(
     rules: &EditRules<'_>,
     text: &mut EditedText<S>,
     at: usize,
-    pieces: &[Piece],
+    pieces: Vec<Piece>,
 ) -> Result<(), Fault>
     requires within { at < length (S.content text.old.store).cells }
     requires stand { All (AnchorsStand (length (S.content text.old.store).cells)) text.old.anchors.items }
     ensures ok { OnOk result (state_in S.content text.new
-        ≡ inserted_texts rules.now.recording EditKind.Insert at pieces.now (state_in S.content text.old)) }
+        ≡ inserted_texts rules.now.recording EditKind.Insert at pieces.items (state_in S.content text.old)) }
     ensures fits { OnOk result
-        (length (S.content text.old.store).cells + total pieces.now ≤ rules.now.limits.now.chars) }
+        (length (S.content text.old.store).cells + total pieces.items ≤ rules.now.limits.now.chars) }
     ensures err { OnErr result (IsUnchanged S.content text.old text.new) }
     ensures fault { IfErr result (λ fault. fault ≢ Memory →
         (fault ≡ TextTooLong) ×
-        (rules.now.limits.now.chars < length (S.content text.old.store).cells + total pieces.now)) }
+        (rules.now.limits.now.chars < length (S.content text.old.store).cells + total pieces.items)) }
 {
     match plan_insert(rules, text, at, pieces) {
         Err(EditFault::TextTooLong) => Err(Fault::TextTooLong),
@@ -196,22 +196,22 @@ pub fn replace_texts<S: TextStore>(
     rules: &EditRules<'_>,
     text: &mut EditedText<S>,
     target: Target,
-    pieces: &[Piece],
+    pieces: Vec<Piece>,
 ) -> Result<(), Fault>
     requires within { target.last < length (S.content text.old.store).cells }
     requires ordered { target.from ≤ target.to }
     requires stand { All (AnchorsStand (length (S.content text.old.store).cells)) text.old.anchors.items }
     ensures ok { OnOk result (state_in S.content text.new
-        ≡ replaced rules.now.recording target.mark.0 target.last target.from target.to pieces.now
+        ≡ replaced rules.now.recording target.mark.0 target.last target.from target.to pieces.items
         (state_in S.content text.old)) }
     ensures fits { OnOk result
-        (length_replaced (length (S.content text.old.store).cells) target.last target.from target.to + total pieces.now
-        ≤ rules.now.limits.now.chars) }
+        (length_replaced (length (S.content text.old.store).cells) target.last target.from target.to
+        + total pieces.items ≤ rules.now.limits.now.chars) }
     ensures err { OnErr result (IsUnchanged S.content text.old text.new) }
     ensures fault { IfErr result (λ fault. fault ≢ Memory →
         (fault ≡ TextTooLong) × (rules.now.limits.now.chars
         < length_replaced (length (S.content text.old.store).cells) target.last target.from target.to
-        + total pieces.now)) }
+        + total pieces.items)) }
 {
     match plan_replace(rules, text, target, pieces) {
         Err(EditFault::TextTooLong) => Err(Fault::TextTooLong),

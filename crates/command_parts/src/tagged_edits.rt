@@ -88,7 +88,7 @@ pub fn put_pairs<S: TextStore>(
         return Err(fault);
     }
     let pieces = make_pieces(rules.alloc, tags, widget, pairs)?;
-    put_texts(rules, text, at, &pieces)
+    put_texts(rules, text, at, pieces)
 }
 
 /// Makes the tags of pairs that are new, and puts their texts in the place of the characters that a target names. Where
@@ -130,7 +130,7 @@ pub fn replace_pairs<S: TextStore>(
         return Err(fault);
     }
     let pieces = make_pieces(rules.alloc, tags, widget, pairs)?;
-    replace_texts(rules, text, target, &pieces)
+    replace_texts(rules, text, target, pieces)
 }
 
 /// Makes a tag if it is new, of which there is room, and sets it on spans. Where memory is refused, the new tag may

@@ -17,9 +17,6 @@ use Rattle.text_model.specs.Steps.{Fits, after, after_step, after_removal, witho
 use Rattle.text_model.proofs.SpliceLaws.{length-removed, map-removed, take-removed, drop-removed, map-changed}
 use Rattle.text_model.proofs.SpliceLaws.{changed-same}
 use Rattle.text_model.proofs.StepLaws.{Fits-append, after-append}
-use Rattle.undo_stack.specs.History.{noted}
-use Rattle.undo_stack.specs.Modified.{counted_new}
-use Rattle.undo_stack.specs.declared.actions.Action.{Action}
 use Rattle.undo_stack.specs.declared.actions.EditKind.{EditKind}
 use Rattle.undo_stack.specs.declared.actions.EditKind.TheVariants.{Delete}
 use Rattle.edit_ops.specs.declared.anchors.Anchors.{Anchors}
@@ -30,7 +27,7 @@ use Rattle.edit_ops.specs.Anchors.{anchors_drawn}
 use Rattle.edit_ops.specs.Deletions.{in_spans, delete_set, runs_below, AreApart, removed_spans, deleted}
 use Rattle.edit_ops.specs.Removals.{removed_span}
 use Rattle.edit_ops.specs.States.{State, Draft, Log, log_noted, all_noted, drafted, state_of}
-use Rattle.edit_ops.proofs.InsertLaws.{noted-append}
+use Rattle.edit_ops.proofs.InsertLaws.{noted-alike, noted-append}
 use Rattle.edit_ops.proofs.RunLaws.{runs-are, apart-wider}
 use Rattle.text_cursor.proofs.AroundLaws.{length-characters, line-front, next-within, next-behind, no-next}
 use Rattle.text_cursor.proofs.AroundLaws.{next_line-is, next_line-removed}
@@ -96,31 +93,6 @@ rest-fits len border rest to behind room before within above =
     elim (nat_le behind border) as (λ b. to + (if b then behind - to else border - to + rest)
     ≤ len) [ true ↦ omega arith | false ↦ omega arith ]
 
--- where no action is kept, its text doesn't matter
-noted-alike : (recording : Recording) (kind : EditKind) (at : ℕ) (text other : List ℕ) (log : Log) →
-    (recording.undo ≡ true → text ≡ other)
-    → log_noted recording kind (record { inserts = false; at = at; text = text }) log
-    ≡ log_noted recording kind (record { inserts = false; at = at; text = other }) log
-noted-alike recording kind at text other log same =
-    let taken : List ℕ → Action = λ t. record { inserts = false; at = at; text = t } in
-    elim recording.undo as (λ b. (b ≡ true → text ≡ other)
-    → record log {
-      history = if b then noted kind (taken text) recording.separators log.most log.history
-          else log.history;
-      modified = counted_new log.modified;
-    }
-    ≡ record log {
-      history = if b then noted kind (taken other) recording.separators log.most log.history
-          else log.history;
-      modified = counted_new log.modified;
-    }) [
-      | true ↦ λ is. ap (λ t. record log {
-        history = noted kind (taken t) recording.separators log.most log.history;
-        modified = counted_new log.modified;
-      }) (is refl)
-      | false ↦ λ _. refl
-    ] same
-
 -- one span more is taken out of a draft
 pub span-out : (recording : Recording) (kind : EditKind) (draft new : Draft) (state : State) (text : List ℕ)
     (line next from to : ℕ)
@@ -148,7 +120,7 @@ span-out recording kind draft new state text line next from to made some text_is
     ∙ ap (state_of (after_removal from to before)
     (map (anchors_drawn (line_start (line_of now from) now) (next_line (removed from to now) from) from to)
     draft.anchors))
-    (noted-alike recording kind from text (slice_range now from to) noted text_is)
+    (noted-alike recording kind false from text (slice_range now from to) noted text_is)
     ∙ ap (λ b. if b then drafted recording kind draft state
     else state_of (after_removal from to before)
     (map (anchors_drawn (line_start (line_of now from) now) (next_line (removed from to now) from) from to)

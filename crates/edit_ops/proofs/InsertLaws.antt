@@ -1,13 +1,15 @@
 -- One text more is put in.
-use Rattle.std.proofs.Common.{◌≡◌, ℕ, ◌+◌, ◌-◌, ◌^◌, ◌<◌, ◌≤◌, true, false, List, [], ◌∷◌, ◌++◌, Option, Some, None}
-use Rattle.std.proofs.Common.{map, length, get_or, drop, refl, sym, ap, ap₂, ◌∙◌, arith, ne_eqb, eq-eqb, subst}
-use Rattle.std.specs.Prelude.{slice_get, IfSome, option_map, nat_lt, if◌then◌else◌, encode_utf8_all}
+use Rattle.std.proofs.Common.{◌≡◌, ℕ, ◌+◌, ◌-◌, ◌^◌, ◌<◌, ◌≤◌, Bool, true, false, List, [], ◌∷◌, ◌++◌, Option, Some}
+use Rattle.std.proofs.Common.{None, map, length, get_or, refl, sym, ap, ap₂, ◌∙◌, arith, ne_eqb, eq-eqb, subst}
+use Rattle.std.specs.Prelude.{slice_get, IfSome, option_map, nat_lt, ◌||◌, if◌then◌else◌, encode_utf8_all}
 use Rattle.std.specs.FinSet as set
+use Rattle.std.specs.Option.{is_none}
 use Rattle.std.specs.List.{All}
-use Rattle.std.proofs.lemmas.List.{length-map, get_or-map, drop_more}
+use Rattle.std.proofs.lemmas.List.{length-map, get_or-map}
 use Rattle.std.proofs.lemmas.Option.{get_or_from_slice_get}
 use Rattle.std.proofs.lemmas.Str.{length-le-encodes}
 use Rattle.std.proofs.lemmas.List.Sums.{sum_by-cons}
+use Rattle.std.proofs.Math.Bool.{or-true}
 use Rattle.std.proofs.lemmas.List.Elements.{All-map}
 use Rattle.text_model.specs.declared.cells.Cell.{Cell}
 use Rattle.text_model.specs.declared.edits.Step.TheVariants.{Insert}
@@ -17,6 +19,8 @@ use Rattle.text_model.specs.Steps.{cells_of, Fits, after, after_insertion}
 use Rattle.text_model.proofs.SpliceLaws.{length-cells_inserted, map-inserted, map-map, get_or-inserted_within}
 use Rattle.text_model.proofs.SpliceLaws.{get_or-inserted_behind}
 use Rattle.text_model.proofs.StepLaws.{Fits-append, after-append}
+use Rattle.undo_stack.specs.History.{noted}
+use Rattle.undo_stack.specs.Modified.{counted_new}
 use Rattle.undo_stack.specs.declared.actions.Action.{Action}
 use Rattle.undo_stack.specs.declared.actions.EditKind.{EditKind}
 use Rattle.edit_ops.specs.declared.anchors.Anchors.{Anchors}
@@ -25,7 +29,8 @@ use Rattle.edit_ops.specs.declared.plans.Recording.{Recording}
 use Rattle.edit_ops.specs.Anchors.{AnchorsStand, anchor_moved, anchors_moved}
 use Rattle.text_cursor.specs.Around.{shared_slots}
 use Rattle.text_cursor.proofs.AroundLaws.{length-slot_sets}
-use Rattle.edit_ops.specs.Insertions.{slots_or, inserted_text, inserted_texts, total, total_bytes, IsBetween}
+use Rattle.edit_ops.specs.Insertions.{slots_or, inserted_text, inserted_texts, total, total_bytes, needs_shared}
+use Rattle.edit_ops.specs.Insertions.{IsBetween}
 use Rattle.edit_ops.specs.States.{State, Log, Draft, log_noted, all_noted, drafted, state_of}
 
 pub noted-append : (recording : Recording) (kind : EditKind) (actions others : List Action) (log : Log)
@@ -34,6 +39,31 @@ pub noted-append : (recording : Recording) (kind : EditKind) (actions others : L
 noted-append recording kind [] others log = refl
 noted-append recording kind (action ∷ actions) others log =
     noted-append recording kind actions others (log_noted recording kind action log)
+
+-- where no action is kept, its text doesn't matter
+pub noted-alike : (recording : Recording) (kind : EditKind) (inserts : Bool) (at : ℕ) (text other : List ℕ) (log : Log)
+    → (recording.undo ≡ true → text ≡ other)
+    → log_noted recording kind (record { inserts = inserts; at = at; text = text }) log
+    ≡ log_noted recording kind (record { inserts = inserts; at = at; text = other }) log
+noted-alike recording kind inserts at text other log same =
+    let action : List ℕ → Action = λ t. record { inserts = inserts; at = at; text = t } in
+    elim recording.undo as (λ b. (b ≡ true → text ≡ other)
+    → record log {
+      history = if b then noted kind (action text) recording.separators log.most log.history
+          else log.history;
+      modified = counted_new log.modified;
+    }
+    ≡ record log {
+      history = if b then noted kind (action other) recording.separators log.most log.history
+          else log.history;
+      modified = counted_new log.modified;
+    }) [
+      | true ↦ λ is. ap (λ t. record log {
+        history = noted kind (action t) recording.separators log.most log.history;
+        modified = counted_new log.modified;
+      }) (is refl)
+      | false ↦ λ _. refl
+    ] same
 
 -- the slots of text that is put in, and of the cells behind it
 slots-within : (at : ℕ) (text : List ℕ) (slots : Slots) (cells : List Cell) (i : ℕ) → at ≤ length cells →
@@ -61,15 +91,15 @@ slots-behind at text slots cells within =
     (omega arith)
 
 -- the place behind a text that was put in
-pub between-next : (shared behind slots : Slots) (len at : ℕ) (text : List ℕ) (cells : List Cell) →
-    IsBetween shared behind len at cells → 0 < length text
-    → IsBetween (set.intersection slots behind) behind (len + length text) (at + length text)
+between-next : (matters : Bool) (shared behind slots : Slots) (len at : ℕ) (text : List ℕ) (cells : List Cell) →
+    IsBetween matters shared behind len at cells → 0 < length text
+    → IsBetween matters (set.intersection slots behind) behind (len + length text) (at + length text)
     (inserted at (cells_of text slots) cells)
-between-next shared behind slots len at text cells is some =
+between-next matters shared behind slots len at text cells is some =
     let within : at ≤ length cells = omega (arith, is.within, is.counted) in
     let new = inserted at (cells_of text slots) cells in
-    let next : get_or (slot_sets new) (at + length text) set.empty ≡ behind = slots-behind at text slots cells within
-    ∙ is.after in
+    let next : matters ≡ true → get_or (slot_sets new) (at + length text) set.empty ≡ behind = λ on.
+    slots-behind at text slots cells within ∙ is.after on in
     let last : get_or (slot_sets new) (at + length text - 1) set.empty ≡ slots =
     ap (λ n. get_or (slot_sets new) n set.empty) (let e : at + length text - 1
     ≡ at + (length text - 1) = omega (arith, some) in e)
@@ -78,12 +108,32 @@ between-next shared behind slots len at text cells is some =
       counted = length-cells_inserted at text slots cells within ∙ ap (λ n. n + length text) is.counted;
       within = let h : at < len = is.within in omega arith;
       after = next;
-      around =
+      around = λ on.
           ap (λ b. if b then set.empty else set.intersection (get_or (slot_sets new) (at + length text - 1) set.empty)
           (get_or (slot_sets new) (at + length text) set.empty))
           (ne_eqb (at + length text) 0 (λ none. omega (arith, none, some)))
-          ∙ ap₂ set.intersection last next;
+          ∙ ap₂ set.intersection last (next on);
     }
+
+-- what the texts that are left need
+fewer : (piece : Piece) (rest : List Piece) (shared behind : Slots) (len at : ℕ) (cells : List Cell) →
+    IsBetween (needs_shared (piece ∷ rest)) shared behind len at cells
+    → IsBetween (needs_shared rest) shared behind len at cells
+fewer piece rest shared behind len at cells is =
+    let on : needs_shared rest ≡ true → needs_shared (piece ∷ rest) ≡ true = λ some.
+    ap (λ b. is_none piece.slots || b) some ∙ or-true (is_none piece.slots) in
+    record {
+      counted = is.counted;
+      within = is.within;
+      after = λ some. is.after (on some);
+      around = λ some. is.around (on some);
+    }
+
+-- a text without slots of its own gets those that are shared
+slots-same : (own : Option Slots) (others : Bool) (shared around : Slots) →
+    ((is_none own || others) ≡ true → around ≡ shared) → slots_or own shared ≡ slots_or own around
+slots-same None others shared around same = sym (same refl)
+slots-same (Some slots) others shared around same = refl
 
 moved-within : (at count len anchor : ℕ) → anchor ≤ len → anchor_moved at count anchor ≤ len + count
 moved-within at count len anchor within = elim (nat_lt at anchor) as (λ b. (if b then anchor + count else anchor)
@@ -109,50 +159,52 @@ stand-moved at count len all stand = All-map (AnchorsStand (len + count)) (ancho
 
 -- one text more, of an edit that is put together
 pub record OneMore (recording : Recording) (kind : EditKind) (draft new : Draft) (state : State) (at len : ℕ)
-    (shared behind : Slots) (piece : Piece) : Type 0 where
+    (shared behind : Slots) (piece : Piece) (rest : List Piece) : Type 0 where
   pub fits : Fits new.steps state.content
-  pub between : IsBetween shared behind (len + length piece.text) (at + length piece.text)
+  pub between : IsBetween (needs_shared rest) shared behind (len + length piece.text) (at + length piece.text)
       (after new.steps state.content).cells
   pub makes : drafted recording kind new state
       ≡ inserted_text recording kind at piece (drafted recording kind draft state)
 
 pub one-more : (recording : Recording) (kind : EditKind) (draft new : Draft) (state : State) (at len : ℕ)
-    (shared behind slots : Slots) (piece : Piece)
-    → Fits draft.steps state.content → IsBetween shared behind len at (after draft.steps state.content).cells →
-    0 < length piece.text → slots ≡ slots_or piece.slots shared
+    (shared behind slots : Slots) (piece : Piece) (rest : List Piece) (kept : List ℕ) → Fits draft.steps state.content
+    → IsBetween (needs_shared (piece ∷ rest)) shared behind len at (after draft.steps state.content).cells →
+    0 < length piece.text → slots ≡ slots_or piece.slots shared → (recording.undo ≡ true → kept ≡ piece.text)
     → new ≡ record {
       steps = draft.steps ++ Insert at piece.text slots ∷ [];
       anchors = map (anchors_moved at (length piece.text)) draft.anchors;
-      actions = draft.actions ++ record { inserts = true; at = at; text = piece.text } ∷ [];
+      actions = draft.actions ++ record { inserts = true; at = at; text = kept } ∷ [];
     }
-    → OneMore recording kind draft new state at len (set.intersection slots behind) behind piece
-one-more recording kind draft new state at len shared behind slots piece fits is some slots_are made =
+    → OneMore recording kind draft new state at len (set.intersection slots behind) behind piece rest
+one-more recording kind draft new state at len shared behind slots piece rest kept fits is some slots_are kept_is made =
     let before = after draft.steps state.content in
     let step = Insert at piece.text slots in
-    let action : Action = record { inserts = true; at = at; text = piece.text } in
+    let action : List ℕ → Action = λ text. record { inserts = true; at = at; text = text } in
+    let before_log = all_noted recording kind draft.actions state.log in
     let content : after (draft.steps ++ step ∷ []) state.content
     ≡ after_insertion at piece.text slots before = after-append draft.steps (step ∷ []) state.content in
     let same : slots ≡ slots_or piece.slots (shared_slots at before.cells) = slots_are
-    ∙ ap (slots_or piece.slots) (sym is.around) in
-    let log : all_noted recording kind (draft.actions ++ action ∷ []) state.log
-    ≡ log_noted recording kind action (all_noted recording kind draft.actions state.log) =
-    noted-append recording kind draft.actions (action ∷ []) state.log in
+    ∙ slots-same piece.slots (needs_shared rest) shared (shared_slots at before.cells) is.around in
+    let log : all_noted recording kind (draft.actions ++ action kept ∷ []) state.log
+    ≡ log_noted recording kind (action piece.text) before_log =
+    noted-append recording kind draft.actions (action kept ∷ []) state.log
+    ∙ noted-alike recording kind true at kept piece.text before_log kept_is in
     let anchors = map (anchors_moved at (length piece.text)) draft.anchors in
     record {
       fits = subst (λ (d : Draft). Fits d.steps state.content) (sym made)
           (Fits-append draft.steps (step ∷ []) state.content fits (omega (arith, is.within, is.counted), tt));
-      between = subst (λ (d : Draft). IsBetween (set.intersection slots behind) behind (len + length piece.text)
-          (at + length piece.text) (after d.steps state.content).cells) (sym made)
-          (subst (λ (c : Content). IsBetween (set.intersection slots behind) behind (len + length piece.text)
-          (at + length piece.text) c.cells) (sym content)
-          (between-next shared behind slots len at piece.text before.cells is some));
+      between = subst (λ (d : Draft). IsBetween (needs_shared rest) (set.intersection slots behind) behind
+          (len + length piece.text) (at + length piece.text) (after d.steps state.content).cells) (sym made)
+          (subst (λ (c : Content). IsBetween (needs_shared rest) (set.intersection slots behind) behind
+          (len + length piece.text) (at + length piece.text) c.cells) (sym content)
+          (between-next (needs_shared rest) shared behind slots len at piece.text before.cells
+          (fewer piece rest shared behind len at before.cells is) some));
       makes =
           ap (λ d. drafted recording kind d state) made
           ∙ ap₂ (λ c l. state_of c anchors l) (content ∙ ap (λ s. after_insertion at piece.text s before) same) log
           ∙ ap (λ b. if b then drafted recording kind draft state
           else state_of (after_insertion at piece.text (slots_or piece.slots (shared_slots at before.cells)) before)
-          anchors
-          (log_noted recording kind action (all_noted recording kind draft.actions state.log)))
+          anchors (log_noted recording kind (action piece.text) before_log))
           (sym (ne_eqb (length piece.text) 0 (λ none. omega (arith, none, some))));
     }
 
@@ -160,19 +212,21 @@ one-more recording kind draft new state at len shared behind slots piece fits is
 pub record InsertedSoFar (recording : Recording) (kind : EditKind) (draft new : Draft) (state : State) (from : ℕ)
     (pieces : List Piece) (at len : ℕ) (shared behind : Slots) (rest : List Piece) : Type 0 where
   pub fits : Fits new.steps state.content
-  pub between : IsBetween shared behind len at (after new.steps state.content).cells
+  pub between : IsBetween (needs_shared rest) shared behind len at (after new.steps state.content).cells
   pub makes : inserted_texts recording kind at rest (drafted recording kind new state)
       ≡ inserted_texts recording kind from pieces (drafted recording kind draft state)
 
-pub record Inserting (draft new : Draft) (from start : ℕ) (around : Slots) (pieces : List Piece) (at len : ℕ)
-    (shared behind : Slots) (rest : List Piece) : Type 0 where
+pub record Inserting (keeps : Bool) (draft new : Draft) (from start : ℕ) (around : Slots) (pieces : List Piece)
+    (at len : ℕ) (shared behind : Slots) (rest : List Piece) : Type 0 where
   pub within : at < len
   pub count : length new.anchors ≡ length draft.anchors
   pub stand : All (AnchorsStand len) new.anchors
   pub room : len + total rest < 2 ^ 64
   pub whole : len + total rest ≡ start + total pieces
-  pub goes : (recording : Recording) (kind : EditKind) (state : State) → Fits draft.steps state.content
-      → IsBetween around behind start from (after draft.steps state.content).cells
+  pub place : at + start ≡ from + len
+  pub goes : (recording : Recording) (kind : EditKind) (state : State) → (recording.undo ≡ true → keeps ≡ true)
+      → Fits draft.steps state.content
+      → IsBetween (needs_shared pieces) around behind start from (after draft.steps state.content).cells
       → InsertedSoFar recording kind draft new state from pieces at len shared behind rest
 
 pub total-cons : (piece : Piece) (rest : List Piece) → total (piece ∷ rest) ≡ length piece.text + total rest
@@ -190,20 +244,35 @@ total-in-bytes (piece ∷ rest) =
       total-in-bytes rest,
     )
 
+-- no text yet
+pub inserting-first : (keeps : Bool) (draft : Draft) (at len : ℕ) (shared behind : Slots) (pieces left : List Piece) →
+    left ≡ pieces → at < len → All (AnchorsStand len) draft.anchors → len + total pieces < 2 ^ 64
+    → Inserting keeps draft draft at len shared pieces at len shared behind left
+inserting-first keeps draft at len shared behind pieces left left_is within stand fits =
+    subst (Inserting keeps draft draft at len shared pieces at len shared behind) (sym left_is) (record {
+      within = within;
+      count = refl;
+      stand = stand;
+      room = fits;
+      whole = refl;
+      place = refl;
+      goes = λ recording kind state _ fits is. record { fits = fits; between = is; makes = refl };
+    })
+
 -- a text more
-pub inserting-more : (draft now new : Draft) (from start : ℕ) (around : Slots) (pieces : List Piece) (at len : ℕ)
-    (shared behind slots : Slots) (piece : Piece) (rest left : List Piece)
-    → Inserting draft now from start around pieces at len shared behind left → left ≡ piece ∷ rest →
-    0 < length piece.text → slots ≡ slots_or piece.slots shared
+pub inserting-more : (keeps : Bool) (draft now new : Draft) (from start : ℕ) (around : Slots) (pieces : List Piece)
+    (at len : ℕ) (shared behind slots : Slots) (piece : Piece) (kept : List ℕ) (rest left : List Piece)
+    → Inserting keeps draft now from start around pieces at len shared behind left → left ≡ piece ∷ rest →
+    0 < length piece.text → slots ≡ slots_or piece.slots shared → (keeps ≡ true → kept ≡ piece.text)
     → new ≡ record {
       steps = now.steps ++ Insert at piece.text slots ∷ [];
       anchors = map (anchors_moved at (length piece.text)) now.anchors;
-      actions = now.actions ++ record { inserts = true; at = at; text = piece.text } ∷ [];
+      actions = now.actions ++ record { inserts = true; at = at; text = kept } ∷ [];
     }
-    → Inserting draft new from start around pieces (at + length piece.text) (len + length piece.text)
+    → Inserting keeps draft new from start around pieces (at + length piece.text) (len + length piece.text)
     (set.intersection slots behind) behind rest
-inserting-more draft now new from start around pieces at len shared behind slots piece rest left so_far left_is some
-    slots_are made =
+inserting-more keeps draft now new from start around pieces at len shared behind slots piece kept rest left so_far
+    left_is some slots_are kept_is made =
     let counted : total left ≡ length piece.text + total rest = ap total left_is ∙ total-cons piece rest in
     record {
       within = let h : at < len = so_far.within in omega arith;
@@ -213,10 +282,12 @@ inserting-more draft now new from start around pieces at len shared behind slots
           (stand-moved at (length piece.text) len now.anchors so_far.stand);
       room = omega (arith, counted, so_far.room);
       whole = omega (arith, counted, so_far.whole);
-      goes = λ recording kind state fits is.
-          let before = so_far.goes recording kind state fits is in
-          let next = one-more recording kind now new state at len shared behind slots piece before.fits before.between
-          some slots_are made in
+      place = omega (arith, so_far.place);
+      goes = λ recording kind state keeping fits is.
+          let before = so_far.goes recording kind state keeping fits is in
+          let next = one-more recording kind now new state at len shared behind slots piece rest kept before.fits
+          (subst (λ ps. IsBetween (needs_shared ps) shared behind len at (after now.steps state.content).cells) left_is
+          before.between) some slots_are (λ on. kept_is (keeping on)) made in
           record {
             fits = next.fits;
             between = next.between;
@@ -227,12 +298,12 @@ inserting-more draft now new from start around pieces at len shared behind slots
     }
 
 -- no text more
-pub inserting-none : (draft now : Draft) (from start : ℕ) (around : Slots) (pieces : List Piece) (at len : ℕ)
-    (shared behind : Slots) (piece : Piece) (rest left : List Piece)
-    → Inserting draft now from start around pieces at len shared behind left → left ≡ piece ∷ rest →
+pub inserting-none : (keeps : Bool) (draft now : Draft) (from start : ℕ) (around : Slots) (pieces : List Piece)
+    (at len : ℕ) (shared behind : Slots) (piece : Piece) (rest left : List Piece)
+    → Inserting keeps draft now from start around pieces at len shared behind left → left ≡ piece ∷ rest →
     length piece.text ≡ 0
-    → Inserting draft now from start around pieces at len shared behind rest
-inserting-none draft now from start around pieces at len shared behind piece rest left so_far left_is none =
+    → Inserting keeps draft now from start around pieces at len shared behind rest
+inserting-none keeps draft now from start around pieces at len shared behind piece rest left so_far left_is none =
     let counted : total left ≡ length piece.text + total rest = ap total left_is ∙ total-cons piece rest in
     record {
       within = so_far.within;
@@ -240,11 +311,14 @@ inserting-none draft now from start around pieces at len shared behind piece res
       stand = so_far.stand;
       room = omega (arith, counted, so_far.room);
       whole = omega (arith, counted, so_far.whole, none);
-      goes = λ recording kind state fits is.
-          let before = so_far.goes recording kind state fits is in
+      place = so_far.place;
+      goes = λ recording kind state keeping fits is.
+          let before = so_far.goes recording kind state keeping fits is in
           record {
             fits = before.fits;
-            between = before.between;
+            between = fewer piece rest shared behind len at (after now.steps state.content).cells
+                (subst (λ ps. IsBetween (needs_shared ps) shared behind len at (after now.steps state.content).cells)
+                left_is before.between);
             makes =
                 ap₂ (λ n s. inserted_texts recording kind n rest s) (let e : at
                 ≡ at + length piece.text = omega (arith, none) in e)
@@ -261,73 +335,57 @@ inserting-none draft now from start around pieces at len shared behind piece res
           };
     }
 
--- a loop goes on with values that are equal
-pub inserting-same : (draft now new : Draft) (from start : ℕ) (around : Slots) (pieces : List Piece)
-    (at len new_at new_len : ℕ) (shared new_shared behind : Slots) (rest : List Piece)
-    → Inserting draft now from start around pieces at len shared behind rest → new ≡ now → new_at ≡ at → new_len ≡ len →
-    new_shared ≡ shared
-    → Inserting draft new from start around pieces new_at new_len new_shared behind rest
-inserting-same draft now new from start around pieces at len new_at new_len shared new_shared behind rest so_far self_is
-    at_is len_is shared_is =
-    subst (λ (d : Draft). Inserting draft d from start around pieces new_at new_len new_shared behind rest)
-    (sym self_is)
-    (subst (λ n. Inserting draft now from start around pieces n new_len new_shared behind rest) (sym at_is)
-    (subst (λ n. Inserting draft now from start around pieces at n new_shared behind rest) (sym len_is)
-    (subst (λ (s : Slots). Inserting draft now from start around pieces at len s behind rest) (sym shared_is) so_far)))
-
 -- so many characters more
-pub inserting-count : (draft now new : Draft) (from start : ℕ) (around : Slots) (pieces : List Piece) (at len count : ℕ)
-    (shared behind slots : Slots) (piece : Piece) (rest left : List Piece)
-    → Inserting draft now from start around pieces at len shared behind left → left ≡ piece ∷ rest →
-    count ≡ length piece.text → 0 < count → slots ≡ slots_or piece.slots shared
+pub inserting-count : (keeps : Bool) (draft now new : Draft) (from start : ℕ) (around : Slots) (pieces : List Piece)
+    (at len count : ℕ) (shared behind slots : Slots) (piece : Piece) (kept : List ℕ) (rest left : List Piece)
+    → Inserting keeps draft now from start around pieces at len shared behind left → left ≡ piece ∷ rest →
+    count ≡ length piece.text → 0 < count → slots ≡ slots_or piece.slots shared → (keeps ≡ true → kept ≡ piece.text)
     → new ≡ record {
       steps = now.steps ++ Insert at piece.text slots ∷ [];
       anchors = map (anchors_moved at count) now.anchors;
-      actions = now.actions ++ record { inserts = true; at = at; text = piece.text } ∷ [];
+      actions = now.actions ++ record { inserts = true; at = at; text = kept } ∷ [];
     }
-    → Inserting draft new from start around pieces (at + count) (len + count) (set.intersection slots behind) behind
-    rest
-inserting-count draft now new from start around pieces at len count shared behind slots piece rest left so_far left_is
-    counted some slots_are made =
-    subst (λ n. Inserting draft new from start around pieces (at + n) (len + n) (set.intersection slots behind) behind
-    rest) (sym counted)
-    (inserting-more draft now new from start around pieces at len shared behind slots piece rest left so_far left_is
-    (omega (arith, counted, some)) slots_are
+    → Inserting keeps draft new from start around pieces (at + count) (len + count) (set.intersection slots behind)
+    behind rest
+inserting-count keeps draft now new from start around pieces at len count shared behind slots piece kept rest left
+    so_far left_is counted some slots_are kept_is made =
+    subst (λ n. Inserting keeps draft new from start around pieces (at + n) (len + n) (set.intersection slots behind)
+    behind rest) (sym counted)
+    (inserting-more keeps draft now new from start around pieces at len shared behind slots piece kept rest left so_far
+    left_is (omega (arith, counted, some)) slots_are kept_is
     (made ∙ ap (λ n. record {
       steps = now.steps ++ Insert at piece.text slots ∷ [];
       anchors = map (anchors_moved at n) now.anchors;
-      actions = now.actions ++ record { inserts = true; at = at; text = piece.text } ∷ [];
+      actions = now.actions ++ record { inserts = true; at = at; text = kept } ∷ [];
     }) counted))
 
-pub next-piece : (pieces : List Piece) (i : ℕ) (piece : Piece) → i < length pieces → piece ≡ get_or pieces i piece →
-    drop i pieces ≡ piece ∷ drop (i + 1) pieces
-next-piece pieces i piece within is = drop_more pieces i piece within ∙ ap (λ p. p ∷ drop (i + 1) pieces) (sym is)
-
-pub piece-fits : (draft now : Draft) (from start : ℕ) (around : Slots) (pieces : List Piece) (at len count : ℕ)
-    (shared behind : Slots) (piece : Piece) (rest left : List Piece)
-    → Inserting draft now from start around pieces at len shared behind left → left ≡ piece ∷ rest →
+pub piece-fits : (keeps : Bool) (draft now : Draft) (from start : ℕ) (around : Slots) (pieces : List Piece)
+    (at len count : ℕ) (shared behind : Slots) (piece : Piece) (rest left : List Piece)
+    → Inserting keeps draft now from start around pieces at len shared behind left → left ≡ piece ∷ rest →
     count ≡ length piece.text → (len + count < 2 ^ 64) × (at + count < 2 ^ 64)
-piece-fits draft now from start around pieces at len count shared behind piece rest left so_far left_is counted =
+piece-fits keeps draft now from start around pieces at len count shared behind piece rest left so_far left_is counted =
     let whole : total left ≡ length piece.text + total rest = ap total left_is ∙ total-cons piece rest in
     (omega (arith, whole, counted, so_far.room), omega (arith, whole, counted, so_far.room, so_far.within))
 
 -- an edit that begins with texts that are put in
-pub put-in : (draft new : Draft) (content : Content) (anchors : List Anchors) (shared behind : Slots) (len at : ℕ)
-    (pieces : List Piece) → draft ≡ record { steps = []; anchors = anchors; actions = [] }
-    → IsBetween shared behind len at content.cells
-    → ((recording : Recording) (kind : EditKind) (state : State) → Fits draft.steps state.content →
-    IsBetween shared behind len at (after draft.steps state.content).cells
+pub put-in : (keeps : Bool) (draft new : Draft) (content : Content) (anchors : List Anchors) (shared behind : Slots)
+    (len at : ℕ) (pieces : List Piece) → draft ≡ record { steps = []; anchors = anchors; actions = [] }
+    → IsBetween (needs_shared pieces) shared behind len at content.cells
+    → ((recording : Recording) (kind : EditKind) (state : State) → (recording.undo ≡ true → keeps ≡ true) →
+    Fits draft.steps state.content →
+    IsBetween (needs_shared pieces) shared behind len at (after draft.steps state.content).cells
     → Fits new.steps state.content × (length (after new.steps state.content).cells ≡ len + total pieces)
     × (drafted recording kind new state
     ≡ inserted_texts recording kind at pieces (drafted recording kind draft state)))
-    → (recording : Recording) (kind : EditKind) (log : Log)
+    → (recording : Recording) (kind : EditKind) (log : Log) → (recording.undo ≡ true → keeps ≡ true)
     → Fits new.steps content × (drafted recording kind new (state_of content anchors log)
     ≡ inserted_texts recording kind at pieces (state_of content anchors log))
-put-in draft new content anchors shared behind len at pieces made is goes recording kind log =
+put-in keeps draft new content anchors shared behind len at pieces made is goes recording kind log keeping =
     let state = state_of content anchors log in
-    let done = goes recording kind state
+    let done = goes recording kind state keeping
     (subst (λ (d : Draft). Fits d.steps content) (sym made) tt)
-    (subst (λ (d : Draft). IsBetween shared behind len at (after d.steps content).cells) (sym made) is) in
+    (subst (λ (d : Draft). IsBetween (needs_shared pieces) shared behind len at (after d.steps content).cells)
+    (sym made) is) in
     (done.0, done.2 ∙ ap (λ (d : Draft). inserted_texts recording kind at pieces (drafted recording kind d state)) made)
 
 pub behind-is : (at : ℕ) (cells : List Cell) (slots : Slots) → slice_get (slot_sets cells) at ≡ Some slots →

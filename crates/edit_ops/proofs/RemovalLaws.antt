@@ -1,6 +1,6 @@
 -- What is taken out: where lines begin around it, where anchors stand, and what stands on both sides.
-use Rattle.std.proofs.Common.{◌≡◌, ℕ, ◌+◌, ◌-◌, ◌≤◌, ◌==◌, ◌&&◌, Bool, true, false, List, [], ◌∷◌, ◌++◌, Option, Some}
-use Rattle.std.proofs.Common.{None, map, length, get_or, take, drop, refl, sym, ap, ap₂, ◌∙◌, arith, ne_eqb, subst}
+use Rattle.std.proofs.Common.{◌≡◌, ℕ, ◌+◌, ◌-◌, ◌<◌, ◌≤◌, ◌==◌, ◌&&◌, Bool, true, false, List, [], ◌∷◌, ◌++◌, Option}
+use Rattle.std.proofs.Common.{Some, None, map, length, get_or, take, drop, refl, sym, ap, ◌∙◌, arith, subst}
 use Rattle.std.specs.Prelude.{IfSome, option_map, unwrap_or, not, nat_le, slice_range, if◌then◌else◌}
 use Rattle.std.specs.List.{All}
 use Rattle.std.proofs.lemmas.Bool.{eq-eqb}
@@ -11,17 +11,18 @@ use Rattle.text_model.specs.declared.edits.Step.TheVariants.{Remove}
 use Rattle.text_model.specs.Content.{Content, characters}
 use Rattle.text_model.specs.Lines.{line_of, line_start}
 use Rattle.text_model.specs.Splices.{removed}
-use Rattle.text_model.specs.Steps.{after, after_removal}
+use Rattle.text_model.specs.Steps.{after}
 use Rattle.text_model.proofs.LineLaws.{line_start-le}
 use Rattle.text_model.proofs.SpliceLaws.{length-removed}
 use Rattle.undo_stack.specs.declared.actions.EditKind.{EditKind}
 use Rattle.edit_ops.specs.declared.anchors.Anchors.{Anchors}
 use Rattle.edit_ops.specs.declared.plans.Recording.{Recording}
-use Rattle.edit_ops.specs.Anchors.{AnchorsStand, start_drawn, end_drawn, anchors_drawn, anchors_removed}
+use Rattle.edit_ops.specs.Anchors.{AnchorsStand, start_drawn, end_drawn, anchors_drawn}
 use Rattle.text_cursor.specs.Around.{next_line}
 use Rattle.text_cursor.proofs.AroundLaws.{line-before}
 use Rattle.edit_ops.specs.Removals.{removed_span}
-use Rattle.edit_ops.specs.States.{Log, Draft, log_noted, drafted, state_of}
+use Rattle.edit_ops.specs.States.{Log, Draft, drafted, state_of}
+use Rattle.edit_ops.proofs.DeleteLaws.{span-out}
 
 start-within : (line from to len anchor : ℕ) → anchor ≤ len → line ≤ from → from ≤ to → to ≤ len →
     start_drawn line from to anchor ≤ len - (to - from)
@@ -63,36 +64,30 @@ stand-drawn line next from to len all stand before ordered within bound =
     })
 
 -- an edit that takes a span out
-pub taken-out : (draft new : Draft) (content : Content) (anchors : List Anchors) (text : List ℕ) (line next from to : ℕ)
+pub taken-out : (keeps : Bool) (draft new : Draft) (content : Content) (anchors : List Anchors) (text : List ℕ)
+    (line next from to : ℕ)
     → draft ≡ record { steps = []; anchors = anchors; actions = [] }
     → new ≡ record {
       steps = draft.steps ++ Remove from to ∷ [];
       anchors = map (anchors_drawn line next from to) draft.anchors;
       actions = draft.actions ++ record { inserts = false; at = from; text = text } ∷ [];
     }
-    → (from ≡ to → ⊥) → text ≡ slice_range (characters content.cells) from to
+    → from < to → (keeps ≡ true → text ≡ slice_range (characters content.cells) from to)
     → line ≡ line_start (line_of (characters content.cells) from) (characters content.cells)
     → next ≡ next_line (removed from to (characters content.cells)) from
-    → (recording : Recording) (kind : EditKind) (log : Log)
+    → (recording : Recording) (kind : EditKind) (log : Log) → (recording.undo ≡ true → keeps ≡ true)
     → drafted recording kind new (state_of content anchors log)
     ≡ removed_span recording kind from to (state_of content anchors log)
-taken-out draft new content anchors text line next from to begun made some text_is line_is next_is recording kind log =
-    let state = state_of content anchors log in
-    let cells = characters content.cells in
-    ap (λ (d : Draft). drafted recording kind d state) made
-    ∙ ap (λ (d : Draft). drafted recording kind (record {
+taken-out keeps draft new content anchors text line next from to begun made some text_is line_is next_is recording kind
+    log keeping =
+    span-out recording kind (record { steps = []; anchors = anchors; actions = [] }) new (state_of content anchors log)
+    text line next from to
+    (made ∙ ap (λ (d : Draft). record {
       steps = d.steps ++ Remove from to ∷ [];
       anchors = map (anchors_drawn line next from to) d.anchors;
       actions = d.actions ++ record { inserts = false; at = from; text = text } ∷ [];
-    }) state) begun
-    ∙ ap₂ (λ l n. state_of (after_removal from to content) (map (anchors_drawn l n from to) anchors)
-    (log_noted recording kind (record { inserts = false; at = from; text = text }) log)) line_is next_is
-    ∙ ap (λ (t : List ℕ). state_of (after_removal from to content) (map (anchors_removed cells from to) anchors)
-    (log_noted recording kind (record { inserts = false; at = from; text = t }) log)) text_is
-    ∙ ap (λ b. if b then state else state_of (after_removal from to content)
-    (map (anchors_removed cells from to) anchors)
-    (log_noted recording kind (record { inserts = false; at = from; text = slice_range cells from to }) log))
-    (sym (ne_eqb from to some))
+    }) begun)
+    some (λ on. text_is (keeping on)) line_is next_is
 
 pub stand-out : (draft new : Draft) (anchors : List Anchors) (text cells : List ℕ) (line next from to len : ℕ) →
     draft ≡ record { steps = []; anchors = anchors; actions = [] }

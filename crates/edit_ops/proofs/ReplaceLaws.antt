@@ -1,5 +1,5 @@
 -- Texts in the place of a span, and the mark that is clipped.
-use Rattle.std.proofs.Common.{◌≡◌, ℕ, ◌+◌, ◌-◌, ◌^◌, ◌<◌, ◌≤◌, ◌==◌, ◌&&◌, true, false, List, [], ◌∷◌, ◌++◌, Option}
+use Rattle.std.proofs.Common.{◌≡◌, ℕ, ◌+◌, ◌-◌, ◌<◌, ◌≤◌, ◌==◌, ◌&&◌, Bool, true, false, List, [], ◌∷◌, ◌++◌, Option}
 use Rattle.std.proofs.Common.{Some, None, length, get_or, refl, sym, ap, ap₂, ◌∙◌, arith, subst}
 use Rattle.std.specs.Prelude.{slice_get, min, nat_le, nat_lt, option_and_then, if◌then◌else◌}
 use Rattle.std.specs.FinSet as set
@@ -45,40 +45,22 @@ around-removed from to cells ordered within =
     ] refl
 
 -- what stands around a span that was taken out
-pub between-removed : (shared behind : Slots) (len from to : ℕ) (cells now : List Cell) → now ≡ removed from to cells →
-    from ≤ to → to < length cells → len ≡ length cells - (to - from)
-    → shared ≡ slots_around from to cells → slice_get (slot_sets cells) to ≡ Some behind →
-    IsBetween shared behind len from now
-between-removed shared behind len from to cells now now_is ordered within counted shared_is behind_is =
+pub between-removed : (matters : Bool) (shared behind : Slots) (len from to : ℕ) (cells now : List Cell) →
+    now ≡ removed from to cells → from ≤ to → to < length cells → len ≡ length cells - (to - from)
+    → (matters ≡ true → shared ≡ slots_around from to cells) →
+    (matters ≡ true → slice_get (slot_sets cells) to ≡ Some behind) → IsBetween matters shared behind len from now
+between-removed matters shared behind len from to cells now now_is ordered within counted shared_is behind_is =
     let sets = slot_sets cells in
     let long : length sets ≡ length cells = length-slot_sets cells in
-    subst (IsBetween shared behind len from) (sym now_is) (record {
+    subst (IsBetween matters shared behind len from) (sym now_is) (record {
       counted = let h = length-removed from to cells ordered (omega arith) in omega (arith, h, counted);
       within = omega (arith, counted);
-      after = ap (λ xs. get_or xs from set.empty) (map-removed (λ (cell : Cell). cell.tags) from to cells)
+      after = λ on. ap (λ xs. get_or xs from set.empty) (map-removed (λ (cell : Cell). cell.tags) from to cells)
           ∙ get_or-removed_behind from to sets from set.empty (omega (arith, long)) ordered (omega arith)
           ∙ ap (λ k. get_or sets k set.empty) (let e : from + (to - from) ≡ to = omega arith in e)
-          ∙ behind-is to cells behind behind_is;
-      around = around-removed from to cells ordered within ∙ sym shared_is;
+          ∙ behind-is to cells behind (behind_is on);
+      around = λ on. around-removed from to cells ordered within ∙ sym (shared_is on);
     })
-
--- only a part of a count that is no longer than the span matters
-clipped-most : (from to count : ℕ) (place : Place) → to < 2 ^ 64 →
-    clipped from to (min count (2 ^ 64 - 1)) place ≡ clipped from to count place
-clipped-most from to count place small =
-    elim (nat_le from place.offset && nat_lt place.offset to) as (λ b.
-    (nat_le from place.offset && nat_lt place.offset to) ≡ b
-    → (if b then Some (record place { offset = from + min (place.offset - from) (min count (2 ^ 64 - 1)) }) else None)
-    ≡ (if b then Some (record place { offset = from + min (place.offset - from) count }) else None)) [
-      | true ↦ λ inside. ap (λ n. Some (record place { offset = n })) (grind (arith, nat_tests))
-      | false ↦ λ outside. refl
-    ] refl
-
-pub found-most : (from to count most : ℕ) (place : Option Place) → to < 2 ^ 64 → most ≡ min count (2 ^ 64 - 1) →
-    option_and_then (clipped from to most) place ≡ option_and_then (clipped from to count) place
-found-most from to count most None small is = refl
-found-most from to count most (Some place) small is =
-    ap (λ n. clipped from to n place) is ∙ clipped-most from to count place small
 
 clipped-within : (from to count : ℕ) (old place : Place) → clipped from to count old ≡ Some place →
     place.offset ≤ from + count

@@ -209,6 +209,13 @@ apart-below border end (run ∷ runs) apart below =
     let h = below (run.to - 1) last in
     (some, omega (arith, some, h), apart.2)
 
+-- one run at most is apart
+pub few-apart : (runs : List Span) → length runs < 2 → All (λ (span : Span). span.from < span.to) runs →
+    (border : ℕ) × AreApart border runs
+few-apart [] few filled = (0, tt)
+few-apart (run ∷ []) few filled = (run.to + 1, (filled 0 run (omega arith), omega arith, tt))
+few-apart (run ∷ next ∷ runs) few filled = absurd (omega (arith, few))
+
 -- spans that end by a place hold no offset behind it
 pub in-within : (spans : List Span) (end offset : ℕ) → All (λ (span : Span). span.to ≤ end) spans →
     in_spans spans offset ≡ true → offset < end

@@ -1,7 +1,9 @@
 -- What it does to put texts in.
-use Rattle.std.specs.Prelude.{◌≡◌, ◌<◌, ℕ, ◌+◌, ◌==◌, true, List, [], ◌∷◌, length, map, get_or, sum_by, Option, None}
-use Rattle.std.specs.Prelude.{Some, if◌then◌else◌, encode_utf8_all}
+use Rattle.std.specs.Prelude.{◌≡◌, ◌<◌, ℕ, ◌+◌, ◌==◌, Bool, true, List, [], ◌∷◌, length, map, get_or, sum_by, Option}
+use Rattle.std.specs.Prelude.{None, Some, if◌then◌else◌, encode_utf8_all}
 use Rattle.std.specs.FinSet as set
+use Rattle.std.specs.List.{list_any}
+use Rattle.std.specs.Option.{is_none}
 use Rattle.text_model.specs.declared.cells.Cell.{Cell}
 use Rattle.text_model.specs.Content.{Slots, slot_sets}
 use Rattle.text_model.specs.Steps.{after_insertion}
@@ -42,10 +44,14 @@ total pieces = sum_by (λ (piece : Piece). length piece.text) pieces
 abbrev pub total_bytes : List Piece → ℕ
 total_bytes pieces = sum_by (λ (piece : Piece). length (encode_utf8_all piece.text)) pieces
 
+-- whether a text has no slots of its own, and so gets those that both sides share
+abbrev pub needs_shared : List Piece → Bool
+needs_shared pieces = list_any (λ (piece : Piece). is_none piece.slots) pieces
+
 -- Before a place in a text of so many cells, and behind it, stand cells that share some slots, and the one behind has
--- these.
-pub record IsBetween (shared behind : Slots) (len at : ℕ) (cells : List Cell) : Type 0 where
+-- these, where that matters.
+pub record IsBetween (matters : Bool) (shared behind : Slots) (len at : ℕ) (cells : List Cell) : Type 0 where
   pub counted : length cells ≡ len
   pub within : at < len
-  pub after : get_or (slot_sets cells) at set.empty ≡ behind
-  pub around : shared_slots at cells ≡ shared
+  pub after : matters ≡ true → get_or (slot_sets cells) at set.empty ≡ behind
+  pub around : matters ≡ true → shared_slots at cells ≡ shared

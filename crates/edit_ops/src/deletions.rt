@@ -1,4 +1,4 @@
-ghost use Rattle.std.specs.Prelude.{◌≡◌, true, slice_range, ℕ, ◌+◌, ◌-◌, ◌<◌, ◌≤◌, ◌^◌, ◌&&◌, ◌∷◌, [], nat_le, nat_lt};
+ghost use Rattle.std.specs.Prelude.{◌≡◌, true, ℕ, ◌+◌, ◌-◌, ◌<◌, ◌≤◌, ◌^◌, ◌&&◌, ◌∷◌, [], nat_le, nat_lt};
 ghost use Rattle.std.specs.Prelude.{get_or, length, OnOk, IfOk, IfErr, if◌then◌else◌};
 ghost use Rattle.std.specs.List.{All};
 ghost use Rattle.edit_ops.specs.Deletions.{in_spans, delete_set, AreApart, deleted, removed_spans};
@@ -9,7 +9,7 @@ ghost use Rattle.text_model.specs.Lines.{is_newline};
 ghost use Rattle.text_model.specs.Steps.{Fits, after};
 ghost use Rattle.edit_ops.specs.declared.plans.Recording.{Recording};
 
-use crate::drafts::Draft;
+use crate::drafts::{Draft, kept_text};
 use crate::faults::EditFault;
 use crate::plans::{Plan, Recording, prepare};
 use crate::runs::{spare_last, union};
@@ -17,7 +17,7 @@ use crate::spans::Span;
 use crate::texts::EditedText;
 use std::alloc::{AllocError, Global};
 use text_cursor::{line_at, line_behind};
-use text_model::{Step, StepList, Text, TextStore};
+use text_model::{Step, StepList, TextStore};
 use undo_stack::EditKind;
 
 /// How far behind an offset the next line begins, where the old text goes on to a border, in which the next line begins
@@ -33,24 +33,6 @@ fn to_next_line(offset: usize, behind: usize, border: usize, rest: usize) -> usi
     } else {
         border - offset + rest
     }
-}
-
-/// The characters from one offset to another, where they are to be kept, and else no text.
-fn kept_text<S: TextStore>(
-    alloc: Global,
-    store: &S,
-    span: Span,
-    keeps: bool,
-) -> Result<Text, AllocError>
-    requires ordered { span.from ≤ span.to }
-    requires within { span.to ≤ length (S.content store.now).cells }
-    ensures { IfOk result (λ text. keeps ≡ true → text
-        ≡ slice_range (characters (S.content store.now).cells) span.from span.to) }
-{
-    if !keeps {
-        return Ok(Text::new(String::new(alloc)));
-    }
-    Ok(Text::new(store.copy_text(span.from, span.to)?))
 }
 
 impl Draft {

@@ -1,8 +1,11 @@
 ghost use Rattle.std.specs.Prelude.{◌≡◌, ◌+◌, ◌<◌, ◌≤◌, ◌^◌, ◌++◌, ◌∷◌, [], true, false, length, map, OnOk, IfOk};
+ghost use Rattle.std.specs.Prelude.{slice_range};
 ghost use Rattle.std.specs.List.{All};
 ghost use Rattle.edit_ops.specs.Anchors.{AnchorsStand, anchors_moved, anchors_drawn};
+ghost use Rattle.text_model.specs.Content.{characters};
 
 use crate::anchors::{Anchors, draw_anchors, move_anchors};
+use crate::spans::Span;
 use crate::texts::EditedText;
 use std::alloc::{AllocError, Global};
 use std::collections::VecDeque;
@@ -37,6 +40,24 @@ fn copy_of(alloc: Global, text: &Text) -> Result<Text, AllocError>
     ensures { IfOk result (λ copy. copy ≡ text.now) }
 {
     Ok(Text::new(String::from_str(alloc, text.as_str())?))
+}
+
+/// The characters from one offset to another, where they are to be kept, and else no text.
+pub fn kept_text<S: TextStore>(
+    alloc: Global,
+    store: &S,
+    span: Span,
+    keeps: bool,
+) -> Result<Text, AllocError>
+    requires ordered { span.from ≤ span.to }
+    requires within { span.to ≤ length (S.content store.now).cells }
+    ensures { IfOk result (λ text. keeps ≡ true → text
+        ≡ slice_range (characters (S.content store.now).cells) span.from span.to) }
+{
+    if !keeps {
+        return Ok(Text::new(String::new(alloc)));
+    }
+    Ok(Text::new(store.copy_text(span.from, span.to)?))
 }
 
 impl Draft {
@@ -80,8 +101,39 @@ impl Draft {
         })
     }
 
+    /// A text once more, where it is to be kept, and else no text.
+    pub fn kept_copy(&self, text: &Text, keeps: bool) -> Result<Text, AllocError>
+        ensures { IfOk result (λ copy. keeps ≡ true → copy ≡ text.now) }
+    {
+        if !keeps {
+            return Ok(Text::new(String::new(self.alloc)));
+        }
+        Ok(copy_of(self.alloc, text)?)
+    }
+
     /// Puts a text of so many characters in before the character at an offset, into a text of so many; it isn't noted.
     pub fn put_in(
+        &mut self,
+        at: usize,
+        text: Text,
+        slots: TagSet,
+        count: usize,
+        len: usize,
+    ) -> Result<(), AllocError>
+        requires stand { All (AnchorsStand len) self.old.anchors }
+        requires fits { len + count < 2 ^ 64 }
+        ensures { OnOk result (self.new ≡ record self.old {
+          steps = self.old.steps ++ Step.Insert at text slots ∷ [];
+          anchors = map (anchors_moved at count) self.old.anchors;
+        }) }
+    {
+        self.steps.push(Step::Insert(at, text, slots))?;
+        move_anchors(&mut self.anchors, at, count, len);
+        Ok(())
+    }
+
+    /// Puts a copy of a text in as `put_in` does.
+    pub fn put_copy(
         &mut self,
         at: usize,
         text: &Text,
@@ -96,34 +148,34 @@ impl Draft {
           anchors = map (anchors_moved at count) self.old.anchors;
         }) }
     {
-        self.steps
-            .push(Step::Insert(at, copy_of(self.alloc, text)?, slots))?;
-        move_anchors(&mut self.anchors, at, count, len);
+        let copy = copy_of(self.alloc, text)?;
+        self.put_in(at, copy, slots, count, len)?;
         Ok(())
     }
 
-    /// Puts a text in as `put_in` does, which is an action.
+    /// Puts a text in as `put_in` does, which is an action, of which that text is kept.
     pub fn insert(
         &mut self,
         at: usize,
-        text: &Text,
+        text: Text,
+        kept: Text,
         slots: TagSet,
         count: usize,
         len: usize,
     ) -> Result<(), AllocError>
-        requires count { count ≡ length text.now }
+        requires count { count ≡ length text }
         requires stand { All (AnchorsStand len) self.old.anchors }
         requires fits { len + count < 2 ^ 64 }
         ensures { OnOk result (self.new ≡ record {
-          steps = self.old.steps ++ Step.Insert at text.now slots ∷ [];
+          steps = self.old.steps ++ Step.Insert at text slots ∷ [];
           anchors = map (anchors_moved at count) self.old.anchors;
-          actions = self.old.actions ++ record { inserts = true; at = at; text = text.now } ∷ [];
+          actions = self.old.actions ++ record { inserts = true; at = at; text = kept } ∷ [];
         }) }
     {
         self.actions.push_back(Action {
             inserts: true,
             at,
-            text: copy_of(self.alloc, text)?,
+            text: kept,
         })?;
         self.put_in(at, text, slots, count, len)?;
         Ok(())

@@ -1,8 +1,8 @@
 ghost use Rattle.std.specs.Prelude.{◌≡◌, ◌≢◌, ◌+◌, ◌<◌, ◌≤◌, ◌^◌, ◌↔◌, ◌-◌, nat_lt, min, length, OnOk, IfOk, Err};
-ghost use Rattle.std.specs.Prelude.{false, ℕ, Some, slice_get};
+ghost use Rattle.std.specs.Prelude.{true, false, ℕ, Some, slice_get};
 ghost use Rattle.std.specs.List.{All};
 ghost use Rattle.edit_ops.specs.Anchors.{AnchorsStand};
-ghost use Rattle.edit_ops.specs.Insertions.{inserted_texts, slots_or, total, total_bytes, IsBetween};
+ghost use Rattle.edit_ops.specs.Insertions.{inserted_texts, needs_shared, slots_or, total, total_bytes, IsBetween};
 ghost use Rattle.edit_ops.specs.Plans.{planned, HasRoom};
 ghost use Rattle.edit_ops.specs.declared.plans.Recording.{Recording};
 ghost use Rattle.edit_ops.specs.States.{State, Log, log_of, state_of, state_in, drafted, IsUnchanged};
@@ -27,7 +27,7 @@ pub fn count_of(text: &Text) -> usize
 }
 
 /// How many characters texts have, or the greatest number where that is more.
-pub fn total_of(pieces: &[Piece]) -> usize
+fn total_of(pieces: &[Piece]) -> usize
     ensures { result ≡ min (total pieces.now) (2 ^ 64 - 1) }
 {
     let mut most = 0usize;
@@ -63,7 +63,7 @@ pub fn is_too_long(limits: &Limits, len: usize, pieces: &[Piece]) -> bool
 
 /// The slots that the character before an offset shares with the one at another offset, which has those of a set; none
 /// at the start.
-pub fn shared_around<S: TextStore>(store: &S, from: usize, behind: TagSet) -> TagSet
+fn shared_around<S: TextStore>(store: &S, from: usize, behind: TagSet) -> TagSet
     requires within { from < length (S.content store.now).cells }
     ensures { (to : ℕ) → slice_get (slot_sets (S.content store.now).cells) to ≡ Some behind →
         result ≡ slots_around from to (S.content store.now).cells }
@@ -72,6 +72,38 @@ pub fn shared_around<S: TextStore>(store: &S, from: usize, behind: TagSet) -> Ta
         return TagSet::empty();
     }
     store.tags_at(from - 1).common(&behind)
+}
+
+/// Whether a text has no slots of its own.
+pub fn needs_shared(pieces: &[Piece]) -> bool
+    ensures { result ≡ needs_shared pieces.now }
+{
+    for piece in pieces {
+        if piece.slots.is_none() {
+            return true;
+        }
+    }
+    false
+}
+
+/// The slots that the character before an offset shares with the one at another offset, and those of that one, where
+/// they are needed, and else none.
+pub fn slots_beside<S: TextStore>(
+    store: &S,
+    from: usize,
+    to: usize,
+    needed: bool,
+) -> (TagSet, TagSet)
+    requires ordered { from ≤ to }
+    requires within { to < length (S.content store.now).cells }
+    ensures shared { needed ≡ true → result.0 ≡ slots_around from to (S.content store.now).cells }
+    ensures behind { needed ≡ true → slice_get (slot_sets (S.content store.now).cells) to ≡ Some result.1 }
+{
+    if !needed {
+        return (TagSet::empty(), TagSet::empty());
+    }
+    let behind = store.tags_at(to);
+    (shared_around(store, from, behind), behind)
 }
 
 fn slots_or(slots: Option<TagSet>, shared: TagSet) -> TagSet
@@ -84,27 +116,31 @@ fn slots_or(slots: Option<TagSet>, shared: TagSet) -> TagSet
 }
 
 impl Draft {
-    /// Puts texts in at an offset of a text of so many characters, each right behind the one before it. The characters
-    /// on both sides of the offset share some slots, and the one behind it has others too.
+    /// Puts texts in at an offset of a text of so many characters, each right behind the one before it, with the texts
+    /// of the actions where these are to be kept. The characters on both sides of the offset share some slots, and the
+    /// one behind it has others too, which matters where a text has no slots of its own. Where the last text ends.
     pub fn insert_pieces(
         &mut self,
         at: usize,
-        pieces: &[Piece],
+        pieces: Vec<Piece>,
         shared: TagSet,
         behind: TagSet,
         len: usize,
-    ) -> Result<(), AllocError>
+        keeps: bool,
+    ) -> Result<usize, AllocError>
         requires within { at < len }
         requires stand { All (AnchorsStand len) self.old.anchors }
-        requires fits { len + total pieces.now < 2 ^ 64 }
+        requires fits { len + total pieces.items < 2 ^ 64 }
+        ensures end { IfOk result (λ end. end ≡ at + total pieces.items) }
         ensures widgets { OnOk result (length self.new.anchors ≡ length self.old.anchors) }
         ensures makes { OnOk result ((recording : Recording) (kind : EditKind) (state : State) →
+            (recording.undo ≡ true → keeps ≡ true) →
             Fits self.old.steps state.content →
-            IsBetween shared behind len at (after self.old.steps state.content).cells →
+            IsBetween (needs_shared pieces.items) shared behind len at (after self.old.steps state.content).cells →
             Fits self.new.steps state.content
-            × (length (after self.new.steps state.content).cells ≡ len + total pieces.now) ×
+            × (length (after self.new.steps state.content).cells ≡ len + total pieces.items) ×
             (drafted recording kind self.new state
-            ≡ inserted_texts recording kind at pieces.now (drafted recording kind self.old state))) }
+            ≡ inserted_texts recording kind at pieces.items (drafted recording kind self.old state))) }
     {
         let mut at = at;
         let mut len = len;
@@ -113,43 +149,40 @@ impl Draft {
             let count = count_of(&piece.text);
             if count > 0 {
                 let slots = slots_or(piece.slots, shared);
-                self.insert(at, &piece.text, slots, count, len)?;
+                let kept = self.kept_copy(&piece.text, keeps)?;
+                self.insert(at, piece.text, kept, slots, count, len)?;
                 at += count;
                 len += count;
                 shared = slots.common(&behind);
             }
         }
-        Ok(())
+        Ok(at)
     }
 }
 
-/// The edit that puts texts in at an offset.
+/// The edit that puts texts in at an offset, with the texts of its actions where these are to be kept.
 fn draft_insert<S: TextStore>(
     alloc: Global,
     text: &EditedText<S>,
     at: usize,
-    pieces: &[Piece],
+    pieces: Vec<Piece>,
+    keeps: bool,
 ) -> Result<Draft, AllocError>
     requires within { at < length (S.content text.now.store).cells }
     requires stand { All (AnchorsStand (length (S.content text.now.store).cells)) text.now.anchors.items }
-    requires fits { length (S.content text.now.store).cells + total pieces.now < 2 ^ 64 }
+    requires fits { length (S.content text.now.store).cells + total pieces.items < 2 ^ 64 }
     ensures widgets { IfOk result (λ draft. length draft.anchors ≡ length text.now.anchors.items) }
     ensures makes { IfOk result (λ draft. (recording : Recording) (kind : EditKind) (log : Log) →
+        (recording.undo ≡ true → keeps ≡ true) →
         Fits draft.steps (S.content text.now.store) ×
         (drafted recording kind draft (state_of (S.content text.now.store) text.now.anchors.items log)
-        ≡ inserted_texts recording kind at pieces.now
+        ≡ inserted_texts recording kind at pieces.items
         (state_of (S.content text.now.store) text.now.anchors.items log))) }
 {
     let mut draft = Draft::new(alloc, text, pieces.len())?;
     let store = &text.store;
-    let behind = store.tags_at(at);
-    draft.insert_pieces(
-        at,
-        pieces,
-        shared_around(store, at, behind),
-        behind,
-        store.len(),
-    )?;
+    let (shared, behind) = slots_beside(store, at, at, needs_shared(&pieces));
+    draft.insert_pieces(at, pieces, shared, behind, store.len(), keeps)?;
     Ok(draft)
 }
 
@@ -161,24 +194,24 @@ pub fn plan_insert<S: TextStore>(
     rules: &EditRules<'_>,
     text: &mut EditedText<S>,
     at: usize,
-    pieces: &[Piece],
+    pieces: Vec<Piece>,
 ) -> Result<Plan<S>, EditFault>
     requires within { at < length (S.content text.old.store).cells }
     requires stand { All (AnchorsStand (length (S.content text.old.store).cells)) text.old.anchors.items }
     ensures same { IsUnchanged S.content text.old text.new }
     ensures too_long { (result ≡ Err EditFault.TextTooLong)
-        ↔ (rules.now.limits.now.chars < length (S.content text.old.store).cells + total pieces.now) }
+        ↔ (rules.now.limits.now.chars < length (S.content text.old.store).cells + total pieces.items) }
     ensures never { result ≢ Err EditFault.IndexOrder }
     ensures ready { IfOk result (λ plan. S.ready text.new.store plan.prepared) }
     ensures room { IfOk result (λ plan. HasRoom plan.notes text.new.history) }
     ensures widgets { IfOk result (λ plan. length plan.anchors.items ≡ length text.old.anchors.items) }
     ensures outcome { IfOk result (λ plan.
         planned plan.notes (S.outcome text.new.store plan.prepared) plan.anchors.items (log_of text.old.history)
-        ≡ inserted_texts rules.now.recording EditKind.Insert at pieces.now (state_in S.content text.old)) }
+        ≡ inserted_texts rules.now.recording EditKind.Insert at pieces.items (state_in S.content text.old)) }
 {
-    if is_too_long(rules.limits, text.store.len(), pieces) {
+    if is_too_long(rules.limits, text.store.len(), &pieces) {
         return Err(EditFault::TextTooLong);
     }
-    let draft = draft_insert(rules.alloc, text, at, pieces)?;
+    let draft = draft_insert(rules.alloc, text, at, pieces, rules.recording.undo)?;
     Ok(prepare(text, draft, EditKind::Insert, rules.recording)?)
 }

@@ -1,4 +1,4 @@
-ghost use Rattle.std.specs.Prelude.{◌≡◌, ◌+◌, ◌-◌, ◌<◌, ◌≤◌, ◌^◌, ◌↔◌, min, length, option_and_then, IfOk, Err};
+ghost use Rattle.std.specs.Prelude.{◌≡◌, ◌+◌, ◌-◌, ◌<◌, ◌≤◌, ◌^◌, ◌↔◌, true, min, length, option_and_then, IfOk, Err};
 ghost use Rattle.std.specs.List.{All};
 ghost use Rattle.edit_ops.specs.Anchors.{AnchorsStand};
 ghost use Rattle.edit_ops.specs.Insertions.{total};
@@ -10,24 +10,27 @@ ghost use Rattle.text_model.specs.Content.{characters};
 ghost use Rattle.text_model.specs.Splices.{removed};
 ghost use Rattle.text_model.specs.Steps.{Fits, after};
 
-use crate::drafts::Draft;
+use crate::drafts::{Draft, kept_text};
 use crate::faults::EditFault;
-use crate::insertions::{is_too_long, shared_around, total_of};
+use crate::insertions::{is_too_long, needs_shared, slots_beside};
 use crate::pieces::Piece;
 use crate::plans::{Plan, prepare};
+use crate::spans::Span;
 use crate::texts::{EditRules, EditedText, Target};
 use std::alloc::{AllocError, Global};
 use text_cursor::{line_at, line_behind};
-use text_model::{MarkNo, Place, Text, TextStore};
+use text_model::{MarkNo, Place, TextStore};
 use undo_stack::EditKind;
 
-/// The edit that takes the characters from one offset to another out, with room for so many steps.
+/// The edit that takes the characters from one offset to another out, with the text of its action where that is to be
+/// kept, and with room for so many steps.
 fn draft_removal<S: TextStore>(
     alloc: Global,
     text: &EditedText<S>,
     from: usize,
     to: usize,
     room: usize,
+    keeps: bool,
 ) -> Result<Draft, AllocError>
     requires ordered { from ≤ to }
     requires within { to < length (S.content text.now.store).cells }
@@ -39,6 +42,7 @@ fn draft_removal<S: TextStore>(
     ensures cells { IfOk result (λ draft. (after draft.steps (S.content text.now.store)).cells
         ≡ removed from to (S.content text.now.store).cells) }
     ensures makes { IfOk result (λ draft. (recording : Recording) (kind : EditKind) (log : Log) →
+        (recording.undo ≡ true → keeps ≡ true) →
         drafted recording kind draft (state_of (S.content text.now.store) text.now.anchors.items log)
         ≡ removed_span recording kind from to (state_of (S.content text.now.store) text.now.anchors.items log)) }
 {
@@ -47,7 +51,7 @@ fn draft_removal<S: TextStore>(
         return Ok(draft);
     }
     let store = &text.store;
-    let taken = Text::new(store.copy_text(from, to)?);
+    let taken = kept_text(alloc, store, Span { from, to }, keeps)?;
     let next = line_behind(store, to) - (to - from);
     draft.remove(from, to, taken, line_at(store, from), next)?;
     Ok(draft)
@@ -67,38 +71,35 @@ fn clipped(place: Option<Place>, from: usize, to: usize, count: usize) -> Option
     })
 }
 
-/// The edit that puts texts in the place of the characters from one offset to another, and clips a mark.
+/// The edit that puts texts in the place of the characters from one offset to another, and clips a mark, with the texts
+/// of its actions where these are to be kept.
 fn draft_replace<S: TextStore>(
     alloc: Global,
     text: &EditedText<S>,
     from: usize,
     to: usize,
-    pieces: &[Piece],
+    pieces: Vec<Piece>,
     mark: MarkNo,
+    keeps: bool,
 ) -> Result<Draft, AllocError>
     requires ordered { from ≤ to }
     requires within { to < length (S.content text.now.store).cells }
     requires stand { All (AnchorsStand (length (S.content text.now.store).cells)) text.now.anchors.items }
-    requires room { length (S.content text.now.store).cells - (to - from) + total pieces.now < 2 ^ 64 }
+    requires room { length (S.content text.now.store).cells - (to - from) + total pieces.items < 2 ^ 64 }
     ensures widgets { IfOk result (λ draft. length draft.anchors ≡ length text.now.anchors.items) }
     ensures fits { IfOk result (λ draft. Fits draft.steps (S.content text.now.store)) }
     ensures makes { IfOk result (λ draft. (recording : Recording) (log : Log) →
+        (recording.undo ≡ true → keeps ≡ true) →
         drafted recording EditKind.Replace draft (state_of (S.content text.now.store) text.now.anchors.items log)
-        ≡ replaced_span recording mark.0 from to pieces.now
+        ≡ replaced_span recording mark.0 from to pieces.items
         (state_of (S.content text.now.store) text.now.anchors.items log)) }
 {
-    let mut draft = draft_removal(alloc, text, from, to, pieces.len() + 2)?;
+    let mut draft = draft_removal(alloc, text, from, to, pieces.len() + 2, keeps)?;
     let store = &text.store;
     let len = store.len() - (to - from);
-    let behind = store.tags_at(to);
-    draft.insert_pieces(
-        from,
-        pieces,
-        shared_around(store, from, behind),
-        behind,
-        len,
-    )?;
-    match clipped(store.mark_place(mark), from, to, total_of(pieces)) {
+    let (shared, behind) = slots_beside(store, from, to, needs_shared(&pieces));
+    let end = draft.insert_pieces(from, pieces, shared, behind, len, keeps)?;
+    match clipped(store.mark_place(mark), from, to, end - from) {
         None => {}
         Some(place) => draft.put_mark(mark, place)?,
     }
@@ -113,7 +114,7 @@ pub fn plan_replace<S: TextStore>(
     rules: &EditRules<'_>,
     text: &mut EditedText<S>,
     target: Target,
-    pieces: &[Piece],
+    pieces: Vec<Piece>,
 ) -> Result<Plan<S>, EditFault>
     requires within { target.last < length (S.content text.old.store).cells }
     requires stand { All (AnchorsStand (length (S.content text.old.store).cells)) text.old.anchors.items }
@@ -121,13 +122,13 @@ pub fn plan_replace<S: TextStore>(
     ensures order { (result ≡ Err EditFault.IndexOrder) ↔ (target.to < target.from) }
     ensures too_long { (result ≡ Err EditFault.TextTooLong) ↔ ((target.from ≤ target.to) ×
         (rules.now.limits.now.chars < length (S.content text.old.store).cells
-        - (min target.to target.last - min target.from target.last) + total pieces.now)) }
+        - (min target.to target.last - min target.from target.last) + total pieces.items)) }
     ensures ready { IfOk result (λ plan. S.ready text.new.store plan.prepared) }
     ensures room { IfOk result (λ plan. HasRoom plan.notes text.new.history) }
     ensures widgets { IfOk result (λ plan. length plan.anchors.items ≡ length text.old.anchors.items) }
     ensures outcome { IfOk result (λ plan.
         planned plan.notes (S.outcome text.new.store plan.prepared) plan.anchors.items (log_of text.old.history)
-        ≡ replaced rules.now.recording target.mark.0 target.last target.from target.to pieces.now
+        ≡ replaced rules.now.recording target.mark.0 target.last target.from target.to pieces.items
         (state_in S.content text.old)) }
 {
     if target.to < target.from {
@@ -135,9 +136,10 @@ pub fn plan_replace<S: TextStore>(
     }
     let from = target.from.min(target.last);
     let to = target.to.min(target.last);
-    if is_too_long(rules.limits, text.store.len() - (to - from), pieces) {
+    if is_too_long(rules.limits, text.store.len() - (to - from), &pieces) {
         return Err(EditFault::TextTooLong);
     }
-    let draft = draft_replace(rules.alloc, text, from, to, pieces, target.mark)?;
+    let keeps = rules.recording.undo;
+    let draft = draft_replace(rules.alloc, text, from, to, pieces, target.mark, keeps)?;
     Ok(prepare(text, draft, EditKind::Replace, rules.recording)?)
 }

@@ -56,15 +56,17 @@ fn stood(place: Option<Place>, end: Option<usize>) -> Option<Place>
 }
 
 impl Draft {
-    /// Puts a text back at an offset, with the slots that the characters on both sides share.
+    /// Puts a text of so many characters back at an offset, with the slots that the characters on both sides share.
     fn put_back<S: TextStore>(
         &mut self,
         store: &S,
         cursor: &mut Cursor,
         at: usize,
         text: &Text,
+        count: usize,
     ) -> Result<(), AllocError>
         requires follows { Follows (S.content store.now) self.old cursor.old }
+        requires counted { count ≡ length text.now }
         requires within { at < cursor.old.len }
         requires fits { cursor.old.len + length text.now < 2 ^ 64 }
         ensures follows { OnOk result (Follows (S.content store.now) self.new cursor.new) }
@@ -73,10 +75,9 @@ impl Draft {
             drawn_up self.new (S.content store.now) log
             ≡ put_back at text.now (drawn_up self.old (S.content store.now) log)) }
     {
-        let count = count_of(text);
         cursor.seek(at)?;
         let slots = cursor.shared(store);
-        self.put_in(at, text, slots, count, cursor.len)?;
+        self.put_copy(at, text, slots, count, cursor.len)?;
         cursor.put(text, count, slots)?;
         Ok(())
     }
@@ -133,7 +134,7 @@ impl Draft {
         let _len = cursor.len;
         let count = count_of(text);
         if inserts {
-            self.put_back(store, cursor, at, text)?;
+            self.put_back(store, cursor, at, text, count)?;
             Ok(at + count)
         } else {
             self.take_back(store, cursor, at, at + count)?;

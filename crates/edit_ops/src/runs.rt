@@ -39,6 +39,10 @@ pub fn union(alloc: Global, spans: &[Span]) -> Result<Vec<Span>, AllocError>
     ensures covers { IfOk result (λ runs. (offset : ℕ) → in_spans runs.items offset ≡ in_spans spans.now offset) }
 {
     let mut left = by_end(alloc, spans)?;
+    // Where there is one at most, no other list is needed.
+    if left.len() < 2 {
+        return Ok(left);
+    }
     let mut runs = Vec::with_capacity(alloc, left.len())?;
     let Some(mut run) = left.pop() else {
         return Ok(runs);

@@ -11,7 +11,7 @@ pub fn line_at<S: TextStore>(store: &S, offset: usize) -> usize
     ensures { result ≡ line_start (line_of (characters (S.content store.now).cells) offset)
         (characters (S.content store.now).cells) }
 {
-    store.line_start(store.line_of(offset))
+    store.line_at(offset).start
 }
 
 /// Where the line after that of an offset begins; the length where there is none.
@@ -19,10 +19,5 @@ pub fn line_behind<S: TextStore>(store: &S, offset: usize) -> usize
     requires { offset ≤ length (S.content store.now).cells }
     ensures { result ≡ next_line (characters (S.content store.now).cells) offset }
 {
-    let line = store.line_of(offset);
-    if line < store.lines() {
-        store.line_start(line + 1)
-    } else {
-        store.len()
-    }
+    store.line_at(offset).end
 }

@@ -18,8 +18,8 @@ pub returns-clause-ok : goal.returns-clause-ok
 returns-clause-ok g c =
     let state = state_in g.S.TextStore.content c.args.text.now in
     on_ok_weaker c.put_texts.result (λ is. is
-    ∙ ap (λ made. inserted_texts c.args.rules.now.recording Insert c.args.at made state) (c.deref.ensures.value
-    ∙ c.in_ok-pieces.ensures.pieces)) c.put_texts.ensures.ok
+    ∙ ap (λ made. inserted_texts c.args.rules.now.recording Insert c.args.at made state)
+    c.in_ok-pieces.ensures.pieces) c.put_texts.ensures.ok
 
 pub returns-clause-room : goal.returns-clause-room
 returns-clause-room g c =
@@ -29,8 +29,8 @@ returns-clause-room g c =
     subst (λ (pairs : List Pair). length (with_names (names_of c.args.tags.now.tags) (all_names pairs))
     ≤ c.args.rules.now.limits.now.tags + 1) c.as_slice.ensures.value
     (excess-few c.args.rules.now.limits.now _ _ (sym c.excess_of.ensures.value ∙ c.in_default.is)) in
-    let same : pieces.total c.deref.result.now ≡ total c.args.pairs.items =
-    ap pieces.total (c.deref.ensures.value ∙ c.in_ok-pieces.ensures.pieces)
+    let same : pieces.total c.in_ok-pieces.pieces.items ≡ total c.args.pairs.items =
+    ap pieces.total c.in_ok-pieces.ensures.pieces
     ∙ total-pieces c.make_pieces.new.tags.tags c.args.widget.0 c.args.pairs.items in
     on_ok_weaker c.put_texts.result (λ fits.
     excess-none c.args.rules.now.limits.now tags (left + total c.args.pairs.items) few
@@ -45,11 +45,11 @@ returns-clause-fault g c =
     subst (λ (pairs : List Pair). length (with_names (names_of c.args.tags.now.tags) (all_names pairs))
     ≤ c.args.rules.now.limits.now.tags + 1) c.as_slice.ensures.value
     (excess-few c.args.rules.now.limits.now _ _ (sym c.excess_of.ensures.value ∙ c.in_default.is)) in
-    let same : pieces.total c.deref.result.now ≡ total c.args.pairs.items =
-    ap pieces.total (c.deref.ensures.value ∙ c.in_ok-pieces.ensures.pieces)
+    let same : pieces.total c.in_ok-pieces.pieces.items ≡ total c.args.pairs.items =
+    ap pieces.total c.in_ok-pieces.ensures.pieces
     ∙ total-pieces c.make_pieces.new.tags.tags c.args.widget.0 c.args.pairs.items in
     IfErr-weaker c.put_texts.result (λ fault. fault ≢ Memory →
-    (fault ≡ TextTooLong) × (c.args.rules.now.limits.now.chars < left + pieces.total c.deref.result.now))
+    (fault ≡ TextTooLong) × (c.args.rules.now.limits.now.chars < left + pieces.total c.in_ok-pieces.pieces.items))
     (λ fault. fault ≢ Memory → excess c.args.rules.now.limits.now tags (left + total c.args.pairs.items) ≡ Some fault)
     (λ fault why other. excess-chars c.args.rules.now.limits.now tags (left + total c.args.pairs.items) fault few
     ((why other).0, subst (λ n. c.args.rules.now.limits.now.chars < left + n) same (why other).1))

@@ -1,7 +1,6 @@
-use Rattle.std.proofs.Common.{◌≡◌, ◌+◌, ◌≤◌, ◌<◌, ◌^◌, false, arith}
-use Rattle.std.specs.Prelude.{min, nat_lt}
+use Rattle.std.proofs.Common.{◌+◌, ◌≤◌, arith}
 use Rattle.std.proofs.lemmas.Bool.Decides.{nat_tests}
-use Rattle.edit_ops.specs.Insertions.{total, total_bytes}
+use Rattle.edit_ops.specs.Insertions.{total}
 use Rattle.edit_ops.proofs.InsertLaws.{total-in-bytes}
 use Rattle.edit_ops.proofs.insertions.is_too_long.Goals as goal
 

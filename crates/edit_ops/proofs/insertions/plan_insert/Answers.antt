@@ -8,29 +8,33 @@ use Rattle.edit_ops.proofs.insertions.plan_insert.Goals as goal
 
 pub draft_insert-requires-clause-fits : goal.draft_insert-requires-clause-fits
 draft_insert-requires-clause-fits g c =
-    subst (λ n. n + total c.args.pieces.now < 2 ^ 64) c.len.ensures (c.is_too_long.ensures.short c.if-is_too_long.false)
+    subst (λ n. n + total c.args.pieces.items < 2 ^ 64) c.len.ensures
+    (rw c.deref.ensures.value at (c.is_too_long.ensures.short c.if-is_too_long.false))
 
 pub returns-then-is_too_long-clause-too_long : goal.returns-then-is_too_long-clause-too_long
 returns-then-is_too_long-clause-too_long g c =
-    let count = total c.args.pieces.now in
-    let long = ltb-true c.args.rules.now.limits.now.chars (c.len.result + count) (sym c.is_too_long.ensures.value
-    ∙ c.if-is_too_long.true) in
+    let count = total c.args.pieces.items in
+    let long = ltb-true c.args.rules.now.limits.now.chars (c.len.result + count)
+    (sym (rw c.deref.ensures.value at c.is_too_long.ensures.value) ∙ c.if-is_too_long.true) in
     (λ _. subst (λ n. c.args.rules.now.limits.now.chars < n + count) c.len.ensures long, λ _. refl)
 
 pub prepare-requires : goal.prepare-requires
-prepare-requires g c = (c.in_ok-draft.ensures.makes c.args.rules.now.recording Insert (log_of c.args.text.now.history)).0
+prepare-requires g c =
+    (c.in_ok-draft.ensures.makes c.args.rules.now.recording Insert (log_of c.args.text.now.history) (λ on. on)).0
 
 pub returns-clause-too_long : goal.returns-clause-too_long
 returns-clause-too_long g c =
     let most = c.args.rules.now.limits.now.chars in
-    let len = c.len.result + total c.args.pieces.now in
-    let short = ltb-false most len (sym c.is_too_long.ensures.value ∙ c.if-is_too_long.false) in (
+    let len = c.len.result + total c.args.pieces.items in
+    let short = ltb-false most len
+    (sym (rw c.deref.ensures.value at c.is_too_long.ensures.value) ∙ c.if-is_too_long.false) in (
       λ same. absurd (cc),
       λ long.
-          absurd (no-longer most len short (subst (λ n. most < n + total c.args.pieces.now) (sym c.len.ensures) long)),
+          absurd (no-longer most len short
+          (subst (λ n. most < n + total c.args.pieces.items) (sym c.len.ensures) long)),
     )
 
 pub returns-clause-outcome : goal.returns-clause-outcome
 returns-clause-outcome g c =
     c.in_ok-prepare.ensures.outcome
-    ∙ (c.in_ok-draft.ensures.makes c.args.rules.now.recording Insert (log_of c.args.text.now.history)).1
+    ∙ (c.in_ok-draft.ensures.makes c.args.rules.now.recording Insert (log_of c.args.text.now.history) (λ on. on)).1

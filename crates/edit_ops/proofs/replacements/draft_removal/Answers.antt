@@ -18,7 +18,7 @@ returns-clause-stand g c =
     let long = length-characters cells in
     let drawn = next_line-drawn (characters cells) c.args.from c.args.to c.requires.ordered
     (omega (arith, long, c.requires.within)) in
-    stand-out c.in_ok-draft.draft c.remove.new.self c.args.text.now.anchors.items c.new-taken.result (characters cells)
+    stand-out c.in_ok-draft.draft c.remove.new.self c.args.text.now.anchors.items c.in_ok-taken.taken (characters cells)
     c.line_at.result (c.line_behind.result - (c.args.to - c.args.from))
     c.args.from c.args.to (length cells) c.in_ok-draft.ensures c.in_ok-remove.ensures c.requires.stand long
     c.requires.ordered (omega (arith, c.requires.within))
@@ -30,10 +30,10 @@ returns-clause-makes g c =
     let long = length-characters cells in
     let drawn = next_line-drawn (characters cells) c.args.from c.args.to c.requires.ordered
     (omega (arith, long, c.requires.within)) in
-    taken-out c.in_ok-draft.draft c.remove.new.self (g.S.TextStore.content c.args.text.now.store) c.args.text.now.anchors.items
-    c.new-taken.result c.line_at.result (c.line_behind.result - (c.args.to - c.args.from))
-    c.args.from c.args.to c.in_ok-draft.ensures c.in_ok-remove.ensures c.if-from-to.false (c.new-taken.ensures
-    ∙ c.in_ok-copy_text.ensures)
+    taken-out c.args.keeps c.in_ok-draft.draft c.remove.new.self (g.S.TextStore.content c.args.text.now.store)
+    c.args.text.now.anchors.items c.in_ok-taken.taken c.line_at.result
+    (c.line_behind.result - (c.args.to - c.args.from)) c.args.from c.args.to c.in_ok-draft.ensures
+    c.in_ok-remove.ensures (omega (arith, c.requires.ordered, c.if-from-to.false)) c.in_ok-taken.ensures
     c.line_at.ensures (ap (λ n. n - (c.args.to - c.args.from)) c.line_behind.ensures ∙ drawn.1)
 
 pub returns-then-from-to-clause-stand : goal.returns-then-from-to-clause-stand
@@ -43,10 +43,10 @@ returns-then-from-to-clause-stand g c =
 
 pub returns-then-from-to-clause-cells : goal.returns-then-from-to-clause-cells
 returns-then-from-to-clause-cells g c =
-    none-cells c.in_ok-draft.draft (g.S.TextStore.content c.args.text.now.store) c.args.text.now.anchors.items c.args.from c.args.to
-    c.in_ok-draft.ensures c.if-from-to.true
+    none-cells c.in_ok-draft.draft (g.S.TextStore.content c.args.text.now.store) c.args.text.now.anchors.items
+    c.args.from c.args.to c.in_ok-draft.ensures c.if-from-to.true
 
 pub returns-then-from-to-clause-makes : goal.returns-then-from-to-clause-makes
 returns-then-from-to-clause-makes g c =
-    none-out c.in_ok-draft.draft (g.S.TextStore.content c.args.text.now.store) c.args.text.now.anchors.items c.args.from c.args.to
-    c.in_ok-draft.ensures c.if-from-to.true
+    λ recording kind log _. none-out c.in_ok-draft.draft (g.S.TextStore.content c.args.text.now.store)
+    c.args.text.now.anchors.items c.args.from c.args.to c.in_ok-draft.ensures c.if-from-to.true recording kind log

@@ -8,29 +8,31 @@ use Rattle.edit_ops.proofs.replacements.plan_replace.Goals as goal
 
 pub draft_replace-requires-clause-room : goal.draft_replace-requires-clause-room
 draft_replace-requires-clause-room g c =
-    subst (λ n. n - (c.min-to.result - c.min-from.result) + total c.args.pieces.now
-    < 2 ^ 64) c.len.ensures (c.is_too_long.ensures.short c.if-is_too_long.false)
+    subst (λ n. n - (c.min-to.result - c.min-from.result) + total c.args.pieces.items
+    < 2 ^ 64) c.len.ensures (rw c.deref.ensures.value at (c.is_too_long.ensures.short c.if-is_too_long.false))
 
 pub returns-then-is_too_long-clause-too_long : goal.returns-then-is_too_long-clause-too_long
 returns-then-is_too_long-clause-too_long g c =
-    let count = total c.args.pieces.now in
+    let count = total c.args.pieces.items in
     let len = length (g.S.TextStore.content c.args.text.now.store).cells in
     let left = c.len.result - (c.min-to.result - c.min-from.result) + count in
     let is : left ≡ len - (min c.args.target.to c.args.target.last - min c.args.target.from c.args.target.last) + count =
     ap (λ n. n - (c.min-to.result - c.min-from.result) + count) c.len.ensures
     ∙ ap₂ (λ a b. len - (a - b) + count) c.min-to.ensures c.min-from.ensures in
-    let long = ltb-true c.args.rules.now.limits.now.chars left (sym c.is_too_long.ensures.value ∙ c.if-is_too_long.true) in
+    let long = ltb-true c.args.rules.now.limits.now.chars left
+    (sym (rw c.deref.ensures.value at c.is_too_long.ensures.value) ∙ c.if-is_too_long.true) in
     (λ _. (c.if-target.false, subst (λ n. c.args.rules.now.limits.now.chars < n) is long), λ _. refl)
 
 pub returns-clause-too_long : goal.returns-clause-too_long
 returns-clause-too_long g c =
-    let count = total c.args.pieces.now in
+    let count = total c.args.pieces.items in
     let len = length (g.S.TextStore.content c.args.text.now.store).cells in
     let left = c.len.result - (c.min-to.result - c.min-from.result) + count in
     let is : left ≡ len - (min c.args.target.to c.args.target.last - min c.args.target.from c.args.target.last) + count =
     ap (λ n. n - (c.min-to.result - c.min-from.result) + count) c.len.ensures
     ∙ ap₂ (λ a b. len - (a - b) + count) c.min-to.ensures c.min-from.ensures in
-    let short = ltb-false c.args.rules.now.limits.now.chars left (sym c.is_too_long.ensures.value ∙ c.if-is_too_long.false) in (
+    let short = ltb-false c.args.rules.now.limits.now.chars left
+    (sym (rw c.deref.ensures.value at c.is_too_long.ensures.value) ∙ c.if-is_too_long.false) in (
       λ same. absurd (cc),
       λ long.
           absurd (no-longer c.args.rules.now.limits.now.chars left short
@@ -41,6 +43,6 @@ pub returns-clause-outcome : goal.returns-clause-outcome
 returns-clause-outcome g c =
     let log = log_of c.args.text.now.history in
     let state = state_of (g.S.TextStore.content c.args.text.now.store) c.args.text.now.anchors.items log in
-    c.in_ok-prepare.ensures.outcome ∙ c.in_ok-draft.ensures.makes c.args.rules.now.recording log
-    ∙ ap₂ (λ from to. replaced_span c.args.rules.now.recording c.args.target.mark.0 from to c.args.pieces.now state) c.min-from.ensures
-    c.min-to.ensures
+    c.in_ok-prepare.ensures.outcome ∙ c.in_ok-draft.ensures.makes c.args.rules.now.recording log (λ on. on)
+    ∙ ap₂ (λ from to. replaced_span c.args.rules.now.recording c.args.target.mark.0 from to c.args.pieces.items state)
+    c.min-from.ensures c.min-to.ensures

@@ -4,7 +4,7 @@ use Rattle.std.specs.Option.{option_to_list}
 use Rattle.std.proofs.lemmas.List.{nil_from_length, length_push}
 use Rattle.edit_ops.specs.Deletions.{in_spans}
 use Rattle.edit_ops.proofs.RunLaws.{merging-first, merging-joined, merging-next, some_is, merged-in, apart-below}
-use Rattle.edit_ops.proofs.RunLaws.{in-within}
+use Rattle.edit_ops.proofs.RunLaws.{few-apart, in-within}
 use Rattle.edit_ops.proofs.runs.union.Goals as goal
 use Rattle.edit_ops.proofs.runs.union.Goals.{in-Some-pop+then-span-run+in_ok-push, in-Some-pop+else-span-run}
 use Rattle.edit_ops.proofs.runs.union.Goals.{in_default-pop}
@@ -50,6 +50,15 @@ loop-preserved c =
           let is = some_is c.pop-in-loop.result some in
           absurd (w.in_default-pop.not-Some is.0 is.1)
     ]
+
+pub returns-then-len-lt2-clause-apart : goal.returns-then-len-lt2-clause-apart
+returns-then-len-lt2-clause-apart c = λ end within.
+    let spans = c.args.spans.now in
+    let runs = c.in_ok-left.left.items in
+    let few = few-apart runs (omega (arith, c.len.ensures, c.if-len-lt2.true, c.in_ok-left.left.ok.0))
+    c.in_ok-left.ensures.filled in
+    apart-below few.0 end runs few.1 (λ offset is.
+    in-within spans end offset within (sym (c.in_ok-left.ensures.covers offset) ∙ is))
 
 pub returns : goal.returns
 returns c =
