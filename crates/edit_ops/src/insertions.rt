@@ -102,6 +102,10 @@ pub fn slots_beside<S: TextStore>(
     if !needed {
         return (TagSet::empty(), TagSet::empty());
     }
+    if from == to {
+        let (before, behind) = store.tags_around(to);
+        return (before.common(&behind), behind);
+    }
     let behind = store.tags_at(to);
     (shared_around(store, from, behind), behind)
 }
