@@ -1,5 +1,5 @@
 -- The slots of sets word by word: in how many words they are, and sets whose slots are in one.
-use Rattle.std.proofs.Common.{◌≡◌, ℕ, zero, suc, ◌+◌, ◌*◌, ◌/◌, ◌%◌, ◌^◌, ◌<◌, ◌≤◌, ◌≢◌, Bool, true, false, not, cond, ◌&&◌}
+use Rattle.std.proofs.Common.{◌≡◌, ℕ, zero, suc, ◌+◌, ◌-◌, ◌*◌, ◌/◌, ◌%◌, ◌^◌, ◌<◌, ◌≤◌, ◌≢◌, Bool, true, false, not, cond, ◌&&◌}
 use Rattle.std.proofs.Common.{◌||◌, nat_lt, ◌==◌, List, slice_index, refl, sym, ap, ap₂, subst, ◌∙◌, arith, inl, inr}
 use Rattle.std.proofs.lemmas.Bool.{cases_eq, false≢true}
 use Rattle.std.proofs.lemmas.Bool.Decides.{nat_tests}
@@ -7,7 +7,7 @@ use Rattle.std.proofs.lemmas.Nat.{pow_pos}
 use Rattle.std.specs.FinSet as set
 use Rattle.std.specs.Ordering.{nat_cmp}
 use Rattle.text_model.specs.OneWord.{AreSlots, IsOneWord, has_word, in_word, word_bits, word_index}
-use Rattle.text_model.specs.OneWord.{words_below}
+use Rattle.text_model.specs.OneWord.{word_count, words_below}
 use Rattle.text_model.specs.SlotSets.{differing}
 use Rattle.text_model.specs.TagBitLaws.{contains-slots_below, word_of_slots}
 use Rattle.text_model.specs.TagBits.{AreWords, has_bit, slot_count, slots_of, word_below}
@@ -81,6 +81,16 @@ words_below-rises n (suc more) slots =
     let next : n + suc more ≡ (n + more) + 1 = omega arith in
     subst (λ k. words_below n slots ≤ words_below k slots) (sym next)
     (omega (arith, words_below-more (n + more) slots, words_below-rises n more slots))
+
+-- a word that has slots counts among those of all words
+pub counts_among : (index : ℕ) (slots : set.FinSet nat_cmp) → index < WORDS → has_word index slots ≡ true →
+    words_below index slots < word_count slots
+counts_among index slots within has =
+    let all : index + 1 + (WORDS - (index + 1)) ≡ WORDS = omega arith in
+    let one : cond (has_word index slots) 1 0 ≡ 1 = ap {B = ℕ} (λ b. cond b 1 0) has in
+    let rises = subst (λ k. words_below (index + 1) slots ≤ words_below k slots) all
+    (words_below-rises (index + 1) (WORDS - (index + 1)) slots) in
+    omega (arith, rises, words_below-more index slots, one)
 
 pub words_below-none : (n : ℕ) → words_below n (set.empty {R = nat_cmp}) ≡ 0
 unfolding words_below
